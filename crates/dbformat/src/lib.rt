@@ -1,0 +1,279 @@
+//! The vocabulary of a checker of SQLite database files: the plain types that the definitions in
+//! `specs/` and the crates of the checker have in common.
+#![tactic(auto)]
+
+ghost use Rattle.std.specs.Prelude.{ℕ, List};
+ghost use Rattle.dbformat.specs.Errands.{IsByCell, IsNoneAtDamage, IsOneCellMore, IsByReading, IsByChain, IsByLeaf, IsOneLeafMore, IsNoneAtFreeLeaf, AreAllQuiet, AreCellsApart};
+ghost use Rattle.dbformat.specs.Laws.{HasOneSurvey, FollowsTheUnrefused, IsRefusedByMarks, IsInTheTheory, IsToldInOrder, LooksBackAlone, IsByStarts, IsSchemaBelowItsStart, FollowsAllWhereFaultless, HasWholeChains};
+ghost use Rattle.dbformat.specs.Plain.{PlainFilesAreEmpty};
+ghost use Rattle.dbformat.specs.Samples.{long_row_file};
+ghost use Rattle.dbformat.specs.Sound.{Sound};
+
+/// What is wrong with a file that is read. Each variant is the code that a fault line begins with.
+#[derive(Clone, Copy, Debug, PartialEq, Eq)]
+pub enum FaultCode {
+    /// File version is not 1 or 2.
+    H01,
+    /// Payload fraction is not the fixed one.
+    H02,
+    /// Schema format above 4.
+    H03,
+    /// Text encoding above 3.
+    H04,
+    /// Reserved header byte is not zero.
+    H05,
+    /// File is shorter than its stated size.
+    H06,
+    /// Incremental vacuum without a pointer map.
+    H07,
+    /// Schema has rows but no format or encoding.
+    H08,
+    /// Greatest root page differs from the header.
+    H09,
+    /// Freelist count differs from the header.
+    H10,
+    /// Unknown page type.
+    P01,
+    /// Page belongs to the other kind of tree.
+    P02,
+    /// Content area out of bounds.
+    P03,
+    /// More than 60 fragmented bytes.
+    P04,
+    /// Cell offset out of bounds.
+    P05,
+    /// Cell cannot be read.
+    P06,
+    /// Bad freeblock.
+    P07,
+    /// Overlapping bytes.
+    P08,
+    /// Fragmented bytes differ from the count.
+    P09,
+    /// Empty page that is not a root.
+    P10,
+    /// Page number out of range.
+    R01,
+    /// Page is reserved for a fixed use.
+    R02,
+    /// Page is already in use.
+    R03,
+    /// Tree is deeper than 20 pages.
+    T04,
+    /// Leaf at another depth.
+    T05,
+    /// Key out of order.
+    T06,
+    /// Last overflow page names a next page.
+    O01,
+    /// Trunk holds too many leaves.
+    L01,
+    /// Schema row cannot be read.
+    S01,
+    /// Name cannot be shown.
+    S02,
+    /// Root page or type is wrong.
+    S03,
+    /// More than 65536 root pages.
+    S04,
+    /// Page is not in use.
+    N01,
+    /// Pointer map entry differs.
+    M01,
+}
+
+/// One fault: its code, the page and the item at which it was found, and the value found there.
+#[derive(Clone, Copy, Debug, PartialEq, Eq)]
+pub struct Fault {
+    pub code: FaultCode,
+    pub page: u32,
+    pub item: u32,
+    pub value: i64,
+}
+
+/// Why a file is not read at all.
+#[derive(Clone, Copy, Debug, PartialEq, Eq)]
+pub enum Refusal {
+    /// The file is shorter than its header.
+    Short,
+    /// It does not begin as a SQLite 3 database does.
+    Magic,
+    /// The page size is not valid.
+    PageSize,
+    /// The usable size is below 480.
+    Usable,
+    /// There is no whole page.
+    NoPage,
+    /// There are more pages than the checker takes.
+    TooManyPages,
+    /// A pointer-map page would stand at the lock-byte page.
+    MapAtLock,
+}
+
+/// How texts of the file are stored.
+#[derive(Clone, Copy, Debug, PartialEq, Eq)]
+pub enum Encoding {
+    Utf8,
+    Utf16le,
+    Utf16be,
+}
+
+/// The use of a page that the file's layout fixes.
+#[derive(Clone, Copy, Debug, PartialEq, Eq)]
+pub enum Fixed {
+    Lock,
+    Map,
+}
+
+/// The two kinds of b-tree.
+#[derive(Clone, Copy, Debug, PartialEq, Eq)]
+pub enum TreeKind {
+    Table,
+    Index,
+}
+
+/// The four kinds of b-tree page.
+#[derive(Clone, Copy, Debug, PartialEq, Eq)]
+pub enum PageKind {
+    InteriorIndex,
+    InteriorTable,
+    LeafIndex,
+    LeafTable,
+}
+
+/// The two rules for how much of a payload stands in its cell.
+#[derive(Clone, Copy, Debug, PartialEq, Eq)]
+pub enum PayloadKind {
+    TableLeaf,
+    Index,
+}
+
+/// Why the head of a b-tree page is not sound.
+#[derive(Clone, Copy, Debug, PartialEq, Eq)]
+pub enum HeadFault {
+    /// The type is none of the four.
+    UnknownType,
+    /// The content area begins before the end of the cell pointers, or past the usable bytes.
+    ContentStart,
+}
+
+/// Why a cell holds nothing.
+#[derive(Clone, Copy, Debug, PartialEq, Eq)]
+pub enum CellFault {
+    /// Its pointer leads out of the content area.
+    Offset,
+    /// It does not end within the usable bytes, or its payload is too long.
+    Unreadable,
+}
+
+/// What the items of a page hold of its content area.
+#[derive(Clone, Copy, Debug, PartialEq, Eq)]
+pub enum Coverage {
+    /// The first item that holds a byte of an item before it.
+    Overlap(u32),
+    /// No two items share a byte, and so many bytes are held by none.
+    Unheld(u32),
+}
+
+/// The types of a schema row.
+#[derive(Clone, Copy, Debug, PartialEq, Eq)]
+pub enum RowKind {
+    Table,
+    Index,
+    View,
+    Trigger,
+}
+
+/// Why a schema row is not taken.
+#[derive(Clone, Copy, Debug, PartialEq, Eq)]
+pub enum RowFault {
+    /// It is no record of five columns.
+    Malformed,
+    /// Its type or root page is wrong. The number is the root page, 0 where that is no integer.
+    Root(i64),
+}
+
+/// What a row of the statistics shows.
+#[derive(Clone, Copy, Debug, PartialEq, Eq)]
+pub enum PageType {
+    Internal,
+    Leaf,
+    Damaged,
+    Overflow,
+}
+
+/// What is asked of a file.
+#[derive(Clone, Copy, Debug, PartialEq, Eq)]
+pub enum Command {
+    /// The fault lines, so many at most.
+    Check { limit: u32 },
+    /// A row for each page of a tree.
+    Stat,
+}
+
+/// What was found: no fault, or so many.
+#[derive(Clone, Copy, Debug, PartialEq, Eq)]
+pub enum Verdict {
+    Clean,
+    Faulty(u64),
+}
+
+/// A file has one survey: there is one, which a traversal finds, and no other. A reference of a start or of a visited
+/// page is in it exactly if no test refuses it.
+pub fn one_survey()
+    ensures one { (file : List ℕ) → HasOneSurvey file }
+    ensures followed { (file : List ℕ) → FollowsTheUnrefused file }
+    ensures by_marks { (file : List ℕ) → IsRefusedByMarks file }
+{}
+
+/// Rules and story of each file are in the theory, and what is told of its survey has one order, that of places, in
+/// which a traversal tells it. The faults of pages and references and the rows come in this order.
+pub fn told_in_order()
+    ensures theory { (file : List ℕ) → IsInTheTheory file }
+    ensures told { (file : List ℕ) → IsToldInOrder file }
+{}
+
+/// Faults look back alone: each rests on the pages that are visited up to the place at which it is told. So they can be
+/// told on the way, below page 1 first and then below the starts that this part gives.
+pub fn faults_look_back()
+    ensures back { (file : List ℕ) → LooksBackAlone file }
+    ensures starts { (file : List ℕ) → IsByStarts file }
+{}
+
+/// What a visited page leads to, item by item: a tree page by its cells, an overflow page by its chain, a trunk by its
+/// leaves.
+pub fn errands_of_pages()
+    ensures by_cell { (file : List ℕ) → IsByCell file }
+    ensures damaged { (file : List ℕ) → IsNoneAtDamage file }
+    ensures more { IsOneCellMore }
+    ensures reading { IsByReading }
+    ensures by_chain { (file : List ℕ) → IsByChain file }
+    ensures by_leaf { (file : List ℕ) → IsByLeaf file }
+    ensures one_leaf_more { IsOneLeafMore }
+    ensures free_leaf { (file : List ℕ) → IsNoneAtFreeLeaf file }
+    ensures quiet { AreAllQuiet }
+    ensures apart { AreCellsApart }
+{}
+
+/// The rows of the schema, and so the starts, rest on the pages below the first start alone.
+pub fn schema_below_its_start()
+    ensures { (file : List ℕ) → IsSchemaBelowItsStart file }
+{}
+
+/// Where pages and references have no fault, each reference is followed, each page and cell is without fault, and each
+/// overflow page that is visited begins a whole chain.
+pub fn faultless_files_are_followed()
+    ensures all { (file : List ℕ) → FollowsAllWhereFaultless file }
+    ensures chains { (file : List ℕ) → HasWholeChains file }
+{}
+
+/// A plain file that is read has one survey, page 1 alone, and its faults are those of its header and of its
+/// freelist count.
+pub fn plain_files_are_empty()
+    ensures { PlainFilesAreEmpty }
+{}
+
+/// A file of one table with a row on an overflow page is sound.
+pub fn long_row_is_sound()
+    ensures { Sound long_row_file }
+{}

@@ -1,0 +1,105 @@
+-- Puts in a row.
+use Rattle.std.proofs.Common.{◌≡◌, ℕ, ◌+◌, ◌-◌, ◌<◌, ◌≤◌, length, take, drop, get_or, arith, List, [], ◌∷◌, ◌++◌, refl, sym, ◌∙◌, ap, append_assoc, append-nil, Option, None, Some, Result, Ok, Err}
+use Rattle.std.proofs.lemmas.Grind.{common_steps, flat_map-append}
+use Rattle.std.proofs.lemmas.List.{take-append-drop, take_more}
+use Rattle.std.specs.List.{flat_map}
+use Rattle.std.proofs.Math.Seq.{take-add}
+use Rattle.std.specs.Io.KnownBytes.{Appends, Keeps}
+use Rattle.dbsource.specs.Failures.{one_more}
+use Rattle.dbsource.specs.Outs.{Begins, Puts}
+
+-- what was appended, and then more
+pub appends_append : (o m n : Option (List ℕ)) (a b : List ℕ) → Appends o m a → Appends m n b → Appends o n (a ++ b)
+appends_append None m n a b h k = tt
+appends_append (Some x) None n a b h k = absurd h
+appends_append (Some x) (Some y) None a b h k = absurd k
+appends_append (Some x) (Some y) (Some z) a b h k = k ∙ (ap (λ w. w ++ b) h) ∙ append_assoc x a b
+
+-- what was appended stays
+pub appends_kept : (o m n : Option (List ℕ)) (a : List ℕ) → Appends o m a → Keeps m n → Appends o n a
+appends_kept None m n a h k = tt
+appends_kept (Some x) None n a h k = absurd h
+appends_kept (Some x) (Some y) None a h k = absurd k
+appends_kept (Some x) (Some y) (Some z) a h k = k ∙ h
+
+-- a write of nothing keeps what is held
+pub keeps_from_nothing : (o n : Option (List ℕ)) → Appends o n [] → Keeps o n
+keeps_from_nothing None n h = tt
+keeps_from_nothing (Some x) None h = absurd h
+keeps_from_nothing (Some x) (Some y) h = h ∙ append-nil x
+
+appends_nothing : (o : Option (List ℕ)) → Appends o o []
+appends_nothing None = tt
+appends_nothing (Some x) = sym (append-nil x)
+
+-- nothing is put
+pub puts_none : {E : Type 0} (o : Option (List ℕ)) (f : ℕ) → Puts {E = E} (Ok tt) o o f f []
+puts_none o f = record { held = appends_nothing o; count = refl }
+
+-- a put that succeeds, and then others
+pub puts_then : {E F : Type 0} {s : Result (Unit {0}) E} (r : Result (Unit {0}) F) {o m n : Option (List ℕ)} {e f g : ℕ} (a b : List ℕ)
+    → s ≡ Ok tt → Puts s o m e f a → Puts r m n f g b → Puts r o n e g (a ++ b)
+puts_then (Ok u) {o} {m} {n} a b p h k =
+    let here : Appends o m a = rw p at h.held in
+    record { held = appends_append o m n a b here k.held; count = k.count ∙ (rw p at h.count) }
+puts_then (Err d) {o} {m} {n} a b p h k =
+    let here : Appends o m a = rw p at h.held in
+    record {
+      held = record {
+        part = a ++ k.held.part;
+        rest = k.held.rest;
+        whole = append_assoc a k.held.part k.held.rest ∙ ap (λ w. a ++ w) k.held.whole;
+        added = appends_append o m n a k.held.part here k.held.added;
+      };
+      count = k.count ∙ ap one_more (rw p at h.count);
+    }
+
+-- a put that fails, and nothing after it
+pub puts_stop : {E F : Type 0} {s : Result (Unit {0}) E} {r : Result (Unit {0}) F} {o n : Option (List ℕ)} {e f : ℕ} (a b : List ℕ) {x : E} {y : F}
+    → s ≡ Err x → r ≡ Err y → Puts s o n e f a → Puts r o n e f (a ++ b)
+puts_stop {o = o} {n = n} a b p q h =
+    let here : Begins o n a = rw p at h.held in
+    rw q (record {
+      held = record {
+        part = here.part;
+        rest = here.rest ++ b;
+        whole = sym (append_assoc here.part here.rest b) ∙ ap (λ w. w ++ b) here.whole;
+        added = here.added;
+      };
+      count = rw p at h.count;
+    })
+
+-- one more write of a stream
+pub stream_more : (o m n : Option (List ℕ)) (piece : List ℕ) (at k : ℕ) → at + k ≤ length piece
+    → Appends o m (take at piece) → Appends m n (take k (take (length piece - at) (drop at piece))) → Appends o n (take (at + k) piece)
+stream_more o m n piece at k h p q =
+    let e : take (length piece - at) (drop at piece) ≡ drop at piece = grind (arith, common_steps) in
+    rw take-add (appends_append o m n (take at piece) (take k (drop at piece)) p (rw e at q))
+
+-- the last write of a stream failed, and appended nothing
+pub stream_stop : (o m n : Option (List ℕ)) (piece : List ℕ) (at : ℕ)
+    → Appends o m (take at piece) → Keeps m n → Begins o n piece
+stream_stop o m n piece at p q = record {
+  part = take at piece;
+  rest = drop at piece;
+  whole = take-append-drop at piece;
+  added = appends_kept o m n (take at piece) p q;
+}
+
+pub flat_map_split : {X : Type 0} (f : X → List ℕ) (xs : List X) (i : ℕ) (z : X) → i < length xs
+    → flat_map f xs ≡ (flat_map f (take i xs) ++ f (get_or xs i z)) ++ flat_map f (drop (i + 1) xs)
+flat_map_split f xs i z h =
+    let a : flat_map f (take (i + 1) xs ++ drop (i + 1) xs) ≡ flat_map f (take (i + 1) xs) ++ flat_map f (drop (i + 1) xs) = flat_map-append f _ _ in
+    let b : flat_map f (take i xs ++ get_or xs i z ∷ []) ≡ flat_map f (take i xs) ++ flat_map f (get_or xs i z ∷ []) = flat_map-append f _ _ in
+    let c : flat_map f (get_or xs i z ∷ []) ≡ f (get_or xs i z) = append-nil _ in
+    rw (take-append-drop, take_more xs i z h, b, c) at a
+
+-- the pieces of a list, up to one that fails
+pub puts_stop_at : {E F X : Type 0} {s : Result (Unit {0}) E} {r : Result (Unit {0}) F} {o m n : Option (List ℕ)} {d e f : ℕ} (bytes : X → List ℕ) (xs : List X) (i : ℕ) (z : X) {x : E} {y : F}
+    → i < length xs → s ≡ Err x → r ≡ Err y → Puts {E = E} (Ok tt) o m d e (flat_map bytes (take i xs)) → Puts s m n e f (bytes (get_or xs i z))
+    → Puts r o n d f (flat_map bytes xs)
+puts_stop_at {E = E} {r = r} {o = o} {n = n} {d = d} {f = f} bytes xs i z h p q before here =
+    let e : flat_map bytes xs ≡ (flat_map bytes (take i xs) ++ bytes (get_or xs i z)) ++ flat_map bytes (drop (i + 1) xs)
+    = flat_map_split bytes xs i z h in
+    rw e (puts_stop (flat_map bytes (take i xs) ++ bytes (get_or xs i z)) (flat_map bytes (drop (i + 1) xs)) p q
+    (puts_then _ (flat_map bytes (take i xs)) (bytes (get_or xs i z)) refl before here))
