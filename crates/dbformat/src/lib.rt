@@ -9,6 +9,8 @@ ghost use Rattle.dbformat.specs.Plain.{PlainFilesAreEmpty};
 ghost use Rattle.dbformat.specs.Samples.{long_row_file};
 ghost use Rattle.dbformat.specs.Sound.{Sound};
 
+use thiserror::Error;
+
 /// What is wrong with a file that is read. Each variant is the code that a fault line begins with.
 #[derive(Clone, Copy, Debug, PartialEq, Eq)]
 pub enum FaultCode {
@@ -92,22 +94,49 @@ pub struct Fault {
 }
 
 /// Why a file is not read at all.
-#[derive(Clone, Copy, Debug, PartialEq, Eq)]
+#[derive(Clone, Copy, Debug, Error, PartialEq, Eq)]
 pub enum Refusal {
     /// The file is shorter than its header.
+    #[error("E1 file is shorter than 100 bytes")]
     Short,
     /// It does not begin as a SQLite 3 database does.
+    #[error("E2 file is not a SQLite 3 database")]
     Magic,
     /// The page size is not valid.
+    #[error("E3 page size is not valid")]
     PageSize,
     /// The usable size is below 480.
+    #[error("E4 usable size is below 480")]
     Usable,
     /// There is no whole page.
+    #[error("E5 file has no whole page")]
     NoPage,
     /// There are more pages than the checker takes.
+    #[error("E6 file has more than 67108864 pages")]
     TooManyPages,
     /// A pointer-map page would stand at the lock-byte page.
+    #[error("E7 pointer map at the lock-byte page")]
     MapAtLock,
+}
+
+/// What the header and the file's length say of all pages.
+#[derive(Clone, Copy, Debug, PartialEq, Eq)]
+pub struct Geometry {
+    /// The bytes of a page: a power of two from 512 to 65536.
+    pub page_size: u32,
+    /// The bytes of a page that structures use, from its first on: 480 at least.
+    pub usable: u32,
+    /// How many pages there are, numbered from 1: 1 to 67108864.
+    pub pages: u32,
+    /// Whether there is a pointer map.
+    pub has_map: bool,
+}
+
+/// A range of a source's bytes, by its first byte and its length.
+#[derive(Clone, Copy, Debug, Default, PartialEq, Eq)]
+pub struct ByteRange {
+    pub offset: u64,
+    pub len: u64,
 }
 
 /// How texts of the file are stored.
@@ -207,8 +236,6 @@ pub enum PageType {
 pub enum Command {
     /// The fault lines, so many at most.
     Check { limit: u32 },
-    /// A row for each page of a tree.
-    Stat,
 }
 
 /// What was found: no fault, or so many.

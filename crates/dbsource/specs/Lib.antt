@@ -1,2 +1,4 @@
+pub mod Errors
 pub mod Failures
 pub mod Outs
+pub mod Sources

@@ -1,10 +1,21 @@
-//! Where the bytes of a database come from, and where a report goes.
+//! Where the bytes of a database come from, what its header says, and where a report goes.
 #![tactic(auto)]
 
+mod error;
+mod file_source;
+mod log_source;
 mod memory_out;
+mod memory_source;
 mod out;
+mod source;
 mod stream_out;
 
+pub use dbformat::{ByteRange, Geometry, Refusal};
+pub use error::{OpenError, RunError};
+pub use file_source::FileSource;
+pub use log_source::LogSource;
 pub use memory_out::MemOut;
+pub use memory_source::MemSource;
 pub use out::{Out, WriteFailed};
+pub use source::{ReadFailed, Source};
 pub use stream_out::StreamOut;

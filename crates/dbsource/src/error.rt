@@ -1,0 +1,115 @@
+// Why a file was not opened, and why a run did not end with a verdict.
+use crate::{ReadFailed, Refusal, WriteFailed};
+use std::alloc::{AllocError, AllocFailed};
+use thiserror::Error;
+
+/// Why a header was not read.
+#[derive(Clone, Copy, Debug, Error, PartialEq, Eq)]
+pub enum OpenError {
+    /// The file's first bytes, or its length, say that it is not to be read.
+    #[error("{0}")]
+    Refused(Refusal),
+    /// The source failed.
+    #[error("E8 the file cannot be read")]
+    ReadFailed,
+}
+
+/// Why a run did not end with a verdict. The text of each begins with its number.
+#[derive(Clone, Copy, Debug, Error, PartialEq, Eq)]
+pub enum RunError {
+    /// The file is sound so far, but needs a part of the checker that is not there yet.
+    #[error("E0 this file needs a later stage")]
+    NotYet,
+    /// The file's first bytes, or its length, say that it is not to be read.
+    #[error("{0}")]
+    Refused(Refusal),
+    /// The source failed.
+    #[error("E8 the file cannot be read")]
+    ReadFailed,
+    /// A growth was refused.
+    #[error("E9 out of memory")]
+    OutOfMemory,
+    /// An out failed.
+    #[error("E10 the output cannot be written")]
+    WriteFailed,
+}
+
+impl From<ReadFailed> for OpenError {
+    ghost use Rattle.std.specs.Prelude.{◌≡◌};
+    ghost use Rattle.dbsource.specs.declared.error.OpenError.TheVariants as open_error;
+
+    ghost from_gives = { λ _ e. e ≡ open_error.ReadFailed };
+
+    fn from(_error: ReadFailed) -> OpenError {
+        OpenError::ReadFailed
+    }
+}
+
+impl From<Refusal> for OpenError {
+    ghost use Rattle.std.specs.Prelude.{◌≡◌};
+    ghost use Rattle.dbsource.specs.declared.error.OpenError.TheVariants as open_error;
+
+    ghost from_gives = { λ r e. e ≡ open_error.Refused r };
+
+    fn from(refusal: Refusal) -> OpenError {
+        OpenError::Refused(refusal)
+    }
+}
+
+impl From<OpenError> for RunError {
+    ghost use Rattle.dbsource.specs.Errors.{run_error};
+    ghost use Rattle.std.specs.Prelude.{◌≡◌};
+
+    ghost from_gives = { λ o e. e ≡ run_error o };
+
+    fn from(error: OpenError) -> RunError {
+        match error {
+            OpenError::Refused(refusal) => RunError::Refused(refusal),
+            OpenError::ReadFailed => RunError::ReadFailed,
+        }
+    }
+}
+
+impl From<ReadFailed> for RunError {
+    ghost use Rattle.std.specs.Prelude.{◌≡◌};
+    ghost use Rattle.dbsource.specs.declared.error.RunError.TheVariants as run_error;
+
+    ghost from_gives = { λ _ e. e ≡ run_error.ReadFailed };
+
+    fn from(_error: ReadFailed) -> RunError {
+        RunError::ReadFailed
+    }
+}
+
+impl From<WriteFailed> for RunError {
+    ghost use Rattle.std.specs.Prelude.{◌≡◌};
+    ghost use Rattle.dbsource.specs.declared.error.RunError.TheVariants as run_error;
+
+    ghost from_gives = { λ _ e. e ≡ run_error.WriteFailed };
+
+    fn from(_error: WriteFailed) -> RunError {
+        RunError::WriteFailed
+    }
+}
+
+impl From<AllocError> for RunError {
+    ghost use Rattle.std.specs.Prelude.{◌≡◌};
+    ghost use Rattle.dbsource.specs.declared.error.RunError.TheVariants as run_error;
+
+    ghost from_gives = { λ _ e. e ≡ run_error.OutOfMemory };
+
+    fn from(_error: AllocError) -> RunError {
+        RunError::OutOfMemory
+    }
+}
+
+impl<T: Drop> From<AllocFailed<T>> for RunError {
+    ghost use Rattle.std.specs.Prelude.{◌≡◌};
+    ghost use Rattle.dbsource.specs.declared.error.RunError.TheVariants as run_error;
+
+    ghost from_gives = { λ _ e. e ≡ run_error.OutOfMemory };
+
+    fn from(_error: AllocFailed<T>) -> RunError {
+        RunError::OutOfMemory
+    }
+}
