@@ -1,7 +1,6 @@
 -- Lemmas on logs.
-use Rattle.std.proofs.Common.{◌≡◌, ℕ, ◌+◌, ◌<◌, ◌≤◌, List, [], ◌∷◌, ◌++◌, length, refl, sym, ◌∙◌, arith, fold, append_assoc, length-append, map, take, drop, get_or}
+use Rattle.std.proofs.Common.{◌≡◌, ◌+◌, ◌<◌, ◌≤◌, List, [], ◌∷◌, ◌++◌, length, refl, sym, ◌∙◌, arith, fold, append_assoc, length-append}
 use Rattle.std.proofs.lemmas.Grind.{common_steps}
-use Rattle.std.proofs.lemmas.List.{take_more, map-append, take-append-drop}
 use Rattle.dbformat.specs.declared.ByteRange.{ByteRange}
 use Rattle.dbformat.specs.Log.{HasLog}
 use Rattle.dbsource.specs.Sources.{kept_step}

@@ -3,6 +3,10 @@
 
 mod error;
 mod file_source;
+mod geometry;
+mod header;
+mod header_fields;
+mod header_words;
 mod log_source;
 mod memory_out;
 mod memory_source;
@@ -13,6 +17,7 @@ mod stream_out;
 pub use dbformat::{ByteRange, Geometry, Refusal};
 pub use error::{OpenError, RunError};
 pub use file_source::FileSource;
+pub use header::Header;
 pub use log_source::LogSource;
 pub use memory_out::MemOut;
 pub use memory_source::MemSource;

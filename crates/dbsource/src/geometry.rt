@@ -1,0 +1,94 @@
+// The shape of a file, and whether its header refuses it (Database File Format, 1.3, 1.4 and 1.8).
+ghost use Rattle.std.specs.Prelude.{◌≡◌, ℕ, ◌≤◌, ◌<◌, ◌^◌, ◌&&◌, nat_le, length};
+ghost use Rattle.dbformat.specs.FixedPages.{lock_page, is_map_position, geometry_of};
+ghost use Rattle.dbformat.specs.File.{refusal_of};
+ghost use Rattle.dbformat.specs.Header.{page_size, page_count, usable_size, has_pointer_map};
+
+use crate::header_words::{has_magic, has_page_size, page_count, page_size, u32_at};
+use crate::{Geometry, Refusal};
+
+// The most pages that are looked at.
+const MOST_PAGES: u64 = 67108864;
+
+// The page that holds the byte at 2^30, which no structure uses (1.4).
+fn lock_page(page_size: u32) -> u32
+    requires { 0 < page_size }
+    ensures { result ≡ lock_page page_size }
+{
+    (1 << 30) / page_size + 1
+}
+
+// Whether a pointer-map page stands at this number, where there is a map (1.8).
+fn is_map_position(geometry: Geometry, page: u32) -> bool
+    ensures { result ≡ is_map_position geometry page }
+{
+    page >= 2 && (page - 2) % (geometry.usable / 5 + 1) == 0
+}
+
+// Whether a pointer-map page would stand at the lock-byte page of the file.
+fn has_map_at_lock(geometry: Geometry) -> bool
+    requires { 0 < geometry.page_size }
+    ensures { result ≡ (geometry.has_map && nat_le (lock_page geometry.page_size) geometry.pages && is_map_position geometry (lock_page geometry.page_size)) }
+{
+    let lock = lock_page(geometry.page_size);
+    geometry.has_map && lock <= geometry.pages && is_map_position(geometry, lock)
+}
+
+// Whether the header has a greatest root page, as one of a file with a pointer map has.
+#[tactic(auto, unfolding(dbformat::specs::Header::has_pointer_map, dbformat::specs::Header::greatest_root))]
+fn has_pointer_map(header: &[u8]) -> bool
+    requires { 100 ≤ length header.now }
+    ensures { result ≡ has_pointer_map header.now }
+{
+    u32_at(header, 52) != 0
+}
+
+// The bytes of a page that structures use.
+#[tactic(auto, unfolding(dbformat::specs::Header::usable_size, dbformat::specs::Header::reserved_bytes))]
+fn usable_size(header: &[u8]) -> u32
+    requires { 100 ≤ length header.now }
+    ensures { result ≡ usable_size header.now }
+{
+    page_size(header).saturating_sub(u32::from(header[20]))
+}
+
+// The shape of a file of so many bytes.
+pub(crate) fn geometry_of(header: &[u8], file_len: u64) -> Geometry
+    requires header { 100 ≤ length header.now }
+    requires sized { 0 < page_size header.now }
+    requires counted { page_count header.now file_len < 2 ^ 32 }
+    ensures { result ≡ geometry_of header.now file_len }
+{
+    Geometry {
+        page_size: page_size(header),
+        usable: usable_size(header),
+        pages: page_count(header, file_len) as u32,
+        has_map: has_pointer_map(header),
+    }
+}
+
+// Why a file of so many bytes that begins with these is not read.
+#[tactic(auto, unfolding(dbformat::specs::File::refusal_of))]
+pub(crate) fn refusal_of(header: &[u8], file_len: u64) -> Option<Refusal>
+    requires header { 100 ≤ length header.now }
+    requires long { 100 ≤ file_len }
+    ensures { result ≡ refusal_of header.now file_len }
+{
+    if !has_magic(header) {
+        return Some(Refusal::Magic);
+    }
+    if !has_page_size(header) {
+        return Some(Refusal::PageSize);
+    }
+    if usable_size(header) < 480 {
+        return Some(Refusal::Usable);
+    }
+    let pages = page_count(header, file_len);
+    if pages == 0 {
+        return Some(Refusal::NoPage);
+    }
+    if pages > MOST_PAGES {
+        return Some(Refusal::TooManyPages);
+    }
+    has_map_at_lock(geometry_of(header, file_len)).then_some(Refusal::MapAtLock)
+}

@@ -1,0 +1,101 @@
+// The header of a database (Database File Format, 1.3).
+ghost use Rattle.std.specs.Prelude.{◌≡◌, ℕ, ◌≤◌, length, IfOk, IfErr, IfSome, None};
+ghost use Rattle.dbformat.specs.FixedPages.{geometry_of};
+ghost use Rattle.dbformat.specs.File.{refusal_of};
+ghost use Rattle.dbformat.specs.Log.{HasLog};
+ghost use Rattle.dbsource.specs.Headers.{IsHeaderOf, IsRefusalOf, IsOpenLog, failures_after};
+
+use crate::geometry::{geometry_of, refusal_of};
+use crate::header_words::HEADER_LEN;
+use crate::{Geometry, OpenError, Refusal, Source};
+use std::marker::Model;
+
+/// The header of a file that is not refused: its first 100 bytes, how many bytes the file has, and the shape that these
+/// give it.
+#[derive(Drop)]
+pub struct Header {
+    bytes: [u8; 100],
+    file_len: u64,
+    geometry: Geometry,
+}
+
+impl Model for Header {
+    ghost use Rattle.std.specs.Prelude.{◌≡◌, None, length};
+    ghost use Rattle.dbformat.specs.FixedPages.{geometry_of};
+    ghost use Rattle.dbformat.specs.File.{refusal_of};
+    ghost use Rattle.dbsource.specs.HeaderBytes.{HeaderBytes};
+
+    ghost Value = { HeaderBytes };
+
+    ghost view = { λ h. record { bytes = h.bytes; file_len = h.file_len } };
+
+    ghost invariant = { λ h. (refusal_of h.bytes h.file_len ≡ None) × (h.geometry ≡ geometry_of h.bytes h.file_len) };
+}
+
+impl Header {
+    /// Reads the header of `source`: its length, and then, where there are so many, its first 100 bytes, once.
+    ///
+    /// # Errors
+    ///
+    /// [`OpenError::Refused`] where length and bytes say that the file is not to be read, [`OpenError::ReadFailed`]
+    /// exactly where the source failed. A file of fewer than 100 bytes is refused by its length, before any read.
+    pub fn read<S: Source>(source: &mut S) -> Result<Header, OpenError>
+        ensures told { S.tells source.new ≡ S.tells source.old }
+        ensures header { IfOk result (λ h. IfSome (S.tells source.old) (IsHeaderOf h)) }
+        ensures refusal { IfErr result (λ e. IfSome (S.tells source.old) (IsRefusalOf e)) }
+        ensures count { S.failures source.new ≡ failures_after result (S.failures source.old) }
+        ensures log { HasLog S.step (IsOpenLog result) (S.trail source.old) (S.trail source.new) }
+    {
+        let file_len = source.len()?;
+        if file_len < HEADER_LEN as u64 {
+            return Err(OpenError::Refused(Refusal::Short));
+        }
+        let mut bytes = [0u8; 100];
+        source.read_at(0, &mut bytes)?;
+        match refusal_of(&bytes, file_len) {
+            Some(refusal) => Err(OpenError::Refused(refusal)),
+            None => Ok(Header::accepted(bytes, file_len)),
+        }
+    }
+
+    /// The first 100 bytes of the file.
+    pub fn bytes(&self) -> &[u8]
+        ensures bytes { result.now ≡ self.now.bytes }
+        ensures len { length result.now ≡ 100 }
+    {
+        &self.bytes
+    }
+
+    /// How many bytes the file has.
+    pub fn file_len(&self) -> u64
+        ensures { result ≡ self.now.file_len }
+    {
+        self.file_len
+    }
+
+    /// The shape of the file.
+    #[tactic(auto, using(crate::proofs::Shapes::shapes))]
+    pub fn geometry(&self) -> Geometry
+        ensures shape { result ≡ geometry_of self.now.bytes self.now.file_len }
+        ensures page_size { (512 ≤ result.page_size) × (result.page_size ≤ 65536) }
+        ensures usable { (480 ≤ result.usable) × (result.usable ≤ result.page_size) }
+        ensures pages { (1 ≤ result.pages) × (result.pages ≤ 67108864) }
+    {
+        self.geometry
+    }
+
+    // The header of a file that is not refused.
+    fn accepted(bytes: [u8; 100], file_len: u64) -> Header
+        requires long { 100 ≤ file_len }
+        requires read { refusal_of bytes file_len ≡ None }
+        ensures bytes { result.bytes ≡ bytes }
+        ensures file_len { result.file_len ≡ file_len }
+    {
+        let geometry = geometry_of(&bytes, file_len);
+        Header {
+            bytes,
+            file_len,
+            geometry,
+        }
+    }
+}
