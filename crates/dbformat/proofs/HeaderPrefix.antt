@@ -1,6 +1,7 @@
 -- What the header says rests on the file's first 100 bytes alone.
-use Rattle.std.proofs.Common.{◌≡◌, ℕ, suc, ◌+◌, ◌-◌, ◌<◌, ◌≤◌, List, [], ◌∷◌, ◌++◌, take, drop, slice_index, refl, ap, ap₂, ◌∙◌, sym, arith, map, not, pos, Bool, cond, true, false}
-use Rattle.std.specs.Prelude.{filter, ◌==◌}
+use Rattle.std.proofs.Common.{◌≡◌, ℕ, suc, ◌+◌, ◌-◌, ◌<◌, ◌≤◌, List, [], ◌∷◌, ◌++◌, take, drop, slice_index, refl, ap, ap₂, ◌∙◌, sym, arith, not, pos, Bool, cond, true, false}
+use Rattle.std.specs.Prelude.{◌==◌}
+use Rattle.std.specs.Prelude.{IfSome, find, Some, None, option_map, option_to_list}
 use Rattle.std.specs.List.{range_with_len}
 use Rattle.std.proofs.lemmas.List.{drop-take, get_or-take, take-take}
 use Rattle.byteorder.specs.Endian.{big_number}
@@ -11,11 +12,10 @@ use Rattle.dbformat.specs.FixedPages.{geometry_of}
 use Rattle.dbformat.specs.File.{refusal_of}
 use Rattle.dbformat.specs.FixedPages.{lock_page, is_map_position}
 use Rattle.dbformat.specs.Header.{magic, stored_page_sizes}
-use Rattle.dbformat.specs.HeaderFaults.{version_faults, fraction_faults, expansion_fault, header_faults}
+use Rattle.dbformat.specs.HeaderFaults.{byte_fault, version_faults, fraction_faults, expansion_byte, expansion_fault, header_faults}
 use Rattle.dbformat.specs.Tests.{first_true, all_true}
 use Rattle.dbformat.specs.Faults.{fault}
 use Rattle.dbformat.specs.declared.Fault.{Fault}
-use Rattle.dbformat.specs.declared.FaultCode.{FaultCode}
 use Rattle.dbformat.specs.declared.FaultCode.TheVariants.{H03, H04, H05, H06, H07}
 use Rattle.dbformat.specs.declared.Geometry.{Geometry}
 use Rattle.dbformat.specs.declared.Refusal.{Refusal}
@@ -115,21 +115,34 @@ refusal_within file len =
     ∙ ap (λ x. refusal_by (take 16 file) (u16_at 16 file) x len) (geometry_within file len)
     ∙ sym (refusal_is file len)
 
--- the first of some bytes that is not zero, as a fault
-abbrev first_nonzero : FaultCode → (ℕ → ℕ) → ℕ → ℕ → List Fault
-first_nonzero code byte from n = map (λ i. fault code 1 i (pos (byte i))) (take 1 (filter (λ i. not (byte i == 0)) (range_with_len from n)))
+-- the first of some bytes that is not zero
+abbrev first_nonzero : (ℕ → ℕ) → ℕ → ℕ → Option ℕ
+first_nonzero byte from n = find (λ i. not (byte i == 0)) (range_with_len from n)
 
-first_nonzero_same : (code : FaultCode) (f g : ℕ → ℕ) (from n : ℕ) → ((i : ℕ) → i < from + n → f i ≡ g i) → first_nonzero code f from n ≡ first_nonzero code g from n
-first_nonzero_same code f g from zero h = refl
-first_nonzero_same code f g from (suc n) h =
+first_nonzero_same : (f g : ℕ → ℕ) (from n : ℕ) → ((i : ℕ) → i < from + n → f i ≡ g i) → first_nonzero f from n ≡ first_nonzero g from n
+first_nonzero_same f g from zero h = refl
+first_nonzero_same f g from (suc n) h =
     let here : f from ≡ g from = h from (omega arith) in
-    let rest = first_nonzero_same code f g (from + 1) n (λ i k. h i (omega arith)) in
-    rw here (pick _ _ (not (g from == 0)) from _ _ rest (ap (λ x. fault code 1 from (pos x)) here))
+    rw (here, first_nonzero_same f g (from + 1) n (λ i k. h i (omega arith))) refl
+
+-- and the fault of it
+nonzero_fault : (f g : ℕ → ℕ) (o : Option ℕ) → ((i : ℕ) → i < 92 → f i ≡ g i) → IfSome o (λ i. i < 92)
+    → option_to_list (option_map (λ i. fault H05 1 i (pos (f i))) o) ≡ option_to_list (option_map (λ i. fault H05 1 i (pos (g i))) o)
+nonzero_fault f g None h k = refl
+nonzero_fault f g (Some i) h k = rw (h i k) refl
+
+first_below : (f : ℕ → ℕ) (from n : ℕ) → IfSome (first_nonzero f from n) (λ i. i < from + n)
+first_below f from zero = tt
+first_below f from (suc n) =
+    let rest : IfSome (first_nonzero f (from + 1) n) (λ i. i < from + suc n) = weaker (first_nonzero f (from + 1) n) (first_below f (from + 1) n) in
+    either (λ i. i < from + suc n) (not (f from == 0)) from (first_nonzero f (from + 1) n) (omega arith) rest
   where
-    pick : (F G : ℕ → Fault) (b : Bool) (x : ℕ) (xs ys : List ℕ) → map F (take 1 xs) ≡ map G (take 1 ys) → F x ≡ G x
-        → map F (take 1 (cond b (x ∷ xs) xs)) ≡ map G (take 1 (cond b (x ∷ ys) ys))
-    pick F G true x xs ys rest here = ap (λ y. y ∷ []) here
-    pick F G false x xs ys rest here = rest
+    either : (P : ℕ → Type 0) (b : Bool) (i : ℕ) (o : Option ℕ) → P i → IfSome o P → IfSome (cond b (Some i) o) P
+    either P true i o h k = h
+    either P false i o h k = k
+    weaker : (o : Option ℕ) → IfSome o (λ i. i < from + 1 + n) → IfSome o (λ i. i < from + suc n)
+    weaker None h = h
+    weaker (Some i) h = omega arith
 
 version_within : (file : List ℕ) → version_faults (take 100 file) ≡ version_faults file
 version_within file = rw (byte_within 18 file (omega arith), byte_within 19 file (omega arith)) refl
@@ -138,7 +151,10 @@ fraction_within : (file : List ℕ) → fraction_faults (take 100 file) ≡ frac
 fraction_within file = rw (byte_within 21 file (omega arith), byte_within 22 file (omega arith), byte_within 23 file (omega arith)) refl
 
 expansion_within : (file : List ℕ) → expansion_fault (take 100 file) ≡ expansion_fault file
-expansion_within file = first_nonzero_same H05 (slice_index (take 100 file)) (slice_index file) 72 20 (λ i h. byte_within i file (omega arith))
+expansion_within file =
+    let same : (i : ℕ) → i < 92 → slice_index (take 100 file) i ≡ slice_index file i = λ i h. byte_within i file (omega arith) in
+    nonzero_fault (slice_index (take 100 file)) (slice_index file) (expansion_byte (take 100 file)) same (first_below (slice_index (take 100 file)) 72 20)
+    ∙ ap (λ o. option_to_list (option_map (byte_fault H05 file) o)) (first_nonzero_same (slice_index (take 100 file)) (slice_index file) 72 20 same)
 
 -- the faults that numbers of the header have, by these
 abbrev format_faults : ℕ → ℕ → List Fault

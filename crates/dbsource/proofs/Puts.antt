@@ -86,7 +86,7 @@ stream_stop o m n piece at p q = record {
   added = appends_kept o m n (take at piece) p q;
 }
 
-pub flat_map_split : {X : Type 0} (f : X → List ℕ) (xs : List X) (i : ℕ) (z : X) → i < length xs
+pub flat_map_split : {X Y : Type 0} (f : X → List Y) (xs : List X) (i : ℕ) (z : X) → i < length xs
     → flat_map f xs ≡ (flat_map f (take i xs) ++ f (get_or xs i z)) ++ flat_map f (drop (i + 1) xs)
 flat_map_split f xs i z h =
     let a : flat_map f (take (i + 1) xs ++ drop (i + 1) xs) ≡ flat_map f (take (i + 1) xs) ++ flat_map f (drop (i + 1) xs) = flat_map-append f _ _ in

@@ -1,0 +1,9 @@
+//! What is told of a database: its faults, as the lines of a report, and the verdict.
+#![tactic(auto)]
+
+mod check;
+mod code_text;
+mod header_faults;
+mod lines;
+
+pub use dbformat::{Command, Fault, FaultCode, Verdict};
