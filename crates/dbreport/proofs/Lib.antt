@@ -1,1 +1,4 @@
+pub mod FirstPage
+pub mod PlainReads
+pub mod PlainReports
 pub mod Shown

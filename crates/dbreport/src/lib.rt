@@ -5,5 +5,8 @@ mod check;
 mod code_text;
 mod header_faults;
 mod lines;
+mod plain;
+mod runs;
 
-pub use dbformat::{Command, Fault, FaultCode, Verdict};
+pub use dbformat::{Command, Verdict};
+pub use runs::{run, run_in};

@@ -42,3 +42,8 @@ has_append {step} P Q {R} {old} {mid} {new} h k f = record {
   leads = fold-append step old h.log k.log ∙ (rw h.leads k.leads);
   holds = f h.log k.log h.holds k.holds;
 }
+
+-- of what was read, something weaker
+pub has_weaker : {step : List ByteRange → ByteRange → List ByteRange} (P : List ByteRange → Type 0) {Q : List ByteRange → Type 0} {old new : List ByteRange}
+    → HasLog step P old new → ((log : List ByteRange) → P log → Q log) → HasLog step Q old new
+has_weaker P h f = record { log = h.log; leads = h.leads; holds = f h.log h.holds }

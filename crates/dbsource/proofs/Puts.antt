@@ -28,7 +28,7 @@ keeps_from_nothing None n h = tt
 keeps_from_nothing (Some x) None h = absurd h
 keeps_from_nothing (Some x) (Some y) h = h ∙ append-nil x
 
-appends_nothing : (o : Option (List ℕ)) → Appends o o []
+pub appends_nothing : (o : Option (List ℕ)) → Appends o o []
 appends_nothing None = tt
 appends_nothing (Some x) = sym (append-nil x)
 

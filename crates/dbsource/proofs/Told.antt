@@ -8,3 +8,7 @@ if_told (Some a) f h = f a h
 pub if_told_both : {A : Type 0} {P Q R : A → Type 0} (o : Option A) → ((a : A) → P a → Q a → R a) → IfSome o P → IfSome o Q → IfSome o R
 if_told_both None f h k = h
 if_told_both (Some a) f h k = f a h k
+
+pub told_all : {A : Type 0} {P : A → Type 0} (o : Option A) → ((a : A) → P a) → IfSome o P
+told_all None f = tt
+told_all (Some a) f = f a

@@ -1,0 +1,46 @@
+-- What an answer of a run says of the file, and of what failed.
+use Rattle.std.specs.Prelude.{◌≡◌, ℕ, true, false, List, [], ◌∷◌, None, Some, Option, Result, Ok, Err, MatchResult}
+use Rattle.std.specs.Io.KnownBytes.{Appends}
+use Rattle.dbformat.specs.File.{refusal}
+use Rattle.dbformat.specs.Log.{page_range}
+use Rattle.dbformat.specs.Plain.{is_plain}
+use Rattle.dbformat.specs.declared.ByteRange.{ByteRange}
+use Rattle.dbsource.specs.Failures.{one_more}
+use Rattle.dbsource.specs.Outs.{Begins}
+use Rattle.dbsource.specs.declared.error.RunError.{RunError}
+use Rattle.dbsource.specs.declared.error.RunError.TheVariants.{NotYet, Refused, ReadFailed, OutOfMemory, WriteFailed}
+
+-- A refused file is answered its refusal or a failed read; any other never a refusal, a verdict where it is plain, and
+-- that it needs a later stage where it is not.
+abbrev pub IsAnswerOf : {A : Type 0} → Result A RunError → List ℕ → Type 0
+IsAnswerOf (Ok a) file = (refusal file ≡ None) × (is_plain file ≡ true)
+IsAnswerOf (Err NotYet) file = (refusal file ≡ None) × (is_plain file ≡ false)
+IsAnswerOf (Err (Refused r)) file = refusal file ≡ Some r
+IsAnswerOf (Err ReadFailed) file = Unit {0}
+IsAnswerOf (Err OutOfMemory) file = refusal file ≡ None
+IsAnswerOf (Err WriteFailed) file = (refusal file ≡ None) × (is_plain file ≡ true)
+
+-- an Out holds what it had and then its part of the report, or at an error a beginning of it
+abbrev pub Writes : {A E : Type 0} → Result A E → Option (List ℕ) → Option (List ℕ) → List ℕ → Type 0
+Writes r old new part = MatchResult r (λ _. Appends old new part) (λ _. Begins old new part)
+
+-- the source failed once exactly if the answer says so
+abbrev pub reads_failed : {A : Type 0} → Result A RunError → ℕ → ℕ
+reads_failed (Err ReadFailed) failures = one_more failures
+reads_failed r failures = failures
+
+-- an Out failed once exactly if the answer says so
+abbrev pub writes_failed : {A : Type 0} → Result A RunError → ℕ → ℕ
+writes_failed (Err WriteFailed) failures = one_more failures
+writes_failed r failures = failures
+
+-- only a verdict, or a failed write, comes after a put
+abbrev pub IsUnwritten : {A X : Type 0} → Result A RunError → X → X → Type 0
+IsUnwritten (Ok a) old new = Unit {0}
+IsUnwritten (Err WriteFailed) old new = Unit {0}
+IsUnwritten r old new = new ≡ old
+
+-- What a read of page 1 asks for, where pages have this size: that page, once, or nothing where memory was refused.
+abbrev pub IsPageRead : {A : Type 0} → Result A RunError → ℕ → List ByteRange → Type 0
+IsPageRead (Err OutOfMemory) size log = log ≡ []
+IsPageRead r size log = log ≡ page_range size 1 ∷ []
