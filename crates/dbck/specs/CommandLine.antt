@@ -1,0 +1,42 @@
+-- The command line, as `clap` sees it, and what a line that it takes says.
+use Rattle.std.specs.Prelude.{◌≡◌, ◌≤◌, pos, true, List, [], ◌∷◌, Option, Some, codes}
+use Rattle.clap.specs.Words.{App, Row, Rule, Text, first_of, new_app, new_rule, with_rule, with_subcommand}
+use Rattle.clap.specs.declared.builder.value_parser.ValueParser.TheVariants as parser
+use Rattle.dbformat.specs.declared.Command.{Command}
+use Rattle.dbformat.specs.declared.Command.TheVariants.{Check}
+
+-- the file, which is required
+abbrev pub file_rule : Rule
+file_rule = record (new_rule (codes "FILE")) { required = true }
+
+-- the limit, from 1 to 1000000, and 100 where it is not given
+abbrev pub limit_rule : Rule
+limit_rule = record (new_rule (codes "N")) {
+  long = Some (codes "limit");
+  parser = Some (parser.Signed (pos 1) (pos 1000000));
+  defaults = codes "100" ∷ [];
+}
+
+-- the subcommand check, with its limit and its file
+abbrev pub check_app : App
+check_app = with_rule (with_rule (new_app (codes "check")) limit_rule) file_rule
+
+abbrev pub top_app : App
+top_app = let a = new_app (codes "dbck") in record a { top = record a.top { subcommand_required = true } }
+
+-- `dbck`, whose subcommand is required
+abbrev pub dbck_app : App
+dbck_app = with_subcommand top_app check_app.top
+
+-- the subcommand that asks for this
+abbrev pub name_of : Command → Text
+name_of (Check limit) = codes "check"
+
+abbrev pub HasLimit : Command → Type 0
+HasLimit (Check limit) = (1 ≤ limit) × (limit ≤ 1000000)
+
+-- what is asked, and the file, are those of the subcommand that the words name
+pub record Says (command : Command) (file : Text) (met : Option (Text × List Row)) : Type 0 where
+  pub rows : List Row
+  pub named : met ≡ Some (name_of command, rows)
+  pub file_given : first_of (codes "FILE") rows ≡ Some file

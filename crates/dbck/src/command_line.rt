@@ -1,0 +1,132 @@
+// The command line of the program.
+ghost use Rattle.std.specs.Prelude.{◌≡◌, ℕ, IfOk, IfSome, map, false};
+ghost use Rattle.clap.specs.Words.{app_of, new_app, subcommand_of, rule_of};
+ghost use Rattle.clap.specs.declared.builder.command.Command.TheViews.{out-Command as fields_of};
+ghost use Rattle.dbck.specs.CommandLine.{dbck_app, check_app, file_rule, limit_rule, name_of, Says, HasLimit};
+
+use clap::{Arg, ArgMatches, Command as Words, value_parser};
+use dbreport::Command;
+use std::alloc::{AllocError, Global};
+use thiserror::Error;
+
+/// What the words of a command line ask for.
+#[derive(Clone, Copy)]
+pub struct Line<'a> {
+    /// What is asked of the file.
+    pub command: Command,
+    /// Where the file is.
+    pub file: &'a str,
+}
+
+/// Why a command line is not one of the program's, or that it asks for help.
+#[derive(Debug, Drop, Error)]
+pub enum LineError {
+    /// What the parser of the words says.
+    #[error(transparent)]
+    Words(#[from] clap::Error),
+    /// The limit passed the parser, and is no number from 1 to 1000000 all the same.
+    #[error("error: the limit is not a number from 1 to 1000000")]
+    Limit,
+    /// A word is not UTF-8.
+    #[error("error: a word of the command line is not UTF-8")]
+    NotText,
+}
+
+const ABOUT: &str = "Checks the structure of a SQLite 3 database file, which it only reads";
+
+const CHECK_ABOUT: &str = "Writes a line for each fault of the file, or 'ok'";
+
+const STATUSES: &str = "Exit status:
+  0  no fault was found, or help was asked for
+  1  the file has faults
+  2  the command line is wrong
+  3  the file is no database that is checked (E1 to E7)
+  4  the file cannot be read (E8)
+  5  out of memory (E9)
+  6  the output cannot be written (E10)
+  7  the file needs a later stage of the program (E0)";
+
+fn file_arg<'a>(alloc: Global) -> Arg<'a>
+    ensures rule { rule_of result ≡ file_rule }
+    ensures local { result.global ≡ false }
+{
+    Arg::new(alloc, "FILE")
+        .required(true)
+        .help("The database file")
+}
+
+fn limit_arg<'a>(alloc: Global) -> Arg<'a>
+    ensures rule { rule_of result ≡ limit_rule }
+    ensures local { result.global ≡ false }
+{
+    Arg::new(alloc, "N")
+        .long("limit")
+        .value_parser(value_parser!(u32).range(1..1000001))
+        .default_value("100")
+        .help("How many fault lines are written at most, from 1 to 1000000")
+}
+
+// A command of this name, with the text at the top of its help.
+fn described<'a>(alloc: Global, name: &'a str, about: &'a str) -> Words<'a>
+    ensures app { app_of result ≡ new_app name.entry.now }
+    ensures local { (fields_of result).has_globals ≡ false }
+{
+    Words::new(alloc, name).about(about)
+}
+
+fn check_command<'a>(alloc: Global) -> Result<Words<'a>, AllocError>
+    ensures { IfOk result (λ c. (app_of c ≡ check_app) × ((fields_of c).has_globals ≡ false)) }
+{
+    described(alloc, "check", CHECK_ABOUT)
+        .arg(limit_arg(alloc))?
+        .arg(file_arg(alloc))
+}
+
+fn dbck_command<'a>(alloc: Global) -> Result<Words<'a>, clap::Error>
+    ensures { IfOk result (λ c. app_of c ≡ dbck_app) }
+{
+    let command = described(alloc, "dbck", ABOUT)
+        .after_help(STATUSES)
+        .subcommand_required(true)
+        .subcommand(check_command(alloc)?)?;
+    Ok(command)
+}
+
+// What the subcommand that was met asks for.
+fn command_of(name: &str, given: &ArgMatches<'_>) -> Option<Command>
+    ensures named { IfSome result (λ command. name.now ≡ name_of command) }
+    ensures limit { IfSome result HasLimit }
+{
+    if name != "check" {
+        return None;
+    }
+    let limit = given.get_one::<u32>("N")?;
+    if limit < 1 || limit > 1000000 {
+        return None;
+    }
+    Some(Command::Check { limit })
+}
+
+/// What the words ask for. The first of them is the program's name.
+///
+/// # Errors
+///
+/// [`LineError::Words`] where they ask for help, where they are no command line of the program, or for want of memory;
+/// its kind says which.
+pub fn line_of<'a>(alloc: Global, words: &'a [&'a str]) -> Result<Line<'a>, LineError>
+    ensures says { IfOk result (λ line. Says line.command line.file.now (subcommand_of dbck_app (map (λ word. word.now) words.entry.now))) }
+    ensures limit { IfOk result (λ line. HasLimit line.command) }
+{
+    let command = dbck_command(alloc)?;
+    let matches = command.try_get_matches_from(words)?;
+    let Some((name, given)) = matches.subcommand() else {
+        return Err(LineError::Limit);
+    };
+    let Some(file) = given.get_str("FILE") else {
+        return Err(LineError::Limit);
+    };
+    match command_of(name, given) {
+        Some(command) => Ok(Line { command, file }),
+        None => Err(LineError::Limit),
+    }
+}

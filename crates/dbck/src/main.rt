@@ -1,0 +1,69 @@
+//! `dbck`: checks the structure of a SQLite 3 database file.
+#![tactic(auto)]
+
+mod command_line;
+mod finishing;
+mod status;
+
+use command_line::{Line, LineError, line_of};
+use dbsource::{FileSource, StreamOut};
+use finishing::finish;
+use status::line_status;
+use std::alloc::AllocError;
+use std::env;
+use std::io::ErrorKind;
+use std::process::ExitCode;
+
+// Why no words were read, as an error of the line.
+fn words_error(kind: ErrorKind) -> LineError {
+    match kind {
+        ErrorKind::OutOfMemory => LineError::from(clap::Error::from(AllocError)),
+        _ => LineError::NotText,
+    }
+}
+
+// The words of the command line, the program's name first.
+fn words_of(rt: &HostRuntime) -> Result<Vec<String>, LineError> {
+    match env::args(rt) {
+        Ok(words) => Ok(words.collect(rt.alloc()).map_err(clap::Error::from)?),
+        Err(error) => Err(words_error(error.kind())),
+    }
+}
+
+// Runs what a line asks for.
+fn run_line(rt: &HostRuntime, line: Line<'_>) -> u8 {
+    let mut out = StreamOut::new(rt.stdout());
+    let mut err = StreamOut::new(rt.stderr());
+    let opened = FileSource::open(rt, line.file);
+    finish(rt.alloc(), line.command, opened, &mut out, &mut err)
+}
+
+// Runs what the words ask for.
+fn run_words(rt: &HostRuntime) -> Result<u8, LineError> {
+    let words = words_of(rt)?;
+    let mut texts: Vec<&str> = Vec::new(rt.alloc());
+    for word in words.iter() {
+        texts.push(word.as_str()).map_err(clap::Error::from)?;
+    }
+    let line = line_of(rt.alloc(), texts.as_slice())?;
+    Ok(run_line(rt, line))
+}
+
+// Tells why the words are no command line, or the help that they ask for, and answers the status.
+fn tell(rt: &HostRuntime, error: &LineError) -> u8 {
+    let status = line_status(error);
+    let _ = match error {
+        LineError::Words(_) if status == 5 => rt.eprintln("dbck: E9 out of memory"),
+        LineError::Words(error) => error.print(rt),
+        _ => rt.eprintln(error),
+    };
+    status
+}
+
+fn main(rt: HostRuntime) -> ExitCode {
+    let status = match run_words(&rt) {
+        Ok(status) => status,
+        Err(error) => tell(&rt, &error),
+    };
+    ExitCode::from(status)
+}
