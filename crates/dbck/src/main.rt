@@ -4,6 +4,8 @@
 mod command_line;
 mod finishing;
 mod status;
+#[cfg(test)]
+mod tests;
 
 use command_line::{Line, LineError, line_of};
 use dbsource::{FileSource, StreamOut};

@@ -6,7 +6,7 @@ ghost use Rattle.dbsource.specs.Sources.{no_step};
 use crate::{ReadFailed, Source};
 use std::fs;
 use std::fs::File;
-use std::os::unix::fs::FileExt;
+use std::os::unix::fs::{FileExt, FileTypeExt};
 use std::rt::Files;
 
 /// A file that is only read. Nothing is known of the bytes that it gives: it tells none.
@@ -21,8 +21,12 @@ impl FileSource {
     ///
     /// # Errors
     ///
-    /// [`ReadFailed`] where it cannot be opened.
+    /// [`ReadFailed`] where it cannot be opened, or is a named pipe: opening one would wait for its writer.
     pub fn open<R: Files<File = File>>(rt: &R, path: &str) -> Result<FileSource, ReadFailed> {
+        match fs::metadata(rt, path) {
+            Ok(metadata) if !metadata.file_type().is_fifo() => {}
+            _ => return Err(ReadFailed),
+        }
         match fs::open(rt, path) {
             Ok(file) => Ok(FileSource { file, failures: 0 }),
             Err(_) => Err(ReadFailed),

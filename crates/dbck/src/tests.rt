@@ -1,0 +1,216 @@
+// Tests of the texts and statuses that no clause says.
+use crate::command_line::{LineError, line_of};
+use crate::finishing::finish;
+use crate::status::line_status;
+use dbfiles::{base_file, patch};
+use dbreport::Command;
+use dbsource::{MemOut, MemSource, Out, ReadFailed, WriteFailed};
+use std::test::Fail;
+
+const HELP: &str = "Checks the structure of a SQLite 3 database file, which it only reads
+
+Usage: dbck <COMMAND>
+
+Commands:
+  check  Writes a line for each fault of the file, or 'ok'
+  help   Print this message or the help of the given subcommand(s)
+
+Options:
+  -h, --help  Print help
+
+Exit status:
+  0  no fault was found, or help was asked for
+  1  the file has faults
+  2  the command line is wrong
+  3  the file is no database that is checked (E1 to E7)
+  4  the file cannot be read (E8)
+  5  out of memory (E9)
+  6  the output cannot be written (E10)
+  7  the file needs a later stage of the program (E0)
+";
+
+const CHECK_HELP: &str = "Writes a line for each fault of the file, or 'ok'
+
+Usage: dbck check [OPTIONS] <FILE>
+
+Arguments:
+  <FILE>  The database file
+
+Options:
+      --limit <N>  How many fault lines are written at most, from 1 to 1000000 [default: 100]
+  -h, --help       Print help
+";
+
+// Lines that are taken: the limit that they ask for. The file is x in each.
+#[test]
+fn takes_lines(rt: HostRuntime) -> Result<(), Fail> {
+    let lines: [(&[&str], u32); 5] = [
+        (&["dbck", "check", "x"], 100),
+        (&["dbck", "check", "--limit", "1", "x"], 1),
+        (&["dbck", "check", "x", "--limit=1000000"], 1000000),
+        (&["dbck", "check", "--limit", "+7", "x"], 7),
+        (&["dbck", "check", "--", "x"], 100),
+    ];
+    for (words, limit) in lines {
+        match line_of(rt.alloc(), words) {
+            Ok(line) => {
+                assert!(rt; line.command == Command::Check { limit });
+                assert!(rt; line.file == "x");
+            }
+            Err(_) => assert!(rt; false, "a line of limit {limit}"),
+        }
+    }
+    Ok(())
+}
+
+// Lines that are not: the status, and how the text begins.
+#[test]
+fn refuses_lines(rt: HostRuntime) -> Result<(), Fail> {
+    let lines: [(&[&str], u8, &str); 12] = [
+        (&["dbck", "--help"], 0, HELP),
+        (&["dbck", "help"], 0, HELP),
+        (&["dbck", "check", "--help"], 0, CHECK_HELP),
+        (
+            &["dbck"],
+            2,
+            "error: 'dbck' requires a subcommand but one was not provided\n",
+        ),
+        (
+            &["dbck", "check"],
+            2,
+            "error: the following required arguments were not provided:\n  <FILE>\n",
+        ),
+        (
+            &["dbck", "check", "--limit", "0", "x"],
+            2,
+            "error: invalid value '0' for '--limit <N>'",
+        ),
+        (
+            &["dbck", "check", "--limit", "1000001", "x"],
+            2,
+            "error: invalid value '1000001' for '--limit <N>'",
+        ),
+        (
+            &["dbck", "check", "--limit", "five", "x"],
+            2,
+            "error: invalid value 'five' for '--limit <N>'",
+        ),
+        (
+            &["dbck", "check", "--limit", "1", "--limit", "2", "x"],
+            2,
+            "error: the argument '--limit <N>' cannot be used multiple times\n",
+        ),
+        (
+            &["dbck", "check", "x", "y"],
+            2,
+            "error: unexpected argument 'y' found\n",
+        ),
+        (
+            &["dbck", "--version"],
+            2,
+            "error: unexpected argument '--version' found\n",
+        ),
+        (
+            &["dbck", "repair", "x"],
+            2,
+            "error: unrecognized subcommand 'repair'\n",
+        ),
+    ];
+    for (words, status, text) in lines {
+        match line_of(rt.alloc(), words) {
+            Ok(_) => assert!(rt; false, "{text}"),
+            Err(error) => {
+                assert!(rt; line_status(&error) == status, "{text}");
+                let shown = error.to_string(rt.alloc())?;
+                assert!(rt;
+                    shown.as_str().as_bytes().starts_with(text.as_bytes()),
+                    "{text}"
+                );
+                assert!(rt;
+                    status == 2 || shown.as_str().as_bytes() == text.as_bytes(),
+                    "{text}"
+                );
+            }
+        }
+    }
+    let not_text = LineError::NotText.to_string(rt.alloc())?;
+    assert!(rt; not_text.as_str() == "error: a word of the command line is not UTF-8");
+    assert!(rt; line_status(&LineError::NotText) == 2);
+    assert!(rt; line_status(&LineError::Limit) == 2);
+    Ok(())
+}
+
+// An out that takes nothing.
+#[derive(Drop)]
+struct NoRoom {
+    failures: u64,
+}
+
+impl Out for NoRoom {
+    ghost use Rattle.std.specs.Prelude.{None};
+
+    ghost holds = { λ _. None };
+
+    ghost failures = { λ s. s.failures };
+
+    fn put(&mut self, _piece: &[u8]) -> Result<(), WriteFailed> {
+        self.failures = self.failures.wrapping_add(1);
+        Err(WriteFailed)
+    }
+}
+
+// What is patched at a place of the smallest file, the status, and what stands in the two outs.
+const RUNS: [(usize, u8, u8, &str, &str); 7] = [
+    (18, 1, 0, "ok\n", ""),
+    (
+        18,
+        3,
+        1,
+        "H01 page 1 item 18 value 3: file version is not 1 or 2\n",
+        "",
+    ),
+    (0, 0, 3, "", "dbck: E2 file is not a SQLite 3 database\n"),
+    (16, 3, 3, "", "dbck: E3 page size is not valid\n"),
+    (20, 33, 3, "", "dbck: E4 usable size is below 480\n"),
+    (16, 4, 3, "", "dbck: E5 file has no whole page\n"),
+    (107, 1, 7, "", "dbck: E0 this file needs a later stage\n"),
+];
+
+#[test]
+fn finishes(rt: HostRuntime) -> Result<(), Fail> {
+    for (at, byte, status, written, told) in RUNS {
+        let mut file = base_file(rt.alloc(), 512, 1)?;
+        assert!(rt; at < 512);
+        patch(file.as_mut_slice(), at, &[byte]);
+        let mut out = MemOut::new(rt.alloc());
+        let mut err = MemOut::new(rt.alloc());
+        let command = Command::Check { limit: 100 };
+        let opened = Ok(MemSource::new(file.as_slice()));
+        let found = finish(rt.alloc(), command, opened, &mut out, &mut err);
+        assert!(rt; found == status, "byte {at}");
+        assert!(rt; out.bytes() == written.as_bytes(), "byte {at}");
+        assert!(rt; err.bytes() == told.as_bytes(), "byte {at}");
+    }
+    Ok(())
+}
+
+// A file that is not opened, or has no bytes, and outs that take nothing: the line of the error changes no status.
+#[test]
+fn finishes_without_file_or_room(rt: HostRuntime) -> Result<(), Fail> {
+    let command = Command::Check { limit: 100 };
+    let file = base_file(rt.alloc(), 512, 1)?;
+    let mut out = MemOut::new(rt.alloc());
+    let mut err = MemOut::new(rt.alloc());
+    let mut no_room = NoRoom { failures: 0 };
+    let missing: Result<MemSource<'_>, ReadFailed> = Err(ReadFailed);
+    assert!(rt; finish(rt.alloc(), command, missing, &mut out, &mut err) == 4);
+    assert!(rt; err.bytes() == "dbck: E8 the file cannot be read\n".as_bytes());
+    let empty = Ok(MemSource::new(&[]));
+    assert!(rt; finish(rt.alloc(), command, empty, &mut out, &mut no_room) == 3);
+    let mut told = MemOut::new(rt.alloc());
+    let opened = Ok(MemSource::new(file.as_slice()));
+    assert!(rt; finish(rt.alloc(), command, opened, &mut no_room, &mut told) == 6);
+    assert!(rt; told.bytes() == "dbck: E10 the output cannot be written\n".as_bytes());
+    assert!(rt; out.bytes().is_empty());
+    Ok(())
+}

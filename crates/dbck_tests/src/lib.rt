@@ -1,0 +1,13 @@
+//! Tests of the crates below the program, on whole files.
+#![tactic(auto)]
+
+#[cfg(test)]
+mod fakes;
+#[cfg(test)]
+mod files;
+#[cfg(test)]
+mod headers;
+#[cfg(test)]
+mod outs;
+#[cfg(test)]
+mod runs;
