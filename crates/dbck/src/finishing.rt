@@ -1,9 +1,14 @@
 // From an opened file to an exit status.
-ghost use Rattle.std.specs.Prelude.{◌≡◌};
+ghost use Rattle.std.specs.Prelude.{◌≡◌, List, IfOk, IfSome, IsErr};
+ghost use Rattle.dbformat.specs.Reference.{Reference};
+ghost use Rattle.dbformat.specs.Report.{report};
+ghost use Rattle.dbformat.specs.Survey.{Survey};
+ghost use Rattle.dbck.specs.Exit.{IsExit};
+ghost use Rattle.dbck.specs.Status.{exit_status};
 
 use crate::status::status_of;
 use arrayvec::ArrayString;
-use dbreport::{Command, run};
+use dbreport::{Command, Verdict, run};
 use dbsource::{Out, ReadFailed, RunError, Source};
 use std::alloc::Global;
 use std::fmt::Write;
@@ -16,6 +21,30 @@ fn put_error<E: Out>(err: &mut E, error: RunError) {
     }
 }
 
+// Tells an error, and answers the status of the outcome.
+fn end<E: Out>(err: &mut E, outcome: Result<Verdict, RunError>) -> u8
+    ensures { result ≡ exit_status outcome }
+{
+    if let Err(error) = outcome {
+        put_error(err, error);
+    }
+    status_of(&outcome)
+}
+
+// Runs `command` on the file that was opened.
+fn finish_opened<S: Source, O: Out, E: Out>(
+    alloc: Global,
+    command: Command,
+    source: &mut S,
+    out: &mut O,
+    err: &mut E,
+) -> u8
+    ensures { IfSome (S.tells source.old) (λ file. (V : List Reference) → Survey file V → IsExit result (report command file V) (O.holds out.old) (O.holds out.new)) }
+{
+    let outcome = run(alloc, command, source, out, err);
+    end(err, outcome)
+}
+
 /// Runs `command` on the file that was opened, or that could not be, and answers the exit status. After an error its line
 /// is put to `err`, if that can be.
 pub fn finish<S: Source + Drop, O: Out, E: Out>(
@@ -24,13 +53,12 @@ pub fn finish<S: Source + Drop, O: Out, E: Out>(
     opened: Result<S, ReadFailed>,
     out: &mut O,
     err: &mut E,
-) -> u8 {
-    let outcome = match opened {
-        Ok(mut source) => run(alloc, command, &mut source, out, err),
-        Err(error) => Err(RunError::from(error)),
-    };
-    if let Err(error) = outcome {
-        put_error(err, error);
+) -> u8
+    ensures opened { IfOk opened (λ source. IfSome (S.tells source) (λ file. (V : List Reference) → Survey file V → IsExit result (report command file V) (O.holds out.old) (O.holds out.new))) }
+    ensures unopened { IsErr opened → result ≡ 4 }
+{
+    match opened {
+        Ok(mut source) => finish_opened(alloc, command, &mut source, out, err),
+        Err(error) => end(err, Err(RunError::from(error))),
     }
-    status_of(&outcome)
 }
