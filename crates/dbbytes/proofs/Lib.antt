@@ -1,0 +1,9 @@
+pub mod BodyLemmas
+pub mod KeptLemmas
+pub mod ListLemmas
+pub mod NameLemmas
+pub mod RecordLemmas
+pub mod SieveLemmas
+pub mod UnitLemmas
+pub mod VarintLemmas
+pub mod WholeLemmas

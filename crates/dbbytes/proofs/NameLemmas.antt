@@ -1,0 +1,110 @@
+-- How a name is put, piece by piece.
+use Rattle.std.proofs.Common.{◌≡◌, ℕ, suc, ◌+◌, ◌/◌, ◌%◌, ◌<◌, ◌≤◌, true, false, List, [], ◌∷◌, ◌++◌, length, take, drop, get_or, Option, Result, Ok, Err, eqb, refl, sym, ap, ◌∙◌, inl, inr, arith, append_assoc, append-nil, add-one, drop-cons}
+use Rattle.std.specs.Prelude.{IsTrue}
+use Rattle.std.specs.Fmt.{digits, digits_onto, digit_glyph}
+use Rattle.std.specs.List.{flat_map}
+use Rattle.std.proofs.lemmas.Bool.{cases_lt}
+use Rattle.std.proofs.lemmas.Bool.Decides.{nat_tests}
+use Rattle.std.proofs.lemmas.Grind.{flat_map-append}
+use Rattle.std.proofs.lemmas.List.{take-append-drop, take_more, drop-drop, drop_all, length-drop}
+use Rattle.dbformat.specs.Text.{escape_byte, hex_text}
+use Rattle.dbsource.specs.Outs.{Puts}
+use Rattle.dbsource.specs.declared.out.WriteFailed.{WriteFailed}
+use Rattle.dbsource.proofs.Puts.{puts_none, puts_then, puts_stop}
+use Rattle.dbbytes.specs.Escapes.{is_escaped}
+use Rattle.dbbytes.specs.Units.{text_of}
+use Rattle.dbbytes.specs.declared.text.Order.{Order}
+
+-- The two hexadecimal digits of a byte.
+one_digit : (k n : ℕ) → n < 16 → digits_onto (suc k) 16 false n [] ≡ digit_glyph false (n % 16) ∷ []
+one_digit k n h = let e : eqb (n / 16) 0 ≡ true = grind (arith, nat_tests) in rw e refl
+
+two_digits : (k n : ℕ) → 16 ≤ n → n < 256 → digits_onto (suc (suc k)) 16 false n [] ≡ digit_glyph false (n / 16 % 16) ∷ digit_glyph false (n % 16) ∷ []
+two_digits k n h m =
+    let e : eqb (n / 16) 0 ≡ false = grind (arith, nat_tests) in
+    let f : eqb (n / 16 / 16) 0 ≡ true = grind (arith, nat_tests) in
+    rw (e, f) refl
+
+pub hex_byte : (n : ℕ) → n < 256 → digit_glyph false (n / 16) ∷ digit_glyph false (n % 16) ∷ [] ≡ hex_text 2 n
+unfolding digits
+hex_byte n h = elim (cases_lt n 16) [
+  | inl small ↦ (let none : n / 16 ≡ 0 = omega arith in rw (one_digit 63 n small, none) refl)
+  | inr large ↦ (let all : n / 16 % 16 ≡ n / 16 = omega arith in rw (two_digits 62 n large h, all) refl)
+]
+
+plain_byte : (c : ℕ) → is_escaped c ≡ false → escape_byte c ≡ c ∷ []
+plain_byte c h = rw h refl
+
+-- an escaped byte is written by its code
+pub escaped_byte : (c : ℕ) → is_escaped c ≡ true → escape_byte c ≡ 92 ∷ 120 ∷ hex_text 2 c
+escaped_byte c h = rw h refl
+
+-- one more byte that stands as it is
+pub plain_more : (xs : List ℕ) (i : ℕ) → i < length xs → flat_map escape_byte (take i xs) ≡ take i xs → is_escaped (get_or xs i 0) ≡ false
+    → flat_map escape_byte (take (i + 1) xs) ≡ take (i + 1) xs
+plain_more xs i h e p =
+    let next : take (i + 1) xs ≡ take i xs ++ get_or xs i 0 ∷ [] = take_more xs i 0 h in
+    rw (next, flat_map-append escape_byte (take i xs) (get_or xs i 0 ∷ []), e) (ap (λ w. take i xs ++ w) (append-nil _ ∙ plain_byte (get_or xs i 0) p))
+
+first_at : (xs : List ℕ) (at : ℕ) → at < length xs → get_or (drop at xs) 0 0 ≡ get_or xs at 0
+first_at xs at h = rw (drop-cons xs at 0 h) refl
+
+-- a byte that is escaped, where none stands as it is before it
+pub first_escaped : (xs : List ℕ) (at plain : ℕ) → at < length xs → plain ≡ 0
+    → (plain < length (drop at xs) → IsTrue (is_escaped (get_or (drop at xs) plain 0))) → is_escaped (get_or xs at 0) ≡ true
+first_escaped xs at plain h none e =
+    let here : IsTrue (is_escaped (get_or xs at 0)) = rw (none, first_at xs at h) at (e (omega (arith, length-drop at xs))) in
+    here
+
+-- what is left of a text, by what is put of it next
+pub rest_escaped : (xs : List ℕ) (at : ℕ) → at < length xs → is_escaped (get_or xs at 0) ≡ true
+    → flat_map escape_byte (drop at xs) ≡ (92 ∷ 120 ∷ hex_text 2 (get_or xs at 0)) ++ flat_map escape_byte (drop (at + 1) xs)
+rest_escaped xs at h e =
+    let cut : drop at xs ≡ get_or xs at 0 ∷ drop (at + 1) xs = rw add-one (drop-cons xs at 0 h) in
+    rw cut (ap (λ w. w ++ flat_map escape_byte (drop (at + 1) xs)) (escaped_byte (get_or xs at 0) e))
+
+pub rest_plain : (xs : List ℕ) (at plain : ℕ) → flat_map escape_byte (take plain (drop at xs)) ≡ take plain (drop at xs)
+    → flat_map escape_byte (drop at xs) ≡ take plain (drop at xs) ++ flat_map escape_byte (drop (at + plain) xs)
+rest_plain xs at plain e =
+    let cut : take plain (drop at xs) ++ drop plain (drop at xs) ≡ drop at xs = take-append-drop plain (drop at xs) in
+    ap (flat_map escape_byte) (sym cut) ∙ flat_map-append escape_byte (take plain (drop at xs)) (drop plain (drop at xs))
+    ∙ rw (e, drop-drop plain at xs) refl
+
+-- So much of a text has been put that this rest of it is left.
+pub record HasPut (old now : Option (List ℕ)) (before after : ℕ) (rest whole : List ℕ) : Type 0 where
+  pub done : List ℕ
+  pub split : done ++ rest ≡ whole
+  pub put : Puts {E = WriteFailed} (Ok tt) old now before after done
+
+pub put_none : (o : Option (List ℕ)) (f : ℕ) (whole : List ℕ) → HasPut o o f f whole whole
+put_none o f whole = record { done = []; split = refl; put = puts_none o f }
+
+pub put_more : {o m n : Option (List ℕ)} {d e f : ℕ} {rest whole : List ℕ} {s : Result (Unit {0}) WriteFailed} (a more : List ℕ)
+    → HasPut o m d e rest whole → s ≡ Ok tt → Puts s m n e f a → rest ≡ a ++ more → HasPut o n d f more whole
+put_more {s = s} a more h p put e = record {
+  done = h.done ++ a;
+  split = append_assoc h.done a more ∙ rw e at h.split;
+  put = rw p at (puts_then s h.done a refl h.put put);
+}
+
+pub put_stop : {o m n : Option (List ℕ)} {d e f : ℕ} {rest whole : List ℕ} {s r : Result (Unit {0}) WriteFailed} {x y : WriteFailed} (a more : List ℕ)
+    → HasPut o m d e rest whole → s ≡ Err x → r ≡ Err y → Puts s m n e f a → rest ≡ a ++ more → Puts r o n d f whole
+put_stop {whole = whole} {s = s} a more h p q put e =
+    let all : (h.done ++ a) ++ more ≡ whole = append_assoc h.done a more ∙ rw e at h.split in
+    rw all at (puts_stop (h.done ++ a) more p q (puts_then s h.done a refl h.put put))
+
+pub put_all : {o m : Option (List ℕ)} {d e : ℕ} {rest whole : List ℕ} → HasPut o m d e rest whole → rest ≡ [] → Puts {E = WriteFailed} (Ok tt) o m d e whole
+put_all h e =
+    let all = sym (append-nil h.done) ∙ rw e at h.split in
+    rw all at h.put
+
+-- where a text ends nothing is left
+pub rest_none : (xs : List ℕ) (at : ℕ) → length xs ≤ at → flat_map escape_byte (drop at xs) ≡ []
+rest_none xs at h = rw (drop_all at xs h) refl
+
+-- what is left of a text in UTF-16, by what is put of it next
+pub rest_text : (order : Order) (name text : List ℕ) (at taken : ℕ) → text_of order (drop at name) ≡ text ++ text_of order (drop taken (drop at name))
+    → flat_map escape_byte (text_of order (drop at name)) ≡ flat_map escape_byte text ++ flat_map escape_byte (text_of order (drop (at + taken) name))
+rest_text order name text at taken e =
+    let same : text_of order (drop at name) ≡ text ++ text_of order (drop (at + taken) name) = rw drop-drop at e in
+    ap (flat_map escape_byte) same ∙ flat_map-append escape_byte text (text_of order (drop (at + taken) name))

@@ -1,0 +1,6 @@
+-- What is written by its code.
+use Rattle.std.specs.Prelude.{ℕ, Bool, ◌||◌, nat_lt, ◌==◌}
+
+-- a control character, a delete or a backslash
+abbrev pub is_escaped : ℕ → Bool
+is_escaped c = nat_lt c 32 || (c == 127) || (c == 92)

@@ -1,0 +1,23 @@
+-- Variable-length integers, byte by byte.
+use Rattle.std.specs.Prelude.{ℕ, ◌+◌, ◌*◌, ◌%◌, List, [], ◌∷◌, Option, Some, None, nat_lt, ◌==◌, if◌then◌else◌}
+use Rattle.dbbytes.specs.declared.partial.Progress.{Progress}
+use Rattle.dbbytes.specs.declared.partial.Progress.TheVariants.{More, Whole}
+
+-- The number whose first bytes, so many, gave this value, and which goes on with these bytes: the number, how many bytes
+-- it takes in all, and the bytes after it.
+abbrev pub varint_from : ℕ → ℕ → List ℕ → Option (ℕ × ℕ × List ℕ)
+varint_from n value [] = None
+varint_from n value (byte ∷ bytes) =
+    if n == 8 then Some (value * 256 + byte, 9, bytes) else (
+    if nat_lt byte 128 then Some (value * 128 + byte % 128, n + 1, bytes) else
+    varint_from (n + 1) (value * 128 + byte % 128) bytes)
+
+-- the same, of what a byte made of the number
+abbrev pub varint_after : Progress → List ℕ → Option (ℕ × ℕ × List ℕ)
+varint_after (More part) bytes = varint_from part.length part.value bytes
+varint_after (Whole value length) bytes = Some (value, length, bytes)
+
+-- how many bytes it has then
+abbrev pub length_after : Progress → ℕ
+length_after (More part) = part.length
+length_after (Whole value length) = length

@@ -1,0 +1,39 @@
+// How a payload is divided between its cell and overflow pages (Database File Format, 1.6).
+ghost use Rattle.std.specs.Prelude.{◌≡◌, ℕ, ◌+◌, ◌≤◌};
+ghost use Rattle.dbformat.specs.Payload.{most_local, local_len};
+
+use dbformat::PayloadKind;
+
+// The most that stands in a cell without overflow, "X".
+fn most_local(kind: PayloadKind, usable: u32) -> u32
+    requires low { 480 ≤ usable }
+    requires high { usable ≤ 65536 }
+    ensures value { result ≡ most_local kind usable }
+    ensures room { result + 35 ≤ usable }
+{
+    match kind {
+        PayloadKind::TableLeaf => usable - 35,
+        PayloadKind::Index => (usable - 12) * 64 / 255 - 23,
+    }
+}
+
+/// How many bytes of a payload of `p` bytes stand in its cell, on pages of which `usable` bytes can be used. The others
+/// stand on overflow pages.
+#[tactic(auto, unfolding(dbformat::specs::Payload::local_len))]
+pub fn local_len(kind: PayloadKind, usable: u32, p: u32) -> u32
+    requires usable_low { 480 ≤ usable }
+    requires usable_high { usable ≤ 65536 }
+    requires p { p ≤ 2147483647 }
+    ensures value { result ≡ local_len kind usable p }
+    // No more than there is, and a page has room for it beside a cell's other parts.
+    ensures within { result ≤ p }
+    ensures room { result + 35 ≤ usable }
+{
+    let most = most_local(kind, usable);
+    if p <= most {
+        return p;
+    }
+    let least = (usable - 12) * 32 / 255 - 23;
+    let even = least + (p - least) % (usable - 4);
+    if even <= most { even } else { least }
+}

@@ -1,0 +1,101 @@
+use super::*;
+use dbformat::{Encoding, PayloadKind, RowKind};
+use std::process::Abort;
+use std::test::Fail;
+
+mod names;
+mod rows;
+
+#[test]
+fn local_lengths(rt: HostRuntime) {
+    for (usable, leaf, index, least) in [
+        (480, 445, 94, 35),
+        (512, 477, 102, 39),
+        (1024, 989, 230, 103),
+        (4096, 4061, 1002, 489),
+        (65536, 65501, 16422, 8199),
+    ] {
+        for (kind, most) in [(PayloadKind::TableLeaf, leaf), (PayloadKind::Index, index)] {
+            assert!(rt; 480 <= usable && usable <= 65536 && least <= 65536 && most <= 65536);
+            for (p, want) in [
+                (0, 0),
+                (most, most),
+                (most + 1, least),
+                // As much as fills an overflow page beside the least, and one byte more.
+                (least + usable - 4, least),
+                (least + usable - 3, least + 1),
+                // As much as fills one beside the most.
+                (most + usable - 4, most),
+                (most + usable - 3, least),
+            ] {
+                assert!(rt; p <= 2147483647);
+                assert_eq!(rt; local_len(kind, usable, p), want, "{p} bytes at {usable}");
+            }
+        }
+    }
+    for (p, want) in [(477, 477), (478, 39), (600, 92), (2147483647, 39)] {
+        assert!(rt; p <= 2147483647);
+        assert_eq!(rt;
+            local_len(PayloadKind::TableLeaf, 512, p),
+            want,
+            "{p} bytes"
+        );
+    }
+}
+
+#[test]
+fn varints(rt: HostRuntime) {
+    for (bytes, want) in [
+        (b"".as_slice(), None),
+        (b"\x00", Some((0, 1))),
+        (b"\x7f", Some((127, 1))),
+        (b"\x80", None),
+        (b"\x80\x00", Some((0, 2))),
+        (b"\x81\x00\xff", Some((128, 2))),
+        (b"\xff\x7f", Some((16383, 2))),
+        (b"\x80\x80\x80\x05", Some((5, 4))),
+        (b"\x80\x80\x80\x80\x80\x80\x80\x01", Some((1, 8))),
+        (
+            b"\xff\xff\xff\xff\xff\xff\xff\x7f",
+            Some((72057594037927935, 8)),
+        ),
+        (b"\xff\xff\xff\xff\xff\xff\xff\xff", None),
+        (
+            b"\xff\xff\xff\xff\xff\xff\xff\xff\xff",
+            Some((18446744073709551615, 9)),
+        ),
+        (b"\x80\x80\x80\x80\x80\x80\x80\x80\x80", Some((128, 9))),
+        (
+            b"\xff\xff\xff\xff\xff\xff\xff\xff\x00\x00",
+            Some((18446744073709551360, 9)),
+        ),
+    ] {
+        assert_eq!(rt; varint(bytes), want, "at {bytes:?}");
+    }
+}
+
+#[test]
+fn lengths_of_serial_types(rt: HostRuntime) {
+    for (serial_type, want) in [
+        (0, Some(0)),
+        (1, Some(1)),
+        (2, Some(2)),
+        (3, Some(3)),
+        (4, Some(4)),
+        (5, Some(6)),
+        (6, Some(8)),
+        (7, Some(8)),
+        (8, Some(0)),
+        (9, Some(0)),
+        (10, None),
+        (11, None),
+        (12, Some(0)),
+        (13, Some(0)),
+        (14, Some(1)),
+        (15, Some(1)),
+        (18446744073709551614, Some(9223372036854775801)),
+        (18446744073709551615, Some(9223372036854775801)),
+    ] {
+        assert_eq!(rt; serial_len(serial_type), want, "at {serial_type}");
+    }
+}

@@ -1,0 +1,187 @@
+-- The freeblocks of a page, one after another.
+use Rattle.std.proofs.Common.{◌≡◌, ℕ, zero, suc, ◌+◌, ◌-◌, ◌*◌, ◌<◌, ◌≤◌, Bool, true, false, ◌&&◌, if◌then◌else◌, List, [], ◌∷◌, ◌++◌, length, take, Some, None, refl, sym, subst, ap, ◌∙◌, arith, length-append}
+use Rattle.std.specs.Prelude.{nat_le, sum_by, ◌==◌}
+use Rattle.std.proofs.lemmas.Bool.Decides.{nat_tests}
+use Rattle.std.proofs.lemmas.List.{append-nil, append_assoc, take_at, length_push, length-take-le}
+use Rattle.std.proofs.lemmas.List.Sums.{sum_by-cons}
+use Rattle.dbformat.specs.Head.{View, content_start, first_freeblock, fragmented_bytes}
+use Rattle.dbformat.specs.Coverage.{Span, freeblocks, freeblocks_from, freeblock_at, next_freeblock, is_good_freeblock, offset_behind, bad_freeblock, unused}
+use Rattle.std.proofs.lemmas.Iterator.{YieldsList}
+use Rattle.std.proofs.lemmas.Iterator.Consumers.{YieldsList-from_shown}
+use Rattle.dbpage.specs.Freeblocks.{IsPlace, Left, Walks}
+use Rattle.dbformat.proofs.Fuel.{good_ends, none_past_end}
+
+-- what a good freeblock is
+pub record IsGood (v : View) (end offset : ℕ) : Type 0 where
+  pub from_start : content_start v.number v.bytes ≤ offset
+  pub has_four : offset ≤ v.usable - 4
+  pub least : 4 ≤ (freeblock_at v offset).len
+  pub inside : offset + (freeblock_at v offset).len ≤ v.usable
+  pub behind : end ≤ offset
+
+five : (a b c d e : Bool) → (a && b && c && d && e) ≡ true → (a ≡ true) × (b ≡ true) × (c ≡ true) × (d ≡ true) × (e ≡ true)
+five true true true true true h = (refl, refl, refl, refl, refl)
+five true true true true false h = cc
+five true true true false e h = cc
+five true true false d e h = cc
+five true false c d e h = cc
+five false b c d e h = cc
+
+pub good_parts : (v : View) (end offset : ℕ) → is_good_freeblock v end offset ≡ true → IsGood v end offset
+good_parts v end offset h =
+    let parts = five (nat_le (content_start v.number v.bytes) offset) (nat_le offset (v.usable - 4)) (nat_le 4 (freeblock_at v offset).len) (nat_le (offset + (freeblock_at v offset).len) v.usable) (nat_le end offset) h in
+    record {
+      from_start = grind (arith, nat_tests);
+      has_four = grind (arith, nat_tests);
+      least = grind (arith, nat_tests);
+      inside = grind (arith, nat_tests);
+      behind = grind (arith, nat_tests);
+    }
+
+-- one good freeblock and those behind it
+pub from_good : (n : ℕ) (v : View) (end offset : ℕ) → is_good_freeblock v end offset ≡ true
+    → freeblocks_from (suc n) v end offset ≡ freeblock_at v offset ∷ freeblocks_from n v (offset + (freeblock_at v offset).len) (next_freeblock v offset)
+from_good n v end offset h = rw h refl
+
+pub from_bad : (n : ℕ) (v : View) (end offset : ℕ) → is_good_freeblock v end offset ≡ false → freeblocks_from n v end offset ≡ []
+from_bad zero v end offset h = refl
+from_bad (suc n) v end offset h = rw h refl
+
+-- any number that is enough gives the same freeblocks
+enough_is_enough : (n m : ℕ) (v : View) (end offset : ℕ) → v.usable ≤ end + 4 * n + 3 → v.usable ≤ end + 4 * m + 3
+    → freeblocks_from n v end offset ≡ freeblocks_from m v end offset
+enough_is_enough zero m v end offset p q =
+    sym (from_bad m v end offset (none_past_end v end offset (is_good_freeblock v end offset) refl (omega arith)))
+enough_is_enough (suc n) zero v end offset p q =
+    from_bad (suc n) v end offset (none_past_end v end offset (is_good_freeblock v end offset) refl (omega arith))
+enough_is_enough (suc n) (suc m) v end offset p q =
+    by_case (is_good_freeblock v end offset) refl (enough_is_enough n m v (offset + (freeblock_at v offset).len) (next_freeblock v offset))
+  where
+    by_case : (b : Bool) → is_good_freeblock v end offset ≡ b
+        → (v.usable ≤ (offset + (freeblock_at v offset).len) + 4 * n + 3 → v.usable ≤ (offset + (freeblock_at v offset).len) + 4 * m + 3
+        → freeblocks_from n v (offset + (freeblock_at v offset).len) (next_freeblock v offset) ≡ freeblocks_from m v (offset + (freeblock_at v offset).len) (next_freeblock v offset))
+        → freeblocks_from (suc n) v end offset ≡ freeblocks_from (suc m) v end offset
+    by_case true h rest =
+        let ends = good_ends v end offset h in
+        from_good n v end offset h
+        ∙ ap (λ (fs : List Span). freeblock_at v offset ∷ fs) (rest (omega arith) (omega arith))
+        ∙ sym (from_good m v end offset h)
+    by_case false h rest = from_bad (suc n) v end offset h ∙ sym (from_bad (suc m) v end offset h)
+
+-- the usable bytes are enough at each place
+pub next_good : (v : View) (end offset : ℕ) → is_good_freeblock v end offset ≡ true
+    → freeblocks_from v.usable v end offset ≡ freeblock_at v offset ∷ freeblocks_from v.usable v (offset + (freeblock_at v offset).len) (next_freeblock v offset)
+next_good v end offset h =
+    enough_is_enough v.usable (suc v.usable) v end offset (omega arith) (omega arith) ∙ from_good v.usable v end offset h
+
+pub offset_behind_push : (v : View) (fs : List Span) (f : Span) → offset_behind v (fs ++ f ∷ []) ≡ next_freeblock v f.offset
+offset_behind_push v [] f = refl
+offset_behind_push v (g ∷ []) f = refl
+offset_behind_push v (g ∷ h ∷ fs) f = offset_behind_push v (h ∷ fs) f
+
+-- freeblocks are apart, so that all their sizes fit in what is left of the page
+pub sum-freeblocks_from : (n : ℕ) (v : View) (end offset : ℕ) → end ≤ v.usable → end + sum_by (λ f. f.len) (freeblocks_from n v end offset) ≤ v.usable
+sum-freeblocks_from zero v end offset h = omega arith
+sum-freeblocks_from (suc n) v end offset h =
+    by_case (is_good_freeblock v end offset) refl (sum-freeblocks_from n v (offset + (freeblock_at v offset).len) (next_freeblock v offset))
+  where
+    by_case : (b : Bool) → is_good_freeblock v end offset ≡ b
+        → (offset + (freeblock_at v offset).len ≤ v.usable
+        → (offset + (freeblock_at v offset).len) + sum_by (λ f. f.len) (freeblocks_from n v (offset + (freeblock_at v offset).len) (next_freeblock v offset)) ≤ v.usable)
+        → end + sum_by (λ f. f.len) (freeblocks_from (suc n) v end offset) ≤ v.usable
+    by_case true good fits =
+        let parts = good_parts v end offset good in
+        let rest = fits parts.inside in
+        let whole = sum_by-cons (λ (f : Span). f.len) (freeblock_at v offset) (freeblocks_from n v (offset + (freeblock_at v offset).len) (next_freeblock v offset)) in
+        rw (from_good n v end offset good) (omega (arith, rest, whole, parts.behind))
+    by_case false bad fits = rw (from_bad (suc n) v end offset bad) (omega arith)
+
+pub sum-freeblocks : (v : View) → sum_by (λ f. f.len) (freeblocks v) ≤ v.usable
+unfolding freeblocks
+sum-freeblocks v = omega (arith, sum-freeblocks_from v.usable v 0 (first_freeblock v.number v.bytes) (omega arith))
+
+-- so what is free is bounded
+pub unused_most : (v : View) → unused v ≤ content_start v.number v.bytes + fragmented_bytes v.number v.bytes + v.usable
+unfolding unused
+unused_most v = omega (arith, sum-freeblocks v)
+
+length-freeblocks_from : (n : ℕ) (v : View) (end offset : ℕ) → length (freeblocks_from n v end offset) ≤ n
+length-freeblocks_from zero v end offset = omega arith
+length-freeblocks_from (suc n) v end offset =
+    by_case (is_good_freeblock v end offset) refl (length-freeblocks_from n v (offset + (freeblock_at v offset).len) (next_freeblock v offset))
+  where
+    by_case : (b : Bool) → is_good_freeblock v end offset ≡ b
+        → length (freeblocks_from n v (offset + (freeblock_at v offset).len) (next_freeblock v offset)) ≤ n
+        → length (freeblocks_from (suc n) v end offset) ≤ suc n
+    by_case true good rest = rw (from_good n v end offset good) (omega (arith, rest))
+    by_case false bad rest = rw (from_bad (suc n) v end offset bad) (omega arith)
+
+pub length-freeblocks : (v : View) → length (freeblocks v) ≤ v.usable
+unfolding freeblocks
+length-freeblocks v = length-freeblocks_from v.usable v 0 (first_freeblock v.number v.bytes)
+
+-- a walk begins with all freeblocks to come
+pub place_start : (v : View) → IsPlace v 0 0 (first_freeblock v.number v.bytes)
+unfolding freeblocks
+place_start v = record { whole = refl; behind = refl; few = omega arith }
+
+-- and goes on behind a good one
+taken_more : (fs done rest : List Span) (f : Span) (n : ℕ) → done ++ f ∷ rest ≡ fs → length done ≡ n → take (n + 1) fs ≡ done ++ f ∷ []
+taken_more fs done rest f n whole len =
+    ap (take (n + 1)) (sym whole ∙ sym (append_assoc done (f ∷ []) rest)) ∙ take_at (done ++ f ∷ []) rest (n + 1) (omega (arith, length_push done f))
+
+module _ (v : View) (number end offset : ℕ) (place : IsPlace v number end offset) where
+  count_taken : length (take number (freeblocks v)) ≡ number
+  count_taken = length-take-le number (freeblocks v) place.few
+
+  abbrev done : List Span
+  done = take number (freeblocks v)
+
+  abbrev rest : List Span
+  rest = freeblocks_from v.usable v (offset + (freeblock_at v offset).len) (next_freeblock v offset)
+
+  whole_at : is_good_freeblock v end offset ≡ true → done ++ freeblock_at v offset ∷ rest ≡ freeblocks v
+  whole_at good = ap (λ (fs : List Span). done ++ fs) (sym (next_good v end offset good)) ∙ place.whole
+
+  pub one_more : is_good_freeblock v end offset ≡ true → number < length (freeblocks v)
+  one_more good = omega (arith, ap length (whole_at good), length-append done (freeblock_at v offset ∷ rest), count_taken)
+
+  pub place_more : is_good_freeblock v end offset ≡ true → IsPlace v (number + 1) (offset + (freeblock_at v offset).len) (next_freeblock v offset)
+  place_more good =
+      let taken = taken_more (freeblocks v) done rest (freeblock_at v offset) number (whole_at good) count_taken in
+      record {
+        whole = ap (λ (fs : List Span). fs ++ rest) taken ∙ append_assoc done (freeblock_at v offset ∷ []) rest ∙ whole_at good;
+        behind = ap (offset_behind v) taken ∙ offset_behind_push v done (freeblock_at v offset);
+        few = omega (arith, one_more good);
+      }
+
+  -- at its end it stands at the first that is not good, or behind the last
+  pub bad_at_end : freeblocks_from v.usable v end offset ≡ [] → bad_freeblock v ≡ (if offset == 0 then None else Some (number, offset))
+  bad_at_end ended =
+      let all : take number (freeblocks v) ≡ freeblocks v = sym (append-nil done) ∙ ap (λ (fs : List Span). done ++ fs) (sym ended) ∙ place.whole in
+      let at : offset_behind v (freeblocks v) ≡ offset = ap (offset_behind v) (sym all) ∙ place.behind in
+      let len : length (freeblocks v) ≡ number = ap length (sym all) ∙ count_taken in
+      rw (at, len) refl
+
+pub place_at : (v : View) (n e o e' o' : ℕ) → IsPlace v n e o → e ≡ e' → o ≡ o' → IsPlace v n e' o'
+place_at v n e o e' o' place p q = subst (λ (b : ℕ). IsPlace v n e' b) q (subst (λ (a : ℕ). IsPlace v n a o) p place)
+
+-- what is left at a good freeblock is that freeblock and what is left behind it
+pub left_more : (v : View) (end offset : ℕ) (f : Span) (e' o' : ℕ) → is_good_freeblock v end offset ≡ true → freeblock_at v offset ≡ f
+    → offset + (freeblock_at v offset).len ≡ e' → next_freeblock v offset ≡ o' → freeblocks_from v.usable v end offset ≡ f ∷ freeblocks_from v.usable v e' o'
+left_more v end offset f e' o' good same p q =
+    next_good v end offset good
+    ∙ ap (λ (g : Span). g ∷ freeblocks_from v.usable v (offset + (freeblock_at v offset).len) (next_freeblock v offset)) same
+    ∙ ap (λ (a : ℕ). f ∷ freeblocks_from v.usable v a (next_freeblock v offset)) p
+    ∙ ap (λ (b : ℕ). f ∷ freeblocks_from v.usable v e' b) q
+
+-- a loop or a chain over the freeblocks that are left yields these
+none_left : (old new : Left) → Walks old None new → length old.left ≡ 0
+none_left old new step = ap length step.0.0
+
+first_left : (old : Left) (f : Span) (new : Left) → Walks old (Some f) new → old.left ≡ f ∷ new.left
+first_left old f new step = step.0
+
+pub YieldsList-from_freeblocks : {s : Left} (fs : List Span) → s.left ≡ fs → YieldsList Walks (λ f. f) s fs
+YieldsList-from_freeblocks {s = s} fs same =
+    subst (λ (xs : List Span). YieldsList Walks (λ f. f) s xs) same (YieldsList-from_shown Walks (λ f. f) (λ l. l.left) none_left first_left s)

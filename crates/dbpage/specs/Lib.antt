@@ -1,0 +1,3 @@
+pub mod Freeblocks
+pub mod Head
+pub mod Marking

@@ -1,0 +1,55 @@
+-- What the marks of a table say of the items that were marked in it.
+use Rattle.std.specs.Prelude.{◌≡◌, ℕ, ◌+◌, ◌-◌, ◌<◌, ◌≤◌, Bool, true, false, not, ◌&&◌, List, length, map, count_by, slice_index, nat_lt, nat_le, ◌==◌}
+use Rattle.std.specs.List.{range_with_len}
+use Rattle.dbformat.specs.Head.{View, content_start}
+use Rattle.dbformat.specs.Cell.{cell, count}
+use Rattle.dbformat.specs.Coverage.{Span, held_by, is_held, is_overlapping}
+
+-- whether the byte is marked
+abbrev pub is_marked : List ℕ → ℕ → Bool
+is_marked table byte = not (slice_index table byte == 0)
+
+-- whether the byte is one of these
+abbrev pub is_within : ℕ → ℕ → ℕ → Bool
+is_within from to byte = nat_le from byte && nat_lt byte to
+
+-- the bytes from one offset up to another were free and are marked now, and no other byte has changed
+pub record Marks (old : List ℕ) (from to : ℕ) (new : List ℕ) : Type 0 where
+  pub were_free : (byte : ℕ) → from ≤ byte → byte < to → is_marked old byte ≡ false
+  pub are_marked : (byte : ℕ) → from ≤ byte → byte < to → is_marked new byte ≡ true
+  pub others : (byte : ℕ) → is_within from to byte ≡ false → is_marked new byte ≡ is_marked old byte
+
+-- one of the bytes is marked
+pub record HasMarked (table : List ℕ) (from to : ℕ) : Type 0 where
+  pub byte : ℕ
+  pub from_on : from ≤ byte
+  pub below : byte < to
+  pub marked : is_marked table byte ≡ true
+
+-- how many of the bytes from start up to end no span holds
+abbrev pub unheld_by : List Span → ℕ → ℕ → ℕ
+unheld_by spans start end = count_by (λ byte. not (is_held spans byte)) (range_with_len start (end - start))
+
+-- the marked bytes of a content area are those that the spans hold, `held` in all, and no two spans share a byte
+pub record AreMarked (spans : List Span) (start end : ℕ) (table : List ℕ) (held : ℕ) : Type 0 where
+  pub marked : (byte : ℕ) → start ≤ byte → byte < end → is_marked table byte ≡ is_held spans byte
+  pub apart : (k : ℕ) → k < length spans → is_overlapping spans k ≡ false
+  pub counted : held + unheld_by spans start end ≡ end - start
+
+-- what the first n cells hold
+abbrev pub cells_upto : View → ℕ → List Span
+cells_upto v n = map (λ i. held_by v i (cell v i)) (range_with_len 0 n)
+
+-- what all cells hold
+abbrev pub cell_items : View → List Span
+cell_items v = cells_upto v (count v)
+
+-- cell i is readable, and holds these bytes of the content area
+pub record Holds (v : View) (i offset len : ℕ) : Type 0 where
+  pub held : held_by v i (cell v i) ≡ record { offset = offset; len = len }
+  pub from_start : content_start v.number v.bytes ≤ offset
+  pub ends : offset + len ≤ v.usable
+
+-- cell i is not readable
+abbrev pub HoldsNothing : View → ℕ → Type 0
+HoldsNothing v i = (held_by v i (cell v i)).len ≡ 0

@@ -1,0 +1,222 @@
+//! Cells (Database File Format, section 1.6, "B-tree Cell Format").
+ghost use Rattle.std.specs.Prelude.{◌≡◌, ◌+◌, ◌<◌, ◌≤◌, IfSome};
+ghost use Rattle.dbformat.specs.Cell.{bytes_from, cell, cell_at, cell_pointer, child_number, count, payload_cell, right_child};
+ghost use Rattle.dbformat.specs.Varint.{varint, signed};
+ghost use Rattle.dbformat.specs.declared.PageKind.TheVariants.{InteriorIndex, InteriorTable, LeafIndex, LeafTable};
+
+use crate::numbers::{u16_at, u32_at};
+use crate::view::{PageView, is_interior};
+use dbbytes::{local_len, varint};
+use dbformat::{CellFault, PageKind, PayloadKind};
+use std::marker::Model;
+
+/// A readable cell.
+#[derive(Debug, Drop)]
+pub struct Cell<'a> {
+    /// Where it begins, in bytes from the start of the page.
+    pub offset: u32,
+    /// How many bytes it has. It holds 4 bytes of its page at least, though it may be shorter.
+    pub len: u32,
+    /// How many bytes its payload has, here and on overflow pages: 2147483647 at most, and 0 without a payload.
+    pub size: u32,
+    /// The bytes of the payload that stand in the cell.
+    pub local: &'a [u8],
+    /// The page of its left child, on an interior page.
+    pub left: Option<u32>,
+    /// Its rowid or key, in a table tree.
+    pub key: Option<i64>,
+    /// The first overflow page, where not all of the payload stands in the cell.
+    pub overflow: Option<u32>,
+}
+
+impl<'a> Model for Cell<'a> {
+    ghost use Rattle.dbformat.specs.Cell.{Cell};
+
+    ghost Value = { Cell };
+
+    ghost view = { λ c. record { offset = c.offset; len = c.len; size = c.size; local = c.local.now; left = c.left; key = c.key; overflow = c.overflow } };
+}
+
+impl<'a> PageView<'a> {
+    /// Cell `i`. It is an error where its pointer leads out of the content area, and else where it does not end within
+    /// the usable bytes or its payload is too long.
+    pub fn cell(&self, i: u32) -> Result<Cell<'a>, CellFault>
+        requires { i < count self.now }
+        ensures { result ≡ cell self.now i }
+    {
+        self.read_cell(i)
+    }
+
+    /// `cell`, within its caller, so that only what this uses is read.
+    #[inline(always)]
+    pub(crate) fn read_cell(&self, i: u32) -> Result<Cell<'a>, CellFault>
+        requires { i < count self.now }
+        ensures { result ≡ cell self.now i }
+    {
+        let offset = self.pointer(i);
+        if offset < self.start || offset > self.usable - 4 {
+            return Err(CellFault::Offset);
+        }
+        self.cell_at(offset).ok_or(CellFault::Unreadable)
+    }
+
+    /// The page of child `i`: left of cell `i`, where this is readable, and the right child behind the last cell. `None`
+    /// on a leaf.
+    pub fn child(&self, i: u32) -> Option<u32>
+        requires { i ≤ count self.now }
+        ensures { result ≡ child_number self.now i }
+    {
+        if i == self.cells {
+            return self.right_child();
+        }
+        match self.cell(i) {
+            Ok(cell) => cell.left,
+            Err(_) => None,
+        }
+    }
+
+    /// The pointer of cell `i`: the offset at which it should begin.
+    #[inline(always)]
+    #[tactic(auto, unfolding(dbformat::specs::Cell::cell_pointer))]
+    pub fn pointer(&self, i: u32) -> u32
+        requires { i < count self.now }
+        ensures { result ≡ cell_pointer self.now i }
+    {
+        u32::from(u16_at(self.bytes, self.pointers + 2 * i))
+    }
+
+    /// The page right of all cells, on an interior page.
+    #[tactic(auto, unfolding(dbformat::specs::Head::right_number))]
+    fn right_child(&self) -> Option<u32>
+        ensures { result ≡ right_child self.now }
+    {
+        if is_interior(self.kind) {
+            Some(u32_at(self.bytes, self.pointers - 4))
+        } else {
+            None
+        }
+    }
+
+    /// The cell at `offset`, by the kind of the page.
+    #[inline(always)]
+    fn cell_at(&self, offset: u32) -> Option<Cell<'a>>
+        requires { offset + 4 ≤ self.now.usable }
+        ensures { result ≡ cell_at self.now.kind self.now offset }
+    {
+        match self.kind {
+            PageKind::LeafTable => self.table_leaf_cell(offset),
+            PageKind::InteriorTable => self.table_interior_cell(offset),
+            PageKind::LeafIndex => self.index_leaf_cell(offset),
+            PageKind::InteriorIndex => self.index_interior_cell(offset),
+        }
+    }
+
+    #[inline(always)]
+    fn table_leaf_cell(&self, offset: u32) -> Option<Cell<'a>>
+        requires room { offset + 4 ≤ self.now.usable }
+        requires most { self.now.usable ≤ 65536 }
+        ensures { result ≡ cell_at LeafTable self.now offset }
+    {
+        let (size, size_len) = self.varint_at(offset)?;
+        let (rowid, rowid_len) = self.varint_at(offset + size_len)?;
+        let before = size_len + rowid_len;
+        self.payload_cell(
+            PayloadKind::TableLeaf,
+            offset,
+            before,
+            size,
+            None,
+            Some(rowid.cast_signed()),
+        )
+    }
+
+    #[inline(always)]
+    fn table_interior_cell(&self, offset: u32) -> Option<Cell<'a>>
+        requires room { offset + 4 ≤ self.now.usable }
+        requires most { self.now.usable ≤ 65536 }
+        ensures { result ≡ cell_at InteriorTable self.now offset }
+    {
+        let (key, key_len) = self.varint_at(offset + 4)?;
+        Some(Cell {
+            offset,
+            len: 4 + key_len,
+            size: 0,
+            local: &[],
+            left: Some(u32_at(self.bytes, offset)),
+            key: Some(key.cast_signed()),
+            overflow: None,
+        })
+    }
+
+    #[inline(always)]
+    fn index_leaf_cell(&self, offset: u32) -> Option<Cell<'a>>
+        requires room { offset + 4 ≤ self.now.usable }
+        requires most { self.now.usable ≤ 65536 }
+        ensures { result ≡ cell_at LeafIndex self.now offset }
+    {
+        let (size, size_len) = self.varint_at(offset)?;
+        self.payload_cell(PayloadKind::Index, offset, size_len, size, None, None)
+    }
+
+    #[inline(always)]
+    fn index_interior_cell(&self, offset: u32) -> Option<Cell<'a>>
+        requires room { offset + 4 ≤ self.now.usable }
+        requires most { self.now.usable ≤ 65536 }
+        ensures { result ≡ cell_at InteriorIndex self.now offset }
+    {
+        let (size, size_len) = self.varint_at(offset + 4)?;
+        let left = Some(u32_at(self.bytes, offset));
+        self.payload_cell(PayloadKind::Index, offset, 4 + size_len, size, left, None)
+    }
+
+    /// The number at `offset` and its length, where it ends within the usable bytes.
+    #[inline(always)]
+    fn varint_at(&self, offset: u32) -> Option<(u64, u32)>
+        requires { offset ≤ self.now.usable }
+        ensures value { result ≡ varint (bytes_from self.now offset) }
+        ensures within { IfSome result (λ r. (r.1 ≤ 9) × (offset + r.1 ≤ self.now.usable)) }
+    {
+        let (value, len) = varint(&self.bytes[offset as usize..self.usable as usize])?;
+        Some((value, len as u32))
+    }
+
+    /// The cell at `offset` whose payload of `size` bytes begins `before` bytes into it.
+    #[inline(always)]
+    fn payload_cell(
+        &self,
+        kind: PayloadKind,
+        offset: u32,
+        before: u32,
+        size: u64,
+        left: Option<u32>,
+        key: Option<i64>,
+    ) -> Option<Cell<'a>>
+        requires { offset + before ≤ self.now.usable }
+        ensures { result ≡ payload_cell self.now kind offset before size left key }
+    {
+        if size > 2147483647 {
+            return None;
+        }
+        let size = size as u32;
+        let here = local_len(kind, self.usable, size);
+        let payload = offset + before;
+        let end = payload + here;
+        let overflow_len = if here < size { 4 } else { 0 };
+        if end + overflow_len > self.usable {
+            return None;
+        }
+        Some(Cell {
+            offset,
+            len: before + here + overflow_len,
+            size,
+            local: &self.bytes[payload as usize..end as usize],
+            left,
+            key,
+            overflow: if here < size {
+                Some(u32_at(self.bytes, end))
+            } else {
+                None
+            },
+        })
+    }
+}

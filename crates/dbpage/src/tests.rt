@@ -1,0 +1,221 @@
+//! Pages written out by hand. What is expected of them is counted from their bytes.
+mod sqlite_pages;
+mod written_pages;
+
+use super::*;
+use dbformat::{CellFault, Coverage, HeadFault, PageKind};
+use std::process::Abort;
+
+/// A cell by its offset, length, payload size, local bytes, left child, key and first overflow page.
+type Shown = (u32, u32, u32, usize, Option<u32>, Option<i64>, Option<u32>);
+
+#[derive(Drop)]
+struct Case<'a> {
+    name: &'a str,
+    /// Bytes of the page, each run behind its offset. All others are 0.
+    bytes: &'a [(usize, &'a [u8])],
+    cells: &'a [Result<Shown, CellFault>],
+    freeblocks: &'a [(u32, u32)],
+    bad: Option<(u32, u32)>,
+    unused: u32,
+    coverage: Coverage,
+}
+
+fn page_of(runs: &[(usize, &[u8])]) -> [u8; 512] {
+    let mut page = [0u8; 512];
+    for (start, bytes) in runs {
+        let mut at = *start;
+        for byte in bytes.iter() {
+            if at < 512 {
+                page[at] = *byte;
+                at += 1;
+            }
+        }
+    }
+    page
+}
+
+fn shown(cell: Result<Cell<'_>, CellFault>) -> Result<Shown, CellFault> {
+    let cell = cell?;
+    Ok((
+        cell.offset,
+        cell.len,
+        cell.size,
+        cell.local.len(),
+        cell.left,
+        cell.key,
+        cell.overflow,
+    ))
+}
+
+/// Compares what is read of a page that is not page 1 with what the case says.
+fn check(rt: &impl Abort, case: &Case<'_>, page: &[u8], usable: u32) {
+    let name = case.name;
+    assert!(rt; usable >= 480 && usable <= 512 && usable as usize <= page.len());
+    let view = match PageView::new(page, 2, usable) {
+        Ok(view) => view,
+        Err(fault) => panic!(rt; "{name}: {fault:?}"),
+    };
+    assert_eq!(rt; view.cells() as usize, case.cells.len(), "{name}");
+    for i in 0..view.cells() {
+        let want = case.cells.get(i as usize).copied();
+        assert_eq!(rt; Some(shown(view.cell(i))), want, "{name}, cell {i}");
+    }
+    let mut freeblocks = view.freeblocks();
+    let mut number = 0;
+    for freeblock in freeblocks.by_ref() {
+        let want = case.freeblocks.get(number).copied();
+        assert_eq!(rt;
+            Some((freeblock.offset, freeblock.size)),
+            want,
+            "{name}, freeblock {number}"
+        );
+        number = number.wrapping_add(1);
+    }
+    assert_eq!(rt; number, case.freeblocks.len(), "{name}");
+    assert_eq!(rt; freeblocks.bad(), case.bad, "{name}");
+    assert_eq!(rt; view.unused(), case.unused, "{name}");
+    let mut table = [255u8; 512];
+    assert_eq!(rt;
+        uncounted_coverage(&view, &mut table),
+        case.coverage,
+        "{name}"
+    );
+}
+
+#[test]
+fn heads(rt: HostRuntime) {
+    let leaf = Ok((PageKind::LeafTable, 0));
+    let unknown = Err(HeadFault::UnknownType);
+    let out = Err(HeadFault::ContentStart);
+    let cases = [
+        (2, 512, 0, b"\x00\x00\x00\x00\x00\x02\x00\x00", unknown),
+        (2, 512, 0, b"\x0c\x00\x00\x00\x00\x02\x01\x00", unknown),
+        (2, 512, 0, b"\x0d\x00\x00\x00\x00\x02\x00\x00", leaf),
+        // 0 stands for 65536 at every page size.
+        (2, 512, 0, b"\x0d\x00\x00\x00\x00\x00\x00\x00", out),
+        (2, 512, 0, b"\x0d\x00\x00\x00\x00\x02\x01\x00", out),
+        (2, 480, 0, b"\x0d\x00\x00\x00\x00\x01\xe0\x00", leaf),
+        (2, 480, 0, b"\x0d\x00\x00\x00\x00\x01\xe1\x00", out),
+        // The pointers end where the content area begins, or one later.
+        (
+            2,
+            512,
+            0,
+            b"\x0a\x00\x00\x00\x01\x00\x0a\x00",
+            Ok((PageKind::LeafIndex, 1)),
+        ),
+        (2, 512, 0, b"\x0a\x00\x00\x00\x01\x00\x09\x00", out),
+        (
+            2,
+            512,
+            0,
+            b"\x0d\x00\x00\x00\xfc\x02\x00\x00",
+            Ok((PageKind::LeafTable, 252)),
+        ),
+        (2, 512, 0, b"\x0d\x00\x00\x00\xfd\x02\x00\x00", out),
+        (
+            2,
+            512,
+            0,
+            b"\x05\x00\x00\x00\xfa\x02\x00\x00",
+            Ok((PageKind::InteriorTable, 250)),
+        ),
+        (
+            2,
+            512,
+            0,
+            b"\x02\x00\x00\x00\xfa\x02\x00\x00",
+            Ok((PageKind::InteriorIndex, 250)),
+        ),
+        (2, 512, 0, b"\x02\x00\x00\x00\xfb\x02\x00\x00", out),
+        (1, 512, 100, b"\x0d\x00\x00\x00\x00\x02\x00\x00", leaf),
+        (2, 512, 100, b"\x0d\x00\x00\x00\x00\x02\x00\x00", unknown),
+        (1, 512, 0, b"\x0d\x00\x00\x00\x00\x02\x00\x00", unknown),
+    ];
+    for (p, usable, at, head, want) in cases {
+        let page = page_of(&[(at, head)]);
+        let page: &[u8] = &page;
+        assert!(rt; usable >= 480 && usable <= 512 && page.len() == 512);
+        let read = match PageView::new(page, p, usable) {
+            Ok(view) => Ok((view.kind(), view.cells())),
+            Err(fault) => Err(fault),
+        };
+        assert_eq!(rt; read, want, "page {p}, {usable} bytes, {head:?} at {at}");
+    }
+}
+
+#[test]
+fn children(rt: HostRuntime) {
+    let cases = [
+        (
+            b"\x05\x00\x00\x00\x01\x01\xfb\x00\x00\x00\x00\x04\x01\xfb",
+            Some(3),
+            Some(4),
+        ),
+        (
+            b"\x05\x00\x00\x00\x01\x01\xfb\x00\x00\x00\x00\x04\x01\xfd",
+            None,
+            Some(4),
+        ),
+        (
+            b"\x02\x00\x00\x00\x01\x01\xfb\x00\x00\x01\x00\x00\x01\xfb",
+            Some(3),
+            Some(65536),
+        ),
+        (
+            b"\x0d\x00\x00\x00\x01\x01\xfb\x00\x01\xfb\x00\x00\x00\x00",
+            None,
+            None,
+        ),
+    ];
+    for (head, left, right) in cases {
+        let page = page_of(&[(0, head), (507, b"\x00\x00\x00\x03\x00")]);
+        let page: &[u8] = &page;
+        assert!(rt; page.len() == 512);
+        match PageView::new(page, 3, 512) {
+            Ok(view) => {
+                assert!(rt; view.cells() == 1);
+                assert_eq!(rt; view.child(0), left, "{head:?}");
+                assert_eq!(rt; view.child(1), right, "{head:?}");
+            },
+            Err(fault) => panic!(rt; "{fault:?}"),
+        }
+    }
+}
+
+#[test]
+fn item_offsets(rt: HostRuntime) {
+    let page = page_of(&[
+        (0, b"\x0d\x01\xf0\x00\x02\x01\xf0\x00\x01\xf4\x01\xfd"),
+        (496, b"\x00\x00\x00\x08"),
+        (500, b"\x0a\x03"),
+    ]);
+    let page: &[u8] = &page;
+    assert!(rt; page.len() == 512);
+    match PageView::new(page, 3, 512) {
+        Ok(view) => {
+            for (item, offset) in [(0, 500), (1, 509), (2, 496), (3, 0), (4294967295, 0)] {
+                assert_eq!(rt; view.item_offset(item), offset, "item {item}");
+            }
+        },
+        Err(fault) => panic!(rt; "{fault:?}"),
+    }
+}
+
+/// What is told of pages whose heads are not sound.
+#[test]
+fn damaged_heads(rt: HostRuntime) {
+    let cases = [
+        (2, 0, b"\x0c\x00\x00\x00\x00\x02\x01\x00", 12, 513),
+        (2, 0, b"\x0d\x00\x00\x00\x00\x00\x00\x00", 13, 65536),
+        (1, 100, b"\x05\x00\x00\x00\x00\xff\xff\x00", 5, 65535),
+    ];
+    for (p, at, head, type_byte_of_page, start) in cases {
+        let page = page_of(&[(at, head)]);
+        let page: &[u8] = &page;
+        assert!(rt; page.len() == 512);
+        assert_eq!(rt; type_byte(page, p), type_byte_of_page, "{head:?}");
+        assert_eq!(rt; content_start(page, p), start, "{head:?}");
+    }
+}

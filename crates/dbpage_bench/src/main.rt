@@ -1,0 +1,170 @@
+//! Reads all pages of a database file, as many times as is asked, and prints how many pages a second that is: the
+//! arguments are FILE and ROUNDS. Without arguments it reads one small page, and prints nothing that changes.
+#![tactic(auto)]
+
+ghost use Rattle.std.specs.Prelude.{◌≡◌, ◌≤◌, length, IfOk};
+
+use anyhow::{Context, Result, bail};
+use dbformat::Coverage;
+use dbpage::{PageView, uncounted_coverage};
+use std::alloc::{AllocError, Global};
+use std::time::Instant;
+use std::{env, fs};
+
+/// What was met, so that nothing of it can be left out.
+#[derive(Debug, Drop)]
+struct Totals {
+    pages: u64,
+    cells: u64,
+    local: u64,
+    children: u64,
+    freeblocks: u64,
+    unused: u64,
+    unheld: u64,
+    overlaps: u64,
+}
+
+impl Totals {
+    fn new() -> Totals {
+        Totals {
+            pages: 0,
+            cells: 0,
+            local: 0,
+            children: 0,
+            freeblocks: 0,
+            unused: 0,
+            unheld: 0,
+            overlaps: 0,
+        }
+    }
+
+    fn add_cells(&mut self, view: &PageView<'_>) {
+        for i in 0..view.cells() {
+            if let Ok(cell) = view.cell(i) {
+                self.cells = self.cells.wrapping_add(1);
+                self.local = self.local.wrapping_add(cell.local.len() as u64);
+                self.children = self
+                    .children
+                    .wrapping_add(u64::from(cell.left.unwrap_or(0)));
+            }
+        }
+    }
+
+    fn add_freeblocks(&mut self, view: &PageView<'_>) {
+        for freeblock in view.freeblocks() {
+            self.freeblocks = self.freeblocks.wrapping_add(u64::from(freeblock.size));
+        }
+    }
+
+    fn add_page(&mut self, view: &PageView<'_>, table: &mut [u8])
+        requires { view.now.usable ≤ length table.old }
+    {
+        self.pages = self.pages.wrapping_add(1);
+        self.add_cells(view);
+        self.add_freeblocks(view);
+        self.unused = self.unused.wrapping_add(u64::from(view.unused()));
+        match uncounted_coverage(view, table) {
+            Coverage::Unheld(n) => self.unheld = self.unheld.wrapping_add(u64::from(n)),
+            Coverage::Overlap(_) => self.overlaps = self.overlaps.wrapping_add(1),
+        }
+    }
+}
+
+/// The size of a page, and how many bytes of it are in use.
+#[derive(Clone, Copy)]
+struct Sizes {
+    page_size: usize,
+    usable: u32,
+    ghost least: { 480 ≤ usable },
+    ghost inside: { usable ≤ page_size },
+    ghost most: { page_size ≤ 65536 },
+}
+
+fn sizes_of(file: &[u8]) -> Option<Sizes> {
+    let page_size = match u16::from_be_bytes([*file.get(16)?, *file.get(17)?]) {
+        1 => 65536,
+        size => u32::from(size),
+    };
+    let reserved = u32::from(*file.get(20)?);
+    if page_size < 512 || reserved > 32 {
+        return None;
+    }
+    Some(Sizes {
+        page_size: page_size as usize,
+        usable: page_size - reserved,
+    })
+}
+
+/// A byte for each byte of a page.
+fn table_of(alloc: Global, sizes: Sizes) -> std::result::Result<Vec<u8>, AllocError>
+    ensures { IfOk result (λ table. length table.items ≡ sizes.page_size) }
+{
+    Vec::from_elem(alloc, 0u8, sizes.page_size)
+}
+
+/// Adds all pages of a file.
+fn add_file(totals: &mut Totals, file: &[u8], sizes: Sizes, table: &mut [u8])
+    requires { sizes.usable ≤ length table.old }
+{
+    let mut rest = file;
+    let mut p = 0u32;
+    while rest.len() >= sizes.page_size {
+        let (page, others) = rest.split_at(sizes.page_size);
+        p = p.wrapping_add(1);
+        if let Ok(view) = PageView::new(page, p, sizes.usable) {
+            totals.add_page(&view, table);
+        }
+        rest = others;
+    }
+}
+
+/// All pages of a file, so many times.
+fn totals_of(alloc: Global, file: &[u8], rounds: u32) -> Result<Totals> {
+    let mut totals = Totals::new();
+    let Some(sizes) = sizes_of(file) else {
+        bail!("no database file");
+    };
+    let mut table = table_of(alloc, sizes)?;
+    for _ in 0..rounds {
+        add_file(&mut totals, file, sizes, table.as_mut_slice());
+    }
+    Ok(totals)
+}
+
+/// The bytes of a file of one page, a table leaf with one cell.
+fn small_file() -> [u8; 512] {
+    let mut page = [0u8; 512];
+    page[16] = 2;
+    page[100] = 13;
+    page[104] = 1;
+    page[105] = 1;
+    page[106] = 252;
+    page[108] = 1;
+    page[109] = 252;
+    page[508] = 2;
+    page[509] = 1;
+    page[510] = 65;
+    page[511] = 66;
+    page
+}
+
+fn main(rt: HostRuntime) -> Result<()> {
+    let mut words = env::args(&rt)?.skip(1);
+    let Some(path) = words.next() else {
+        let totals = totals_of(rt.alloc(), &small_file(), 1)?;
+        println!(rt; "{totals:?}")?;
+        return Ok(());
+    };
+    let rounds = words
+        .next()
+        .context("FILE ROUNDS")?
+        .as_str()
+        .parse::<u32>()?;
+    let file = fs::read(&rt, path.as_str())?;
+    let start = Instant::now(&rt)?;
+    let totals = totals_of(rt.alloc(), file.as_slice(), rounds)?;
+    let seconds = start.elapsed(&rt)?.as_secs_f64();
+    println!(rt; "{totals:?}")?;
+    println!(rt; "{} pages in {seconds:.3} s", totals.pages)?;
+    Ok(())
+}
