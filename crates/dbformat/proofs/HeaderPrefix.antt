@@ -140,6 +140,7 @@ first_below f from (suc n) =
     either : (P : ℕ → Type 0) (b : Bool) (i : ℕ) (o : Option ℕ) → P i → IfSome o P → IfSome (cond b (Some i) o) P
     either P true i o h k = h
     either P false i o h k = k
+
     weaker : (o : Option ℕ) → IfSome o (λ i. i < from + 1 + n) → IfSome o (λ i. i < from + suc n)
     weaker None h = h
     weaker (Some i) h = omega arith

@@ -22,11 +22,7 @@ fn fault_count(faults: &[Option<Fault>]) -> u64
 }
 
 // Puts the lines of the first faults, so many at most.
-fn put_first<O: Out>(
-    out: &mut O,
-    limit: u32,
-    faults: &[Option<Fault>],
-) -> Result<(), WriteFailed>
+fn put_first<O: Out>(out: &mut O, limit: u32, faults: &[Option<Fault>]) -> Result<(), WriteFailed>
     ensures { Puts result (O.holds out.old) (O.holds out.new) (O.failures out.old) (O.failures out.new) (flat_map fault_line (take limit (flat_map option_to_list faults.now))) }
 {
     let mut room = limit;

@@ -78,8 +78,10 @@ fn size_fault(header: &Header) -> Option<Fault>
 {
     let stated = header.stated_pages();
     let whole = header.file_len() / u64::from(header.geometry().page_size);
-    (header.is_size_valid() && whole < u64::from(stated))
-        .then_some(file_fault(FaultCode::H06, stated))
+    (header.is_size_valid() && whole < u64::from(stated)).then_some(file_fault(
+        FaultCode::H06,
+        stated,
+    ))
 }
 
 fn vacuum_fault(header: &Header) -> Option<Fault>

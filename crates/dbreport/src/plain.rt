@@ -34,7 +34,11 @@ fn is_empty_leaf(page: &[u8], usable: u32) -> bool
     ensures { result ≡ is_empty_leaf usable page.now }
 {
     let stored_start = BigEndian::read_u16(&page[105..]);
-    let content_start = if stored_start == 0 { 65536 } else { u32::from(stored_start) };
+    let content_start = if stored_start == 0 {
+        65536
+    } else {
+        u32::from(stored_start)
+    };
     page[100] == 13
         && BigEndian::read_u16(&page[101..]) == 0
         && BigEndian::read_u16(&page[103..]) == 0

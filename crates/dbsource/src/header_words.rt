@@ -54,7 +54,11 @@ pub(crate) fn page_size(bytes: &[u8]) -> u32
     ensures { result ≡ page_size bytes.now }
 {
     let stored = u16_at(bytes, 16);
-    if stored == 1 { 65536 } else { u32::from(stored) }
+    if stored == 1 {
+        65536
+    } else {
+        u32::from(stored)
+    }
 }
 
 // Whether the stated size in pages counts.

@@ -40,9 +40,11 @@ returns-then-not-branch-clause-unread g c =
 pub returns-clause-answer : goal.returns-clause-answer
 returns-clause-answer g c =
     if_told_both (g.S.Source.tells c.args.source.now)
-    (λ file header empty. (header.is_read,
+    (λ file header empty. (
+      header.is_read,
       plain_by_parts file c.in_ok-header.header c.has_one_page.result c.in_ok-is_schema_empty.field-0 header c.has_one_page.ensures (empty header)
-      ∙ both_hold c.if-not-has_one_page.false c.if-not-branch.false))
+          ∙ both_hold c.if-not-has_one_page.false c.if-not-branch.false,
+    ))
     c.in_ok-header.ensures.header (rw c.read.ensures.told at c.in_ok-is_schema_empty.ensures.empty)
 
 pub returns-clause-log : goal.returns-clause-log
