@@ -3,8 +3,41 @@ use dbformat::{Encoding, PayloadKind, RowKind};
 use std::process::Abort;
 use std::test::Fail;
 
+mod columns;
 mod names;
 mod rows;
+
+// Feeds the bytes whole, one by one and in two pieces, cut anywhere.
+fn expect(
+    rt: &impl Abort,
+    encoding: Encoding,
+    p: u32,
+    bytes: &[u8],
+    want: Result<SchemaRow<'_>, RowFault>,
+) {
+    let mut whole = RowSieve::new(p, encoding);
+    whole.feed(bytes);
+    assert!(rt; whole.finish() == want, "{bytes:?} of {p}, whole");
+    let mut one_by_one = RowSieve::new(p, encoding);
+    for i in 0..bytes.len() {
+        one_by_one.feed(&bytes[i..i + 1]);
+    }
+    assert!(rt; one_by_one.finish() == want, "{bytes:?} of {p}, one by one");
+    for cut in 0..bytes.len() {
+        let mut halves = RowSieve::new(p, encoding);
+        halves.feed(&bytes[..cut]);
+        halves.feed(&bytes[cut..]);
+        assert!(rt; halves.finish() == want, "{bytes:?} of {p}, cut at {cut}");
+    }
+}
+
+fn row(kind: RowKind, root: u32, name: Option<&[u8]>) -> Result<SchemaRow<'_>, RowFault> {
+    Ok(SchemaRow { kind, root, name })
+}
+
+fn root(number: i64) -> Result<SchemaRow<'static>, RowFault> {
+    Err(RowFault::Root(number))
+}
 
 #[test]
 fn local_lengths(rt: HostRuntime) {
