@@ -4,7 +4,7 @@ use crate::finishing::finish;
 use crate::status::line_status;
 use dbfiles::{base_file, patch};
 use dbreport::Command;
-use dbsource::{FileSource, MemOut, MemSource, Out, ReadFailed, WriteFailed};
+use dbsource::{FileSource, MemOut, MemSource, Out, ReadFailed, Refusal, RunError, WriteFailed};
 use std::test::Fail;
 
 const HELP: &str = "Checks the structure of a SQLite 3 database file, which it only reads
@@ -232,6 +232,49 @@ fn opens_files(rt: HostRuntime) -> Result<(), Fail> {
         assert!(rt; found == status, "{text}");
         assert!(rt; err.bytes() == text.as_bytes(), "{text}");
         assert!(rt; out.bytes().is_empty(), "{text}");
+    }
+    Ok(())
+}
+
+// The text of each error, which its line shows behind the program's name.
+#[test]
+fn errors_have_texts(rt: HostRuntime) -> Result<(), Fail> {
+    for (error, text) in [
+        (RunError::NotYet, "E0 this file needs a later stage"),
+        (
+            RunError::Refused(Refusal::Short),
+            "E1 file is shorter than 100 bytes",
+        ),
+        (
+            RunError::Refused(Refusal::Magic),
+            "E2 file is not a SQLite 3 database",
+        ),
+        (
+            RunError::Refused(Refusal::PageSize),
+            "E3 page size is not valid",
+        ),
+        (
+            RunError::Refused(Refusal::Usable),
+            "E4 usable size is below 480",
+        ),
+        (
+            RunError::Refused(Refusal::NoPage),
+            "E5 file has no whole page",
+        ),
+        (
+            RunError::Refused(Refusal::TooManyPages),
+            "E6 file has more than 67108864 pages",
+        ),
+        (
+            RunError::Refused(Refusal::MapAtLock),
+            "E7 pointer map at the lock-byte page",
+        ),
+        (RunError::ReadFailed, "E8 the file cannot be read"),
+        (RunError::OutOfMemory, "E9 out of memory"),
+        (RunError::WriteFailed, "E10 the output cannot be written"),
+    ] {
+        let shown = error.to_string(rt.alloc())?;
+        assert!(rt; shown.as_str().as_bytes() == text.as_bytes(), "{text}");
     }
     Ok(())
 }
