@@ -3,6 +3,8 @@
 #![tactic(auto)]
 
 ghost use Rattle.std.specs.Prelude.{ℕ, List};
+ghost use Rattle.dbformat.specs.Coverage.{AreFreeblocksAll};
+ghost use Rattle.dbformat.specs.Head.{View};
 ghost use Rattle.dbformat.specs.Errands.{IsByCell, IsNoneAtDamage, IsOneCellMore, IsByReading, IsByChain, IsByLeaf, IsOneLeafMore, IsNoneAtFreeLeaf, AreAllQuiet, AreCellsApart};
 ghost use Rattle.dbformat.specs.Laws.{HasOneSurvey, FollowsTheUnrefused, IsRefusedByMarks, IsInTheTheory, IsToldInOrder, LooksBackAlone, IsByStarts, IsSchemaBelowItsStart, FollowsAllWhereFaultless, HasWholeChains};
 ghost use Rattle.dbformat.specs.Plain.{PlainFilesAreEmpty};
@@ -265,6 +267,11 @@ pub fn told_in_order()
 pub fn faults_look_back()
     ensures back { (file : List ℕ) → LooksBackAlone file }
     ensures starts { (file : List ℕ) → IsByStarts file }
+{}
+
+/// The good freeblocks of a page end before one that is not good, and not for want of the number that bounds them.
+pub fn freeblocks_end()
+    ensures { (v : View) → AreFreeblocksAll v }
 {}
 
 /// What a visited page leads to, item by item: a tree page by its cells, an overflow page by its chain, a trunk by its

@@ -1,7 +1,6 @@
 -- The freeblocks of a page, one after another.
-use Rattle.std.proofs.Common.{◌≡◌, ℕ, zero, suc, ◌+◌, ◌-◌, ◌*◌, ◌<◌, ◌≤◌, Bool, true, false, ◌&&◌, if◌then◌else◌, List, [], ◌∷◌, ◌++◌, length, take, Some, None, refl, sym, subst, ap, ◌∙◌, arith, length-append}
-use Rattle.std.specs.Prelude.{nat_le, sum_by, ◌==◌}
-use Rattle.std.proofs.lemmas.Bool.Decides.{nat_tests}
+use Rattle.std.proofs.Common.{◌≡◌, ℕ, zero, suc, ◌+◌, ◌*◌, ◌<◌, ◌≤◌, Bool, true, false, if◌then◌else◌, List, [], ◌∷◌, ◌++◌, length, take, Some, None, refl, sym, subst, ap, ◌∙◌, arith, length-append}
+use Rattle.std.specs.Prelude.{sum_by, ◌==◌}
 use Rattle.std.proofs.lemmas.List.{append-nil, append_assoc, take_at, length_push, length-take-le}
 use Rattle.std.proofs.lemmas.List.Sums.{sum_by-cons}
 use Rattle.dbformat.specs.Head.{View, content_start, first_freeblock, fragmented_bytes}
@@ -9,43 +8,7 @@ use Rattle.dbformat.specs.Coverage.{Span, freeblocks, freeblocks_from, freeblock
 use Rattle.std.proofs.lemmas.Iterator.{YieldsList}
 use Rattle.std.proofs.lemmas.Iterator.Consumers.{YieldsList-from_shown}
 use Rattle.dbpage.specs.Freeblocks.{IsPlace, Left, Walks}
-use Rattle.dbformat.proofs.Fuel.{good_ends, none_past_end}
-
--- what a good freeblock is
-pub record IsGood (v : View) (end offset : ℕ) : Type 0 where
-  pub from_start : content_start v.number v.bytes ≤ offset
-  pub has_four : offset ≤ v.usable - 4
-  pub least : 4 ≤ (freeblock_at v offset).len
-  pub inside : offset + (freeblock_at v offset).len ≤ v.usable
-  pub behind : end ≤ offset
-
-five : (a b c d e : Bool) → (a && b && c && d && e) ≡ true → (a ≡ true) × (b ≡ true) × (c ≡ true) × (d ≡ true) × (e ≡ true)
-five true true true true true h = (refl, refl, refl, refl, refl)
-five true true true true false h = cc
-five true true true false e h = cc
-five true true false d e h = cc
-five true false c d e h = cc
-five false b c d e h = cc
-
-pub good_parts : (v : View) (end offset : ℕ) → is_good_freeblock v end offset ≡ true → IsGood v end offset
-good_parts v end offset h =
-    let parts = five (nat_le (content_start v.number v.bytes) offset) (nat_le offset (v.usable - 4)) (nat_le 4 (freeblock_at v offset).len) (nat_le (offset + (freeblock_at v offset).len) v.usable) (nat_le end offset) h in
-    record {
-      from_start = grind (arith, nat_tests);
-      has_four = grind (arith, nat_tests);
-      least = grind (arith, nat_tests);
-      inside = grind (arith, nat_tests);
-      behind = grind (arith, nat_tests);
-    }
-
--- one good freeblock and those behind it
-pub from_good : (n : ℕ) (v : View) (end offset : ℕ) → is_good_freeblock v end offset ≡ true
-    → freeblocks_from (suc n) v end offset ≡ freeblock_at v offset ∷ freeblocks_from n v (offset + (freeblock_at v offset).len) (next_freeblock v offset)
-from_good n v end offset h = rw h refl
-
-pub from_bad : (n : ℕ) (v : View) (end offset : ℕ) → is_good_freeblock v end offset ≡ false → freeblocks_from n v end offset ≡ []
-from_bad zero v end offset h = refl
-from_bad (suc n) v end offset h = rw h refl
+use Rattle.dbformat.proofs.Freeblocks.{good_parts, good_ends, none_past_end, from_good, from_bad}
 
 -- any number that is enough gives the same freeblocks
 enough_is_enough : (n m : ℕ) (v : View) (end offset : ℕ) → v.usable ≤ end + 4 * n + 3 → v.usable ≤ end + 4 * m + 3

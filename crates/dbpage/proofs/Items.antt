@@ -8,7 +8,8 @@ use Rattle.dbformat.specs.Cell.{Cell, cell, cell_pointer, count}
 use Rattle.dbformat.specs.Coverage.{Span, held_by, items, freeblocks, freeblocks_from, freeblock_at, next_freeblock, is_good_freeblock, first_overlap}
 use Rattle.dbformat.specs.declared.CellFault.{CellFault}
 use Rattle.dbpage.specs.Marking.{is_marked, AreMarked, HasMarked, Holds, HoldsNothing, Marks, cells_upto, cell_items}
-use Rattle.dbpage.proofs.FreeblockLemmas.{good_parts, from_good, from_bad, length-freeblocks}
+use Rattle.dbformat.proofs.Freeblocks.{good_parts, from_good, from_bad}
+use Rattle.dbpage.proofs.FreeblockLemmas.{length-freeblocks}
 use Rattle.dbpage.proofs.CellLemmas.{cell_within, offset-held_by}
 use Rattle.dbpage.proofs.Unheld.{none_held}
 use Rattle.dbpage.proofs.Overlaps.{AreMarked_push, AreMarked_push_empty, first_overlap_at}
