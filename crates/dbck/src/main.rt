@@ -7,6 +7,7 @@ mod status;
 #[cfg(test)]
 mod tests;
 
+use clap::error::ErrorKind as WordsErrorKind;
 use command_line::{Line, LineError, line_of};
 use dbsource::{FileSource, StreamOut};
 use finishing::finish;
@@ -53,13 +54,14 @@ fn run_words(rt: &HostRuntime) -> Result<u8, LineError> {
 
 // Tells why the words are no command line, or the help that they ask for, and answers the status.
 fn tell(rt: &HostRuntime, error: &LineError) -> u8 {
-    let status = line_status(error);
     let _ = match error {
-        LineError::Words(_) if status == 5 => rt.eprintln("dbck: E9 out of memory"),
-        LineError::Words(error) => error.print(rt),
+        LineError::Words(words) => match words.kind() {
+            WordsErrorKind::OutOfMemory => rt.eprintln("dbck: E9 out of memory"),
+            _ => words.print(rt),
+        },
         _ => rt.eprintln(error),
     };
-    status
+    line_status(error)
 }
 
 fn main(rt: HostRuntime) -> ExitCode {
