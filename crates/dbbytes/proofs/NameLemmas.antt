@@ -74,13 +74,13 @@ rest_plain xs at plain e =
 pub record HasPut (old now : Option (List ℕ)) (before after : ℕ) (rest whole : List ℕ) : Type 0 where
   pub done : List ℕ
   pub split : done ++ rest ≡ whole
-  pub put : Puts {E = WriteFailed} (Ok tt) old now before after done
+  pub put : Puts {E = WriteFailed} (Ok (tt {0})) old now before after done
 
 pub put_none : (o : Option (List ℕ)) (f : ℕ) (whole : List ℕ) → HasPut o o f f whole whole
-put_none o f whole = record { done = []; split = refl; put = puts_none o f }
+put_none o f whole = record { done = []; split = refl; put = puts_none (tt {0}) o f }
 
 pub put_more : {o m n : Option (List ℕ)} {d e f : ℕ} {rest whole : List ℕ} {s : Result (Unit {0}) WriteFailed} (a more : List ℕ)
-    → HasPut o m d e rest whole → s ≡ Ok tt → Puts s m n e f a → rest ≡ a ++ more → HasPut o n d f more whole
+    → HasPut o m d e rest whole → s ≡ Ok (tt {0}) → Puts s m n e f a → rest ≡ a ++ more → HasPut o n d f more whole
 put_more {s = s} a more h p put e = record {
   done = h.done ++ a;
   split = append_assoc h.done a more ∙ rw e at h.split;
@@ -93,7 +93,7 @@ put_stop {whole = whole} {s = s} a more h p q put e =
     let all : (h.done ++ a) ++ more ≡ whole = append_assoc h.done a more ∙ rw e at h.split in
     rw all at (puts_stop (h.done ++ a) more p q (puts_then s h.done a refl h.put put))
 
-pub put_all : {o m : Option (List ℕ)} {d e : ℕ} {rest whole : List ℕ} → HasPut o m d e rest whole → rest ≡ [] → Puts {E = WriteFailed} (Ok tt) o m d e whole
+pub put_all : {o m : Option (List ℕ)} {d e : ℕ} {rest whole : List ℕ} → HasPut o m d e rest whole → rest ≡ [] → Puts {E = WriteFailed} (Ok (tt {0})) o m d e whole
 put_all h e =
     let all = sym (append-nil h.done) ∙ rw e at h.split in
     rw all at h.put

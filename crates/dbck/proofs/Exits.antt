@@ -9,7 +9,8 @@ use Rattle.dbformat.specs.declared.Command.{Command}
 use Rattle.dbformat.specs.declared.Refusal.{Refusal}
 use Rattle.dbformat.specs.declared.Verdict.{Verdict}
 use Rattle.dbformat.specs.declared.Verdict.TheVariants.{Clean, Faulty}
-use Rattle.dbreport.specs.Runs.{IsAnswerOf, IsUnwritten, Writes}
+use Rattle.dbreport.specs.Runs.{IsAnswerOf, IsUnwritten}
+use Rattle.dbsource.specs.Outs.{Writes}
 use Rattle.dbsource.specs.declared.error.RunError.{RunError}
 use Rattle.dbsource.specs.declared.error.RunError.TheVariants.{NotYet, Refused, ReadFailed, OutOfMemory, WriteFailed}
 use Rattle.dbck.specs.Exit.{IsExit}

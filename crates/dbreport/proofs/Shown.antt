@@ -1,11 +1,20 @@
 -- The first lines of a list of faults, and the line that follows them.
-use Rattle.std.proofs.Common.{◌≡◌, ℕ, suc, ◌+◌, ◌-◌, ◌<◌, List, [], ◌∷◌, ◌++◌, length, take, drop, get_or, ap, ◌∙◌, sym, arith, Option, Some, None, append_assoc, length-drop, zero}
+use Rattle.std.proofs.Common.{◌≡◌, ℕ, suc, ◌+◌, ◌-◌, ◌<◌, List, [], ◌∷◌, ◌++◌, length, take, drop, get_or, ap, ◌∙◌, sym, arith, Option, Some, None, append_assoc, append-nil, length-drop, zero}
 use Rattle.std.specs.Prelude.{flat_map, option_to_list}
 use Rattle.std.proofs.lemmas.Grind.{flat_map-append}
+use Rattle.std.proofs.lemmas.List.{take-append-drop, take_more}
 use Rattle.dbformat.specs.declared.Fault.{Fault}
 use Rattle.dbformat.specs.Lines.{fault_line}
 use Rattle.dbformat.specs.Report.{check_text, more_text}
-use Rattle.dbsource.proofs.Puts.{flat_map_split}
+
+-- what a list gives, before, at and behind a place
+flat_map_split : {X Y : Type 0} (f : X → List Y) (xs : List X) (i : ℕ) (z : X) → i < length xs
+    → flat_map f xs ≡ (flat_map f (take i xs) ++ f (get_or xs i z)) ++ flat_map f (drop (i + 1) xs)
+flat_map_split f xs i z h =
+    let a : flat_map f (take (i + 1) xs ++ drop (i + 1) xs) ≡ flat_map f (take (i + 1) xs) ++ flat_map f (drop (i + 1) xs) = flat_map-append f _ _ in
+    let b : flat_map f (take i xs ++ get_or xs i z ∷ []) ≡ flat_map f (take i xs) ++ flat_map f (get_or xs i z ∷ []) = flat_map-append f _ _ in
+    let c : flat_map f (get_or xs i z ∷ []) ≡ f (get_or xs i z) = append-nil _ in
+    rw (take-append-drop, take_more xs i z h, b, c) at a
 
 -- the faults among some that may be
 abbrev pub told : List (Option Fault) → List Fault

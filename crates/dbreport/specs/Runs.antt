@@ -1,12 +1,10 @@
 -- What an answer of a run says of the file, and of what failed.
-use Rattle.std.specs.Prelude.{◌≡◌, ℕ, true, false, List, [], ◌∷◌, None, Some, Option, Result, Ok, Err, MatchResult}
-use Rattle.std.specs.Io.KnownBytes.{Appends}
+use Rattle.std.specs.Prelude.{◌≡◌, ℕ, true, false, List, [], ◌∷◌, None, Some, Result, Ok, Err}
 use Rattle.dbformat.specs.File.{refusal}
 use Rattle.dbformat.specs.Log.{page_range}
 use Rattle.dbformat.specs.Plain.{is_plain}
 use Rattle.dbformat.specs.declared.ByteRange.{ByteRange}
 use Rattle.dbsource.specs.Failures.{one_more}
-use Rattle.dbsource.specs.Outs.{Begins}
 use Rattle.dbsource.specs.declared.error.RunError.{RunError}
 use Rattle.dbsource.specs.declared.error.RunError.TheVariants.{NotYet, Refused, ReadFailed, OutOfMemory, WriteFailed}
 
@@ -19,10 +17,6 @@ IsAnswerOf (Err (Refused r)) file = refusal file ≡ Some r
 IsAnswerOf (Err ReadFailed) file = Unit {0}
 IsAnswerOf (Err OutOfMemory) file = refusal file ≡ None
 IsAnswerOf (Err WriteFailed) file = (refusal file ≡ None) × (is_plain file ≡ true)
-
--- an Out holds what it had and then its part of the report, or at an error a beginning of it
-abbrev pub Writes : {A E : Type 0} → Result A E → Option (List ℕ) → Option (List ℕ) → List ℕ → Type 0
-Writes r old new part = MatchResult r (λ _. Appends old new part) (λ _. Begins old new part)
 
 -- the source failed once exactly if the answer says so
 abbrev pub reads_failed : {A : Type 0} → Result A RunError → ℕ → ℕ

@@ -1,5 +1,5 @@
 // What a check writes of some faults, and what it finds.
-ghost use Rattle.std.specs.Prelude.{◌≡◌, take, length, flat_map, option_to_list};
+ghost use Rattle.std.specs.Prelude.{◌≡◌, take, length, flat_map, option_to_list, IfOk};
 ghost use Rattle.dbformat.specs.Lines.{fault_line};
 ghost use Rattle.dbformat.specs.Report.{check_text, more_text, verdict};
 ghost use Rattle.dbsource.specs.Outs.{Puts};
@@ -47,28 +47,21 @@ fn put_rest<O: Out>(out: &mut O, count: u64) -> Result<(), WriteFailed>
     put_more(out, count)
 }
 
-// Puts what a check writes that shows so many faults at most.
+// Puts what a check writes that shows so many faults at most, and answers what was found.
 pub(crate) fn put_check<O: Out>(
     out: &mut O,
     limit: u32,
     faults: &[Option<Fault>],
-) -> Result<(), WriteFailed>
-    ensures { Puts result (O.holds out.old) (O.holds out.new) (O.failures out.old) (O.failures out.new) (check_text limit (flat_map option_to_list faults.now)) }
+) -> Result<Verdict, WriteFailed>
+    ensures text { Puts result (O.holds out.old) (O.holds out.new) (O.failures out.old) (O.failures out.new) (check_text limit (flat_map option_to_list faults.now)) }
+    ensures verdict { IfOk result (λ v. v ≡ verdict (flat_map option_to_list faults.now)) }
 {
     let count = fault_count(faults);
     if count == 0 {
-        return put_ok(out);
+        put_ok(out)?;
+        return Ok(Verdict::Clean);
     }
     put_first(out, limit, faults)?;
-    put_rest(out, count.saturating_sub(u64::from(limit)))
-}
-
-// What was found.
-pub(crate) fn verdict(faults: &[Option<Fault>]) -> Verdict
-    ensures { result ≡ verdict (flat_map option_to_list faults.now) }
-{
-    match fault_count(faults) {
-        0 => Verdict::Clean,
-        count => Verdict::Faulty(count),
-    }
+    put_rest(out, count.saturating_sub(u64::from(limit)))?;
+    Ok(Verdict::Faulty(count))
 }

@@ -7,9 +7,10 @@ ghost use Rattle.dbformat.specs.Reference.{Reference};
 ghost use Rattle.dbformat.specs.Report.{report};
 ghost use Rattle.dbformat.specs.Survey.{Survey, survey};
 ghost use Rattle.dbformat.specs.declared.Command.TheVariants.{Check};
-ghost use Rattle.dbreport.specs.Runs.{IsAnswerOf, IsUnwritten, Writes, reads_failed, writes_failed};
+ghost use Rattle.dbreport.specs.Runs.{IsAnswerOf, IsUnwritten, reads_failed, writes_failed};
+ghost use Rattle.dbsource.specs.Outs.{Writes};
 
-use crate::check::{put_check, verdict};
+use crate::check::put_check;
 use crate::plain::{plain_faults, read_plain};
 use dbformat::{Command, Verdict};
 use dbsource::{Out, RunError, Source};
@@ -83,7 +84,6 @@ pub fn run_in<A: Allocator, S: Source, O: Out, E: Out>(
 {
     let header = read_plain(alloc, source)?;
     let faults = plain_faults(&header);
-    put_check(out, limit_of(command), faults.as_slice())?;
     let _ = err;
-    Ok(verdict(faults.as_slice()))
+    Ok(put_check(out, limit_of(command), faults.as_slice())?)
 }

@@ -24,11 +24,6 @@ pub fold-append : (step : List ByteRange → ByteRange → List ByteRange) (old 
 fold-append step old [] b = refl
 fold-append step old (r ∷ a) b = fold-append step (step old r) a b
 
--- nothing was read
-pub has_none : {step : List ByteRange → ByteRange → List ByteRange} {P : List ByteRange → Type 0} {old new : List ByteRange}
-    → new ≡ old → P [] → HasLog step P old new
-has_none e p = record { log = []; leads = sym e; holds = p }
-
 -- one range was read
 pub has_one : {step : List ByteRange → ByteRange → List ByteRange} {P : List ByteRange → Type 0} {old new : List ByteRange} (r : ByteRange)
     → new ≡ step old r → P (r ∷ []) → HasLog step P old new

@@ -1,8 +1,7 @@
 -- Puts in a row.
-use Rattle.std.proofs.Common.{◌≡◌, ℕ, ◌+◌, ◌-◌, ◌<◌, ◌≤◌, length, take, drop, get_or, arith, List, [], ◌∷◌, ◌++◌, refl, sym, ◌∙◌, ap, append_assoc, append-nil, Option, None, Some, Result, Ok, Err}
-use Rattle.std.proofs.lemmas.Grind.{common_steps, flat_map-append}
-use Rattle.std.proofs.lemmas.List.{take-append-drop, take_more}
-use Rattle.std.specs.List.{flat_map}
+use Rattle.std.proofs.Common.{◌≡◌, ℕ, ◌+◌, ◌-◌, ◌≤◌, length, take, drop, arith, List, [], ◌++◌, refl, sym, ◌∙◌, ap, append_assoc, append-nil, Option, None, Some, Result, Ok, Err}
+use Rattle.std.proofs.lemmas.Grind.{common_steps}
+use Rattle.std.proofs.lemmas.List.{take-append-drop}
 use Rattle.std.proofs.Math.Seq.{take-add}
 use Rattle.std.specs.Io.KnownBytes.{Appends, Keeps}
 use Rattle.dbsource.specs.Failures.{one_more}
@@ -33,12 +32,12 @@ appends_nothing None = tt
 appends_nothing (Some x) = sym (append-nil x)
 
 -- nothing is put
-pub puts_none : {E : Type 0} (o : Option (List ℕ)) (f : ℕ) → Puts {E = E} (Ok tt) o o f f []
-puts_none o f = record { held = appends_nothing o; count = refl }
+pub puts_none : {A E : Type 0} (a : A) (o : Option (List ℕ)) (f : ℕ) → Puts {E = E} (Ok a) o o f f []
+puts_none a o f = record { held = appends_nothing o; count = refl }
 
 -- a put that succeeds, and then others
-pub puts_then : {E F : Type 0} {s : Result (Unit {0}) E} (r : Result (Unit {0}) F) {o m n : Option (List ℕ)} {e f g : ℕ} (a b : List ℕ)
-    → s ≡ Ok tt → Puts s o m e f a → Puts r m n f g b → Puts r o n e g (a ++ b)
+pub puts_then : {A B E F : Type 0} {s : Result A E} (r : Result B F) {x : A} {o m n : Option (List ℕ)} {e f g : ℕ} (a b : List ℕ)
+    → s ≡ Ok x → Puts s o m e f a → Puts r m n f g b → Puts r o n e g (a ++ b)
 puts_then (Ok u) {o} {m} {n} a b p h k =
     let here : Appends o m a = rw p at h.held in
     record { held = appends_append o m n a b here k.held; count = k.count ∙ (rw p at h.count) }
@@ -55,7 +54,7 @@ puts_then (Err d) {o} {m} {n} a b p h k =
     }
 
 -- a put that fails, and nothing after it
-pub puts_stop : {E F : Type 0} {s : Result (Unit {0}) E} {r : Result (Unit {0}) F} {o n : Option (List ℕ)} {e f : ℕ} (a b : List ℕ) {x : E} {y : F}
+pub puts_stop : {A B E F : Type 0} {s : Result A E} {r : Result B F} {o n : Option (List ℕ)} {e f : ℕ} (a b : List ℕ) {x : E} {y : F}
     → s ≡ Err x → r ≡ Err y → Puts s o n e f a → Puts r o n e f (a ++ b)
 puts_stop {o = o} {n = n} a b p q h =
     let here : Begins o n a = rw p at h.held in
@@ -85,21 +84,3 @@ stream_stop o m n piece at p q = record {
   whole = take-append-drop at piece;
   added = appends_kept o m n (take at piece) p q;
 }
-
-pub flat_map_split : {X Y : Type 0} (f : X → List Y) (xs : List X) (i : ℕ) (z : X) → i < length xs
-    → flat_map f xs ≡ (flat_map f (take i xs) ++ f (get_or xs i z)) ++ flat_map f (drop (i + 1) xs)
-flat_map_split f xs i z h =
-    let a : flat_map f (take (i + 1) xs ++ drop (i + 1) xs) ≡ flat_map f (take (i + 1) xs) ++ flat_map f (drop (i + 1) xs) = flat_map-append f _ _ in
-    let b : flat_map f (take i xs ++ get_or xs i z ∷ []) ≡ flat_map f (take i xs) ++ flat_map f (get_or xs i z ∷ []) = flat_map-append f _ _ in
-    let c : flat_map f (get_or xs i z ∷ []) ≡ f (get_or xs i z) = append-nil _ in
-    rw (take-append-drop, take_more xs i z h, b, c) at a
-
--- the pieces of a list, up to one that fails
-pub puts_stop_at : {E F X : Type 0} {s : Result (Unit {0}) E} {r : Result (Unit {0}) F} {o m n : Option (List ℕ)} {d e f : ℕ} (bytes : X → List ℕ) (xs : List X) (i : ℕ) (z : X) {x : E} {y : F}
-    → i < length xs → s ≡ Err x → r ≡ Err y → Puts {E = E} (Ok tt) o m d e (flat_map bytes (take i xs)) → Puts s m n e f (bytes (get_or xs i z))
-    → Puts r o n d f (flat_map bytes xs)
-puts_stop_at {E = E} {r = r} {o = o} {n = n} {d = d} {f = f} bytes xs i z h p q before here =
-    let e : flat_map bytes xs ≡ (flat_map bytes (take i xs) ++ bytes (get_or xs i z)) ++ flat_map bytes (drop (i + 1) xs)
-    = flat_map_split bytes xs i z h in
-    rw e (puts_stop (flat_map bytes (take i xs) ++ bytes (get_or xs i z)) (flat_map bytes (drop (i + 1) xs)) p q
-    (puts_then _ (flat_map bytes (take i xs)) (bytes (get_or xs i z)) refl before here))

@@ -14,7 +14,12 @@ no_step trail r = trail
 abbrev pub kept_step : List ByteRange → ByteRange → List ByteRange
 kept_step trail r = if nat_lt (length trail) 1024 then trail ++ r ∷ [] else trail
 
--- a source over memory that keeps its ranges: its bytes, these ranges, and how many calls failed
+-- a source over memory as contracts see it: its bytes, and how many calls failed
+pub record Stored : Type 0 where
+  pub bytes : List ℕ
+  pub failures : ℕ
+
+-- one that keeps its ranges: its bytes, these ranges, and how many calls failed
 pub record Logged : Type 0 where
   pub bytes : List ℕ
   pub ranges : List ByteRange

@@ -5,6 +5,7 @@ ghost use Rattle.dbsource.specs.Failures.{one_more};
 ghost use Rattle.dbsource.specs.Sources.{IsRangeOf, no_step};
 
 use crate::{ReadFailed, Source};
+use std::marker::Model;
 
 /// Bytes in memory. A read fails only where its range passes their end.
 #[derive(Drop)]
@@ -13,10 +14,18 @@ pub struct MemSource<'a> {
     failures: u64,
 }
 
+impl<'a> Model for MemSource<'a> {
+    ghost use Rattle.dbsource.specs.Sources.{Stored};
+
+    ghost Value = { Stored };
+
+    ghost view = { λ s. record { bytes = s.bytes.now; failures = s.failures } };
+}
+
 impl<'a> MemSource<'a> {
     /// A source of these bytes.
     pub fn new(bytes: &'a [u8]) -> MemSource<'a>
-        ensures bytes { result.bytes.now ≡ bytes.entry.now }
+        ensures bytes { result.bytes ≡ bytes.entry.now }
         ensures failures { result.failures ≡ 0 }
     {
         MemSource { bytes, failures: 0 }
@@ -48,7 +57,7 @@ pub(crate) fn byte_count(bytes: &[u8]) -> u64
 }
 
 impl Source for MemSource<'_> {
-    ghost tells = { λ s. Some s.bytes.now };
+    ghost tells = { λ s. Some s.bytes };
 
     ghost trail = { λ _. [] };
 
@@ -61,12 +70,12 @@ impl Source for MemSource<'_> {
     }
 
     fn read_at(&mut self, offset: u64, buf: &mut [u8]) -> Result<(), ReadFailed>
-        ensures told { self.new.bytes.now ≡ self.old.bytes.now }
+        ensures told { self.new.bytes ≡ self.old.bytes }
         ensures trail { [] ≡ no_step [] (range offset (length buf.old)) }
         ensures count { MatchResult result (λ _. self.new.failures ≡ self.old.failures) (λ _. self.new.failures ≡ one_more self.old.failures) }
-        ensures bytes { OnOk result (IsRangeOf self.old.bytes.now offset buf.new) }
+        ensures bytes { OnOk result (IsRangeOf self.old.bytes offset buf.new) }
         // It fails only where the range passes the end.
-        ensures inside { IsOk result ↔ (offset + length buf.old ≤ length self.old.bytes.now) }
+        ensures inside { IsOk result ↔ (offset + length buf.old ≤ length self.old.bytes) }
     {
         if copy_range(self.bytes, offset, buf) {
             Ok(())

@@ -1,21 +1,30 @@
 // An Out over a writer.
-ghost use Rattle.std.specs.Prelude.{◌≡◌, ℕ};
-ghost use Rattle.dbsource.specs.Failures.{one_more};
+ghost use Rattle.std.specs.Prelude.{◌≡◌};
+ghost use Rattle.dbsource.specs.Outs.{Writes};
 
 use crate::{Out, WriteFailed};
 use std::io::Write;
+use std::marker::Model;
 
 /// A writer, each of whose writes takes what it takes. An error of it, or a write of nothing, fails the put.
 #[derive(Drop)]
-pub struct StreamOut<W> {
+pub struct StreamOut<W: Write> {
     writer: W,
     failures: u64,
+}
+
+impl<W: Write> Model for StreamOut<W> {
+    ghost use Rattle.dbsource.specs.Outs.{Held};
+
+    ghost Value = { Held };
+
+    ghost view = { λ s. record { bytes = W.contents s.writer; failures = s.failures } };
 }
 
 impl<W: Write> StreamOut<W> {
     /// One over `writer`, which has to hand on what it takes by itself: a put does not flush.
     pub fn new(writer: W) -> StreamOut<W>
-        ensures writer { result.writer ≡ writer }
+        ensures bytes { result.bytes ≡ W.contents writer }
         ensures failures { result.failures ≡ 0 }
     {
         StreamOut {
@@ -23,30 +32,33 @@ impl<W: Write> StreamOut<W> {
             failures: 0,
         }
     }
+}
 
-    // Counts a failure.
-    fn refuse(&mut self) -> WriteFailed
-        ensures { self.new ≡ record self.old { failures = one_more self.old.failures } }
-    {
-        self.failures = self.failures.wrapping_add(1);
-        WriteFailed
+// Writes the piece, as often as it takes.
+fn write_whole<W: Write>(writer: &mut W, piece: &[u8]) -> Result<(), WriteFailed>
+    ensures { Writes result (W.contents writer.old) (W.contents writer.new) piece.now }
+{
+    let mut at = 0;
+    while at < piece.len() {
+        match writer.write(&piece[at..]) {
+            Ok(0) => return Err(WriteFailed),
+            Ok(count) => at += count,
+            Err(_) => return Err(WriteFailed),
+        }
     }
+    Ok(())
 }
 
 impl<W: Write> Out for StreamOut<W> {
-    ghost holds = { λ s. W.contents s.writer };
+    ghost holds = { λ s. s.bytes };
 
     ghost failures = { λ s. s.failures };
 
     fn put(&mut self, piece: &[u8]) -> Result<(), WriteFailed> {
-        let mut at = 0;
-        while at < piece.len() {
-            match self.writer.write(&piece[at..]) {
-                Ok(0) => return Err(self.refuse()),
-                Ok(count) => at += count,
-                Err(_) => return Err(self.refuse()),
-            }
+        let written = write_whole(&mut self.writer, piece);
+        if written.is_err() {
+            self.failures = self.failures.wrapping_add(1);
         }
-        Ok(())
+        written
     }
 }

@@ -15,7 +15,7 @@ returns-in_err-put_check-clause-survey g c = told_all (g.S.Source.tells c.args.s
 pub returns-in_err-put_check-clause-out : goal.returns-in_err-put_check-clause-out
 returns-in_err-put_check-clause-out g c =
     let p = err_from_is_err_and c.from_residual-in_err-put_check.result c.from_residual-in_err-put_check.ensures.1 in
-    let held = rw c.in_err-put_check.was at c.put_check.ensures.held in
+    let held = rw c.in_err-put_check.was at c.put_check.ensures.text.held in
     rw p.1 (if_told_both (g.S.Source.tells c.args.source.now)
     (λ file answer header V s. begins_out c.args.command c.limit_of.result c.in_ok-header.header (told c.as_slice.result.now) c.limit_of.ensures (ap told c.as_slice.ensures.value ∙ c.plain_faults-faults.ensures) file V header answer.1 s (g.O.Out.holds c.args.out.now) (g.O.Out.holds c.put_check.new.out) held)
     c.in_ok-header.ensures.answer c.in_ok-header.ensures.header)
@@ -32,7 +32,7 @@ returns-clause-survey g c = told_all (g.S.Source.tells c.args.source.now) (λ fi
 
 pub returns-clause-out : goal.returns-clause-out
 returns-clause-out g c =
-    let held = rw c.in_ok-put_check.was at c.put_check.ensures.held in
+    let held = rw c.in_ok-put_check.was at c.put_check.ensures.text.held in
     if_told_both (g.S.Source.tells c.args.source.now)
     (λ file answer header V s. appends_out c.args.command c.limit_of.result c.in_ok-header.header (told c.as_slice.result.now) c.limit_of.ensures (ap told c.as_slice.ensures.value ∙ c.plain_faults-faults.ensures) file V header answer.1 s (g.O.Out.holds c.args.out.now) (g.O.Out.holds c.put_check.new.out) held)
     c.in_ok-header.ensures.answer c.in_ok-header.ensures.header
@@ -46,5 +46,5 @@ returns-clause-err g c =
 pub returns-clause-verdict : goal.returns-clause-verdict
 returns-clause-verdict g c =
     if_told_both (g.S.Source.tells c.args.source.now)
-    (λ file answer header V s. answer_is c.args.command c.limit_of.result c.in_ok-header.header (told c.as_slice-2.result.now) c.limit_of.ensures (ap told c.as_slice-2.ensures.value ∙ c.plain_faults-faults.ensures) file V header answer.1 s c.verdict.result c.verdict.ensures)
+    (λ file answer header V s. answer_is c.args.command c.limit_of.result c.in_ok-header.header (told c.as_slice.result.now) c.limit_of.ensures (ap told c.as_slice.ensures.value ∙ c.plain_faults-faults.ensures) file V header answer.1 s _ c.in_ok-put_check.ensures.verdict)
     c.in_ok-header.ensures.answer c.in_ok-header.ensures.header

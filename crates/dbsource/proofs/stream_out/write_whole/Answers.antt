@@ -1,7 +1,6 @@
-use Rattle.std.proofs.Common.{ℕ, ◌+◌, ◌-◌, ◌≤◌, length, take, drop, arith, length-take, length-drop, List, ap}
-use Rattle.dbsource.specs.Failures.{one_more}
+use Rattle.std.proofs.Common.{ℕ, ◌+◌, ◌-◌, ◌≤◌, length, take, drop, arith, length-take, length-drop, List}
 use Rattle.dbsource.proofs.Puts.{stream_stop, stream_more, keeps_from_nothing}
-use Rattle.dbsource.proofs.stream_out.StreamOutOut.put.Goals as goal
+use Rattle.dbsource.proofs.stream_out.write_whole.Goals as goal
 
 pub loop-at-preserved : goal.loop-at-preserved
 loop-at-preserved g c =
@@ -12,20 +11,12 @@ loop-at-preserved g c =
     record {
       within = within;
       added = stream_more _ _ _ piece at c.in-Ok.count within c.loop-at.invariant.added c.in-Ok.ensures.bytes;
-      count = c.loop-at.invariant.count;
     }
 
 pub returns-in-Ok-eq0 : goal.returns-in-Ok-eq0
 returns-in-Ok-eq0 g c =
     let nothing = keeps_from_nothing _ _ (rw c.in-Ok-eq0.field-0-test at c.in-Ok-eq0.ensures.bytes) in
-    rw c.refuse.ensures (record {
-      held = stream_stop _ _ _ c.args.piece.now c.loop-at.at c.loop-at.invariant.added nothing;
-      count = ap one_more c.loop-at.invariant.count;
-    })
+    stream_stop _ _ _ c.args.piece.now c.loop-at.at c.loop-at.invariant.added nothing
 
 pub returns-in-Err : goal.returns-in-Err
-returns-in-Err g c =
-    rw c.refuse-in-Err.ensures (record {
-      held = stream_stop _ _ _ c.args.piece.now c.loop-at.at c.loop-at.invariant.added c.in-Err.ensures.bytes;
-      count = ap one_more c.loop-at.invariant.count;
-    })
+returns-in-Err g c = stream_stop _ _ _ c.args.piece.now c.loop-at.at c.loop-at.invariant.added c.in-Err.ensures.bytes

@@ -1,12 +1,11 @@
-use Rattle.std.proofs.Common.{◌≡◌, length, ◌-◌, ◌≤◌, take}
+use Rattle.std.proofs.Common.{length, ◌-◌, ◌≤◌, take}
 use Rattle.std.specs.Io.KnownBytes.{Appends}
-use Rattle.dbsource.proofs.stream_out.StreamOutOut.put.Given as goal
+use Rattle.dbsource.proofs.stream_out.write_whole.Given as goal
 
 abbrev pub invariant-loop-at : goal.invariant-loop-at
 invariant-loop-at g l = record {
   within : l.at ≤ length l.piece;
-  added : Appends (g.W.Write.contents l.initial.self.writer) (g.W.Write.contents l.self.writer) (take l.at l.piece);
-  count : l.self.failures ≡ l.initial.self.failures;
+  added : Appends (g.W.Write.contents l.initial.writer) (g.W.Write.contents l.writer) (take l.at l.piece);
 }
 
 abbrev pub decreases-loop-at : goal.decreases-loop-at
