@@ -1,4 +1,4 @@
-//! Cells (Database File Format, section 1.6, "B-tree Cell Format").
+// Cells (Database File Format, 1.6, "B-tree Cell Format").
 ghost use Rattle.std.specs.Prelude.{◌≡◌, ◌+◌, ◌<◌, ◌≤◌, IfSome};
 ghost use Rattle.dbformat.specs.Cell.{bytes_from, cell, cell_at, cell_pointer, child_number, count, payload_cell, right_child};
 ghost use Rattle.dbformat.specs.Varint.{varint, signed};
@@ -47,7 +47,7 @@ impl<'a> PageView<'a> {
         self.read_cell(i)
     }
 
-    /// `cell`, within its caller, so that only what this uses is read.
+    // `cell`, within its caller, so that only what this uses is read.
     #[inline(always)]
     pub(crate) fn read_cell(&self, i: u32) -> Result<Cell<'a>, CellFault>
         requires { i < count self.now }
@@ -85,7 +85,7 @@ impl<'a> PageView<'a> {
         u32::from(u16_at(self.bytes, self.pointers + 2 * i))
     }
 
-    /// The page right of all cells, on an interior page.
+    // The page right of all cells, on an interior page.
     #[tactic(auto, unfolding(dbformat::specs::Head::right_number))]
     fn right_child(&self) -> Option<u32>
         ensures { result ≡ right_child self.now }
@@ -97,7 +97,7 @@ impl<'a> PageView<'a> {
         }
     }
 
-    /// The cell at `offset`, by the kind of the page.
+    // The cell at `offset`, by the kind of the page.
     #[inline(always)]
     fn cell_at(&self, offset: u32) -> Option<Cell<'a>>
         requires { offset + 4 ≤ self.now.usable }
@@ -169,7 +169,7 @@ impl<'a> PageView<'a> {
         self.payload_cell(PayloadKind::Index, offset, 4 + size_len, size, left, None)
     }
 
-    /// The number at `offset` and its length, where it ends within the usable bytes.
+    // The number at `offset` and its length, where it ends within the usable bytes.
     #[inline(always)]
     fn varint_at(&self, offset: u32) -> Option<(u64, u32)>
         requires { offset ≤ self.now.usable }
@@ -180,7 +180,7 @@ impl<'a> PageView<'a> {
         Some((value, len as u32))
     }
 
-    /// The cell at `offset` whose payload of `size` bytes begins `before` bytes into it.
+    // The cell at `offset` whose payload of `size` bytes begins `before` bytes into it.
     #[inline(always)]
     fn payload_cell(
         &self,

@@ -1,4 +1,4 @@
-//! Freeblocks (Database File Format, section 1.6).
+// Freeblocks (Database File Format, 1.6).
 ghost use Rattle.std.specs.Prelude.{⊤, ◌≡◌, ◌+◌, ◌-◌, ◌≤◌, true, false, length, sum_by, slice_index_or, MatchOption, IfSome};
 ghost use Rattle.std.specs.Iterator.{item_count};
 ghost use Rattle.dbpage.specs.Freeblocks.{Walks};
@@ -31,11 +31,11 @@ impl Model for Freeblock {
 #[derive(Drop)]
 pub struct Freeblocks<'v, 'a> {
     page: &'v PageView<'a>,
-    /// How many came.
+    // How many came.
     number: u32,
-    /// Where the last of them ended.
+    // Where the last of them ended.
     end: u32,
-    /// Where the next is, or 0.
+    // Where the next is, or 0.
     offset: u32,
 }
 
@@ -135,7 +135,7 @@ impl<'a> PageView<'a> {
         total
     }
 
-    /// The freeblock at `offset`, if it is good behind one that ended at `end`.
+    // The freeblock at `offset`, if it is good behind one that ended at `end`.
     #[inline(always)]
     fn good_freeblock(&self, end: u32, offset: u32) -> Option<Freeblock>
         ensures good { MatchOption result (is_good_freeblock self.now end offset ≡ false)

@@ -1,4 +1,4 @@
-//! What the cells and freeblocks of a page hold of it (Database File Format, section 1.6).
+// What the cells and freeblocks of a page hold of it (Database File Format, 1.6).
 ghost use Rattle.std.specs.Prelude.{◌≡◌, ℕ, false, Some, ◌+◌, ◌^◌, ◌<◌, ◌≤◌, ◌==◌, not, length, MatchBool, MatchOption, MatchResult};
 ghost use Rattle.std.specs.List.{list_any};
 ghost use Rattle.dbformat.specs.Head.{content_start};
@@ -46,7 +46,7 @@ pub fn uncounted_coverage(view: &PageView<'_>, table: &mut [u8]) -> Coverage
     coverage_from::<Brand>(view, table, Blank::new(1))
 }
 
-/// `coverage`, counted from 0 in the ledger that `blank` opens.
+// `coverage`, counted from 0 in the ledger that `blank` opens.
 #[inline(always)]
 fn coverage_from<L: Ledger>(view: &PageView<'_>, table: &mut [u8], blank: Blank) -> Coverage
     requires room { view.now.usable ≤ length table.old }
@@ -59,13 +59,13 @@ fn coverage_from<L: Ledger>(view: &PageView<'_>, table: &mut [u8], blank: Blank)
     coverage(view, table, &mut steps)
 }
 
-/// The number of an item that shares a byte with one before it.
+// The number of an item that shares a byte with one before it.
 #[derive(Drop)]
 struct Overlap {
     item: u32,
 }
 
-/// Marks what the cells hold, and counts it.
+// Marks what the cells hold, and counts it.
 fn mark_cells<L: Ledger>(
     view: &PageView<'_>,
     table: &mut [u8],
@@ -90,7 +90,7 @@ fn mark_cells<L: Ledger>(
     Ok(held)
 }
 
-/// Where cell `i` begins and how many bytes it holds, if it is readable: four at least.
+// Where cell `i` begins and how many bytes it holds, if it is readable: four at least.
 #[inline(always)]
 fn held_by_cell(view: &PageView<'_>, i: u32) -> Option<(u32, u32)>
     requires { i < count view.now }
@@ -102,7 +102,7 @@ fn held_by_cell(view: &PageView<'_>, i: u32) -> Option<(u32, u32)>
     }
 }
 
-/// Marks what the good freeblocks hold behind the `held` bytes of the cells, and counts it all.
+// Marks what the good freeblocks hold behind the `held` bytes of the cells, and counts it all.
 fn mark_freeblocks<L: Ledger>(
     view: &PageView<'_>,
     held: u32,
@@ -128,7 +128,7 @@ fn mark_freeblocks<L: Ledger>(
     Ok(all)
 }
 
-/// Marks `len` bytes from `from` on, unless one of them is marked.
+// Marks `len` bytes from `from` on, unless one of them is marked.
 fn claim<L: Ledger>(table: &mut [u8], from: u32, len: u32, steps: &mut Steps<L>) -> bool
     requires room { from + len ≤ length table.old }
     requires fits { from + len < 2 ^ 32 }
@@ -145,7 +145,7 @@ fn claim<L: Ledger>(table: &mut [u8], from: u32, len: u32, steps: &mut Steps<L>)
     true
 }
 
-/// Whether one of the bytes is marked. All are read, so that many can be read at once.
+// Whether one of the bytes is marked. All are read, so that many can be read at once.
 fn is_any_marked(bytes: &[u8]) -> bool
     ensures { result ≡ list_any (λ byte. not (byte == 0)) bytes.now }
 {

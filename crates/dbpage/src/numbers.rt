@@ -1,10 +1,10 @@
-//! Numbers at a place of a page.
+// Numbers at a place of a page.
 ghost use Rattle.std.specs.Prelude.{◌≡◌, ◌+◌, ◌≤◌, length};
 ghost use Rattle.dbformat.specs.Numbers.{u16_at, u32_at};
 
 use byteorder::{BigEndian, ByteOrder};
 
-/// The big-endian number in the two bytes at `at`.
+// The big-endian number in the two bytes at `at`.
 #[inline(always)]
 pub(crate) fn u16_at(bytes: &[u8], at: u32) -> u16
     requires { at + 2 ≤ length bytes.now }
@@ -13,7 +13,7 @@ pub(crate) fn u16_at(bytes: &[u8], at: u32) -> u16
     BigEndian::read_u16(&bytes[at as usize..])
 }
 
-/// The big-endian number in the four bytes at `at`.
+// The big-endian number in the four bytes at `at`.
 #[inline(always)]
 pub(crate) fn u32_at(bytes: &[u8], at: u32) -> u32
     requires { at + 4 ≤ length bytes.now }

@@ -1,4 +1,4 @@
-//! A count of marks that takes no bytes.
+// A count of marks that takes no bytes.
 ghost use Rattle.std.specs.Prelude.{◌≡◌, ℕ, ◌+◌, ◌<◌};
 
 use std::marker::Model;

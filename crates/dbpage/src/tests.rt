@@ -1,4 +1,4 @@
-//! Pages written out by hand. What is expected of them is counted from their bytes.
+// Pages written out by hand. What is expected of them is counted from their bytes.
 mod sqlite_pages;
 mod written_pages;
 
@@ -6,13 +6,13 @@ use super::*;
 use dbformat::{CellFault, Coverage, HeadFault, PageKind};
 use std::process::Abort;
 
-/// A cell by its offset, length, payload size, local bytes, left child, key and first overflow page.
+// A cell by its offset, length, payload size, local bytes, left child, key and first overflow page.
 type Shown = (u32, u32, u32, usize, Option<u32>, Option<i64>, Option<u32>);
 
 #[derive(Drop)]
 struct Case<'a> {
     name: &'a str,
-    /// Bytes of the page, each run behind its offset. All others are 0.
+    // Bytes of the page, each run behind its offset. All others are 0.
     bytes: &'a [(usize, &'a [u8])],
     cells: &'a [Result<Shown, CellFault>],
     freeblocks: &'a [(u32, u32)],
@@ -48,7 +48,7 @@ fn shown(cell: Result<Cell<'_>, CellFault>) -> Result<Shown, CellFault> {
     ))
 }
 
-/// Compares what is read of a page that is not page 1 with what the case says.
+// Compares what is read of a page that is not page 1 with what the case says.
 fn check(rt: &impl Abort, case: &Case<'_>, page: &[u8], usable: u32) {
     let name = case.name;
     assert!(rt; usable >= 480 && usable <= 512 && usable as usize <= page.len());
@@ -203,7 +203,7 @@ fn item_offsets(rt: HostRuntime) {
     }
 }
 
-/// What is told of pages whose heads are not sound.
+// What is told of pages whose heads are not sound.
 #[test]
 fn damaged_heads(rt: HostRuntime) {
     let cases = [

@@ -1,4 +1,4 @@
-//! Views of b-tree pages (Database File Format, section 1.6, "B-tree Page Header Format").
+// Views of b-tree pages (Database File Format, 1.6, "B-tree Page Header Format").
 ghost use Rattle.std.specs.Prelude.{◌≡◌, ◌+◌, ◌*◌, ◌≤◌, length, IfOk};
 ghost use Rattle.dbformat.specs.Head.{view, page_kind, is_interior, header_start, pointers_start, first_freeblock, cell_count, content_start, fragmented_bytes, type_byte};
 ghost use Rattle.dbformat.specs.Cell.{count};
@@ -15,10 +15,10 @@ pub struct PageView<'a> {
     pub(crate) number: u32,
     pub(crate) kind: PageKind,
     pub(crate) usable: u32,
-    /// Where the cell pointers begin.
+    // Where the cell pointers begin.
     pub(crate) pointers: u32,
     pub(crate) cells: u32,
-    /// Where the content area begins.
+    // Where the content area begins.
     pub(crate) start: u32,
 }
 
@@ -92,7 +92,7 @@ impl<'a> PageView<'a> {
     }
 }
 
-/// The kind that a type byte names.
+// The kind that a type byte names.
 #[inline(always)]
 fn page_kind(type_byte: u8) -> Option<PageKind>
     ensures { result ≡ page_kind type_byte }
@@ -106,7 +106,7 @@ fn page_kind(type_byte: u8) -> Option<PageKind>
     }
 }
 
-/// Whether pages of this kind have children.
+// Whether pages of this kind have children.
 #[inline(always)]
 pub(crate) fn is_interior(kind: PageKind) -> bool
     ensures { result ≡ is_interior kind }
@@ -117,7 +117,7 @@ pub(crate) fn is_interior(kind: PageKind) -> bool
     }
 }
 
-/// Where the cell pointers of page `p` begin: interior pages have a right child before them.
+// Where the cell pointers of page `p` begin: interior pages have a right child before them.
 #[inline(always)]
 fn pointers_start(p: u32, kind: PageKind) -> u32
     ensures value { result ≡ pointers_start p kind }
@@ -136,7 +136,7 @@ pub fn type_byte(page: &[u8], p: u32) -> u8
     page[header_start(p) as usize]
 }
 
-/// Where the page header of page `p` begins: behind the file's header on page 1.
+// Where the page header of page `p` begins: behind the file's header on page 1.
 #[inline(always)]
 fn header_start(p: u32) -> u32
     ensures value { result ≡ header_start p }
@@ -145,7 +145,7 @@ fn header_start(p: u32) -> u32
     if p == 1 { 100 } else { 0 }
 }
 
-/// The offset of the first freeblock of page `p`, or 0.
+// The offset of the first freeblock of page `p`, or 0.
 #[inline(always)]
 #[tactic(auto, unfolding(dbformat::specs::Head::first_freeblock))]
 pub(crate) fn first_freeblock(page: &[u8], p: u32) -> u16
@@ -155,7 +155,7 @@ pub(crate) fn first_freeblock(page: &[u8], p: u32) -> u16
     u16_at(page, header_start(p) + 1)
 }
 
-/// The number of bytes in fragments of page `p`.
+// The number of bytes in fragments of page `p`.
 #[inline(always)]
 #[tactic(auto, unfolding(dbformat::specs::Head::fragmented_bytes))]
 fn fragmented_bytes(page: &[u8], p: u32) -> u8
@@ -165,7 +165,7 @@ fn fragmented_bytes(page: &[u8], p: u32) -> u8
     page[(header_start(p) + 7) as usize]
 }
 
-/// The number of cells of page `p`.
+// The number of cells of page `p`.
 #[inline(always)]
 #[tactic(auto, unfolding(dbformat::specs::Head::cell_count))]
 fn cell_count(page: &[u8], p: u32) -> u16

@@ -1,5 +1,5 @@
-//! Pages that SQLite 3.40.1 made by the commands of `sqlite_pages/make.sh`, as hexadecimal text. The numbers are those of
-//! its dbstat, and freeblocks, fragments and children are read off the bytes.
+// Pages that SQLite 3.40.1 made by the commands of `sqlite_pages/make.sh`, as hexadecimal text. The numbers are those of
+// its dbstat, and freeblocks, fragments and children are read off the bytes.
 ghost use Rattle.std.specs.Prelude.{◌<◌};
 
 use super::super::*;
@@ -16,9 +16,9 @@ struct Made<'a> {
     usable: u32,
     kind: PageKind,
     cells: u32,
-    /// Bytes of payload on the page.
+    // Bytes of payload on the page.
     payload: u32,
-    /// The largest payload.
+    // The largest payload.
     largest: u32,
     unused: u32,
     fragments: u32,
@@ -34,7 +34,7 @@ fn digit(text: &[u8], i: usize) -> u8 {
     }
 }
 
-/// Byte `i` of a text of two digits a byte.
+// Byte `i` of a text of two digits a byte.
 fn byte(text: &str, i: usize) -> u8
     requires { i < 65536 }
 {
@@ -50,7 +50,7 @@ fn page_of(text: &str) -> [u8; 512] {
     page
 }
 
-/// Cells, bytes of payload, and the largest payload of a page.
+// Cells, bytes of payload, and the largest payload of a page.
 fn totals(view: &PageView<'_>) -> (u32, usize, u32) {
     let mut cells = 0u32;
     let mut payload = 0usize;
@@ -233,7 +233,7 @@ fn reads_pages_of_sqlite(rt: HostRuntime) {
     }
 }
 
-/// A page of 65536 bytes, with one row and one freeblock at its end, and one without rows.
+// A page of 65536 bytes, with one row and one freeblock at its end, and one without rows.
 #[test]
 fn reads_the_largest_pages(rt: HostRuntime) -> Result<(), Fail> {
     let cases = [
@@ -254,7 +254,7 @@ fn reads_the_largest_pages(rt: HostRuntime) -> Result<(), Fail> {
     Ok(())
 }
 
-/// A page of this many bytes, all 0 but for the text at its head and at its end.
+// A page of this many bytes, all 0 but for the text at its head and at its end.
 fn large_page(alloc: Global, size: usize, head: &str, end: &str) -> Result<Vec<u8>, AllocError> {
     let mut page = Vec::from_elem(alloc, 0u8, size)?;
     write_text(page.as_mut_slice(), 0, head);

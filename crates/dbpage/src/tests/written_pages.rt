@@ -1,4 +1,4 @@
-//! Pages whose bytes are written out, and what is read of them.
+// Pages whose bytes are written out, and what is read of them.
 use super::{Case, check, page_of};
 use dbformat::{CellFault, Coverage};
 
