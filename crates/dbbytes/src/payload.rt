@@ -1,5 +1,5 @@
 // How a payload is divided between its cell and overflow pages (Database File Format, 1.6).
-ghost use Rattle.std.specs.Prelude.{◌≡◌, ℕ, ◌+◌, ◌≤◌};
+ghost use Rattle.std.specs.Prelude.{◌≡◌, ◌+◌, ◌≤◌};
 ghost use Rattle.dbformat.specs.Payload.{most_local, local_len};
 
 use dbformat::PayloadKind;

@@ -1,5 +1,5 @@
 // The command line of the program.
-ghost use Rattle.std.specs.Prelude.{◌≡◌, ℕ, IfOk, IfSome, map, false};
+ghost use Rattle.std.specs.Prelude.{◌≡◌, IfOk, IfSome, map, false};
 ghost use Rattle.clap.specs.Words.{app_of, new_app, subcommand_of, rule_of};
 ghost use Rattle.clap.specs.declared.builder.command.Command.TheViews.{out-Command as fields_of};
 ghost use Rattle.dbck.specs.CommandLine.{dbck_app, check_app, file_rule, limit_rule, name_of, Says, HasLimit};

@@ -1,7 +1,7 @@
 // Whole runs: what is written, what is answered and what was asked for.
 use crate::fakes::{SmallOut, StatedSource};
 use crate::files::file_of;
-use dbreport::{Command, Verdict, run, run_in};
+use dbreport::{Command, Verdict, run};
 use dbsource::{ByteRange, LogSource, MemOut, MemSource, Refusal, RunError};
 use linked_list_allocator::LocalHeap;
 use std::test::Fail;
@@ -213,7 +213,7 @@ fn the_growth_fails(rt: HostRuntime) -> Result<(), Fail> {
         let mut source = MemSource::new(file.as_slice());
         let mut out = SmallOut::new(9);
         let mut err = SmallOut::new(9);
-        let found = run_in(&heap, CHECK, &mut source, &mut out, &mut err);
+        let found = run(&heap, CHECK, &mut source, &mut out, &mut err);
         let fits = room == 512;
         assert!(rt;
             found

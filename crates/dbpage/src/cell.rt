@@ -1,7 +1,7 @@
 // Cells (Database File Format, 1.6, "B-tree Cell Format").
 ghost use Rattle.std.specs.Prelude.{◌≡◌, ◌+◌, ◌<◌, ◌≤◌, IfSome};
 ghost use Rattle.dbformat.specs.Cell.{bytes_from, cell, cell_at, cell_pointer, child_number, count, payload_cell, right_child};
-ghost use Rattle.dbformat.specs.Varint.{varint, signed};
+ghost use Rattle.dbformat.specs.Varint.{varint};
 ghost use Rattle.dbformat.specs.declared.PageKind.TheVariants.{InteriorIndex, InteriorTable, LeafIndex, LeafTable};
 
 use crate::numbers::{u16_at, u32_at};

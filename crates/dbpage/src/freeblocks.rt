@@ -1,5 +1,5 @@
 // Freeblocks (Database File Format, 1.6).
-ghost use Rattle.std.specs.Prelude.{⊤, ◌≡◌, ◌+◌, ◌-◌, ◌≤◌, true, false, length, sum_by, slice_index_or, MatchOption, IfSome};
+ghost use Rattle.std.specs.Prelude.{◌≡◌, ◌+◌, ◌-◌, ◌≤◌, true, false, slice_index_or, MatchOption, IfSome};
 ghost use Rattle.std.specs.Iterator.{item_count};
 ghost use Rattle.dbpage.specs.Freeblocks.{Walks};
 ghost use Rattle.dbformat.specs.Coverage.{items, freeblocks, freeblock_at, is_good_freeblock, bad_freeblock, unused};

@@ -9,4 +9,4 @@ mod plain;
 mod runs;
 
 pub use dbformat::{Command, Verdict};
-pub use runs::{run, run_in};
+pub use runs::run;

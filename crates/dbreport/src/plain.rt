@@ -1,5 +1,5 @@
 // Plain files: one page, which is an empty schema, and nothing else.
-ghost use Rattle.std.specs.Prelude.{◌≡◌, ℕ, ◌+◌, ◌≤◌, ◌++◌, ◌⊎◌, ◌==◌, not, pos, false, length, flat_map, option_to_list, IfOk, IfErr, IfSome, IsErrOf, MatchResult, take};
+ghost use Rattle.std.specs.Prelude.{◌≡◌, ◌+◌, ◌≤◌, ◌++◌, ◌⊎◌, ◌==◌, not, pos, false, length, flat_map, option_to_list, IfOk, IfErr, IfSome, IsErrOf, MatchResult, take};
 ghost use Rattle.dbformat.specs.FixedPages.{geometry_of};
 ghost use Rattle.dbformat.specs.HeaderFaults.{header_faults};
 ghost use Rattle.dbformat.specs.Faults.{fault};
@@ -8,7 +8,7 @@ ghost use Rattle.dbformat.specs.Header.{freelist_count, usable_size};
 ghost use Rattle.dbformat.specs.declared.FaultCode.TheVariants.{H10};
 ghost use Rattle.dbformat.specs.Tests.{told_if};
 ghost use Rattle.dbformat.specs.Log.{HasLog, range};
-ghost use Rattle.dbformat.specs.Plain.{has_one_page, is_empty_leaf, is_plain, IsFirstPageLog};
+ghost use Rattle.dbformat.specs.Plain.{has_one_page, is_empty_leaf, IsFirstPageLog};
 ghost use Rattle.dbsource.specs.Failures.{one_more};
 ghost use Rattle.dbsource.specs.Headers.{IsHeaderOf};
 ghost use Rattle.dbreport.specs.Runs.{IsAnswerOf, IsPageRead, reads_failed};

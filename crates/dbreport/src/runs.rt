@@ -1,6 +1,5 @@
 // A run: from the bytes of a database to what is written of them.
-ghost use Rattle.std.specs.Prelude.{◌≡◌, ℕ, ◌≤◌, false, List, length, IfOk, IfSome, IsOk, Ok};
-ghost use Rattle.dbformat.specs.File.{refusal};
+ghost use Rattle.std.specs.Prelude.{◌≡◌, ◌≤◌, false, List, length, IfOk, IfSome, Ok};
 ghost use Rattle.dbformat.specs.Log.{HasLog};
 ghost use Rattle.dbformat.specs.Plain.{has_one_page, IsFirstPageLog};
 ghost use Rattle.dbformat.specs.Reference.{Reference};
@@ -14,7 +13,7 @@ use crate::check::put_check;
 use crate::plain::{plain_faults, read_plain};
 use dbformat::{Command, Verdict};
 use dbsource::{Out, RunError, Source};
-use std::alloc::{Allocator, Global};
+use std::alloc::Allocator;
 
 // How many faults a check shows.
 fn limit_of(command: Command) -> u32
@@ -26,7 +25,7 @@ fn limit_of(command: Command) -> u32
 }
 
 /// Reads the database that `source` gives, and writes what `command` asks of it: for a check the fault lines to `out`,
-/// and nothing to `err`.
+/// and nothing to `err`. What it keeps of the file stands in memory from `alloc`.
 ///
 /// # Errors
 ///
@@ -34,33 +33,7 @@ fn limit_of(command: Command) -> u32
 /// nothing was written. [`RunError::ReadFailed`] where the source failed, [`RunError::OutOfMemory`] where a growth was
 /// refused, and [`RunError::WriteFailed`] where an out failed: then each out holds what it had and a beginning of its
 /// part of the report.
-pub fn run<S: Source, O: Out, E: Out>(
-    alloc: Global,
-    command: Command,
-    source: &mut S,
-    out: &mut O,
-    err: &mut E,
-) -> Result<Verdict, RunError>
-    // Where the source tells its bytes: the file has a survey, and by any survey of it each Out got its part.
-    ensures survey { IfSome (S.tells source.old) (λ file. Survey file (survey file)) }
-    ensures out { IfSome (S.tells source.old) (λ file. (V : List Reference) → Survey file V → Writes result (O.holds out.old) (O.holds out.new) (report command file V).out) }
-    ensures err { IfSome (S.tells source.old) (λ file. (V : List Reference) → Survey file V → Writes result (E.holds err.old) (E.holds err.new) (report command file V).err) }
-    ensures verdict { IfOk result (λ v. IfSome (S.tells source.old) (λ file. (V : List Reference) → Survey file V → (report command file V).answer ≡ Ok v)) }
-    ensures answer { IfSome (S.tells source.old) (IsAnswerOf result) }
-    // Whatever the source answers.
-    ensures unwritten { IsUnwritten result (O.holds out.old) (O.holds out.new) }
-    ensures second_out { E.holds err.new ≡ E.holds err.old }
-    ensures source_failures { S.failures source.new ≡ reads_failed result (S.failures source.old) }
-    ensures out_failures { O.failures out.new ≡ writes_failed result (O.failures out.old) }
-    ensures err_failures { E.failures err.new ≡ E.failures err.old }
-    ensures log { HasLog S.step IsFirstPageLog (S.trail source.old) (S.trail source.new) }
-    ensures unread { IfSome (S.tells source.old) (λ file. has_one_page file (length file) ≡ false → HasLog S.step (λ log. length log ≤ 1) (S.trail source.old) (S.trail source.new)) }
-{
-    run_in(alloc, command, source, out, err)
-}
-
-/// The same with any allocator.
-pub fn run_in<A: Allocator, S: Source, O: Out, E: Out>(
+pub fn run<A: Allocator, S: Source, O: Out, E: Out>(
     alloc: A,
     command: Command,
     source: &mut S,

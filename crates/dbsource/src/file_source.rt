@@ -1,5 +1,5 @@
 // A source over a file.
-ghost use Rattle.std.specs.Prelude.{◌≡◌, ℕ, [], None, MatchResult};
+ghost use Rattle.std.specs.Prelude.{◌≡◌, [], None};
 ghost use Rattle.dbsource.specs.Failures.{one_more};
 ghost use Rattle.dbsource.specs.Sources.{no_step};
 

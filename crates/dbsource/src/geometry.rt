@@ -1,5 +1,5 @@
 // The shape of a file, and whether its header refuses it (Database File Format, 1.3, 1.4 and 1.8).
-ghost use Rattle.std.specs.Prelude.{◌≡◌, ℕ, ◌≤◌, ◌<◌, ◌^◌, ◌&&◌, nat_le, length};
+ghost use Rattle.std.specs.Prelude.{◌≡◌, ◌≤◌, ◌<◌, ◌^◌, ◌&&◌, nat_le, length};
 ghost use Rattle.dbformat.specs.FixedPages.{lock_page, is_map_position, geometry_of};
 ghost use Rattle.dbformat.specs.File.{refusal_of};
 ghost use Rattle.dbformat.specs.Header.{page_size, page_count, usable_size, has_pointer_map};

@@ -1,5 +1,5 @@
 // The header of a database (Database File Format, 1.3).
-ghost use Rattle.std.specs.Prelude.{◌≡◌, ℕ, ◌≤◌, length, IfOk, IfErr, IfSome, None};
+ghost use Rattle.std.specs.Prelude.{◌≡◌, ◌≤◌, length, IfOk, IfErr, IfSome, None};
 ghost use Rattle.dbformat.specs.FixedPages.{geometry_of};
 ghost use Rattle.dbformat.specs.File.{refusal_of};
 ghost use Rattle.dbformat.specs.Log.{HasLog};

@@ -1,9 +1,9 @@
 // The numbers of a header, by their places in its 100 bytes (Database File Format, 1.3).
-ghost use Rattle.std.specs.Prelude.{◌≡◌, ℕ, ◌+◌, ◌≤◌, ◌<◌, Bool, IsTrue, length, take, nat_lt, slice_index, ◌==◌};
+ghost use Rattle.std.specs.Prelude.{◌≡◌, ◌+◌, ◌≤◌, ◌<◌, IsTrue, length, take, ◌==◌};
 ghost use Rattle.std.specs.List.{list_any};
 ghost use Rattle.std.specs.Str.{bytes_eq};
 ghost use Rattle.dbformat.specs.Numbers.{u16_at, u32_at};
-ghost use Rattle.dbformat.specs.Header.{magic, stored_page_sizes, page_size, reserved_bytes, is_size_valid, page_count, whole_pages, stated_pages};
+ghost use Rattle.dbformat.specs.Header.{magic, stored_page_sizes, page_size, is_size_valid, page_count, whole_pages, stated_pages};
 
 use byteorder::{BigEndian, ByteOrder};
 

@@ -1,5 +1,5 @@
 // A source over memory that keeps the ranges it was asked for.
-ghost use Rattle.std.specs.Prelude.{◌≡◌, ℕ, ◌+◌, ◌<◌, ◌≤◌, [], length, Some, IsOk, OnOk, MatchResult, ◌↔◌};
+ghost use Rattle.std.specs.Prelude.{◌≡◌, ◌+◌, ◌<◌, ◌≤◌, [], length, Some, IsOk, OnOk, MatchResult, ◌↔◌};
 ghost use Rattle.dbformat.specs.Log.{range};
 ghost use Rattle.dbsource.specs.Failures.{one_more};
 ghost use Rattle.dbsource.specs.Sources.{IsRangeOf, kept_step};

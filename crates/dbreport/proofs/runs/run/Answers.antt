@@ -4,7 +4,7 @@ use Rattle.dbformat.proofs.Theory.{one_survey}
 use Rattle.dbsource.proofs.Told.{if_told_both, told_all}
 use Rattle.dbreport.proofs.Shown.{told}
 use Rattle.dbreport.proofs.PlainReports.{begins_out, appends_out, begins_err, appends_err, answer_is}
-use Rattle.dbreport.proofs.runs.run_in.Goals as goal
+use Rattle.dbreport.proofs.runs.run.Goals as goal
 
 pub returns-in_err-header-clause-survey : goal.returns-in_err-header-clause-survey
 returns-in_err-header-clause-survey g c = told_all (g.S.Source.tells c.args.source.now) (λ file. (one_survey file).0)
