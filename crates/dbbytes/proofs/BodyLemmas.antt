@@ -1,12 +1,11 @@
 -- The bodies of a record.
-use Rattle.std.proofs.Common.{◌≡◌, ℕ, ◌+◌, ◌-◌, ◌<◌, ◌≤◌, false, List, [], ◌∷◌, ◌++◌, length, take, drop, get_or, set, Option, Some, None, cond, eqb, refl, sym, ap, arith, append_assoc, append-nil, ◌⊎◌, inl, inr, add-one, drop-cons}
+use Rattle.std.proofs.Common.{◌≡◌, ℕ, ◌+◌, ◌-◌, ◌<◌, ◌≤◌, List, [], ◌∷◌, ◌++◌, length, take, drop, get_or, set, Option, Some, None, cond, eqb, refl, sym, ap, arith, append_assoc, append-nil, add-one, drop-cons}
 use Rattle.std.specs.Prelude.{sum}
 use Rattle.std.proofs.lemmas.Bool.Decides.{nat_tests}
 use Rattle.std.proofs.lemmas.List.{take_all, drop_all}
 use Rattle.std.proofs.lemmas.List.Sums.{sum_by-cons}
 use Rattle.dbformat.specs.Options.{◌>>=◌}
 use Rattle.dbformat.specs.Record.{serial_len, serial_lens}
-use Rattle.dbbytes.specs.Record.{body_lens}
 use Rattle.dbbytes.proofs.ListLemmas.{pushed}
 
 abbrev pub if_sum : List ℕ → ℕ → List ℕ → Option (List ℕ)
@@ -16,44 +15,20 @@ if_sum front left lens = cond (eqb (sum lens) left) (Some (front ++ lens)) None
 abbrev pub lens_from : List ℕ → ℕ → List ℕ → Option (List ℕ)
 lens_from front left types = serial_lens types >>= λ lens. if_sum front left lens
 
--- a type that is reserved
-pub lens_from-none : (front : List ℕ) (left type : ℕ) (types : List ℕ) → serial_len type ≡ None → lens_from front left (type ∷ types) ≡ None
-lens_from-none front left type types e = rw e refl
-
-sum_over : (n left : ℕ) (lens : List ℕ) → left < n → eqb (sum (n ∷ lens)) left ≡ false
-sum_over n left lens h =
-    let e : sum (n ∷ lens) ≡ n + sum lens = sum_by-cons (λ x. x) n lens in
-    grind (arith, nat_tests)
-
 sum_less : (n left : ℕ) (lens : List ℕ) → n ≤ left → eqb (sum (n ∷ lens)) left ≡ eqb (sum lens) (left - n)
 sum_less n left lens h =
     let e : sum (n ∷ lens) ≡ n + sum lens = sum_by-cons (λ x. x) n lens in
     grind (arith, nat_tests)
-
-over : (front : List ℕ) (left n : ℕ) (o : Option (List ℕ)) → left < n → ((o >>= λ rest. Some (n ∷ rest)) >>= λ lens. if_sum front left lens) ≡ None
-over front left n None h = refl
-over front left n (Some lens) h = rw (sum_over n left lens h) refl
-
--- a value that is longer than what is left
-pub lens_from-over : (front : List ℕ) (left type n : ℕ) (types : List ℕ) → serial_len type ≡ Some n → left < n → lens_from front left (type ∷ types) ≡ None
-lens_from-over front left type n types e h = rw e (over front left n (serial_lens types) h)
 
 next : (front : List ℕ) (left n : ℕ) (o : Option (List ℕ)) → n ≤ left
     → ((o >>= λ rest. Some (n ∷ rest)) >>= λ lens. if_sum front left lens) ≡ (o >>= λ lens. if_sum (front ++ n ∷ []) (left - n) lens)
 next front left n None h = refl
 next front left n (Some lens) h = rw (sum_less n left lens h, append_assoc front (n ∷ []) lens) refl
 
--- a value that is not
+-- one more value, which is not longer than what is left
 pub lens_from-next : (front : List ℕ) (left type n : ℕ) (types : List ℕ) → serial_len type ≡ Some n → n ≤ left
     → lens_from front left (type ∷ types) ≡ lens_from (front ++ n ∷ []) (left - n) types
 lens_from-next front left type n types e h = rw e (next front left n (serial_lens types) h)
-
-first : (bodies : ℕ) (o : Option (List ℕ)) → (o >>= λ lens. if_sum [] bodies lens) ≡ (o >>= λ lens. cond (eqb (sum lens) bodies) (Some lens) None)
-first bodies None = refl
-first bodies (Some lens) = refl
-
-pub lens_from-first : (types : List ℕ) (bodies : ℕ) → lens_from [] bodies types ≡ body_lens types bodies
-lens_from-first types bodies = first bodies (serial_lens types)
 
 -- one more of the lengths
 pub lens_from-more : (i n left : ℕ) (lens types : List ℕ) → i < 5 → length lens ≡ 5 → length types ≡ 5 → serial_len (get_or types i 0) ≡ Some n → n ≤ left
@@ -70,13 +45,3 @@ lens_from-all i left lens types h k m =
     let front : take i lens ≡ lens = take_all i lens (omega arith) in
     let rest : drop i types ≡ [] = drop_all i types (omega arith) in
     rw (front, rest) (ap (λ w. cond (eqb 0 left) (Some w) None) (append-nil lens))
-
--- one that cannot be
-pub lens_from-stop : (i left : ℕ) (lens types : List ℕ) → i < 5 → length types ≡ 5
-    → (serial_len (get_or types i 0) ≡ None) ⊎ ((n : ℕ) × (serial_len (get_or types i 0) ≡ Some n) × (left < n)) → lens_from lens left (drop i types) ≡ None
-lens_from-stop i left lens types h m why =
-    let rest : drop i types ≡ get_or types i 0 ∷ drop (i + 1) types = rw add-one (drop-cons types i 0 (omega arith)) in
-    rw rest (elim why [
-      | inl e ↦ lens_from-none lens left (get_or types i 0) (drop (i + 1) types) e
-      | inr o ↦ lens_from-over lens left (get_or types i 0) o.0 (drop (i + 1) types) o.1 o.2
-    ])

@@ -6,11 +6,11 @@ use Rattle.std.specs.List.{flat_map}
 use Rattle.std.proofs.lemmas.Bool.{cases_lt}
 use Rattle.std.proofs.lemmas.Bool.Decides.{nat_tests}
 use Rattle.std.proofs.lemmas.Grind.{flat_map-append}
-use Rattle.std.proofs.lemmas.List.{take-append-drop, take_more, drop-drop, drop_all, length-drop}
+use Rattle.std.proofs.lemmas.List.{take-append-drop, drop-drop, drop_all, length-drop}
 use Rattle.dbformat.specs.Text.{escape_byte, hex_text}
 use Rattle.dbsource.specs.Outs.{Puts}
 use Rattle.dbsource.specs.declared.out.WriteFailed.{WriteFailed}
-use Rattle.dbsource.proofs.Puts.{puts_none, puts_then, puts_stop}
+use Rattle.dbsource.proofs.Puts.{puts_then, puts_stop}
 use Rattle.dbbytes.specs.Escapes.{is_escaped}
 use Rattle.dbbytes.specs.Units.{text_of}
 use Rattle.dbbytes.specs.declared.text.Order.{Order}
@@ -32,19 +32,9 @@ hex_byte n h = elim (cases_lt n 16) [
   | inr large ↦ (let all : n / 16 % 16 ≡ n / 16 = omega arith in rw (two_digits 62 n large h, all) refl)
 ]
 
-plain_byte : (c : ℕ) → is_escaped c ≡ false → escape_byte c ≡ c ∷ []
-plain_byte c h = rw h refl
-
 -- an escaped byte is written by its code
 pub escaped_byte : (c : ℕ) → is_escaped c ≡ true → escape_byte c ≡ 92 ∷ 120 ∷ hex_text 2 c
 escaped_byte c h = rw h refl
-
--- one more byte that stands as it is
-pub plain_more : (xs : List ℕ) (i : ℕ) → i < length xs → flat_map escape_byte (take i xs) ≡ take i xs → is_escaped (get_or xs i 0) ≡ false
-    → flat_map escape_byte (take (i + 1) xs) ≡ take (i + 1) xs
-plain_more xs i h e p =
-    let next : take (i + 1) xs ≡ take i xs ++ get_or xs i 0 ∷ [] = take_more xs i 0 h in
-    rw (next, flat_map-append escape_byte (take i xs) (get_or xs i 0 ∷ []), e) (ap (λ w. take i xs ++ w) (append-nil _ ∙ plain_byte (get_or xs i 0) p))
 
 first_at : (xs : List ℕ) (at : ℕ) → at < length xs → get_or (drop at xs) 0 0 ≡ get_or xs at 0
 first_at xs at h = rw (drop-cons xs at 0 h) refl
@@ -75,9 +65,6 @@ pub record HasPut (old now : Option (List ℕ)) (before after : ℕ) (rest whole
   pub done : List ℕ
   pub split : done ++ rest ≡ whole
   pub put : Puts {E = WriteFailed} (Ok (tt {0})) old now before after done
-
-pub put_none : (o : Option (List ℕ)) (f : ℕ) (whole : List ℕ) → HasPut o o f f whole whole
-put_none o f whole = record { done = []; split = refl; put = puts_none (tt {0}) o f }
 
 pub put_more : {o m n : Option (List ℕ)} {d e f : ℕ} {rest whole : List ℕ} {s : Result (Unit {0}) WriteFailed} (a more : List ℕ)
     → HasPut o m d e rest whole → s ≡ Ok (tt {0}) → Puts s m n e f a → rest ≡ a ++ more → HasPut o n d f more whole

@@ -95,9 +95,6 @@ unfolding values_with
 values_with-long left bodies types value [] = rw (not_le_zero left) refl
 values_with-long left bodies types value (x ∷ more) = cond_none _
 
-eq_suc : (m n : ℕ) → eqb (suc m) (suc n) ≡ eqb m n
-eq_suc m n = grind (arith, nat_tests)
-
 eq_left : (m left bodies : ℕ) → eqb (suc m) (suc left + bodies) ≡ eqb m (left + bodies)
 eq_left m left bodies = grind (arith, nat_tests)
 

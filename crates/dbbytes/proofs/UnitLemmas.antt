@@ -1,6 +1,5 @@
 -- UTF-16, unit by unit.
-use Rattle.std.proofs.Common.{◌≡◌, ℕ, ◌+◌, ◌%◌, ◌<◌, ◌≤◌, Bool, true, false, not, ◌&&◌, List, [], ◌∷◌, ◌++◌, length, drop, get_or, Some, None, Result, Ok, Err, MatchResult, is_ok, eqb, ltb, leb, refl, sym, ap, ◌∙◌, ◌⊎◌, inl, inr, arith}
-use Rattle.std.specs.Prelude.{encode_utf8}
+use Rattle.std.proofs.Common.{◌≡◌, ℕ, ◌+◌, ◌%◌, ◌<◌, ◌≤◌, Bool, true, false, not, ◌&&◌, List, [], ◌∷◌, length, drop, get_or, Some, None, Result, Ok, Err, MatchResult, is_ok, eqb, ltb, leb, refl, sym, ap, ◌∙◌, ◌⊎◌, inl, inr, arith}
 use Rattle.std.specs.Char.Utf16.{utf16_chars, lone_unit_char, is_high_surrogate, is_low_surrogate, surrogate_pair_char, has_unpaired_surrogate}
 use Rattle.std.specs.Str.{IsUtf8, is_utf8}
 use Rattle.std.proofs.lemmas.Str.{IsUtf8-from_is_utf8, is_utf8-from_IsUtf8}
@@ -136,14 +135,6 @@ pub utf8_test : {A E : Type 0} (P : A → Type 0) (Q : E → Type 0) (r : Result
     → MatchResult r (λ x. P x × IsUtf8 bytes) (λ e. (¬ (IsUtf8 bytes)) × Q e) → is_ok r ≡ is_utf8 bytes
 utf8_test P Q (Ok x) bytes h = sym (is_utf8-from_IsUtf8 bytes h.1)
 utf8_test P Q (Err e) bytes h = sym (no_utf8 bytes (is_utf8 bytes) refl h.0)
-
--- the text of what it begins with and of the rest
-pub text_next : (order : Order) (bytes : List ℕ) (char len : ℕ) → BeginsWith order bytes char len
-    → text_of order bytes ≡ encode_utf8 char ++ text_of order (drop len bytes)
-text_next order bytes char len h = rw h.begins refl
-
-pub text_lost : (order : Order) (bytes : List ℕ) → BeginsUnpaired order bytes → text_of order bytes ≡ encode_utf8 0xFFFD ++ text_of order (drop 2 bytes)
-text_lost order bytes h = rw h.begins refl
 
 -- there is none of less than a unit
 pub text_none : (order : Order) (bytes : List ℕ) → length bytes < 2 → text_of order bytes ≡ []

@@ -5,9 +5,7 @@ use Rattle.std.proofs.lemmas.List.{append-nil, append_assoc, take_at, length_pus
 use Rattle.std.proofs.lemmas.List.Sums.{sum_by-cons}
 use Rattle.dbformat.specs.Head.{View, content_start, first_freeblock, fragmented_bytes}
 use Rattle.dbformat.specs.Coverage.{Span, freeblocks, freeblocks_from, freeblock_at, next_freeblock, is_good_freeblock, offset_behind, bad_freeblock, unused}
-use Rattle.std.proofs.lemmas.Iterator.{YieldsList}
-use Rattle.std.proofs.lemmas.Iterator.Consumers.{YieldsList-from_shown}
-use Rattle.dbpage.specs.Freeblocks.{IsPlace, Left, Walks}
+use Rattle.dbpage.specs.Freeblocks.{IsPlace}
 use Rattle.dbformat.proofs.Freeblocks.{good_parts, good_ends, none_past_end, from_good, from_bad}
 
 -- any number that is enough gives the same freeblocks
@@ -137,14 +135,3 @@ left_more v end offset f e' o' good same p q =
     ∙ ap (λ (g : Span). g ∷ freeblocks_from v.usable v (offset + (freeblock_at v offset).len) (next_freeblock v offset)) same
     ∙ ap (λ (a : ℕ). f ∷ freeblocks_from v.usable v a (next_freeblock v offset)) p
     ∙ ap (λ (b : ℕ). f ∷ freeblocks_from v.usable v e' b) q
-
--- a loop or a chain over the freeblocks that are left yields these
-none_left : (old new : Left) → Walks old None new → length old.left ≡ 0
-none_left old new step = ap length step.0.0
-
-first_left : (old : Left) (f : Span) (new : Left) → Walks old (Some f) new → old.left ≡ f ∷ new.left
-first_left old f new step = step.0
-
-pub YieldsList-from_freeblocks : {s : Left} (fs : List Span) → s.left ≡ fs → YieldsList Walks (λ f. f) s fs
-YieldsList-from_freeblocks {s = s} fs same =
-    subst (λ (xs : List Span). YieldsList Walks (λ f. f) s xs) same (YieldsList-from_shown Walks (λ f. f) (λ l. l.left) none_left first_left s)

@@ -1,12 +1,10 @@
 -- The items of a page, one after another.
-use Rattle.std.proofs.Common.{◌≡◌, ℕ, suc, ◌+◌, ◌-◌, ◌<◌, ◌≤◌, max, zero, true, false, Bool, List, [], ◌∷◌, ◌++◌, length, take, drop, get_or, Ok, Err, Some, refl, sym, subst, ap, ◌∙◌, arith, append_assoc, length-append}
-use Rattle.std.specs.Prelude.{Result}
-use Rattle.std.proofs.lemmas.List.{append-nil, take-append-drop, drop_more, get_or_append_left, get_or-append_right}
+use Rattle.std.proofs.Common.{◌≡◌, ℕ, suc, ◌+◌, ◌-◌, ◌<◌, ◌≤◌, max, zero, true, false, Bool, List, [], ◌∷◌, ◌++◌, length, take, drop, get_or, Ok, Some, refl, sym, subst, ap, ◌∙◌, arith, append_assoc, length-append}
+use Rattle.std.proofs.lemmas.List.{take-append-drop, drop_more, get_or_append_left, get_or-append_right}
 use Rattle.std.proofs.lemmas.List.FromFn.{length-map-range_with_len, take-map-range_with_len, get_or-map-range_with_len, map-range_with_len_more}
 use Rattle.dbformat.specs.Head.{View, content_start, first_freeblock}
 use Rattle.dbformat.specs.Cell.{Cell, cell, cell_pointer, count}
 use Rattle.dbformat.specs.Coverage.{Span, held_by, items, freeblocks, freeblocks_from, freeblock_at, next_freeblock, is_good_freeblock, first_overlap}
-use Rattle.dbformat.specs.declared.CellFault.{CellFault}
 use Rattle.dbpage.specs.Marking.{is_marked, AreMarked, HasMarked, Holds, HoldsNothing, Marks, cells_upto, cell_items}
 use Rattle.dbformat.proofs.Freeblocks.{good_parts, from_good, from_bad}
 use Rattle.dbpage.proofs.FreeblockLemmas.{length-freeblocks}
@@ -52,9 +50,6 @@ Holds-from_read v i c offset len readable place size =
   where
     span : ℕ → ℕ → Span
     span o l = record { offset = o; len = l }
-
-pub HoldsNothing-from_fault : (v : View) (i : ℕ) (e : CellFault) → cell v i ≡ Err e → HoldsNothing v i
-HoldsNothing-from_fault v i e unreadable = ap (λ (r : Result Cell CellFault). (held_by v i r).len) unreadable
 
 pub AreMarked_none : (v : View) (table : List ℕ) → ((byte : ℕ) → start_of v ≤ byte → byte < v.usable → is_marked table byte ≡ false)
     → AreMarked [] (start_of v) v.usable table 0
@@ -137,9 +132,6 @@ pub all_marked : (v : View) (done : List Span) (table : List ℕ) (held : ℕ) �
 unfolding items
 all_marked v done table held was whole = subst (λ (fs : List Span). AreMarked (cell_items v ++ fs) (start_of v) v.usable table held) whole was
 
-pub cells_marked : (v : View) (table : List ℕ) (held : ℕ) → AreMarked (cell_items v) (start_of v) v.usable table held → AreMarked (cell_items v ++ []) (start_of v) v.usable table held
-cells_marked v table held was = subst (λ (spans : List Span). AreMarked spans (start_of v) v.usable table held) (sym (append-nil (cell_items v))) was
-
 -- the next freeblock of a walk stands behind those that came
 pub next_whole : (v : View) (done left rest : List Span) (f g : Span) → done ++ left ≡ freeblocks v → left ≡ f ∷ rest → g ≡ f → done ++ g ∷ rest ≡ freeblocks v
 next_whole v done left rest f g whole taken same =
@@ -159,7 +151,3 @@ offset_of_cell v k h =
 pub offset_of_freeblock : (v : View) (k : ℕ) → count v ≤ k → get_or (items v) k no_span ≡ get_or (freeblocks v) (k - count v) no_span
 unfolding items
 offset_of_freeblock v k h = get_or-append_right (cell_items v) (freeblocks v) (count v) k no_span (length-cells_upto v (count v)) h
-
-pub later_freeblock : (left rest : List Span) (f : Span) (n : ℕ) → left ≡ f ∷ rest → 0 < n → get_or left n no_span ≡ get_or rest (n - 1) no_span
-later_freeblock left rest f zero taken some = absurd (omega arith)
-later_freeblock left rest f (suc n) taken some = ap (λ (fs : List Span). get_or fs (suc n) no_span) taken ∙ ap (λ (m : ℕ). get_or rest m no_span) (omega arith)

@@ -1,5 +1,5 @@
 -- Puts in a row.
-use Rattle.std.proofs.Common.{◌≡◌, ℕ, ◌+◌, ◌-◌, ◌≤◌, length, take, drop, arith, List, [], ◌++◌, refl, sym, ◌∙◌, ap, append_assoc, append-nil, Option, None, Some, Result, Ok, Err}
+use Rattle.std.proofs.Common.{◌≡◌, ℕ, ◌+◌, ◌-◌, ◌≤◌, length, take, drop, arith, List, [], ◌++◌, sym, ◌∙◌, ap, append_assoc, append-nil, Option, None, Some, Result, Ok, Err}
 use Rattle.std.proofs.lemmas.Grind.{common_steps}
 use Rattle.std.proofs.lemmas.List.{take-append-drop}
 use Rattle.std.proofs.Math.Seq.{take-add}
@@ -30,10 +30,6 @@ keeps_from_nothing (Some x) (Some y) h = h ∙ append-nil x
 pub appends_nothing : (o : Option (List ℕ)) → Appends o o []
 appends_nothing None = tt
 appends_nothing (Some x) = sym (append-nil x)
-
--- nothing is put
-pub puts_none : {A E : Type 0} (a : A) (o : Option (List ℕ)) (f : ℕ) → Puts {E = E} (Ok a) o o f f []
-puts_none a o f = record { held = appends_nothing o; count = refl }
 
 -- a put that succeeds, and then others
 pub puts_then : {A B E F : Type 0} {s : Result A E} (r : Result B F) {x : A} {o m n : Option (List ℕ)} {e f g : ℕ} (a b : List ℕ)
