@@ -1,9 +1,9 @@
 -- The command line, as `clap` sees it, and what a line that it takes says.
-use Rattle.std.specs.Prelude.{◌≡◌, ◌≤◌, pos, true, List, [], ◌∷◌, Option, Some, codes}
+use Rattle.std.specs.Prelude.{◌≡◌, ◌≤◌, pos, true, List, [], ◌∷◌, Option, Some, codes, ⊤}
 use Rattle.clap.specs.Words.{App, Row, Rule, Text, first_of, new_app, new_rule, with_rule, with_subcommand}
 use Rattle.clap.specs.declared.builder.value_parser.ValueParser.TheVariants as parser
 use Rattle.dbformat.specs.declared.Command.{Command}
-use Rattle.dbformat.specs.declared.Command.TheVariants.{Check}
+use Rattle.dbformat.specs.declared.Command.TheVariants.{Check, Stat}
 
 -- the file, which is required
 abbrev pub file_rule : Rule
@@ -31,9 +31,12 @@ dbck_app = with_subcommand top_app check_app.top
 -- the subcommand that asks for this
 abbrev pub name_of : Command → Text
 name_of (Check limit) = codes "check"
+name_of (Stat aggregate all) = codes "stat"
 
+-- a check has a limit from 1 to 1000000
 abbrev pub HasLimit : Command → Type 0
 HasLimit (Check limit) = (1 ≤ limit) × (limit ≤ 1000000)
+HasLimit (Stat aggregate all) = ⊤
 
 -- what is asked, and the file, are those of the subcommand that the words name
 pub record Says (command : Command) (file : Text) (met : Option (Text × List Row)) : Type 0 where

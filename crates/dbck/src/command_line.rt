@@ -3,6 +3,7 @@ ghost use Rattle.std.specs.Prelude.{◌≡◌, IfOk, IfSome, map, false};
 ghost use Rattle.clap.specs.Words.{app_of, new_app, subcommand_of, rule_of};
 ghost use Rattle.clap.specs.declared.builder.command.Command.TheViews.{out-Command as fields_of};
 ghost use Rattle.dbck.specs.CommandLine.{dbck_app, check_app, file_rule, limit_rule, name_of, Says, HasLimit};
+ghost use Rattle.dbreport.specs.Runs.{IsCheck};
 
 use clap::{Arg, ArgMatches, Command as Words, value_parser};
 use dbreport::Command;
@@ -96,6 +97,7 @@ fn dbck_command<'a>(alloc: Global) -> Result<Words<'a>, clap::Error>
 fn command_of(name: &str, given: &ArgMatches<'_>) -> Option<Command>
     ensures named { IfSome result (λ command. name.now ≡ name_of command) }
     ensures limit { IfSome result HasLimit }
+    ensures check { IfSome result IsCheck }
 {
     if name != "check" {
         return None;
@@ -116,6 +118,7 @@ fn command_of(name: &str, given: &ArgMatches<'_>) -> Option<Command>
 pub fn line_of<'a>(alloc: Global, words: &'a [&'a str]) -> Result<Line<'a>, LineError>
     ensures says { IfOk result (λ line. Says line.command line.file.now (subcommand_of dbck_app (map (λ word. word.now) words.entry.now))) }
     ensures limit { IfOk result (λ line. HasLimit line.command) }
+    ensures check { IfOk result (λ line. IsCheck line.command) }
 {
     let command = dbck_command(alloc)?;
     let matches = command.try_get_matches_from(words)?;

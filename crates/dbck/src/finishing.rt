@@ -3,6 +3,7 @@ ghost use Rattle.std.specs.Prelude.{◌≡◌, List, IfOk, IfSome, IsErr};
 ghost use Rattle.dbformat.specs.Reference.{Reference};
 ghost use Rattle.dbformat.specs.Report.{report};
 ghost use Rattle.dbformat.specs.Survey.{Survey};
+ghost use Rattle.dbreport.specs.Runs.{IsCheck};
 ghost use Rattle.dbck.specs.Exit.{IsExit};
 ghost use Rattle.dbck.specs.Status.{exit_status};
 
@@ -39,6 +40,7 @@ fn finish_opened<S: Source, O: Out, E: Out>(
     out: &mut O,
     err: &mut E,
 ) -> u8
+    requires check { IsCheck command }
     ensures { IfSome (S.tells source.old) (λ file. (V : List Reference) → Survey file V → IsExit result (report command file V) (O.holds out.old) (O.holds out.new)) }
 {
     let outcome = run(alloc, command, source, out, err);
@@ -54,6 +56,7 @@ pub fn finish<S: Source + Drop, O: Out, E: Out>(
     out: &mut O,
     err: &mut E,
 ) -> u8
+    requires check { IsCheck command }
     ensures opened { IfOk opened (λ source. IfSome (S.tells source) (λ file. (V : List Reference) → Survey file V → IsExit result (report command file V) (O.holds out.old) (O.holds out.new))) }
     ensures unopened { IsErr opened → result ≡ 4 }
 {

@@ -1,6 +1,8 @@
 //! `dbck`: checks the structure of a SQLite 3 database file.
 #![tactic(auto)]
 
+ghost use Rattle.dbreport.specs.Runs.{IsCheck};
+
 mod command_line;
 mod finishing;
 mod status;
@@ -34,7 +36,9 @@ fn words_of(rt: &HostRuntime) -> Result<Vec<String>, LineError> {
 }
 
 // Runs what a line asks for.
-fn run_line(rt: &HostRuntime, line: Line<'_>) -> u8 {
+fn run_line(rt: &HostRuntime, line: Line<'_>) -> u8
+    requires check { IsCheck line.command }
+{
     let mut out = StreamOut::new(rt.stdout());
     let mut err = StreamOut::new(rt.stderr());
     let opened = FileSource::open(rt, line.file);

@@ -1,5 +1,5 @@
 -- The lines of a report, as bytes (own; the columns are those of The DBSTAT Virtual Table).
-use Rattle.std.specs.Prelude.{ℕ, zero, suc, ◌-◌, ◌*◌, List, [], ◌∷◌, ◌++◌, flat_map, Option, Some, None, codes, decimal, slice_get}
+use Rattle.std.specs.Prelude.{ℕ, zero, suc, ◌-◌, ◌*◌, List, [], ◌∷◌, ◌++◌, length, map, flat_map, fold, max, sum_by, Option, Some, None, codes, decimal, slice_get}
 use Rattle.std.specs.List.{join_with_byte}
 use Rattle.std.specs.Option.{option_map_or}
 use Rattle.std.specs.Fmt.{signed_decimal}
@@ -8,10 +8,10 @@ use Rattle.dbformat.specs.SchemaRow.{SchemaRow}
 use Rattle.dbformat.specs.Text.{hex_text, shown_name}
 use Rattle.dbformat.specs.Reference.{Reference}
 use Rattle.dbformat.specs.Schema.{schema, rooted_rows}
-use Rattle.dbformat.specs.Rows.{StatRow}
+use Rattle.dbformat.specs.Rows.{StatRow, OtherPage, trunk_page, leaf_page, map_page, lock_page, unowned_page, FormRow, page_row, tree_row, other_row}
 use Rattle.dbformat.specs.declared.Fault.{Fault}
 use Rattle.dbformat.specs.declared.FaultCode.{FaultCode}
-use Rattle.dbformat.specs.declared.FaultCode.TheVariants.{H01, H02, H03, H04, H05, H06, H07, H08, H09, H10, P01, P02, P03, P04, P05, P06, P07, P08, P09, P10, R01, R02, R03, T04, T05, T06, O01, L01, S01, S02, S03, S04, N01, M01}
+use Rattle.dbformat.specs.declared.FaultCode.TheVariants.{H01, H02, H03, H04, H05, H06, H07, H08, H09, H10, P01, P02, P03, P04, P05, P06, P07, P08, P09, P10, R01, R02, R03, T04, T05, T06, O01, L01, S01, S02, S03, S04, N01, M01, M02}
 use Rattle.dbformat.specs.declared.PageType.{PageType}
 use Rattle.dbformat.specs.declared.PageType.TheVariants.{Internal, Leaf, Damaged, Overflow}
 
@@ -59,6 +59,7 @@ code_text S03 = codes "S03"
 code_text S04 = codes "S04"
 code_text N01 = codes "N01"
 code_text M01 = codes "M01"
+code_text M02 = codes "M02"
 
 -- the words of a code
 abbrev pub code_words : FaultCode → List ℕ
@@ -96,6 +97,7 @@ code_words S03 = codes "root page or type is wrong"
 code_words S04 = codes "more than 65536 root pages"
 code_words N01 = codes "page is not in use"
 code_words M01 = codes "pointer map entry differs"
+code_words M02 = codes "root page after a page that is no root"
 
 -- the line of a fault
 unfoldable pub fault_line : Fault → List ℕ
@@ -140,7 +142,7 @@ tree_name file V (suc k) = option_map_or (row_name_text file) (slice_get (rooted
 abbrev pub columns : List (List ℕ) → List ℕ
 columns texts = join_with_byte tab texts ++ line_feed ∷ []
 
--- the line of a row
+-- the line of the row of a page
 unfoldable pub stat_line : List ℕ → List Reference → StatRow → List ℕ
 stat_line file V row = columns (
     tree_name file V row.start
@@ -152,4 +154,43 @@ stat_line file V row = columns (
     ∷ decimal row.unused
     ∷ decimal row.mx_payload
     ∷ decimal ((row.page - 1) * page_size file)
+    ∷ decimal (page_size file) ∷ [])
+
+-- the text of what another page is (own)
+abbrev pub other_text : OtherPage → List ℕ
+other_text trunk_page = codes "trunk"
+other_text leaf_page = codes "freeleaf"
+other_text map_page = codes "map"
+other_text lock_page = codes "lock"
+other_text unowned_page = codes "unowned"
+
+-- a column that says nothing in a row
+abbrev pub no_text : List ℕ
+no_text = codes "-"
+
+-- The line of a row of a form. A tree has the number of its page rows in place of a page, their sums, and the greatest
+-- payload among them.
+unfoldable pub form_line : List ℕ → List Reference → FormRow → List ℕ
+form_line file V (page_row row) = stat_line file V row
+form_line file V (tree_row k rows) = columns (
+    tree_name file V k
+    ∷ no_text
+    ∷ decimal (length rows)
+    ∷ no_text
+    ∷ decimal (sum_by (λ row. row.ncell) rows)
+    ∷ decimal (sum_by (λ row. row.payload) rows)
+    ∷ decimal (sum_by (λ row. row.unused) rows)
+    ∷ decimal (fold max 0 (map (λ row. row.mx_payload) rows))
+    ∷ no_text
+    ∷ decimal (length rows * page_size file) ∷ [])
+form_line file V (other_row p what) = columns (
+    no_text
+    ∷ no_text
+    ∷ decimal p
+    ∷ other_text what
+    ∷ decimal 0
+    ∷ decimal 0
+    ∷ decimal 0
+    ∷ decimal 0
+    ∷ decimal ((p - 1) * page_size file)
     ∷ decimal (page_size file) ∷ [])

@@ -84,6 +84,8 @@ pub enum FaultCode {
     N01,
     /// Pointer map entry differs.
     M01,
+    /// Root page after a page that is no root.
+    M02,
 }
 
 /// One fault: its code, the page and the item at which it was found, and the value found there.
@@ -238,6 +240,9 @@ pub enum PageType {
 pub enum Command {
     /// The fault lines, so many at most.
     Check { limit: u32 },
+    /// The rows of the statistics, and all fault lines: with `aggregate` one row for each tree in place of its pages, with
+    /// `all` also a row for each page that is in no tree and in no overflow chain.
+    Stat { aggregate: bool, all: bool },
 }
 
 /// What was found: no fault, or so many.

@@ -1,12 +1,19 @@
 -- What an answer of a run says of the file, and of what failed.
-use Rattle.std.specs.Prelude.{◌≡◌, ℕ, true, false, List, [], ◌∷◌, None, Some, Result, Ok, Err}
+use Rattle.std.specs.Prelude.{◌≡◌, ℕ, true, false, List, [], ◌∷◌, None, Some, Result, Ok, Err, ⊤}
 use Rattle.dbformat.specs.File.{refusal}
 use Rattle.dbformat.specs.Log.{page_range}
 use Rattle.dbformat.specs.Plain.{is_plain}
 use Rattle.dbformat.specs.declared.ByteRange.{ByteRange}
+use Rattle.dbformat.specs.declared.Command.{Command}
+use Rattle.dbformat.specs.declared.Command.TheVariants.{Check, Stat}
 use Rattle.dbsource.specs.Failures.{one_more}
 use Rattle.dbsource.specs.declared.error.RunError.{RunError}
 use Rattle.dbsource.specs.declared.error.RunError.TheVariants.{NotYet, Refused, ReadFailed, OutOfMemory, WriteFailed}
+
+-- that a command is a check
+abbrev pub IsCheck : Command → Type 0
+IsCheck (Check limit) = ⊤
+IsCheck (Stat aggregate all) = ⊥
 
 -- A refused file is answered its refusal or a failed read; any other never a refusal, a verdict where it is plain, and
 -- that it needs a later stage where it is not.

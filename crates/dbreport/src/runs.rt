@@ -6,7 +6,7 @@ ghost use Rattle.dbformat.specs.Reference.{Reference};
 ghost use Rattle.dbformat.specs.Report.{report};
 ghost use Rattle.dbformat.specs.Survey.{Survey, survey};
 ghost use Rattle.dbformat.specs.declared.Command.TheVariants.{Check};
-ghost use Rattle.dbreport.specs.Runs.{IsAnswerOf, IsUnwritten, reads_failed, writes_failed};
+ghost use Rattle.dbreport.specs.Runs.{IsAnswerOf, IsCheck, IsUnwritten, reads_failed, writes_failed};
 ghost use Rattle.dbsource.specs.Outs.{Writes};
 
 use crate::check::put_check;
@@ -17,15 +17,17 @@ use std::alloc::Allocator;
 
 // How many faults a check shows.
 fn limit_of(command: Command) -> u32
+    requires check { IsCheck command }
     ensures { command ≡ Check result }
 {
     match command {
         Command::Check { limit } => limit,
+        Command::Stat { .. } => unreachable!(),
     }
 }
 
 /// Reads the database that `source` gives, and writes what `command` asks of it: for a check the fault lines to `out`,
-/// and nothing to `err`. What it keeps of the file stands in memory from `alloc`.
+/// and nothing to `err`. It is called for checks alone until it writes the statistics. What it keeps of the file stands in memory from `alloc`.
 ///
 /// # Errors
 ///
@@ -40,6 +42,7 @@ pub fn run<A: Allocator, S: Source, O: Out, E: Out>(
     out: &mut O,
     err: &mut E,
 ) -> Result<Verdict, RunError>
+    requires check { IsCheck command }
     // Where the source tells its bytes: the file has a survey, and by any survey of it each Out got its part.
     ensures survey { IfSome (S.tells source.old) (λ file. Survey file (survey file)) }
     ensures out { IfSome (S.tells source.old) (λ file. (V : List Reference) → Survey file V → Writes result (O.holds out.old) (O.holds out.new) (report command file V).out) }
