@@ -3,20 +3,16 @@ use Rattle.std.proofs.Common.{◌≡◌, ℕ, ◌≤◌, Bool, true, false, cond
 use Rattle.std.specs.Prelude.{nat_lt, ◌==◌}
 use Rattle.std.specs.List.{list_any}
 use Rattle.std.proofs.lemmas.Bool.Decides.{nat_tests}
+use Rattle.dbformat.specs.FixedPages.{geometry_of, IsInRange}
 use Rattle.dbformat.specs.Numbers.{u16_at}
 use Rattle.dbformat.specs.Header.{page_size, usable_size, page_count, stored_page_sizes}
 use Rattle.dbformat.specs.File.{refusal_of, refusal_tests}
 use Rattle.dbformat.proofs.TestsLemmas.{AllFalse, AllFalse-from_none, not-false}
 
--- sizes and counts of a file that is read
+-- the length of a file that is read, and its geometry
 pub record IsAccepted (bytes : List ℕ) (len : ℕ) : Type 0 where
   pub long : 100 ≤ len
-  pub least_page : 512 ≤ page_size bytes
-  pub most_page : page_size bytes ≤ 65536
-  pub usable : 480 ≤ usable_size bytes
-  pub within : usable_size bytes ≤ page_size bytes
-  pub some_page : 1 ≤ page_count bytes len
-  pub most_pages : page_count bytes len ≤ 67108864
+  pub range : IsInRange (geometry_of bytes len)
 
 tests_fail : (bytes : List ℕ) (len : ℕ) → refusal_of bytes len ≡ None → AllFalse (refusal_tests bytes len)
 unfolding refusal_of
@@ -50,10 +46,9 @@ is_accepted bytes len e =
     let size = page_size_bounds bytes (not-false _ tests.1.1.0) in
     record {
       long = not_below len 100 tests.0;
-      least_page = size.0;
-      most_page = size.1;
-      usable = not_below (usable_size bytes) 480 tests.1.1.1.0;
-      within = usable_within bytes;
-      some_page = not_zero (page_count bytes len) tests.1.1.1.1.0;
-      most_pages = not_below 67108864 (page_count bytes len) tests.1.1.1.1.1.0;
+      range = record {
+        page_size = size;
+        usable = (not_below (usable_size bytes) 480 tests.1.1.1.0, usable_within bytes);
+        pages = (not_zero (page_count bytes len) tests.1.1.1.1.0, not_below 67108864 (page_count bytes len) tests.1.1.1.1.1.0);
+      };
     }

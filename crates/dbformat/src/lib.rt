@@ -2,15 +2,20 @@
 //! `specs/` and the crates of the checker have in common.
 #![tactic(auto)]
 
-ghost use Rattle.std.specs.Prelude.{ℕ, List};
+ghost use Rattle.std.specs.Prelude.{◌≡◌, ℕ, List, pos};
 ghost use Rattle.dbformat.specs.Coverage.{AreFreeblocksAll};
+ghost use Rattle.dbformat.specs.Faults.{fault};
 ghost use Rattle.dbformat.specs.Head.{View};
 ghost use Rattle.dbformat.specs.Errands.{IsByCell, IsNoneAtDamage, IsOneCellMore, IsByReading, IsByChain, IsByLeaf, IsOneLeafMore, IsNoneAtFreeLeaf, AreAllQuiet, AreCellsApart};
 ghost use Rattle.dbformat.specs.Laws.{HasOneSurvey, FollowsTheUnrefused, IsRefusedByMarks, IsInTheTheory, IsToldInOrder, LooksBackAlone, IsByStarts, IsSchemaBelowItsStart, FollowsAllWhereFaultless, HasWholeChains};
+ghost use Rattle.dbformat.specs.Log.{RunsReadOnce};
 ghost use Rattle.dbformat.specs.Plain.{PlainFilesAreEmpty};
 ghost use Rattle.dbformat.specs.Samples.{long_row_file};
 ghost use Rattle.dbformat.specs.Sound.{Sound};
 
+mod numbers;
+
+pub use numbers::{u16_at, u32_at};
 use thiserror::Error;
 
 /// What is wrong with a file that is read. Each variant is the code that a fault line begins with.
@@ -95,6 +100,20 @@ pub struct Fault {
     pub page: u32,
     pub item: u32,
     pub value: i64,
+}
+
+impl Fault {
+    /// The fault of an item of a page, where this number was found.
+    pub fn new(code: FaultCode, page: u32, item: u32, value: u32) -> Fault
+        ensures { result ≡ fault code page item (pos value) }
+    {
+        Fault {
+            code,
+            page,
+            item,
+            value: i64::from(value),
+        }
+    }
 }
 
 /// Why a file is not read at all.
@@ -315,4 +334,9 @@ pub fn plain_files_are_empty()
 /// A file of one table with a row on an overflow page is sound.
 pub fn long_row_is_sound()
     ensures { Sound long_row_file }
+{}
+
+/// In the log of a run page 1 is read at most twice, once of these by its header, and every other page at most once.
+pub fn runs_read_once()
+    ensures { RunsReadOnce }
 {}

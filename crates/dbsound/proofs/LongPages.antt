@@ -21,8 +21,8 @@ unfolding page_bytes
 long_page file p e l h =
     let a = is_accepted file (length file) e in
     let few = few_pages file in
-    let least = a.least_page in
-    let within = a.within in
+    let least = a.range.page_size.0 in
+    let within = a.range.usable.1 in
     let f = fits (page_size file) (length file) p (omega arith) l (omega arith) in
     let t = length-take (page_size file) (drop ((p - 1) * page_size file) file) in
     let d = length-drop ((p - 1) * page_size file) file in

@@ -136,7 +136,7 @@ module _ (file : List ℕ) (s : Sound file) where
   first_is = whole_part (rules_of file) (geometry file).pages (are_rules file) first_whole [] (EachPair-left (λ t u. t.page ≡ u.page → ⊥) first_visits later_visits page_once) (λ t i o. absurd o.1)
 
   rows_first : map row_of (flat_map (rows_at file first_visits) first_visits) ≡ map Ok s.rows
-  rows_first = tree_rows s.schema first_visits 0 [] (is_accepted file (length file) s.is_read).usable refl (λ t rest n. refl) (Each-left (IsLong file) first_visits later_visits all_long) ∙ s.spelled
+  rows_first = tree_rows s.schema first_visits 0 [] (is_accepted file (length file) s.is_read).range.usable.0 refl (λ t rest n. refl) (Each-left (IsLong file) first_visits later_visits all_long) ∙ s.spelled
 
   pub schema_first : map row_of (schema file first_visits) ≡ map Ok s.rows
   unfolding schema
