@@ -1,5 +1,5 @@
 -- How a name is put, piece by piece.
-use Rattle.std.proofs.Common.{◌≡◌, ℕ, suc, ◌+◌, ◌/◌, ◌%◌, ◌<◌, ◌≤◌, true, false, List, [], ◌∷◌, ◌++◌, length, take, drop, get_or, Option, Result, Ok, Err, eqb, refl, sym, ap, ◌∙◌, inl, inr, arith, append_assoc, append-nil, add-one, drop-cons}
+use Rattle.std.proofs.Common.{◌≡◌, ℕ, suc, ◌+◌, ◌/◌, ◌%◌, ◌<◌, ◌≤◌, true, false, List, [], ◌∷◌, ◌++◌, length, take, drop, get_or, Result, Ok, Err, eqb, refl, sym, ap, ◌∙◌, inl, inr, arith, append_assoc, append-nil, add-one, drop-cons}
 use Rattle.std.specs.Prelude.{IsTrue}
 use Rattle.std.specs.Fmt.{digits, digits_onto, digit_glyph}
 use Rattle.std.specs.List.{flat_map}
@@ -8,7 +8,7 @@ use Rattle.std.proofs.lemmas.Bool.Decides.{nat_tests}
 use Rattle.std.proofs.lemmas.Grind.{flat_map-append}
 use Rattle.std.proofs.lemmas.List.{take-append-drop, drop-drop, drop_all, length-drop}
 use Rattle.dbformat.specs.Text.{escape_byte, hex_text}
-use Rattle.dbsource.specs.Outs.{Puts}
+use Rattle.dbsource.specs.Outs.{OutState, Puts}
 use Rattle.dbsource.specs.declared.out.WriteFailed.{WriteFailed}
 use Rattle.dbsource.proofs.Puts.{puts_then, puts_stop}
 use Rattle.dbbytes.specs.Escapes.{is_escaped}
@@ -61,26 +61,26 @@ rest_plain xs at plain e =
     ∙ rw (e, drop-drop plain at xs) refl
 
 -- So much of a text has been put that this rest of it is left.
-pub record HasPut (old now : Option (List ℕ)) (before after : ℕ) (rest whole : List ℕ) : Type 0 where
+pub record HasPut (old now : OutState) (rest whole : List ℕ) : Type 0 where
   pub done : List ℕ
   pub split : done ++ rest ≡ whole
-  pub put : Puts {E = WriteFailed} (Ok (tt {0})) old now before after done
+  pub put : Puts {E = WriteFailed} (Ok (tt {0})) old now done
 
-pub put_more : {o m n : Option (List ℕ)} {d e f : ℕ} {rest whole : List ℕ} {s : Result (Unit {0}) WriteFailed} (a more : List ℕ)
-    → HasPut o m d e rest whole → s ≡ Ok (tt {0}) → Puts s m n e f a → rest ≡ a ++ more → HasPut o n d f more whole
+pub put_more : {o m n : OutState} {rest whole : List ℕ} {s : Result (Unit {0}) WriteFailed} (a more : List ℕ)
+    → HasPut o m rest whole → s ≡ Ok (tt {0}) → Puts s m n a → rest ≡ a ++ more → HasPut o n more whole
 put_more {s = s} a more h p put e = record {
   done = h.done ++ a;
   split = append_assoc h.done a more ∙ rw e at h.split;
   put = rw p at (puts_then s h.done a refl h.put put);
 }
 
-pub put_stop : {o m n : Option (List ℕ)} {d e f : ℕ} {rest whole : List ℕ} {s r : Result (Unit {0}) WriteFailed} {x y : WriteFailed} (a more : List ℕ)
-    → HasPut o m d e rest whole → s ≡ Err x → r ≡ Err y → Puts s m n e f a → rest ≡ a ++ more → Puts r o n d f whole
+pub put_stop : {o m n : OutState} {rest whole : List ℕ} {s r : Result (Unit {0}) WriteFailed} {x y : WriteFailed} (a more : List ℕ)
+    → HasPut o m rest whole → s ≡ Err x → r ≡ Err y → Puts s m n a → rest ≡ a ++ more → Puts r o n whole
 put_stop {whole = whole} {s = s} a more h p q put e =
     let all : (h.done ++ a) ++ more ≡ whole = append_assoc h.done a more ∙ rw e at h.split in
     rw all at (puts_stop (h.done ++ a) more p q (puts_then s h.done a refl h.put put))
 
-pub put_all : {o m : Option (List ℕ)} {d e : ℕ} {rest whole : List ℕ} → HasPut o m d e rest whole → rest ≡ [] → Puts {E = WriteFailed} (Ok (tt {0})) o m d e whole
+pub put_all : {o m : OutState} {rest whole : List ℕ} → HasPut o m rest whole → rest ≡ [] → Puts {E = WriteFailed} (Ok (tt {0})) o m whole
 put_all h e =
     let all = sym (append-nil h.done) ∙ rw e at h.split in
     rw all at h.put

@@ -12,8 +12,8 @@ use Rattle.dbformat.specs.declared.RowFault.TheVariants.{Malformed}
 use Rattle.dbbytes.specs.Record.{body_lens, body_values, row_by, progress_row, values_from, sized_values}
 use Rattle.dbbytes.specs.Sieve.{row_of_kept, row_after, HasTaken}
 use Rattle.dbbytes.specs.Window.{kept}
-use Rattle.dbbytes.specs.declared.header.Header.{Header}
-use Rattle.dbbytes.specs.declared.header.HeaderProgress.TheVariants as progress
+use Rattle.dbbytes.specs.declared.record_header.RecordHeader.{RecordHeader}
+use Rattle.dbbytes.specs.declared.record_header.HeaderProgress.TheVariants as progress
 use Rattle.dbbytes.specs.declared.partial.PartialVarint.{PartialVarint}
 use Rattle.dbbytes.specs.declared.sieve.RowSieve.{RowSieve}
 use Rattle.dbbytes.specs.declared.sieve.Stage.TheVariants as stage
@@ -26,7 +26,7 @@ pub row_after-size : (s : RowSieve) (size : ℕ) (number : PartialVarint) (more 
 unfolding row_after
 row_after-size s size number more e = rw e refl
 
-pub row_after-types : (s : RowSieve) (header : Header) (more : List ℕ)
+pub row_after-types : (s : RowSieve) (header : RecordHeader) (more : List ℕ)
     → s.stage ≡ stage.SerialTypes header → row_after s more ≡ progress_row s.encoding (progress.Types header) more
 unfolding row_after
 row_after-types s header more e = rw e refl
@@ -99,7 +99,7 @@ no_values : (left bodies : ℕ) (types : List ℕ) (others n value : ℕ) → va
 unfolding values_from
 no_values left bodies types others n value = rw (take-nil left) (cond_none (leb left 0))
 
-pub row_types_short : (s : RowSieve) (header : Header) → s.stage ≡ stage.SerialTypes header → row_after s [] ≡ Err Malformed
+pub row_types_short : (s : RowSieve) (header : RecordHeader) → s.stage ≡ stage.SerialTypes header → row_after s [] ≡ Err Malformed
 unfolding row_after
 row_types_short s header e =
     rw (e, no_values header.left header.bodies (take header.count header.types) (4 - header.count) header.number.length header.number.value) (row_by_none s.encoding _)

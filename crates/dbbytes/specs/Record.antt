@@ -7,8 +7,8 @@ use Rattle.dbformat.specs.SchemaRow.{SchemaRow, row_of_values}
 use Rattle.dbformat.specs.declared.Encoding.{Encoding}
 use Rattle.dbformat.specs.declared.RowFault.{RowFault}
 use Rattle.dbformat.specs.declared.RowFault.TheVariants.{Malformed}
-use Rattle.dbbytes.specs.declared.header.HeaderProgress.{HeaderProgress}
-use Rattle.dbbytes.specs.declared.header.HeaderProgress.TheVariants as progress
+use Rattle.dbbytes.specs.declared.record_header.HeaderProgress.{HeaderProgress}
+use Rattle.dbbytes.specs.declared.record_header.HeaderProgress.TheVariants as progress
 
 -- the lengths of the values of these types, where they are so many bytes in all
 abbrev pub body_lens : List ℕ → ℕ → Option (List ℕ)

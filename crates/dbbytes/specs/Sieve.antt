@@ -7,7 +7,7 @@ use Rattle.dbformat.specs.declared.RowFault.{RowFault}
 use Rattle.dbformat.specs.declared.RowFault.TheVariants.{Malformed}
 use Rattle.dbbytes.specs.Record.{progress_row}
 use Rattle.dbbytes.specs.Window.{kept}
-use Rattle.dbbytes.specs.declared.header.HeaderProgress.TheVariants as progress
+use Rattle.dbbytes.specs.declared.record_header.HeaderProgress.TheVariants as progress
 use Rattle.dbbytes.specs.declared.sieve.RowSieve.{RowSieve}
 use Rattle.dbbytes.specs.declared.sieve.Stage.{Stage}
 use Rattle.dbbytes.specs.declared.sieve.Stage.TheVariants as stage

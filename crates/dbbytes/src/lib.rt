@@ -2,7 +2,7 @@
 //! schema, read as their bytes come.
 #![tactic(auto)]
 
-mod header;
+mod record_header;
 mod name;
 mod partial;
 mod payload;

@@ -23,8 +23,7 @@ const CHUNK: usize = 64;
 /// [`WriteFailed`] where a put failed. What was put before it stays, and nothing is put after it.
 #[tactic(auto, unfolding(dbformat::specs::Text::shown_name))]
 pub fn name_text<O: Out>(name: &[u8], encoding: Encoding, out: &mut O) -> Result<(), WriteFailed>
-    ensures { Puts result (O.holds out.old) (O.holds out.new) (O.failures out.old) (O.failures out.new)
-        (shown_name encoding name.now) }
+    ensures { Puts result (O.held out.old) (O.held out.new) (shown_name encoding name.now) }
 {
     if !is_well_formed(encoding, name) {
         return out.put(b"?");
@@ -38,8 +37,7 @@ pub fn name_text<O: Out>(name: &[u8], encoding: Encoding, out: &mut O) -> Result
 
 // Puts a text in UTF-16, with its escapes. One that is well-formed has no surrogate that is lost.
 fn put_utf16<O: Out>(order: Order, name: &[u8], out: &mut O) -> Result<(), WriteFailed>
-    ensures { Puts result (O.holds out.old) (O.holds out.new) (O.failures out.old) (O.failures out.new)
-        (flat_map escape_byte (text_of order name.now)) }
+    ensures { Puts result (O.held out.old) (O.held out.new) (flat_map escape_byte (text_of order name.now)) }
 {
     let mut at = 0;
     while name.len() - at >= 2 {
@@ -70,8 +68,7 @@ fn next_text(order: Order, bytes: &[u8]) -> (ArrayVec<u8, CHUNK>, usize)
 
 // Puts a text in UTF-8, with its escapes. What stands between two of them is one put.
 fn put_escaped<O: Out>(text: &[u8], out: &mut O) -> Result<(), WriteFailed>
-    ensures { Puts result (O.holds out.old) (O.holds out.new) (O.failures out.old) (O.failures out.new)
-        (flat_map escape_byte text.now) }
+    ensures { Puts result (O.held out.old) (O.held out.new) (flat_map escape_byte text.now) }
 {
     let mut at = 0;
     while at < text.len() {

@@ -1,5 +1,5 @@
 // A row of the schema whose bytes come in pieces.
-use crate::header::{Header, HeaderProgress};
+use crate::record_header::{RecordHeader, HeaderProgress};
 use crate::partial::PartialVarint;
 use crate::row::{MAX_NAME, SchemaRow, root_number, row_kind, row_name};
 use crate::serial::{COLUMNS, body_lens};
@@ -32,7 +32,7 @@ pub(crate) enum Stage {
     // In the size of the header of a record of `size` bytes.
     HeaderSize { size: u32, number: PartialVarint },
     // In the serial types.
-    SerialTypes { header: Header },
+    SerialTypes { header: RecordHeader },
     // In the bodies of columns of these types, of which `left` bytes are still to come.
     Bodies { left: u32, types: [u64; COLUMNS] },
     // In what is no row, whatever follows.

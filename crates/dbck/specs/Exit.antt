@@ -1,13 +1,28 @@
 -- What an exit status says of the report of a file, and of what was written of it.
-use Rattle.std.specs.Prelude.{◌≡◌, ℕ, List, Option, Ok, Err}
+use Rattle.std.specs.Prelude.{◌≡◌, ℕ, List, Ok, Err}
 use Rattle.std.specs.Io.KnownBytes.{Appends}
-use Rattle.dbformat.specs.Report.{Report}
+use Rattle.dbformat.specs.Reference.{Reference}
+use Rattle.dbformat.specs.Report.{Report, report}
+use Rattle.dbformat.specs.Survey.{Survey}
+use Rattle.dbformat.specs.declared.Command.{Command}
 use Rattle.dbformat.specs.declared.Refusal.{Refusal}
 use Rattle.dbformat.specs.declared.Verdict.TheVariants.{Clean, Faulty}
+use Rattle.dbsource.specs.Outs.{Begins, OutState}
 
--- 0 is answered only where no fault was found, 1 where some were, and all of the report was written; 3 where the file is
--- refused, and nothing was
-pub record IsExit (status : ℕ) (r : Report) (old new : Option (List ℕ)) : Type 0 where
-  pub clean : status ≡ 0 → (r.answer ≡ Ok Clean) × Appends old new r.out
-  pub faulty : status ≡ 1 → (n : ℕ) × (r.answer ≡ Ok (Faulty n)) × Appends old new r.out
-  pub refused : status ≡ 3 → (e : Refusal) × (r.answer ≡ Err e) × (new ≡ old)
+-- all of a report was written, to the one Out and to the other
+pub record IsWritten (r : Report) (out out' err err' : OutState) : Type 0 where
+  pub first : Appends out.bytes out'.bytes r.out
+  pub second : Appends err.bytes err'.bytes r.err
+
+-- Whatever the status, what the first Out got is a beginning of the report. 0 is answered only where no fault was found,
+-- 1 where some were, and all of the report was written; 3 where the file is refused, and nothing of it was.
+pub record IsExit (status : ℕ) (r : Report) (out out' err err' : OutState) : Type 0 where
+  pub begun : Begins out.bytes out'.bytes r.out
+  pub clean : status ≡ 0 → (r.answer ≡ Ok Clean) × IsWritten r out out' err err'
+  pub faulty : status ≡ 1 → (n : ℕ) × (r.answer ≡ Ok (Faulty n)) × IsWritten r out out' err err'
+  pub refused : status ≡ 3 → (e : Refusal) × (r.answer ≡ Err e) × (out'.bytes ≡ out.bytes)
+
+-- by every survey of the file
+abbrev pub IsExitOf : ℕ → Command → List ℕ → OutState → OutState → OutState → OutState → Type 0
+IsExitOf status command file out out' err err' =
+    (V : List Reference) → Survey file V → IsExit status (report command file V) out out' err err'

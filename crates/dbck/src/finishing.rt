@@ -1,10 +1,8 @@
 // From an opened file to an exit status.
-ghost use Rattle.std.specs.Prelude.{◌≡◌, List, IfOk, IfSome, IsErr};
-ghost use Rattle.dbformat.specs.Reference.{Reference};
-ghost use Rattle.dbformat.specs.Report.{report};
-ghost use Rattle.dbformat.specs.Survey.{Survey};
+ghost use Rattle.std.specs.Prelude.{◌≡◌, OnOk, IfOk, IfSome, IsErr, ◌==◌, if◌then◌else◌};
 ghost use Rattle.dbreport.specs.Runs.{IsCheck};
-ghost use Rattle.dbck.specs.Exit.{IsExit};
+ghost use Rattle.dbsource.specs.Failures.{one_more};
+ghost use Rattle.dbck.specs.Exit.{IsExitOf};
 ghost use Rattle.dbck.specs.Status.{exit_status};
 
 use crate::status::status_of;
@@ -24,7 +22,8 @@ fn put_error<E: Out>(err: &mut E, error: RunError) {
 
 // Tells an error, and answers the status of the outcome.
 fn end<E: Out>(err: &mut E, outcome: Result<Verdict, RunError>) -> u8
-    ensures { result ≡ exit_status outcome }
+    ensures status { result ≡ exit_status outcome }
+    ensures quiet { OnOk outcome (E.held err.new ≡ E.held err.old) }
 {
     if let Err(error) = outcome {
         put_error(err, error);
@@ -41,7 +40,8 @@ fn finish_opened<S: Source, O: Out, E: Out>(
     err: &mut E,
 ) -> u8
     requires check { IsCheck command }
-    ensures { IfSome (S.tells source.old) (λ file. (V : List Reference) → Survey file V → IsExit result (report command file V) (O.holds out.old) (O.holds out.new)) }
+    ensures exit { IfSome (S.held source.old).bytes (λ file. IsExitOf result command file (O.held out.old) (O.held out.new) (E.held err.old) (E.held err.new)) }
+    ensures failed { (O.held out.new).failures ≡ (if result == 6 then one_more (O.held out.old).failures else (O.held out.old).failures) }
 {
     let outcome = run(alloc, command, source, out, err);
     end(err, outcome)
@@ -57,8 +57,11 @@ pub fn finish<S: Source + Drop, O: Out, E: Out>(
     err: &mut E,
 ) -> u8
     requires check { IsCheck command }
-    ensures opened { IfOk opened (λ source. IfSome (S.tells source) (λ file. (V : List Reference) → Survey file V → IsExit result (report command file V) (O.holds out.old) (O.holds out.new))) }
-    ensures unopened { IsErr opened → result ≡ 4 }
+    // Where the source tells its bytes: what the status says of their report, and of what was written of it.
+    ensures opened { IfOk opened (λ source. IfSome (S.held source).bytes (λ file. IsExitOf result command file (O.held out.old) (O.held out.new) (E.held err.old) (E.held err.new))) }
+    // For every source: 6 exactly where the Out failed, and 4, with nothing written, where the file could not be opened.
+    ensures failed { (O.held out.new).failures ≡ (if result == 6 then one_more (O.held out.old).failures else (O.held out.old).failures) }
+    ensures unopened { IsErr opened → (result ≡ 4) × (O.held out.new ≡ O.held out.old) }
 {
     match opened {
         Ok(mut source) => finish_opened(alloc, command, &mut source, out, err),

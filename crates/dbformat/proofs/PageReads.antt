@@ -1,11 +1,10 @@
 -- How often a page is read in the log of a run.
-use Rattle.std.proofs.Common.{◌≡◌, ℕ, suc, ◌+◌, ◌-◌, ◌*◌, ◌<◌, ◌≤◌, Bool, true, false, cond, List, [], ◌∷◌, length, map, filter, refl, ap, ◌∙◌, arith, inl, inr, subst}
+use Rattle.std.proofs.Common.{◌≡◌, ◌≢◌, ℕ, suc, ◌+◌, ◌-◌, ◌*◌, ◌<◌, ◌≤◌, Bool, true, false, cond, List, [], ◌∷◌, length, map, filter, refl, ap, ◌∙◌, arith, inl, inr}
 use Rattle.std.specs.Prelude.{◌==◌, nat_lt, max, min}
-use Rattle.std.specs.List.{AllByRecursion, IsDistinct}
 use Rattle.std.proofs.Math.Nat.{mul-le-mul_right, le-max_right, le-max_left, min-le_left, min-le_right}
 use Rattle.std.proofs.lemmas.Bool.{cases_Bool}
 use Rattle.std.proofs.lemmas.Bool.Decides.{nat_tests}
-use Rattle.std.proofs.lemmas.Map.Keys.{IsDistinct-head, IsDistinct-tail}
+use Rattle.dbsurvey.specs.Address.{IsIn, EachPair}
 use Rattle.dbformat.specs.FixedPages.{IsInRange}
 use Rattle.dbformat.specs.Log.{page_range, header_range, is_sharing, reads, IsReadable, IsRunLog, IsReadOnce}
 use Rattle.dbformat.specs.declared.ByteRange.{ByteRange}
@@ -26,6 +25,9 @@ apart_behind a n b m h = not_below _ _ (omega (arith, le-max_left a b, min-le_ri
 ends : (size p q : ℕ) → 1 ≤ p → p < q → (p - 1) * size + size ≤ (q - 1) * size
 ends size p q one h = omega (arith, mul-le-mul_right {m = p - 1 + 1} {n = q - 1} size (omega arith))
 
+differ : (a b : ℕ) → a ≢ b → (a == b) ≡ false
+differ a b h = grind (arith, nat_tests)
+
 -- two pages share no byte
 pages_apart : (size p q : ℕ) → 1 ≤ p → 1 ≤ q → (p == q) ≡ false → is_sharing (page_range size p) (page_range size q) ≡ false
 pages_apart size p q one one' ne = elim (cases_Bool (nat_lt p q)) [
@@ -38,32 +40,31 @@ abbrev page_reads : Geometry → ℕ → List ℕ → List ByteRange
 page_reads g p pages = filter (is_sharing (page_range g.page_size p)) (map (page_range g.page_size) pages)
 
 -- page p is not read where it is none of the pages
-none_read : (g : Geometry) (p : ℕ) (pages : List ℕ) → 1 ≤ p → AllByRecursion (IsReadable g) pages → AllByRecursion (λ q. (p == q) ≡ false) pages
+none_read : (g : Geometry) (p : ℕ) (pages : List ℕ) → 1 ≤ p → ((q : ℕ) → IsIn q pages → IsReadable g q) → ((q : ℕ) → IsIn q pages → p ≢ q)
     → page_reads g p pages ≡ []
 none_read g p [] one h ne = refl
 none_read g p (q ∷ pages) one h ne =
     ap (λ b. cond b (page_range g.page_size q ∷ page_reads g p pages) (page_reads g p pages))
-    (pages_apart g.page_size p q one h.0.from_one ne.0)
-    ∙ none_read g p pages one h.1 ne.1
+    (pages_apart g.page_size p q one (h q (inl refl)).from_one (differ p q (ne q (inl refl))))
+    ∙ none_read g p pages one (λ r i. h r (inr i)) (λ r i. ne r (inr i))
 
 cond_at_most : (b : Bool) (r : ByteRange) (rs : List ByteRange) → length rs ≤ 0 → length (cond b (r ∷ rs) rs) ≤ 1
 cond_at_most true r rs h = omega arith
 cond_at_most false r rs h = omega arith
 
 -- page p is read at most once
-once_read : (g : Geometry) (p : ℕ) (pages : List ℕ) → 1 ≤ p → AllByRecursion (IsReadable g) pages → IsDistinct ◌==◌ pages
+once_read : (g : Geometry) (p : ℕ) (pages : List ℕ) → 1 ≤ p → ((q : ℕ) → IsIn q pages → IsReadable g q) → EachPair (λ q r. q ≢ r) pages
     → reads g.page_size p (map (page_range g.page_size) pages) ≤ 1
 once_read g p [] one h d = omega arith
 once_read g p (q ∷ pages) one h d = elim (cases_Bool (p == q)) [
   | inl e ↦ (
       let same : q ≡ p = grind (arith, nat_tests) in
-      let P : ℕ → Type 0 = λ x. AllByRecursion (λ y. (x == y) ≡ false) pages in
-      let rest : page_reads g p pages ≡ [] = none_read g p pages one h.1 (subst P same (IsDistinct-head ◌==◌ q pages d)) in
+      let rest : page_reads g p pages ≡ [] = none_read g p pages one (λ r i. h r (inr i)) (λ r i f. d.0 r i (same ∙ f)) in
       let none : length (page_reads g p pages) ≤ 0 = rw rest (omega arith) in
       cond_at_most (is_sharing (page_range g.page_size p) (page_range g.page_size q)) (page_range g.page_size q) (page_reads g p pages) none)
   | inr e ↦ (
-      let away = pages_apart g.page_size p q one h.0.from_one e in
-      rw away (once_read g p pages one h.1 (IsDistinct-tail ◌==◌ q pages d)))
+      let away = pages_apart g.page_size p q one (h q (inl refl)).from_one e in
+      rw away (once_read g p pages one (λ r i. h r (inr i)) d.1))
 ]
 
 -- the header lies in page 1

@@ -4,10 +4,9 @@ ghost use Rattle.dbformat.specs.Cell.{bytes_from, cell, cell_at, cell_pointer, c
 ghost use Rattle.dbformat.specs.Varint.{varint};
 ghost use Rattle.dbformat.specs.declared.PageKind.TheVariants.{InteriorIndex, InteriorTable, LeafIndex, LeafTable};
 
-use crate::numbers::{u16_at, u32_at};
 use crate::view::{PageView, is_interior};
 use dbbytes::{local_len, varint};
-use dbformat::{CellFault, PageKind, PayloadKind};
+use dbformat::{CellFault, PageKind, PayloadKind, u16_at, u32_at};
 use std::marker::Model;
 
 /// A readable cell.

@@ -4,7 +4,6 @@
 mod cell;
 mod freeblocks;
 mod marks;
-mod numbers;
 mod steps;
 #[cfg(test)]
 mod tests;

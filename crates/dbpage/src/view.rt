@@ -3,8 +3,7 @@ ghost use Rattle.std.specs.Prelude.{◌≡◌, ◌+◌, ◌*◌, ◌≤◌, leng
 ghost use Rattle.dbformat.specs.Head.{view, page_kind, is_interior, header_start, pointers_start, first_freeblock, cell_count, content_start, fragmented_bytes, type_byte};
 ghost use Rattle.dbformat.specs.Cell.{count};
 
-use crate::numbers::u16_at;
-use dbformat::{HeadFault, PageKind};
+use dbformat::{HeadFault, PageKind, u16_at};
 use std::marker::Model;
 
 /// A b-tree page whose head is sound: its type is known, and its content area lies between the cell pointers and the

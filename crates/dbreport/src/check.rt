@@ -23,7 +23,7 @@ fn fault_count(faults: &[Option<Fault>]) -> u64
 
 // Puts the lines of the first faults, so many at most.
 fn put_first<O: Out>(out: &mut O, limit: u32, faults: &[Option<Fault>]) -> Result<(), WriteFailed>
-    ensures { Puts result (O.holds out.old) (O.holds out.new) (O.failures out.old) (O.failures out.new) (flat_map fault_line (take limit (flat_map option_to_list faults.now))) }
+    ensures { Puts result (O.held out.old) (O.held out.new) (flat_map fault_line (take limit (flat_map option_to_list faults.now))) }
 {
     let mut room = limit;
     for fault in faults {
@@ -39,7 +39,7 @@ fn put_first<O: Out>(out: &mut O, limit: u32, faults: &[Option<Fault>]) -> Resul
 
 // Puts the line that counts the faults that are not shown, if there are any.
 fn put_rest<O: Out>(out: &mut O, count: u64) -> Result<(), WriteFailed>
-    ensures { Puts result (O.holds out.old) (O.holds out.new) (O.failures out.old) (O.failures out.new) (more_text count) }
+    ensures { Puts result (O.held out.old) (O.held out.new) (more_text count) }
 {
     if count == 0 {
         return Ok(());
@@ -53,7 +53,7 @@ pub(crate) fn put_check<O: Out>(
     limit: u32,
     faults: &[Option<Fault>],
 ) -> Result<Verdict, WriteFailed>
-    ensures text { Puts result (O.holds out.old) (O.holds out.new) (O.failures out.old) (O.failures out.new) (check_text limit (flat_map option_to_list faults.now)) }
+    ensures text { Puts result (O.held out.old) (O.held out.new) (check_text limit (flat_map option_to_list faults.now)) }
     ensures verdict { IfOk result (λ v. v ≡ verdict (flat_map option_to_list faults.now)) }
 {
     let count = fault_count(faults);

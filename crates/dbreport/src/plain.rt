@@ -1,22 +1,24 @@
 // Plain files: one page, which is an empty schema, and nothing else.
 ghost use Rattle.std.specs.Prelude.{◌≡◌, ◌+◌, ◌≤◌, ◌++◌, ◌⊎◌, ◌==◌, not, pos, false, length, flat_map, option_to_list, IfOk, IfErr, IfSome, IsErrOf, MatchResult, take};
-ghost use Rattle.dbformat.specs.FixedPages.{geometry_of};
+ghost use Rattle.dbformat.specs.FixedPages.{geometry_of, IsInRange};
 ghost use Rattle.dbformat.specs.HeaderFaults.{header_faults};
 ghost use Rattle.dbformat.specs.Faults.{fault};
 ghost use Rattle.dbformat.specs.File.{page_bytes};
 ghost use Rattle.dbformat.specs.Header.{freelist_count, usable_size};
 ghost use Rattle.dbformat.specs.declared.FaultCode.TheVariants.{H10};
 ghost use Rattle.dbformat.specs.Tests.{told_if};
-ghost use Rattle.dbformat.specs.Log.{HasLog, range};
-ghost use Rattle.dbformat.specs.Plain.{has_one_page, is_empty_leaf, IsFirstPageLog};
-ghost use Rattle.dbsource.specs.Failures.{one_more};
+ghost use Rattle.dbformat.specs.File.{geometry};
+ghost use Rattle.dbformat.specs.Log.{HasLog, IsRunLog, IsSomeRunLog, range};
+ghost use Rattle.dbformat.specs.Plain.{has_one_page, is_empty_leaf};
+ghost use Rattle.dbsource.specs.Errors.{is_read_failed};
+ghost use Rattle.dbsource.specs.Failures.{failures_after, is_any};
 ghost use Rattle.dbsource.specs.Headers.{IsHeaderOf};
-ghost use Rattle.dbreport.specs.Runs.{IsAnswerOf, IsPageRead, reads_failed};
+ghost use Rattle.dbsource.specs.Sources.{Asks};
+ghost use Rattle.dbreport.specs.Runs.{IsAnswerOf, IsPageRead};
 
-use crate::header_faults::{file_fault, header_faults};
+use crate::header_faults::header_faults;
 use arrayvec::ArrayVec;
-use byteorder::{BigEndian, ByteOrder};
-use dbformat::{Fault, FaultCode};
+use dbformat::{Fault, FaultCode, u16_at};
 use dbsource::{Header, ReadFailed, RunError, Source};
 use std::alloc::Allocator;
 
@@ -33,15 +35,15 @@ fn is_empty_leaf(page: &[u8], usable: u32) -> bool
     requires { 108 ≤ length page.now }
     ensures { result ≡ is_empty_leaf usable page.now }
 {
-    let stored_start = BigEndian::read_u16(&page[105..]);
+    let stored_start = u16_at(page, 105);
     let content_start = if stored_start == 0 {
         65536
     } else {
         u32::from(stored_start)
     };
     page[100] == 13
-        && BigEndian::read_u16(&page[101..]) == 0
-        && BigEndian::read_u16(&page[103..]) == 0
+        && u16_at(page, 101) == 0
+        && u16_at(page, 103) == 0
         && content_start == usable
         && page[107] == 0
 }
@@ -53,10 +55,10 @@ fn is_first_page_empty<S: Source>(
     page: &mut [u8],
 ) -> Result<bool, ReadFailed>
     requires { 108 ≤ length page.old }
-    ensures told { S.tells source.new ≡ S.tells source.old }
-    ensures empty { IfOk result (λ empty. IfSome (S.tells source.old) (λ file. empty ≡ is_empty_leaf usable (take (length page.old) file))) }
-    ensures count { MatchResult result (λ _. S.failures source.new ≡ S.failures source.old) (λ _. S.failures source.new ≡ one_more (S.failures source.old)) }
-    ensures trail { S.trail source.new ≡ S.step (S.trail source.old) (range 0 (length page.old)) }
+    ensures told { (S.held source.new).bytes ≡ (S.held source.old).bytes }
+    ensures trail { (S.held source.new).trail ≡ S.step (S.held source.old).trail (range 0 (length page.old)) }
+    ensures count { (S.held source.new).failures ≡ failures_after is_any result (S.held source.old).failures }
+    ensures empty { IfOk result (λ empty. IfSome (S.held source.old).bytes (λ file. empty ≡ is_empty_leaf usable (take (length page.old) file))) }
 {
     source.read_at(0, page)?;
     Ok(is_empty_leaf(page, usable))
@@ -68,12 +70,10 @@ fn is_schema_empty<S: Source, A: Allocator>(
     header: &Header,
     source: &mut S,
 ) -> Result<bool, RunError>
-    ensures told { S.tells source.new ≡ S.tells source.old }
-    ensures empty { IfOk result (λ empty. IfSome (S.tells source.old) (λ file. IsHeaderOf header.now file → empty ≡ is_empty_leaf (usable_size file) (page_bytes file 1))) }
+    ensures asks { Asks S.step (IsPageRead result (geometry_of header.now.bytes header.now.file_len).page_size) is_read_failed result (S.held source.old) (S.held source.new) }
+    ensures range { IsInRange (geometry_of header.now.bytes header.now.file_len) }
+    ensures empty { IfOk result (λ empty. IfSome (S.held source.old).bytes (λ file. IsHeaderOf header.now file → empty ≡ is_empty_leaf (usable_size file) (page_bytes file 1))) }
     ensures answer { IfErr result (λ e. (e ≡ RunError.ReadFailed) ⊎ (e ≡ RunError.OutOfMemory)) }
-    ensures count { S.failures source.new ≡ reads_failed result (S.failures source.old) }
-    ensures sized { 512 ≤ (geometry_of header.now.bytes header.now.file_len).page_size }
-    ensures log { HasLog S.step (IsPageRead result (geometry_of header.now.bytes header.now.file_len).page_size) (S.trail source.old) (S.trail source.new) }
 {
     let geometry = header.geometry();
     let mut page = Vec::from_elem(alloc, 0u8, geometry.page_size as usize)?;
@@ -86,13 +86,12 @@ pub(crate) fn read_plain<S: Source, A: Allocator>(
     alloc: A,
     source: &mut S,
 ) -> Result<Header, RunError>
-    ensures told { S.tells source.new ≡ S.tells source.old }
-    ensures answer { IfSome (S.tells source.old) (IsAnswerOf result) }
-    ensures header { IfOk result (λ h. IfSome (S.tells source.old) (IsHeaderOf h)) }
+    ensures asks { Asks S.step IsSomeRunLog is_read_failed result (S.held source.old) (S.held source.new) }
+    ensures log { IfSome (S.held source.old).bytes (λ file. HasLog S.step (IsRunLog (geometry file)) (S.held source.old).trail (S.held source.new).trail) }
+    ensures unread { IfSome (S.held source.old).bytes (λ file. has_one_page file (length file) ≡ false → HasLog S.step (λ log. length log ≤ 1) (S.held source.old).trail (S.held source.new).trail) }
+    ensures answer { IfSome (S.held source.old).bytes (IsAnswerOf result) }
+    ensures header { IfOk result (λ h. IfSome (S.held source.old).bytes (IsHeaderOf h)) }
     ensures written { IsErrOf result RunError.WriteFailed → ⊥ }
-    ensures count { S.failures source.new ≡ reads_failed result (S.failures source.old) }
-    ensures log { HasLog S.step IsFirstPageLog (S.trail source.old) (S.trail source.new) }
-    ensures unread { IfSome (S.tells source.old) (λ file. has_one_page file (length file) ≡ false → HasLog S.step (λ log. length log ≤ 1) (S.trail source.old) (S.trail source.new)) }
 {
     let header = Header::read(source)?;
     if !has_one_page(&header) {
@@ -111,6 +110,6 @@ pub(crate) fn plain_faults(header: &Header) -> ArrayVec<Option<Fault>, 11>
 {
     let mut faults = ArrayVec::new();
     let _ = faults.try_extend_from_slice(&header_faults(header));
-    faults.push((header.freelist_count() != 0).then_some(file_fault(FaultCode::H10, 0)));
+    faults.push((header.freelist_count() != 0).then_some(Fault::new(FaultCode::H10, 1, 0, 0)));
     faults
 }

@@ -1,13 +1,17 @@
 // A run: from the bytes of a database to what is written of them.
 ghost use Rattle.std.specs.Prelude.{◌≡◌, ◌≤◌, false, List, length, IfOk, IfSome, Ok};
-ghost use Rattle.dbformat.specs.Log.{HasLog};
-ghost use Rattle.dbformat.specs.Plain.{has_one_page, IsFirstPageLog};
+ghost use Rattle.dbformat.specs.File.{geometry};
+ghost use Rattle.dbformat.specs.Log.{HasLog, IsRunLog, IsSomeRunLog};
+ghost use Rattle.dbformat.specs.Plain.{has_one_page};
 ghost use Rattle.dbformat.specs.Reference.{Reference};
 ghost use Rattle.dbformat.specs.Report.{report};
 ghost use Rattle.dbformat.specs.Survey.{Survey, survey};
 ghost use Rattle.dbformat.specs.declared.Command.TheVariants.{Check};
-ghost use Rattle.dbreport.specs.Runs.{IsAnswerOf, IsCheck, IsUnwritten, reads_failed, writes_failed};
+ghost use Rattle.dbreport.specs.Runs.{IsAnswerOf, IsCheck, IsUnwritten};
+ghost use Rattle.dbsource.specs.Errors.{is_read_failed, is_write_failed};
+ghost use Rattle.dbsource.specs.Failures.{failures_after};
 ghost use Rattle.dbsource.specs.Outs.{Writes};
+ghost use Rattle.dbsource.specs.Sources.{Asks};
 
 use crate::check::put_check;
 use crate::plain::{plain_faults, read_plain};
@@ -44,19 +48,18 @@ pub fn run<A: Allocator, S: Source, O: Out, E: Out>(
 ) -> Result<Verdict, RunError>
     requires check { IsCheck command }
     // Where the source tells its bytes: the file has a survey, and by any survey of it each Out got its part.
-    ensures survey { IfSome (S.tells source.old) (λ file. Survey file (survey file)) }
-    ensures out { IfSome (S.tells source.old) (λ file. (V : List Reference) → Survey file V → Writes result (O.holds out.old) (O.holds out.new) (report command file V).out) }
-    ensures err { IfSome (S.tells source.old) (λ file. (V : List Reference) → Survey file V → Writes result (E.holds err.old) (E.holds err.new) (report command file V).err) }
-    ensures verdict { IfOk result (λ v. IfSome (S.tells source.old) (λ file. (V : List Reference) → Survey file V → (report command file V).answer ≡ Ok v)) }
-    ensures answer { IfSome (S.tells source.old) (IsAnswerOf result) }
+    ensures survey { IfSome (S.held source.old).bytes (λ file. Survey file (survey file)) }
+    ensures out { IfSome (S.held source.old).bytes (λ file. (V : List Reference) → Survey file V → Writes result (O.held out.old).bytes (O.held out.new).bytes (report command file V).out) }
+    ensures err { IfSome (S.held source.old).bytes (λ file. (V : List Reference) → Survey file V → Writes result (E.held err.old).bytes (E.held err.new).bytes (report command file V).err) }
+    ensures verdict { IfOk result (λ v. IfSome (S.held source.old).bytes (λ file. (V : List Reference) → Survey file V → (report command file V).answer ≡ Ok v)) }
+    ensures answer { IfSome (S.held source.old).bytes (IsAnswerOf result) }
+    ensures log { IfSome (S.held source.old).bytes (λ file. HasLog S.step (IsRunLog (geometry file)) (S.held source.old).trail (S.held source.new).trail) }
+    ensures unread { IfSome (S.held source.old).bytes (λ file. has_one_page file (length file) ≡ false → HasLog S.step (λ log. length log ≤ 1) (S.held source.old).trail (S.held source.new).trail) }
     // Whatever the source answers.
-    ensures unwritten { IsUnwritten result (O.holds out.old) (O.holds out.new) }
-    ensures second_out { E.holds err.new ≡ E.holds err.old }
-    ensures source_failures { S.failures source.new ≡ reads_failed result (S.failures source.old) }
-    ensures out_failures { O.failures out.new ≡ writes_failed result (O.failures out.old) }
-    ensures err_failures { E.failures err.new ≡ E.failures err.old }
-    ensures log { HasLog S.step IsFirstPageLog (S.trail source.old) (S.trail source.new) }
-    ensures unread { IfSome (S.tells source.old) (λ file. has_one_page file (length file) ≡ false → HasLog S.step (λ log. length log ≤ 1) (S.trail source.old) (S.trail source.new)) }
+    ensures asks { Asks S.step IsSomeRunLog is_read_failed result (S.held source.old) (S.held source.new) }
+    ensures unwritten { IsUnwritten result (O.held out.old).bytes (O.held out.new).bytes }
+    ensures out_failures { (O.held out.new).failures ≡ failures_after is_write_failed result (O.held out.old).failures }
+    ensures second_out { E.held err.new ≡ E.held err.old }
 {
     let header = read_plain(alloc, source)?;
     let faults = plain_faults(&header);

@@ -1,9 +1,11 @@
 -- What length and bytes say of a file whose first 100 they are.
-use Rattle.std.proofs.Common.{◌≡◌, ℕ, ◌<◌, ◌≤◌, List, [], ◌∷◌, length, take, true, false, refl, sym, ap, ◌∙◌, arith, Some, None, Err}
+use Rattle.std.proofs.Common.{◌≡◌, ℕ, ◌<◌, ◌≤◌, List, [], ◌∷◌, length, take, true, false, refl, sym, ap, ◌∙◌, arith, subst, Some, None, Err}
 use Rattle.std.specs.Prelude.{nat_lt}
 use Rattle.std.proofs.lemmas.Bool.Decides.{nat_tests}
 use Rattle.dbformat.specs.File.{refusal, refusal_of, refusal_tests}
-use Rattle.dbformat.specs.FixedPages.{geometry_of}
+use Rattle.dbformat.specs.FixedPages.{geometry_of, IsInRange}
+use Rattle.dbformat.specs.declared.Geometry.{Geometry}
+use Rattle.dbformat.proofs.Accepted.{is_accepted}
 use Rattle.dbformat.specs.Log.{header_range}
 use Rattle.dbformat.specs.declared.Refusal.{Refusal}
 use Rattle.dbformat.specs.declared.Refusal.TheVariants.{Short, Magic, PageSize, Usable, NoPage, TooManyPages, MapAtLock}
@@ -13,6 +15,10 @@ use Rattle.dbsource.specs.Headers.{IsHeaderOf, IsOpenLog}
 use Rattle.dbsource.specs.HeaderBytes.{HeaderBytes}
 use Rattle.dbsource.specs.Sources.{IsRangeOf}
 use Rattle.dbsource.specs.declared.error.OpenError.TheVariants.{Refused}
+
+-- the numbers of a header that is not refused
+pub geometry_range : (bytes : List ℕ) (len : ℕ) (g : Geometry) → refusal_of bytes len ≡ None → g ≡ geometry_of bytes len → IsInRange g
+geometry_range bytes len g e shape = subst IsInRange (sym shape) (is_accepted bytes len e).range
 
 below : (a b : ℕ) → a < b → nat_lt a b ≡ true
 below a b h = grind (arith, nat_tests)

@@ -5,7 +5,7 @@ use Rattle.std.proofs.lemmas.List.{take-append-drop}
 use Rattle.std.proofs.Math.Seq.{take-add}
 use Rattle.std.specs.Io.KnownBytes.{Appends, Keeps}
 use Rattle.dbsource.specs.Failures.{one_more}
-use Rattle.dbsource.specs.Outs.{Begins, Puts}
+use Rattle.dbsource.specs.Outs.{Begins, OutState, Puts}
 
 -- what was appended, and then more
 pub appends_append : (o m n : Option (List ℕ)) (a b : List ℕ) → Appends o m a → Appends m n b → Appends o n (a ++ b)
@@ -32,28 +32,28 @@ appends_nothing None = tt
 appends_nothing (Some x) = sym (append-nil x)
 
 -- a put that succeeds, and then others
-pub puts_then : {A B E F : Type 0} {s : Result A E} (r : Result B F) {x : A} {o m n : Option (List ℕ)} {e f g : ℕ} (a b : List ℕ)
-    → s ≡ Ok x → Puts s o m e f a → Puts r m n f g b → Puts r o n e g (a ++ b)
-puts_then (Ok u) {o} {m} {n} a b p h k =
-    let here : Appends o m a = rw p at h.held in
-    record { held = appends_append o m n a b here k.held; count = k.count ∙ (rw p at h.count) }
-puts_then (Err d) {o} {m} {n} a b p h k =
-    let here : Appends o m a = rw p at h.held in
+pub puts_then : {A B E F : Type 0} {s : Result A E} (r : Result B F) {x : A} {o m n : OutState} (a b : List ℕ)
+    → s ≡ Ok x → Puts s o m a → Puts r m n b → Puts r o n (a ++ b)
+puts_then (Ok u) {o = o} {m = m} {n = n} a b p h k =
+    let here : Appends o.bytes m.bytes a = rw p at h.held in
+    record { held = appends_append o.bytes m.bytes n.bytes a b here k.held; count = k.count ∙ (rw p at h.count) }
+puts_then (Err d) {o = o} {m = m} {n = n} a b p h k =
+    let here : Appends o.bytes m.bytes a = rw p at h.held in
     record {
       held = record {
         part = a ++ k.held.part;
         rest = k.held.rest;
         whole = append_assoc a k.held.part k.held.rest ∙ ap (λ w. a ++ w) k.held.whole;
-        added = appends_append o m n a k.held.part here k.held.added;
+        added = appends_append o.bytes m.bytes n.bytes a k.held.part here k.held.added;
       };
       count = k.count ∙ ap one_more (rw p at h.count);
     }
 
 -- a put that fails, and nothing after it
-pub puts_stop : {A B E F : Type 0} {s : Result A E} {r : Result B F} {o n : Option (List ℕ)} {e f : ℕ} (a b : List ℕ) {x : E} {y : F}
-    → s ≡ Err x → r ≡ Err y → Puts s o n e f a → Puts r o n e f (a ++ b)
+pub puts_stop : {A B E F : Type 0} {s : Result A E} {r : Result B F} {o n : OutState} (a b : List ℕ) {x : E} {y : F}
+    → s ≡ Err x → r ≡ Err y → Puts s o n a → Puts r o n (a ++ b)
 puts_stop {o = o} {n = n} a b p q h =
-    let here : Begins o n a = rw p at h.held in
+    let here : Begins o.bytes n.bytes a = rw p at h.held in
     rw q (record {
       held = record {
         part = here.part;

@@ -5,7 +5,6 @@ use Rattle.dbformat.specs.File.{refusal, geometry}
 use Rattle.dbformat.specs.Log.{header_range}
 use Rattle.dbformat.specs.declared.ByteRange.{ByteRange}
 use Rattle.dbformat.specs.declared.Refusal.TheVariants.{Short}
-use Rattle.dbsource.specs.Failures.{one_more}
 use Rattle.dbsource.specs.HeaderBytes.{HeaderBytes}
 use Rattle.dbsource.specs.declared.error.OpenError.{OpenError}
 use Rattle.dbsource.specs.declared.error.OpenError.TheVariants.{Refused, ReadFailed}
@@ -21,11 +20,6 @@ pub record IsHeaderOf (h : HeaderBytes) (file : List ℕ) : Type 0 where
 abbrev pub IsRefusalOf : OpenError → List ℕ → Type 0
 IsRefusalOf (Refused r) file = refusal file ≡ Some r
 IsRefusalOf ReadFailed file = Unit {0}
-
--- the source failed once exactly if the answer says so
-abbrev pub failures_after : Result HeaderBytes OpenError → ℕ → ℕ
-failures_after (Err ReadFailed) failures = one_more failures
-failures_after r failures = failures
 
 -- What was asked for: nothing where the length said that the file is too short, the header once where there is another
 -- answer, and one of both where the source failed.

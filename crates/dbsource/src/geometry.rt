@@ -4,8 +4,9 @@ ghost use Rattle.dbformat.specs.FixedPages.{lock_page, is_map_position, geometry
 ghost use Rattle.dbformat.specs.File.{refusal_of};
 ghost use Rattle.dbformat.specs.Header.{page_size, page_count, usable_size, has_pointer_map};
 
-use crate::header_words::{has_magic, has_page_size, page_count, page_size, u32_at};
+use crate::header_words::{has_magic, has_page_size, page_count, page_size};
 use crate::{Geometry, Refusal};
+use dbformat::u32_at;
 
 // The most pages that are looked at.
 const MOST_PAGES: u64 = 67108864;

@@ -1,9 +1,10 @@
 // The header of a database (Database File Format, 1.3).
 ghost use Rattle.std.specs.Prelude.{◌≡◌, ◌≤◌, length, IfOk, IfErr, IfSome, None};
-ghost use Rattle.dbformat.specs.FixedPages.{geometry_of};
+ghost use Rattle.dbformat.specs.FixedPages.{geometry_of, IsInRange};
 ghost use Rattle.dbformat.specs.File.{refusal_of};
-ghost use Rattle.dbformat.specs.Log.{HasLog};
-ghost use Rattle.dbsource.specs.Headers.{IsHeaderOf, IsRefusalOf, IsOpenLog, failures_after};
+ghost use Rattle.dbsource.specs.Errors.{is_open_failed};
+ghost use Rattle.dbsource.specs.Headers.{IsHeaderOf, IsRefusalOf, IsOpenLog};
+ghost use Rattle.dbsource.specs.Sources.{Asks};
 
 use crate::geometry::{geometry_of, refusal_of};
 use crate::header_words::HEADER_LEN;
@@ -40,11 +41,9 @@ impl Header {
     /// [`OpenError::Refused`] where length and bytes say that the file is not to be read, [`OpenError::ReadFailed`]
     /// exactly where the source failed. A file of fewer than 100 bytes is refused by its length, before any read.
     pub fn read<S: Source>(source: &mut S) -> Result<Header, OpenError>
-        ensures told { S.tells source.new ≡ S.tells source.old }
-        ensures header { IfOk result (λ h. IfSome (S.tells source.old) (IsHeaderOf h)) }
-        ensures refusal { IfErr result (λ e. IfSome (S.tells source.old) (IsRefusalOf e)) }
-        ensures count { S.failures source.new ≡ failures_after result (S.failures source.old) }
-        ensures log { HasLog S.step (IsOpenLog result) (S.trail source.old) (S.trail source.new) }
+        ensures asks { Asks S.step (IsOpenLog result) is_open_failed result (S.held source.old) (S.held source.new) }
+        ensures header { IfOk result (λ h. IfSome (S.held source.old).bytes (IsHeaderOf h)) }
+        ensures refusal { IfErr result (λ e. IfSome (S.held source.old).bytes (IsRefusalOf e)) }
     {
         let file_len = source.len()?;
         if file_len < HEADER_LEN as u64 {
@@ -74,12 +73,10 @@ impl Header {
     }
 
     /// The shape of the file.
-    #[tactic(auto, using(crate::proofs::Shapes::shapes))]
+    #[tactic(auto, using(crate::proofs::Headers::geometry_range))]
     pub fn geometry(&self) -> Geometry
         ensures shape { result ≡ geometry_of self.now.bytes self.now.file_len }
-        ensures page_size { (512 ≤ result.page_size) × (result.page_size ≤ 65536) }
-        ensures usable { (480 ≤ result.usable) × (result.usable ≤ result.page_size) }
-        ensures pages { (1 ≤ result.pages) × (result.pages ≤ 67108864) }
+        ensures range { IsInRange result }
     {
         self.geometry
     }

@@ -1,9 +1,10 @@
 // The fields of a header that faults are told of (Database File Format, 1.3).
 ghost use Rattle.std.specs.Prelude.{◌≡◌};
-ghost use Rattle.dbformat.specs.Header.{stated_pages, first_trunk, freelist_count, schema_format, greatest_root, encoding_number, incremental_vacuum, is_size_valid};
+ghost use Rattle.dbformat.specs.Header.{stated_pages, first_trunk, freelist_count, schema_format, greatest_root, encoding, encoding_number, incremental_vacuum, is_size_valid};
 
 use crate::Header;
-use crate::header_words::{is_size_valid, u32_at};
+use crate::header_words::is_size_valid;
+use dbformat::{Encoding, u32_at};
 
 impl Header {
     /// The size in pages that the header states, which counts where [`Header::is_size_valid`] says so (1.3.7).
@@ -59,6 +60,18 @@ impl Header {
         ensures { result ≡ encoding_number self.now.bytes }
     {
         u32_at(self.bytes(), 56)
+    }
+
+    /// How the texts of the schema are stored. A number that stands for no encoding is read as UTF-8 (1.3.13).
+    #[tactic(auto, unfolding(dbformat::specs::Header::encoding))]
+    pub fn encoding(&self) -> Encoding
+        ensures { result ≡ encoding self.now.bytes }
+    {
+        match self.encoding_number() {
+            2 => Encoding::Utf16le,
+            3 => Encoding::Utf16be,
+            _ => Encoding::Utf8,
+        }
     }
 
     /// Not 0 for incremental vacuum (1.3.12).

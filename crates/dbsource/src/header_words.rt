@@ -2,30 +2,16 @@
 ghost use Rattle.std.specs.Prelude.{◌≡◌, ◌+◌, ◌≤◌, ◌<◌, IsTrue, length, take, ◌==◌};
 ghost use Rattle.std.specs.List.{list_any};
 ghost use Rattle.std.specs.Str.{bytes_eq};
-ghost use Rattle.dbformat.specs.Numbers.{u16_at, u32_at};
+ghost use Rattle.dbformat.specs.Numbers.{u16_at};
 ghost use Rattle.dbformat.specs.Header.{magic, stored_page_sizes, page_size, is_size_valid, page_count, whole_pages, stated_pages};
 
-use byteorder::{BigEndian, ByteOrder};
+use dbformat::{u16_at, u32_at};
 
 // The bytes of a header.
 pub(crate) const HEADER_LEN: usize = 100;
 
 // What a database begins with.
 const MAGIC: &[u8; 16] = b"SQLite format 3\0";
-
-pub(crate) fn u32_at(bytes: &[u8], at: usize) -> u32
-    requires { at + 4 ≤ length bytes.now }
-    ensures { result ≡ u32_at at bytes.now }
-{
-    BigEndian::read_u32(&bytes[at..])
-}
-
-fn u16_at(bytes: &[u8], at: usize) -> u16
-    requires { at + 2 ≤ length bytes.now }
-    ensures { result ≡ u16_at at bytes.now }
-{
-    BigEndian::read_u16(&bytes[at..])
-}
 
 pub(crate) fn has_magic(bytes: &[u8]) -> bool
     requires { 100 ≤ length bytes.now }

@@ -2,6 +2,7 @@
 #![tactic(auto)]
 
 mod error;
+mod failures;
 mod file_source;
 mod geometry;
 mod header;
@@ -16,9 +17,10 @@ mod stream_out;
 
 pub use dbformat::{ByteRange, Geometry, Refusal};
 pub use error::{OpenError, RunError};
+pub use failures::Failures;
 pub use file_source::FileSource;
 pub use header::Header;
-pub use log_source::LogSource;
+pub use log_source::{LogSource, log_source_keeps_its_log};
 pub use memory_out::MemOut;
 pub use memory_source::MemSource;
 pub use out::{Out, WriteFailed};

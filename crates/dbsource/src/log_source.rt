@@ -1,11 +1,11 @@
 // A source over memory that keeps the ranges it was asked for.
-ghost use Rattle.std.specs.Prelude.{◌≡◌, ◌+◌, ◌<◌, ◌≤◌, [], length, Some, IsOk, OnOk, MatchResult, ◌↔◌};
+ghost use Rattle.std.specs.Prelude.{◌≡◌, ◌+◌, ◌<◌, ◌≤◌, length, IfOk, IfSome, IsOk, OnOk, ◌↔◌};
 ghost use Rattle.dbformat.specs.Log.{range};
-ghost use Rattle.dbsource.specs.Failures.{one_more};
-ghost use Rattle.dbsource.specs.Sources.{IsRangeOf, kept_step};
+ghost use Rattle.dbsource.specs.Failures.{failures_after, is_any};
+ghost use Rattle.dbsource.specs.Sources.{AreBytes, IsRangeOf, KeepsItsLog, kept_step, source_of};
 
 use crate::memory_source::{byte_count, copy_range};
-use crate::{ByteRange, ReadFailed, Source};
+use crate::{ByteRange, Failures, ReadFailed, Source};
 use arrayvec::ArrayVec;
 use std::marker::Model;
 
@@ -15,59 +15,67 @@ use std::marker::Model;
 pub struct LogSource<'a> {
     bytes: &'a [u8],
     ranges: ArrayVec<ByteRange, 1024>,
-    failures: u64,
+    failures: Failures,
 }
 
 impl<'a> Model for LogSource<'a> {
-    ghost use Rattle.dbsource.specs.Sources.{Logged};
+    ghost use Rattle.std.specs.Prelude.{Some};
+    ghost use Rattle.dbsource.specs.Sources.{SourceState};
 
-    ghost Value = { Logged };
+    ghost Value = { SourceState };
 
-    ghost view = { λ s. record { bytes = s.bytes.now; ranges = s.ranges.items; failures = s.failures } };
+    ghost view = { λ s. record { bytes = Some s.bytes.now; trail = s.ranges.items; failures = s.failures } };
 }
 
 impl<'a> LogSource<'a> {
     /// A source of these bytes that was asked for nothing yet.
     pub fn new(bytes: &'a [u8]) -> LogSource<'a>
-        ensures bytes { result.bytes ≡ bytes.entry.now }
-        ensures ranges { result.ranges ≡ [] }
-        ensures failures { result.failures ≡ 0 }
+        ensures { result ≡ source_of bytes.entry.now }
     {
         LogSource {
             bytes,
             ranges: ArrayVec::new(),
-            failures: 0,
+            failures: Failures::new(),
         }
     }
 
     /// The ranges that reads asked for, Ok or not, in their order.
     pub fn ranges(&self) -> &[ByteRange]
-        ensures { result.now ≡ self.now.ranges }
+        ensures { result.now ≡ self.now.trail }
     {
         self.ranges.as_slice()
     }
 }
 
-impl Source for LogSource<'_> {
-    ghost tells = { λ s. Some s.bytes };
+/// Where a [`LogSource`] has room for them, the ranges that it kept in a call are what the call asked for.
+pub fn log_source_keeps_its_log()
+    ensures { KeepsItsLog }
+{}
 
-    ghost trail = { λ s. s.ranges };
+impl Source for LogSource<'_> {
+    ghost held = { λ s. s };
 
     ghost step = { kept_step };
 
-    ghost failures = { λ s. s.failures };
-
-    fn len(&mut self) -> Result<u64, ReadFailed> {
+    fn len(&mut self) -> Result<u64, ReadFailed>
+        ensures told { self.new.bytes ≡ self.old.bytes }
+        ensures trail { self.new.trail ≡ self.old.trail }
+        ensures count { self.new.failures ≡ failures_after is_any result self.old.failures }
+        ensures number { IfOk result (λ n. IfSome self.old.bytes (λ bytes. n ≡ length bytes)) }
+        ensures bytes { IfSome self.old.bytes AreBytes }
+        // It never fails.
+        ensures always { IsOk result }
+    {
         Ok(byte_count(self.bytes))
     }
 
     fn read_at(&mut self, offset: u64, buf: &mut [u8]) -> Result<(), ReadFailed>
         ensures told { self.new.bytes ≡ self.old.bytes }
-        ensures trail { self.new.ranges ≡ kept_step self.old.ranges (range offset (length buf.old)) }
-        ensures count { MatchResult result (λ _. self.new.failures ≡ self.old.failures) (λ _. self.new.failures ≡ one_more self.old.failures) }
-        ensures bytes { OnOk result (IsRangeOf self.old.bytes offset buf.new) }
+        ensures trail { self.new.trail ≡ kept_step self.old.trail (range offset (length buf.old)) }
+        ensures count { self.new.failures ≡ failures_after is_any result self.old.failures }
+        ensures bytes { OnOk result (IfSome self.old.bytes (λ bytes. IsRangeOf bytes offset buf.new)) }
         // It fails only where the range passes the end, or where the log is full.
-        ensures inside { IsOk result ↔ ((length self.old.ranges < 1024) × (offset + length buf.old ≤ length self.old.bytes)) }
+        ensures inside { IfSome self.old.bytes (λ bytes. IsOk result ↔ ((length self.old.trail < 1024) × (offset + length buf.old ≤ length bytes))) }
     {
         let len = buf.len() as u64;
         if !self.ranges.is_full() {
@@ -76,7 +84,7 @@ impl Source for LogSource<'_> {
                 return Ok(());
             }
         }
-        self.failures = self.failures.wrapping_add(1);
+        self.failures.add();
         Err(ReadFailed)
     }
 }

@@ -1,7 +1,8 @@
 // An Out over memory.
-ghost use Rattle.std.specs.Prelude.{◌≡◌, [], Some};
+ghost use Rattle.std.specs.Prelude.{◌≡◌, Some, OnErr};
+ghost use Rattle.dbsource.specs.Outs.{Puts, empty_out};
 
-use crate::{Out, WriteFailed};
+use crate::{Failures, Out, WriteFailed};
 use std::alloc::{Allocator, Global};
 use std::marker::Model;
 
@@ -9,14 +10,14 @@ use std::marker::Model;
 #[derive(Drop)]
 pub struct MemOut<A: Allocator = Global> {
     bytes: Vec<u8, A>,
-    failures: u64,
+    failures: Failures,
 }
 
 impl<A: Allocator> Model for MemOut<A> {
     ghost use Rattle.std.specs.Prelude.{Some};
-    ghost use Rattle.dbsource.specs.Outs.{Held};
+    ghost use Rattle.dbsource.specs.Outs.{OutState};
 
-    ghost Value = { Held };
+    ghost Value = { OutState };
 
     ghost view = { λ s. record { bytes = Some s.bytes.items; failures = s.failures } };
 }
@@ -24,8 +25,7 @@ impl<A: Allocator> Model for MemOut<A> {
 impl MemOut {
     /// An empty one. It takes memory from `alloc` as bytes are put.
     pub fn new(alloc: Global) -> MemOut
-        ensures bytes { result.bytes ≡ Some [] }
-        ensures failures { result.failures ≡ 0 }
+        ensures { result ≡ empty_out }
     {
         MemOut::new_in(alloc)
     }
@@ -34,12 +34,11 @@ impl MemOut {
 impl<A: Allocator> MemOut<A> {
     /// An empty one, over any allocator.
     pub fn new_in(alloc: A) -> MemOut<A>
-        ensures bytes { result.bytes ≡ Some [] }
-        ensures failures { result.failures ≡ 0 }
+        ensures { result ≡ empty_out }
     {
         MemOut {
             bytes: Vec::new(alloc),
-            failures: 0,
+            failures: Failures::new(),
         }
     }
 
@@ -52,15 +51,16 @@ impl<A: Allocator> MemOut<A> {
 }
 
 impl<A: Allocator> Out for MemOut<A> {
-    ghost holds = { λ s. s.bytes };
+    ghost held = { λ s. s };
 
-    ghost failures = { λ s. s.failures };
-
-    fn put(&mut self, piece: &[u8]) -> Result<(), WriteFailed> {
+    fn put(&mut self, piece: &[u8]) -> Result<(), WriteFailed>
+        ensures puts { Puts result self.old self.new piece.now }
+        ensures refused { OnErr result (self.new.bytes ≡ self.old.bytes) }
+    {
         match self.bytes.extend_from_slice(piece) {
             Ok(()) => Ok(()),
             Err(_) => {
-                self.failures = self.failures.wrapping_add(1);
+                self.failures.add();
                 Err(WriteFailed)
             }
         }

@@ -1,34 +1,37 @@
 // A source over memory.
-ghost use Rattle.std.specs.Prelude.{◌≡◌, ℕ, ◌+◌, ◌<◌, ◌≤◌, ◌^◌, slice_index, [], length, Some, IsOk, OnOk, MatchResult, IsTrue, ◌↔◌};
+ghost use Rattle.std.specs.Prelude.{◌≡◌, ◌+◌, ◌≤◌, [], length, IfOk, IfSome, IsOk, OnOk, IsTrue, ◌↔◌};
 ghost use Rattle.dbformat.specs.Log.{range};
-ghost use Rattle.dbsource.specs.Failures.{one_more};
-ghost use Rattle.dbsource.specs.Sources.{IsRangeOf, no_step};
+ghost use Rattle.dbsource.specs.Failures.{failures_after, is_any};
+ghost use Rattle.dbsource.specs.Sources.{AreBytes, IsRangeOf, no_step, source_of};
 
-use crate::{ReadFailed, Source};
+use crate::{Failures, ReadFailed, Source};
 use std::marker::Model;
 
 /// Bytes in memory. A read fails only where its range passes their end.
 #[derive(Drop)]
 pub struct MemSource<'a> {
     bytes: &'a [u8],
-    failures: u64,
+    failures: Failures,
 }
 
 impl<'a> Model for MemSource<'a> {
-    ghost use Rattle.dbsource.specs.Sources.{Stored};
+    ghost use Rattle.std.specs.Prelude.{[], Some};
+    ghost use Rattle.dbsource.specs.Sources.{SourceState};
 
-    ghost Value = { Stored };
+    ghost Value = { SourceState };
 
-    ghost view = { λ s. record { bytes = s.bytes.now; failures = s.failures } };
+    ghost view = { λ s. record { bytes = Some s.bytes.now; trail = []; failures = s.failures } };
 }
 
 impl<'a> MemSource<'a> {
     /// A source of these bytes.
     pub fn new(bytes: &'a [u8]) -> MemSource<'a>
-        ensures bytes { result.bytes ≡ bytes.entry.now }
-        ensures failures { result.failures ≡ 0 }
+        ensures { result ≡ source_of bytes.entry.now }
     {
-        MemSource { bytes, failures: 0 }
+        MemSource {
+            bytes,
+            failures: Failures::new(),
+        }
     }
 }
 
@@ -51,36 +54,40 @@ pub(crate) fn copy_range(bytes: &[u8], offset: u64, buf: &mut [u8]) -> bool
 // How many bytes there are, and that they are bytes.
 pub(crate) fn byte_count(bytes: &[u8]) -> u64
     ensures number { result ≡ length bytes.now }
-    ensures bytes { (length bytes.now < 2 ^ 64) × ((k : ℕ) → slice_index bytes.now k < 256) }
+    ensures bytes { AreBytes bytes.now }
 {
     bytes.len() as u64
 }
 
 impl Source for MemSource<'_> {
-    ghost tells = { λ s. Some s.bytes };
-
-    ghost trail = { λ _. [] };
+    ghost held = { λ s. s };
 
     ghost step = { no_step };
 
-    ghost failures = { λ s. s.failures };
-
-    fn len(&mut self) -> Result<u64, ReadFailed> {
+    fn len(&mut self) -> Result<u64, ReadFailed>
+        ensures told { self.new.bytes ≡ self.old.bytes }
+        ensures trail { self.new.trail ≡ self.old.trail }
+        ensures count { self.new.failures ≡ failures_after is_any result self.old.failures }
+        ensures number { IfOk result (λ n. IfSome self.old.bytes (λ bytes. n ≡ length bytes)) }
+        ensures bytes { IfSome self.old.bytes AreBytes }
+        // It never fails.
+        ensures always { IsOk result }
+    {
         Ok(byte_count(self.bytes))
     }
 
     fn read_at(&mut self, offset: u64, buf: &mut [u8]) -> Result<(), ReadFailed>
         ensures told { self.new.bytes ≡ self.old.bytes }
-        ensures trail { [] ≡ no_step [] (range offset (length buf.old)) }
-        ensures count { MatchResult result (λ _. self.new.failures ≡ self.old.failures) (λ _. self.new.failures ≡ one_more self.old.failures) }
-        ensures bytes { OnOk result (IsRangeOf self.old.bytes offset buf.new) }
+        ensures trail { self.new.trail ≡ no_step self.old.trail (range offset (length buf.old)) }
+        ensures count { self.new.failures ≡ failures_after is_any result self.old.failures }
+        ensures bytes { OnOk result (IfSome self.old.bytes (λ bytes. IsRangeOf bytes offset buf.new)) }
         // It fails only where the range passes the end.
-        ensures inside { IsOk result ↔ (offset + length buf.old ≤ length self.old.bytes) }
+        ensures inside { IfSome self.old.bytes (λ bytes. IsOk result ↔ (offset + length buf.old ≤ length bytes)) }
     {
         if copy_range(self.bytes, offset, buf) {
             Ok(())
         } else {
-            self.failures = self.failures.wrapping_add(1);
+            self.failures.add();
             Err(ReadFailed)
         }
     }

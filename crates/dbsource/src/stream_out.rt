@@ -2,7 +2,7 @@
 ghost use Rattle.std.specs.Prelude.{◌≡◌};
 ghost use Rattle.dbsource.specs.Outs.{Writes};
 
-use crate::{Out, WriteFailed};
+use crate::{Failures, Out, WriteFailed};
 use std::io::Write;
 use std::marker::Model;
 
@@ -10,13 +10,13 @@ use std::marker::Model;
 #[derive(Drop)]
 pub struct StreamOut<W: Write> {
     writer: W,
-    failures: u64,
+    failures: Failures,
 }
 
 impl<W: Write> Model for StreamOut<W> {
-    ghost use Rattle.dbsource.specs.Outs.{Held};
+    ghost use Rattle.dbsource.specs.Outs.{OutState};
 
-    ghost Value = { Held };
+    ghost Value = { OutState };
 
     ghost view = { λ s. record { bytes = W.contents s.writer; failures = s.failures } };
 }
@@ -24,12 +24,11 @@ impl<W: Write> Model for StreamOut<W> {
 impl<W: Write> StreamOut<W> {
     /// One over `writer`, which has to hand on what it takes by itself: a put does not flush.
     pub fn new(writer: W) -> StreamOut<W>
-        ensures bytes { result.bytes ≡ W.contents writer }
-        ensures failures { result.failures ≡ 0 }
+        ensures { result ≡ record { bytes = W.contents writer; failures = 0 } }
     {
         StreamOut {
             writer,
-            failures: 0,
+            failures: Failures::new(),
         }
     }
 }
@@ -50,14 +49,12 @@ fn write_whole<W: Write>(writer: &mut W, piece: &[u8]) -> Result<(), WriteFailed
 }
 
 impl<W: Write> Out for StreamOut<W> {
-    ghost holds = { λ s. s.bytes };
-
-    ghost failures = { λ s. s.failures };
+    ghost held = { λ s. s };
 
     fn put(&mut self, piece: &[u8]) -> Result<(), WriteFailed> {
         let written = write_whole(&mut self.writer, piece);
         if written.is_err() {
-            self.failures = self.failures.wrapping_add(1);
+            self.failures.add();
         }
         written
     }

@@ -7,7 +7,7 @@ use Rattle.dbbytes.proofs.name.put_escaped.Given as goal
 abbrev pub invariant-loop-at : goal.invariant-loop-at
 invariant-loop-at g l = record {
   within : l.at ≤ length l.text;
-  put : HasPut (g.O.Out.holds l.initial.out) (g.O.Out.holds l.out) (g.O.Out.failures l.initial.out) (g.O.Out.failures l.out)
+  put : HasPut (g.O.Out.held l.initial.out) (g.O.Out.held l.out)
       (flat_map escape_byte (drop l.at l.text)) (flat_map escape_byte l.text);
 }
 

@@ -8,7 +8,7 @@ use Rattle.dbbytes.proofs.name.put_utf16.Given as goal
 abbrev pub invariant-loop-at : goal.invariant-loop-at
 invariant-loop-at g l = record {
   within : l.at ≤ length l.name;
-  put : HasPut (g.O.Out.holds l.initial.out) (g.O.Out.holds l.out) (g.O.Out.failures l.initial.out) (g.O.Out.failures l.out)
+  put : HasPut (g.O.Out.held l.initial.out) (g.O.Out.held l.out)
       (flat_map escape_byte (text_of l.order (drop l.at l.name))) (flat_map escape_byte (text_of l.order l.name));
 }
 

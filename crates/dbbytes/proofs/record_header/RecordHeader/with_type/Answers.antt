@@ -1,6 +1,6 @@
 use Rattle.std.proofs.Common.{◌≡◌, length, arith}
 use Rattle.dbbytes.proofs.RecordLemmas.{type_next, type_last, type_long}
-use Rattle.dbbytes.proofs.header.Header.with_type.Goals as goal
+use Rattle.dbbytes.proofs.record_header.RecordHeader.with_type.Goals as goal
 
 pub returns-then-self-lt-COLUMNS : goal.returns-then-self-lt-COLUMNS
 returns-then-self-lt-COLUMNS c = λ e more.

@@ -7,7 +7,7 @@ use crate::serial::COLUMNS;
 
 // A header whose size is known: what is left of it, what comes behind it, and what it said so far.
 #[derive(Clone, Copy)]
-pub(crate) struct Header {
+pub(crate) struct RecordHeader {
     left: u32,
     bodies: u32,
     types: [u64; COLUMNS],
@@ -20,7 +20,7 @@ pub(crate) struct Header {
 #[derive(Clone, Copy)]
 pub(crate) enum HeaderProgress {
     Size { size: u32, number: PartialVarint },
-    Types { header: Header },
+    Types { header: RecordHeader },
     Whole { types: [u64; COLUMNS], bodies: u32 },
     Malformed,
 }
@@ -29,7 +29,7 @@ impl HeaderProgress {
     ghost use Rattle.std.specs.Prelude.{◌≡◌, List, ◌∷◌, ℕ};
     ghost use Rattle.dbformat.specs.declared.Encoding.{Encoding};
     ghost use Rattle.dbbytes.specs.Record.{progress_row};
-    ghost use Rattle.dbbytes.specs.declared.header.HeaderProgress.TheVariants as progress;
+    ghost use Rattle.dbbytes.specs.declared.record_header.HeaderProgress.TheVariants as progress;
 
     // The first number of a record of `size` bytes is the size of its header, which counts itself.
     pub(crate) fn after_size_byte(size: u32, number: PartialVarint, byte: u8) -> HeaderProgress
@@ -43,28 +43,28 @@ impl HeaderProgress {
                     return HeaderProgress::Malformed;
                 }
                 HeaderProgress::Types {
-                    header: Header::new((value - u64::from(length)) as u32, size - value as u32),
+                    header: RecordHeader::new((value - u64::from(length)) as u32, size - value as u32),
                 }
             }
         }
     }
 }
 
-impl Header {
+impl RecordHeader {
     ghost use Rattle.std.specs.Prelude.{◌≡◌, ℕ, ◌+◌, ◌-◌, ◌<◌, ◌==◌, List, ◌∷◌, length, take};
     ghost use Rattle.dbformat.specs.declared.Encoding.{Encoding};
     ghost use Rattle.dbbytes.specs.Record.{progress_row, row_by, values_with};
-    ghost use Rattle.dbbytes.specs.declared.header.HeaderProgress.TheVariants as progress;
+    ghost use Rattle.dbbytes.specs.declared.record_header.HeaderProgress.TheVariants as progress;
 
     // One of which `left` bytes are still to come, and `bodies` bytes behind it.
-    fn new(left: u32, bodies: u32) -> Header
+    fn new(left: u32, bodies: u32) -> RecordHeader
         ensures left { result.left ≡ left }
         ensures bodies { result.bodies ≡ bodies }
         ensures count { result.count ≡ 0 }
         ensures value { result.number.value ≡ 0 }
         ensures length { result.number.length ≡ 0 }
     {
-        Header {
+        RecordHeader {
             left,
             bodies,
             types: [0; COLUMNS],
@@ -84,7 +84,7 @@ impl Header {
         let types = self.types;
         match self.number.push(byte) {
             Progress::More(number) => HeaderProgress::Types {
-                header: Header {
+                header: RecordHeader {
                     left: self.left - 1,
                     bodies: self.bodies,
                     types,
@@ -108,7 +108,7 @@ impl Header {
         types[self.count] = value;
         if self.count + 1 < COLUMNS {
             HeaderProgress::Types {
-                header: Header {
+                header: RecordHeader {
                     left,
                     bodies: self.bodies,
                     types,

@@ -1,6 +1,6 @@
 use Rattle.std.proofs.Common.{◌-◌, take, ◌∙◌, arith}
 use Rattle.dbbytes.proofs.RecordLemmas.{push_none, push_more, push_whole}
-use Rattle.dbbytes.proofs.header.Header.push.Goals as goal
+use Rattle.dbbytes.proofs.record_header.RecordHeader.push.Goals as goal
 
 pub returns-then-self-eq0 : goal.returns-then-self-eq0
 returns-then-self-eq0 c = λ e more.

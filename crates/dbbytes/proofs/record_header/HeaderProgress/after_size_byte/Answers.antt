@@ -1,7 +1,7 @@
 use Rattle.std.proofs.Common.{◌<◌, ◌⊎◌, inl, inr, arith}
 use Rattle.dbbytes.proofs.RecordLemmas.{size_more, size_bad, size_good}
-use Rattle.dbbytes.proofs.header.HeaderProgress.after_size_byte.Goals as goal
-use Rattle.dbbytes.proofs.header.HeaderProgress.after_size_byte.Goals.{then-value-from-via-then-value-from, then-value-from-via-else-value-from+then-value-from-2}
+use Rattle.dbbytes.proofs.record_header.HeaderProgress.after_size_byte.Goals as goal
+use Rattle.dbbytes.proofs.record_header.HeaderProgress.after_size_byte.Goals.{then-value-from-via-then-value-from, then-value-from-via-else-value-from+then-value-from-2}
 
 pub returns-then-value-from : goal.returns-then-value-from
 returns-then-value-from c = λ e more.
