@@ -1,11 +1,21 @@
 //! The byte formats of a database file: its numbers, how much of a payload stands in a cell, and the rows of its
 //! schema, read as their bytes come.
+//!
+//! ```
+//! let (rowid, len) = varint(bytes)?;
+//! // A record of 600 bytes, whose pieces stand on several pages.
+//! let mut sieve = RowSieve::new(600, Encoding::Utf8);
+//! for piece in pieces {
+//!     sieve.feed(piece);
+//! }
+//! let row = sieve.finish()?;
+//! ```
 #![tactic(auto)]
 
-mod record_header;
 mod name;
 mod partial;
 mod payload;
+mod record_header;
 mod row;
 mod serial;
 mod sieve;

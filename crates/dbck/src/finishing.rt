@@ -40,7 +40,8 @@ fn finish_opened<S: Source, O: Out, E: Out>(
     err: &mut E,
 ) -> u8
     requires check { IsCheck command }
-    ensures exit { IfSome (S.held source.old).bytes (λ file. IsExitOf result command file (O.held out.old) (O.held out.new) (E.held err.old) (E.held err.new)) }
+    ensures exit { IfSome (S.held source.old).bytes (λ file.
+        IsExitOf result command file (O.held out.old) (O.held out.new) (E.held err.old) (E.held err.new)) }
     ensures failed { (O.held out.new).failures ≡ (if result == 6 then one_more (O.held out.old).failures else (O.held out.old).failures) }
 {
     let outcome = run(alloc, command, source, out, err);
@@ -58,7 +59,8 @@ pub fn finish<S: Source + Drop, O: Out, E: Out>(
 ) -> u8
     requires check { IsCheck command }
     // Where the source tells its bytes: what the status says of their report, and of what was written of it.
-    ensures opened { IfOk opened (λ source. IfSome (S.held source).bytes (λ file. IsExitOf result command file (O.held out.old) (O.held out.new) (E.held err.old) (E.held err.new))) }
+    ensures opened { IfOk opened (λ source. IfSome (S.held source).bytes (λ file.
+        IsExitOf result command file (O.held out.old) (O.held out.new) (E.held err.old) (E.held err.new))) }
     // For every source: 6 exactly where the Out failed, and 4, with nothing written, where the file could not be opened.
     ensures failed { (O.held out.new).failures ≡ (if result == 6 then one_more (O.held out.old).failures else (O.held out.old).failures) }
     ensures unopened { IsErr opened → (result ≡ 4) × (O.held out.new ≡ O.held out.old) }

@@ -4,7 +4,9 @@ use crate::finishing::finish;
 use crate::status::line_status;
 use dbfiles::{base_file, patch};
 use dbreport::Command;
-use dbsource::{FileSource, MemOut, MemSource, Out, ReadFailed, Refusal, RunError, WriteFailed};
+use dbsource::{
+    Failures, FileSource, MemOut, MemSource, Out, ReadFailed, Refusal, RunError, WriteFailed,
+};
 use std::test::Fail;
 
 const HELP: &str = "Checks the structure of a SQLite 3 database file, which it only reads
@@ -143,18 +145,16 @@ fn refuses_lines(rt: HostRuntime) -> Result<(), Fail> {
 // An out that takes nothing.
 #[derive(Drop)]
 struct NoRoom {
-    failures: u64,
+    failures: Failures,
 }
 
 impl Out for NoRoom {
     ghost use Rattle.std.specs.Prelude.{None};
 
-    ghost holds = { λ _. None };
-
-    ghost failures = { λ s. s.failures };
+    ghost held = { λ s. record { bytes = None; failures = s.failures } };
 
     fn put(&mut self, _piece: &[u8]) -> Result<(), WriteFailed> {
-        self.failures = self.failures.wrapping_add(1);
+        self.failures.add();
         Err(WriteFailed)
     }
 }
@@ -201,7 +201,9 @@ fn finishes_without_file_or_room(rt: HostRuntime) -> Result<(), Fail> {
     let file = base_file(rt.alloc(), 512, 1)?;
     let mut out = MemOut::new(rt.alloc());
     let mut err = MemOut::new(rt.alloc());
-    let mut no_room = NoRoom { failures: 0 };
+    let mut no_room = NoRoom {
+        failures: Failures::new(),
+    };
     let missing: Result<MemSource<'_>, ReadFailed> = Err(ReadFailed);
     assert!(rt; finish(rt.alloc(), command, missing, &mut out, &mut err) == 4);
     assert!(rt; err.bytes() == "dbck: E8 the file cannot be read\n".as_bytes());

@@ -1,11 +1,9 @@
 // A source, an out and writers that fail where a test asks for it. They tell nothing.
-ghost use Rattle.std.specs.Prelude.{None, []};
-ghost use Rattle.dbsource.specs.Failures.{one_more};
+ghost use Rattle.std.specs.Prelude.{◌≡◌, None, []};
 ghost use Rattle.dbsource.specs.Sources.{no_step};
-ghost use Rattle.std.specs.Prelude.{◌≡◌};
 
 use arrayvec::ArrayVec;
-use dbsource::{Out, ReadFailed, Source, WriteFailed};
+use dbsource::{Failures, Out, ReadFailed, Source, WriteFailed};
 use std::io::{self, ErrorKind, Write};
 
 /// A source of a stated length, which gives some bytes and then zeros. Its call number `fails_at`, from 0, fails.
@@ -15,7 +13,7 @@ pub(crate) struct StatedSource<'a> {
     len: u64,
     fails_at: u64,
     calls: u64,
-    failures: u64,
+    failures: Failures,
 }
 
 impl<'a> StatedSource<'a> {
@@ -25,7 +23,7 @@ impl<'a> StatedSource<'a> {
             len,
             fails_at,
             calls: 0,
-            failures: 0,
+            failures: Failures::new(),
         }
     }
 
@@ -38,34 +36,29 @@ impl<'a> StatedSource<'a> {
         call == self.fails_at
     }
 
-    // Counts a failure.
-    fn refuse(&mut self) -> ReadFailed
-        ensures { self.new.failures ≡ one_more self.old.failures }
-    {
-        self.failures = self.failures.wrapping_add(1);
-        ReadFailed
+    /// How many calls were made.
+    pub(crate) fn calls(&self) -> u64 {
+        self.calls
     }
 }
 
 impl Source for StatedSource<'_> {
-    ghost tells = { λ _. None };
-
-    ghost trail = { λ _. [] };
+    ghost held = { λ s. record { bytes = None; trail = []; failures = s.failures } };
 
     ghost step = { no_step };
 
-    ghost failures = { λ s. s.failures };
-
     fn len(&mut self) -> Result<u64, ReadFailed> {
         if self.is_to_fail() {
-            return Err(self.refuse());
+            self.failures.add();
+            return Err(ReadFailed);
         }
         Ok(self.len)
     }
 
     fn read_at(&mut self, offset: u64, buf: &mut [u8]) -> Result<(), ReadFailed> {
         if self.is_to_fail() {
-            return Err(self.refuse());
+            self.failures.add();
+            return Err(ReadFailed);
         }
         for (i, place) in buf.iter_mut().enumerate() {
             let at = offset.saturating_add(i as u64);
@@ -83,7 +76,7 @@ impl Source for StatedSource<'_> {
 pub(crate) struct SmallOut {
     held: ArrayVec<u8, 64>,
     room: usize,
-    failures: u64,
+    failures: Failures,
 }
 
 impl SmallOut {
@@ -91,7 +84,7 @@ impl SmallOut {
         SmallOut {
             held: ArrayVec::new(),
             room,
-            failures: 0,
+            failures: Failures::new(),
         }
     }
 
@@ -101,9 +94,7 @@ impl SmallOut {
 }
 
 impl Out for SmallOut {
-    ghost holds = { λ _. None };
-
-    ghost failures = { λ s. s.failures };
+    ghost held = { λ s. record { bytes = None; failures = s.failures } };
 
     fn put(&mut self, piece: &[u8]) -> Result<(), WriteFailed> {
         let taken = piece.len().min(self.room);
@@ -112,7 +103,7 @@ impl Out for SmallOut {
         if fits && taken == piece.len() {
             return Ok(());
         }
-        self.failures = self.failures.wrapping_add(1);
+        self.failures.add();
         Err(WriteFailed)
     }
 }

@@ -136,3 +136,16 @@ fn counts_pages(rt: HostRuntime) -> Result<(), Fail> {
     }
     Ok(())
 }
+
+// No clause can say it, since asking for a length leaves nothing behind: the length is asked for once, and the bytes once.
+#[test]
+fn asks_twice(rt: HostRuntime) -> Result<(), Fail> {
+    let file = file_of(&rt, rt.alloc(), 512, 1, &[])?;
+    let mut source = StatedSource::new(file.as_slice(), 512, 9);
+    assert!(rt; Header::read(&mut source).is_ok());
+    assert!(rt; source.calls() == 2);
+    let mut short = StatedSource::new(file.as_slice(), 99, 9);
+    assert!(rt; Header::read(&mut short).is_err());
+    assert!(rt; short.calls() == 1);
+    Ok(())
+}

@@ -1,4 +1,10 @@
 //! Small databases for tests, built byte by byte.
+//!
+//! ```
+//! // Two pages of 512 bytes, with a freelist that begins on the second.
+//! let mut file = base_file(alloc, 512, 2)?;
+//! patch(&mut file, 32, &[0, 0, 0, 2, 0, 0, 0, 1]);
+//! ```
 #![tactic(auto)]
 
 ghost use Rattle.std.specs.Prelude.{◌≡◌, ◌+◌, ◌*◌, ◌≤◌, length, IfOk, vec_len};

@@ -1,5 +1,9 @@
 //! The vocabulary of a checker of SQLite database files: the plain types that the definitions in
-//! `specs/` and the crates of the checker have in common.
+//! `specs/` and the crates of the checker have in common, and theorems on these definitions.
+//!
+//! ```
+//! let fault = Fault::new(FaultCode::H03, 1, 0, u32_at(header, 44));
+//! ```
 #![tactic(auto)]
 
 ghost use Rattle.std.specs.Prelude.{◌≡◌, ℕ, List, pos};
@@ -13,6 +17,7 @@ ghost use Rattle.dbformat.specs.Plain.{PlainFilesAreEmpty};
 ghost use Rattle.dbformat.specs.Samples.{long_row_file};
 ghost use Rattle.dbformat.specs.Sound.{Sound};
 
+mod fixed_pages;
 mod numbers;
 
 pub use numbers::{u16_at, u32_at};

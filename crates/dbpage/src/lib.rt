@@ -1,4 +1,20 @@
-//! The b-tree pages of a database file: their heads, cells and freeblocks, and what these hold of a page.
+//! The b-tree pages of a database file: their heads, cells and freeblocks, and what these hold of a page. Nothing is
+//! copied: a view lends from the page that it was made of.
+//!
+//! ```
+//! // Page 2, of which all 4096 bytes are in use.
+//! let view = PageView::new(page, 2, 4096)?;
+//! for i in 0..view.cells() {
+//!     if let Ok(cell) = view.cell(i) {
+//!         payload += cell.local.len();
+//!     }
+//! }
+//! let mut table = [0u8; 4096];
+//! match uncounted_coverage(&view, &mut table) {
+//!     Coverage::Overlap(item) => ..,
+//!     Coverage::Unheld(bytes) => ..,
+//! }
+//! ```
 #![tactic(auto)]
 
 mod cell;

@@ -1,4 +1,10 @@
 //! What is told of a database: its faults, as the lines of a report, and the verdict.
+//!
+//! ```
+//! let mut source = MemSource::new(bytes);
+//! let (mut out, mut err) = (MemOut::new(alloc), MemOut::new(alloc));
+//! let verdict = run(alloc, Command::Check { limit: 100 }, &mut source, &mut out, &mut err)?;
+//! ```
 #![tactic(auto)]
 
 mod check;

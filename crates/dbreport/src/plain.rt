@@ -70,9 +70,11 @@ fn is_schema_empty<S: Source, A: Allocator>(
     header: &Header,
     source: &mut S,
 ) -> Result<bool, RunError>
-    ensures asks { Asks S.step (IsPageRead result (geometry_of header.now.bytes header.now.file_len).page_size) is_read_failed result (S.held source.old) (S.held source.new) }
+    ensures asks { Asks S.step (IsPageRead result (geometry_of header.now.bytes header.now.file_len).page_size) is_read_failed result
+        (S.held source.old) (S.held source.new) }
     ensures range { IsInRange (geometry_of header.now.bytes header.now.file_len) }
-    ensures empty { IfOk result (λ empty. IfSome (S.held source.old).bytes (λ file. IsHeaderOf header.now file → empty ≡ is_empty_leaf (usable_size file) (page_bytes file 1))) }
+    ensures empty { IfOk result (λ empty. IfSome (S.held source.old).bytes (λ file. IsHeaderOf header.now file
+        → empty ≡ is_empty_leaf (usable_size file) (page_bytes file 1))) }
     ensures answer { IfErr result (λ e. (e ≡ RunError.ReadFailed) ⊎ (e ≡ RunError.OutOfMemory)) }
 {
     let geometry = header.geometry();
@@ -88,7 +90,8 @@ pub(crate) fn read_plain<S: Source, A: Allocator>(
 ) -> Result<Header, RunError>
     ensures asks { Asks S.step IsSomeRunLog is_read_failed result (S.held source.old) (S.held source.new) }
     ensures log { IfSome (S.held source.old).bytes (λ file. HasLog S.step (IsRunLog (geometry file)) (S.held source.old).trail (S.held source.new).trail) }
-    ensures unread { IfSome (S.held source.old).bytes (λ file. has_one_page file (length file) ≡ false → HasLog S.step (λ log. length log ≤ 1) (S.held source.old).trail (S.held source.new).trail) }
+    ensures unread { IfSome (S.held source.old).bytes (λ file. has_one_page file (length file) ≡ false
+        → HasLog S.step (λ log. length log ≤ 1) (S.held source.old).trail (S.held source.new).trail) }
     ensures answer { IfSome (S.held source.old).bytes (IsAnswerOf result) }
     ensures header { IfOk result (λ h. IfSome (S.held source.old).bytes (IsHeaderOf h)) }
     ensures written { IsErrOf result RunError.WriteFailed → ⊥ }
@@ -106,7 +109,8 @@ pub(crate) fn read_plain<S: Source, A: Allocator>(
 // The faults of a plain file, each where it is one, in the order in which they are told.
 #[tactic(auto, using(std::proofs::lemmas::Grind::common_steps))]
 pub(crate) fn plain_faults(header: &Header) -> ArrayVec<Option<Fault>, 11>
-    ensures { flat_map option_to_list result.items ≡ header_faults header.now.bytes header.now.file_len ++ told_if (not (freelist_count header.now.bytes == 0)) (fault H10 1 0 (pos 0)) }
+    ensures { flat_map option_to_list result.items
+        ≡ header_faults header.now.bytes header.now.file_len ++ told_if (not (freelist_count header.now.bytes == 0)) (fault H10 1 0 (pos 0)) }
 {
     let mut faults = ArrayVec::new();
     let _ = faults.try_extend_from_slice(&header_faults(header));

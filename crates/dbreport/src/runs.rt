@@ -49,12 +49,16 @@ pub fn run<A: Allocator, S: Source, O: Out, E: Out>(
     requires check { IsCheck command }
     // Where the source tells its bytes: the file has a survey, and by any survey of it each Out got its part.
     ensures survey { IfSome (S.held source.old).bytes (λ file. Survey file (survey file)) }
-    ensures out { IfSome (S.held source.old).bytes (λ file. (V : List Reference) → Survey file V → Writes result (O.held out.old).bytes (O.held out.new).bytes (report command file V).out) }
-    ensures err { IfSome (S.held source.old).bytes (λ file. (V : List Reference) → Survey file V → Writes result (E.held err.old).bytes (E.held err.new).bytes (report command file V).err) }
-    ensures verdict { IfOk result (λ v. IfSome (S.held source.old).bytes (λ file. (V : List Reference) → Survey file V → (report command file V).answer ≡ Ok v)) }
+    ensures out { IfSome (S.held source.old).bytes (λ file. (V : List Reference) → Survey file V
+        → Writes result (O.held out.old).bytes (O.held out.new).bytes (report command file V).out) }
+    ensures err { IfSome (S.held source.old).bytes (λ file. (V : List Reference) → Survey file V
+        → Writes result (E.held err.old).bytes (E.held err.new).bytes (report command file V).err) }
+    ensures verdict { IfOk result (λ v. IfSome (S.held source.old).bytes (λ file. (V : List Reference) → Survey file V
+        → (report command file V).answer ≡ Ok v)) }
     ensures answer { IfSome (S.held source.old).bytes (IsAnswerOf result) }
     ensures log { IfSome (S.held source.old).bytes (λ file. HasLog S.step (IsRunLog (geometry file)) (S.held source.old).trail (S.held source.new).trail) }
-    ensures unread { IfSome (S.held source.old).bytes (λ file. has_one_page file (length file) ≡ false → HasLog S.step (λ log. length log ≤ 1) (S.held source.old).trail (S.held source.new).trail) }
+    ensures unread { IfSome (S.held source.old).bytes (λ file. has_one_page file (length file) ≡ false
+        → HasLog S.step (λ log. length log ≤ 1) (S.held source.old).trail (S.held source.new).trail) }
     // Whatever the source answers.
     ensures asks { Asks S.step IsSomeRunLog is_read_failed result (S.held source.old) (S.held source.new) }
     ensures unwritten { IsUnwritten result (O.held out.old).bytes (O.held out.new).bytes }

@@ -1,3 +1,4 @@
+pub mod Benches
 pub mod Headers
 pub mod Logs
 pub mod Puts

@@ -1,6 +1,6 @@
 // The shape of a file, and whether its header refuses it (Database File Format, 1.3, 1.4 and 1.8).
-ghost use Rattle.std.specs.Prelude.{◌≡◌, ◌≤◌, ◌<◌, ◌^◌, ◌&&◌, nat_le, length};
-ghost use Rattle.dbformat.specs.FixedPages.{lock_page, is_map_position, geometry_of};
+ghost use Rattle.std.specs.Prelude.{◌≡◌, ◌≤◌, ◌<◌, ◌^◌, length};
+ghost use Rattle.dbformat.specs.FixedPages.{geometry_of};
 ghost use Rattle.dbformat.specs.File.{refusal_of};
 ghost use Rattle.dbformat.specs.Header.{page_size, page_count, usable_size, has_pointer_map};
 
@@ -10,30 +10,6 @@ use dbformat::u32_at;
 
 // The most pages that are looked at.
 const MOST_PAGES: u64 = 67108864;
-
-// The page that holds the byte at 2^30, which no structure uses (1.4).
-fn lock_page(page_size: u32) -> u32
-    requires { 0 < page_size }
-    ensures { result ≡ lock_page page_size }
-{
-    (1 << 30) / page_size + 1
-}
-
-// Whether a pointer-map page stands at this number, where there is a map (1.8).
-fn is_map_position(geometry: Geometry, page: u32) -> bool
-    ensures { result ≡ is_map_position geometry page }
-{
-    page >= 2 && (page - 2) % (geometry.usable / 5 + 1) == 0
-}
-
-// Whether a pointer-map page would stand at the lock-byte page of the file.
-fn has_map_at_lock(geometry: Geometry) -> bool
-    requires { 0 < geometry.page_size }
-    ensures { result ≡ (geometry.has_map && nat_le (lock_page geometry.page_size) geometry.pages && is_map_position geometry (lock_page geometry.page_size)) }
-{
-    let lock = lock_page(geometry.page_size);
-    geometry.has_map && lock <= geometry.pages && is_map_position(geometry, lock)
-}
 
 // Whether the header has a greatest root page, as one of a file with a pointer map has.
 #[tactic(auto, unfolding(dbformat::specs::Header::has_pointer_map, dbformat::specs::Header::greatest_root))]
@@ -91,5 +67,7 @@ pub(crate) fn refusal_of(header: &[u8], file_len: u64) -> Option<Refusal>
     if pages > MOST_PAGES {
         return Some(Refusal::TooManyPages);
     }
-    has_map_at_lock(geometry_of(header, file_len)).then_some(Refusal::MapAtLock)
+    geometry_of(header, file_len)
+        .has_map_at_lock()
+        .then_some(Refusal::MapAtLock)
 }

@@ -1,6 +1,16 @@
 //! Where the bytes of a database come from, what its header says, and where a report goes.
+//!
+//! ```
+//! let mut source = MemSource::new(bytes);
+//! let header = Header::read(&mut source)?;
+//! let mut page = [0u8; 512];
+//! source.read_at(u64::from(header.geometry().page_size), &mut page)?;
+//! let mut out = MemOut::new(alloc);
+//! out.put(b"ok\n")?;
+//! ```
 #![tactic(auto)]
 
+mod bench;
 mod error;
 mod failures;
 mod file_source;
@@ -15,7 +25,8 @@ mod out;
 mod source;
 mod stream_out;
 
-pub use dbformat::{ByteRange, Geometry, Refusal};
+pub use bench::Bench;
+pub use dbformat::{ByteRange, Fixed, Geometry, Refusal};
 pub use error::{OpenError, RunError};
 pub use failures::Failures;
 pub use file_source::FileSource;

@@ -1,0 +1,174 @@
+-- The theorems on surveys: statements of the contracts.
+use Rattle.std.specs.Prelude.{◌≡◌, ℕ, ◌≤◌, ◌↔◌, Bool, true, false, int_lt, Option, None, List, [], ◌∷◌, ◌++◌}
+use Rattle.dbsurvey.specs.Address.{Address, IsIn, IsBefore, IsAscending}
+use Rattle.dbsurvey.specs.Greatest.{Entry, IsLine, IsOut, greater, greatest_from, is_out}
+use Rattle.dbsurvey.specs.Story.{Told, Item, links_in, AreRising, Story, IsStoryOf, Errand, Go, Tell, errands_at, errands_of, goes, AreErrandsApart, told_own, told_refused, IsTold, IsTelling, tell_below, telling_of}
+use Rattle.dbsurvey.specs.Survey.{Rules, AreRules, IsRising, IsSurvey, Triple, Link, IsPart, IsOwned, IsNamed, children, named_at}
+use Rattle.dbsurvey.specs.From.{IsSurveyFrom, under, first_part, survey_from}
+use Rattle.dbsurvey.specs.InOrder.{ShowsVisits, AreQuiet, IsPast, earlier, is_visited, telling_by, visits_in, read_back, read_below}
+use Rattle.dbsurvey.specs.Traverse.{AreApart, free, is_followed, traverse, part_of, survey_of}
+use Rattle.dbsurvey.specs.Whole.{IsWhole, IsNoneRefused, HasEachPageOnce}
+
+-- There is a survey, which the traversal finds, and there is no other.
+pub record OneSurvey (R : Type 0) : Type 0 where
+  pub exists : (rules : Rules R) (pages : ℕ) (starts : List (Link R)) → AreRules rules pages → IsRising starts
+      → IsSurvey rules starts (survey_of rules pages starts)
+  pub only : (rules : Rules R) (pages : ℕ) (starts : List (Link R)) (V : List (Triple R)) → AreRules rules pages
+      → IsRising starts → IsSurvey rules starts V → V ≡ survey_of rules pages starts
+  pub same : (rules : Rules R) (starts : List (Link R)) (V W : List (Triple R)) → IsSurvey rules starts V
+      → IsSurvey rules starts W → V ≡ W
+
+-- The part of a survey below some candidates, after W: it is made of the parts of its candidates, there is only one,
+-- and the traversal finds it where its fuel is at least the number of pages that W does not own.
+pub record Parts (R : Type 0) : Type 0 where
+  pub none : (rules : Rules R) (W : List (Triple R)) → IsPart rules W [] []
+  pub skip : (rules : Rules R) (W : List (Triple R)) (c : Triple R) → is_followed rules W c ≡ false
+      → IsPart rules W (c ∷ []) []
+  pub node : (rules : Rules R) (W : List (Triple R)) (c : Triple R) (V : List (Triple R))
+      → is_followed rules W c ≡ true → IsPart rules (W ++ (c ∷ [])) (children rules c) V
+      → IsPart rules W (c ∷ []) (c ∷ V)
+  pub join : (rules : Rules R) (W cs ds V U : List (Triple R)) → AreApart (cs ++ ds) → IsPart rules W cs V
+      → IsPart rules (W ++ V) ds U → IsPart rules W (cs ++ ds) (V ++ U)
+  pub apart : (at : Address) (links : List (Link R)) → IsRising links → AreApart (named_at at links)
+  pub same : (rules : Rules R) (W cs V U : List (Triple R)) → IsPart rules W cs V → IsPart rules W cs U → V ≡ U
+  pub found : (rules : Rules R) (pages fuel : ℕ) (W cs : List (Triple R)) → AreRules rules pages → AreApart cs
+      → free pages W ≤ fuel → IsPart rules W cs (traverse rules fuel W cs)
+  pub survey : (rules : Rules R) (starts : List (Link R)) (V : List (Triple R))
+      → IsSurvey rules starts V ↔ IsPart rules [] (named_at [] starts) V
+
+-- What is left to visit, step by step, for a program with a list of candidates that are still to be looked at.
+pub record Rest (R : Type 0) : Type 0 where
+  pub none : (rules : Rules R) (pages : ℕ) (W : List (Triple R)) → AreRules rules pages
+      → part_of rules pages W [] ≡ []
+  pub skip : (rules : Rules R) (pages : ℕ) (W : List (Triple R)) (c : Triple R) (cs : List (Triple R))
+      → AreRules rules pages → is_followed rules W c ≡ false
+      → part_of rules pages W (c ∷ cs) ≡ part_of rules pages W cs
+  pub visit : (rules : Rules R) (pages : ℕ) (W : List (Triple R)) (c : Triple R) (cs : List (Triple R))
+      → AreRules rules pages → is_followed rules W c ≡ true
+      → part_of rules pages W (c ∷ cs) ≡ c ∷ part_of rules pages (W ++ (c ∷ [])) (children rules c ++ cs)
+  pub join : (rules : Rules R) (pages : ℕ) (W cs ds : List (Triple R)) → AreRules rules pages
+      → part_of rules pages W (cs ++ ds) ≡ part_of rules pages W cs ++ part_of rules pages (W ++ part_of rules pages W cs) ds
+
+-- What a survey has at an address rests on what it has below that address, which is what stands before it in the
+-- list; and it has each page once.
+pub record BelowDecides (R : Type 0) : Type 0 where
+  pub decided : (rules : Rules R) (starts : List (Link R)) (V W : List (Triple R)) (t : Triple R)
+      → IsSurvey rules starts V → ((u : Triple R) → IsIn u W ↔ (IsIn u V × IsBefore u.address t.address))
+      → IsIn t V ↔ (IsNamed rules (named_at [] starts) W t × (rules.may t ≡ true) × (IsOwned W t.page → ⊥))
+  pub before : (A B : List (Triple R)) (t : Triple R) → IsAscending (λ t. t.address) (A ++ (t ∷ B)) → (u : Triple R)
+      → IsIn u A ↔ (IsIn u (A ++ (t ∷ B)) × IsBefore u.address t.address)
+  pub once : (rules : Rules R) (W cs V : List (Triple R)) → IsPart rules W cs V → HasEachPageOnce V
+
+-- The same where the starts after the first depend on what is below the first, and have greater numbers than it.
+pub record OneSurveyFrom (R : Type 0) : Type 0 where
+  pub exists : (rules : Rules R) (pages : ℕ) (first : Link R) (more : List (Triple R) → List (Link R))
+      → AreRules rules pages → ((V : List (Triple R)) → IsRising (first ∷ more V))
+      → IsSurveyFrom rules first more (survey_from rules pages first more)
+  pub only : (rules : Rules R) (pages : ℕ) (first : Link R) (more : List (Triple R) → List (Link R)) (V : List (Triple R))
+      → AreRules rules pages → ((V : List (Triple R)) → IsRising (first ∷ more V)) → IsSurveyFrom rules first more V
+      → V ≡ survey_from rules pages first more
+  pub first : (rules : Rules R) (pages : ℕ) (first : Link R) (more : List (Triple R) → List (Link R)) (V : List (Triple R))
+      → AreRules rules pages → ((V : List (Triple R)) → IsRising (first ∷ more V)) → IsSurveyFrom rules first more V
+      → under first.step V ≡ first_part rules pages first
+
+-- All that candidates lead to, where each page stands once and W owns none, is the part below them, and nothing is
+-- refused in it; and a part in which nothing is refused is all that its candidates lead to.
+pub record Wholes (R : Type 0) : Type 0 where
+  pub visited : (rules : Rules R) (pages : ℕ) (W cs V : List (Triple R)) → AreRules rules pages → IsWhole rules cs V
+      → HasEachPageOnce V → ((t : Triple R) → IsIn t V → IsOwned W t.page → ⊥) → part_of rules pages W cs ≡ V
+  pub none_refused : (rules : Rules R) (cs V : List (Triple R)) → IsWhole rules cs V → IsNoneRefused rules cs V
+  pub whole : (rules : Rules R) (pages : ℕ) (W cs : List (Triple R)) → AreRules rules pages → AreApart cs
+      → IsNoneRefused rules cs (part_of rules pages W cs) → IsWhole rules cs (part_of rules pages W cs)
+
+-- What the traversal tells of a survey is all that is told of it, in strictly ascending order of keys, and no other
+-- list is; what it tells before an event is what has a smaller key.
+pub record Telling (R E : Type 0) : Type 0 where
+  pub exact : (rules : Rules R) (story : Story R E) (pages : ℕ) (items : List (Item R E)) (V : List (Triple R))
+      → AreRules rules pages → IsStoryOf rules story → AreRising items → IsSurvey rules (links_in items) V
+      → IsTelling rules story (errands_at [] items) V (telling_of rules story pages [] (errands_at [] items))
+  pub only : (rules : Rules R) (story : Story R E) (errands : List (Errand R E)) (V : List (Triple R)) (L M : List (Told E))
+      → IsTelling rules story errands V L → IsTelling rules story errands V M → L ≡ M
+  pub before : (rules : Rules R) (story : Story R E) (errands : List (Errand R E)) (V : List (Triple R)) (A B : List (Told E)) (e : Told E)
+      → IsTelling rules story errands V (A ++ (e ∷ B)) → (d : Told E)
+      → IsIn d A ↔ (IsTold rules story errands V d × IsBefore d.key e.key)
+  pub found : (rules : Rules R) (story : Story R E) (pages fuel : ℕ) (W : List (Triple R)) (errands : List (Errand R E))
+      → AreRules rules pages → IsStoryOf rules story → AreErrandsApart errands → free pages W ≤ fuel
+      → IsTelling rules story errands (part_of rules pages W (goes errands)) (tell_below rules story pages fuel W errands)
+
+-- What is left to tell, step by step, for a program with a list of errands that are still to be done.
+pub record TellingSteps (R E : Type 0) : Type 0 where
+  pub none : (rules : Rules R) (story : Story R E) (pages : ℕ) (W : List (Triple R)) → AreRules rules pages
+      → telling_of rules story pages W [] ≡ []
+  pub event : (rules : Rules R) (story : Story R E) (pages : ℕ) (W : List (Triple R)) (e : Told E) (es : List (Errand R E))
+      → AreRules rules pages → telling_of rules story pages W (Tell e ∷ es) ≡ e ∷ telling_of rules story pages W es
+  pub refused : (rules : Rules R) (story : Story R E) (pages : ℕ) (W : List (Triple R)) (c : Triple R) (es : List (Errand R E))
+      → AreRules rules pages → is_followed rules W c ≡ false
+      → telling_of rules story pages W (Go c ∷ es) ≡ told_refused story c ∷ telling_of rules story pages W es
+  pub visit : (rules : Rules R) (story : Story R E) (pages : ℕ) (W : List (Triple R)) (c : Triple R) (es : List (Errand R E))
+      → AreRules rules pages → IsStoryOf rules story → is_followed rules W c ≡ true
+      → telling_of rules story pages W (Go c ∷ es) ≡ told_own story c ∷ telling_of rules story pages (W ++ (c ∷ [])) (errands_of story c ++ es)
+  pub join : (rules : Rules R) (story : Story R E) (pages : ℕ) (W : List (Triple R)) (es fs : List (Errand R E))
+      → AreRules rules pages
+      → telling_of rules story pages W (es ++ fs) ≡ telling_of rules story pages W es ++ telling_of rules story pages (W ++ part_of rules pages W (goes es)) fs
+  pub goes : (rules : Rules R) (story : Story R E) (t : Triple R) → IsStoryOf rules story
+      → goes (errands_of story t) ≡ children rules t
+
+-- What is told of a survey can be read off the survey itself, without a traversal: a named triple is visited if it
+-- may be and no earlier one has its page, and all that is told, put in order, is the telling. The pages whose own
+-- events are told are those of the survey, in its order, and below some errands those of the part below them.
+pub record TellingInOrder (R E : Type 0) : Type 0 where
+  pub visited : (rules : Rules R) (starts : List (Link R)) (V : List (Triple R)) (t : Triple R)
+      → IsSurvey rules starts V → IsNamed rules (named_at [] starts) V t → IsIn t V ↔ (is_visited rules V t ≡ true)
+  pub exact : (rules : Rules R) (story : Story R E) (pages : ℕ) (items : List (Item R E)) (V : List (Triple R))
+      → AreRules rules pages → IsStoryOf rules story → AreRising items → IsSurvey rules (links_in items) V
+      → IsTelling rules story (errands_at [] items) V (telling_by rules story (errands_at [] items) V)
+  pub found : (rules : Rules R) (story : Story R E) (pages : ℕ) (items : List (Item R E)) (V : List (Triple R))
+      → AreRules rules pages → IsStoryOf rules story → AreRising items → IsSurvey rules (links_in items) V
+      → telling_by rules story (errands_at [] items) V ≡ telling_of rules story pages [] (errands_at [] items)
+  pub visits : (rules : Rules R) (story : Story R E) (visit : E → Option (Triple R)) (errands : List (Errand R E)) (V : List (Triple R)) (L : List (Told E))
+      → ShowsVisits story visit → AreQuiet visit errands → IsAscending (λ t. t.address) V
+      → IsTelling rules story errands V L → visits_in visit L ≡ V
+  pub part : (rules : Rules R) (story : Story R E) (pages : ℕ) (visit : E → Option (Triple R)) (W : List (Triple R)) (errands : List (Errand R E))
+      → AreRules rules pages → IsStoryOf rules story → ShowsVisits story visit → AreQuiet visit errands
+      → visits_in visit (telling_of rules story pages W errands) ≡ part_of rules pages W (goes errands)
+
+-- What is read off all that is told, each by the triples visited up to it, step by step: for a program that tells of
+-- each page as it comes by it.
+pub record ReadingBelow (R E X : Type 0) : Type 0 where
+  pub none : (rules : Rules R) (story : Story R E) (pages : ℕ) (visit : E → Option (Triple R)) (each : List (Triple R) → E → List X) (W : List (Triple R))
+      → AreRules rules pages → read_below rules story pages visit each W [] ≡ []
+  pub event : (rules : Rules R) (story : Story R E) (pages : ℕ) (visit : E → Option (Triple R)) (each : List (Triple R) → E → List X) (W : List (Triple R)) (e : Told E)
+      → AreRules rules pages → visit e.event ≡ None
+      → read_below rules story pages visit each W (Tell e ∷ []) ≡ each W e.event
+  pub refused : (rules : Rules R) (story : Story R E) (pages : ℕ) (visit : E → Option (Triple R)) (each : List (Triple R) → E → List X) (W : List (Triple R)) (c : Triple R)
+      → AreRules rules pages → ShowsVisits story visit → is_followed rules W c ≡ false
+      → read_below rules story pages visit each W (Go c ∷ []) ≡ each W (story.refused c)
+  pub visit : (rules : Rules R) (story : Story R E) (pages : ℕ) (visit : E → Option (Triple R)) (each : List (Triple R) → E → List X) (W : List (Triple R)) (c : Triple R)
+      → AreRules rules pages → IsStoryOf rules story → ShowsVisits story visit → is_followed rules W c ≡ true
+      → read_below rules story pages visit each W (Go c ∷ []) ≡ each (W ++ (c ∷ [])) (story.own c) ++ read_below rules story pages visit each (W ++ (c ∷ [])) (errands_of story c)
+  pub join : (rules : Rules R) (story : Story R E) (pages : ℕ) (visit : E → Option (Triple R)) (each : List (Triple R) → E → List X) (W : List (Triple R)) (es fs : List (Errand R E))
+      → AreRules rules pages → IsStoryOf rules story → ShowsVisits story visit → AreQuiet visit es
+      → read_below rules story pages visit each W (es ++ fs) ≡ read_below rules story pages visit each W es ++ read_below rules story pages visit each (W ++ part_of rules pages W (goes es)) fs
+  pub both : (visit : E → Option (Triple R)) (each : List (Triple R) → E → List X) (W : List (Triple R)) (L M : List (Told E))
+      → read_back visit each W (L ++ M) ≡ read_back visit each W L ++ read_back visit each (W ++ visits_in visit L) M
+
+-- What was visited stands before what is still to be done, at each step of a program; and of such a list all is
+-- earlier.
+pub record Passing (R E : Type 0) : Type 0 where
+  pub visit : (story : Story R E) (W : List (Triple R)) (c : Triple R) → IsPast {E = E} W (Go c ∷ [])
+      → IsPast (W ++ (c ∷ [])) (errands_of story c)
+  pub join : (rules : Rules R) (pages : ℕ) (W : List (Triple R)) (es fs : List (Errand R E)) → AreRules rules pages
+      → AreErrandsApart (es ++ fs) → AreErrandsApart es → IsPast W fs
+      → IsPast (W ++ part_of rules pages W (goes es)) fs
+  pub apart : (rules : Rules R) (story : Story R E) (t : Triple R) → IsStoryOf rules story
+      → AreErrandsApart (errands_of story t)
+  pub earlier : (W : List (Triple R)) (a : Address) → ((u : Triple R) → IsIn u W → IsBefore u.address a)
+      → earlier W a ≡ W
+
+-- By the greatest key so far alone an entry is found to be out of order exactly where it is so after an earlier one.
+pub record RunningGreatest (K : Type 0) : Type 0 where
+  pub exact : (less : K → K → Bool) (before : List (Entry K)) (e : Entry K) → IsLine less
+      → (is_out less (greatest_from less None before) e ≡ true) ↔ IsOut less before e
+  pub step : (less : K → K → Bool) (before : List (Entry K)) (e : Entry K) → IsLine less
+      → greatest_from less None (before ++ (e ∷ [])) ≡ greater less (greatest_from less None before) e.key
+  pub integers : IsLine int_lt
