@@ -53,9 +53,9 @@ module _ (file : List ℕ) (V : List Reference) (s : Survey file V) where
       → IsIn (start_of r.address) (trees_reached V)
   next_in_tree r i off h = elim ((s.exact r).0 i).0 [
     | inl j ↦ (let m = named_at-from [] (starts file V) r j in elim (start_role file V m.0 m.1) [
-        | inl k ↦ IsIn-map (λ r. start_of r.address) (filter (λ r. is_root (role_of r)) V) r (filter-has (λ r. is_root (role_of r)) V r i (ap (λ r. is_root (role_of r)) m.2 ∙ k))
-        | inr k ↦ absurd (both_ways (is_on_freelist (role_of r)) off (ap (λ r. is_on_freelist (role_of r)) m.2 ∙ k))
-      ])
+      | inl k ↦ IsIn-map (λ r. start_of r.address) (filter (λ r. is_root (role_of r)) V) r (filter-has (λ r. is_root (role_of r)) V r i (ap (λ r. is_root (role_of r)) m.2 ∙ k))
+      | inr k ↦ absurd (both_ways (is_on_freelist (role_of r)) off (ap (λ r. is_on_freelist (role_of r)) m.2 ∙ k))
+    ])
     | inr u ↦ (
         let m = named_at-from u.0.address ((rules_of file).links u.0.page u.0.role) r u.2 in
         let l = ap (λ (r : Reference). length r.address) m.2 in
@@ -72,15 +72,18 @@ module _ (file : List ℕ) (V : List Reference) (s : Survey file V) where
   trees_once = by_start (filter (λ r. is_root (role_of r)) V)
       (EachPair-filter (λ (x y : Reference). IsBefore x.address y.address) (λ r. is_root (role_of r)) V s.ascending)
       (λ t i. let f = filter-from (λ r. is_root (role_of r)) V t i in
-        let m = named_at-step [] (starts file V) t (roots_are_starts file V s t f.0 f.1) in
-        m.1 ∙ ap (λ k. k ∷ []) (sym (ap start_of m.1)))
+      let m = named_at-step [] (starts file V) t (roots_are_starts file V s t f.0 f.1) in
+      m.1 ∙ ap (λ k. k ∷ []) (sym (ap start_of m.1)))
     where
       by_start : (W : List Reference) → EachPair (λ x y. IsBefore x.address y.address) W → ((t : Reference) → IsIn t W → t.address ≡ start_of t.address ∷ []) → IsOnce (map (λ (r : Reference). start_of r.address) W)
       by_start [] b h = tt
-      by_start (t ∷ W) b h = ((λ k i e.
-          let m = IsIn-from_map (λ (r : Reference). start_of r.address) W k i in
-          let same : m.0.address ≡ t.address = h m.0 (inr m.1) ∙ ap (λ k. k ∷ []) (sym (e ∙ m.2)) ∙ sym (h t (inl refl)) in
-          IsBefore-irreflexive t.address (subst (λ a. IsBefore t.address a) same (b.0 m.0 m.1))), by_start W b.1 (λ t i. h t (inr i)))
+      by_start (t ∷ W) b h = (
+        (λ k i e.
+            let m = IsIn-from_map (λ (r : Reference). start_of r.address) W k i in
+            let same : m.0.address ≡ t.address = h m.0 (inr m.1) ∙ ap (λ k. k ∷ []) (sym (e ∙ m.2)) ∙ sym (h t (inl refl)) in
+            IsBefore-irreflexive t.address (subst (λ a. IsBefore t.address a) same (b.0 m.0 m.1))),
+        by_start W b.1 (λ t i. h t (inr i)),
+      )
 
   abbrev rows : List StatRow
   rows = stat_rows file V
@@ -138,11 +141,11 @@ module _ (file : List ℕ) (V : List Reference) (s : Survey file V) where
       (EachPair-append (λ x y. x ≡ y → ⊥) ps (filter shown (page_numbers (geometry file))) c.once
       (EachPair-filter (λ x y. x ≡ y → ⊥) shown (page_numbers (geometry file)) (range_once 1 (geometry file).pages))
       (λ p q i j e.
-        let m = c.from p i in
-        let v = row_visit m.0 m.1 in
-        let same : v.0.page ≡ q = sym v.2 ∙ m.2 ∙ e in
-        let off : shown q ≡ false = visited_shown file V q v.0 (ap (visit_of V) (sym same) ∙ visit_is file V s v.0 v.1) ∙ v.3 in
-        both_ways (shown q) off (filter-from shown (page_numbers (geometry file)) q j).1))
+      let m = c.from p i in
+      let v = row_visit m.0 m.1 in
+      let same : v.0.page ≡ q = sym v.2 ∙ m.2 ∙ e in
+      let off : shown q ≡ false = visited_shown file V q v.0 (ap (visit_of V) (sym same) ∙ visit_is file V s v.0 v.1) ∙ v.3 in
+      both_ways (shown q) off (filter-from shown (page_numbers (geometry file)) q j).1))
       (range_once 1 (geometry file).pages)
       (λ p i. elim (IsIn-cases p ps (filter shown (page_numbers (geometry file))) i) [
         | inl j ↦ (let m = c.from p j in let v = row_visit m.0 m.1 in subst (λ p. IsIn p (page_numbers (geometry file))) (sym v.2 ∙ m.2) (number_of file V s v.0 v.1))

@@ -1,5 +1,6 @@
 pub mod BeginningVisits
 pub mod Beginnings
+pub mod Broken
 pub mod CellChains
 pub mod CellKeys
 pub mod CellParts

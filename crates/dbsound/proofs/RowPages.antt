@@ -42,7 +42,6 @@ row_of file r (later_overflow left) e = (_, refl)
 row_of file r trunk e = cc
 row_of file r free_leaf e = cc
 
-
 -- numbers that are grouped by a key
 module _ {X : Type 0} (key page : X → ℕ) (xs : List X) where
   abbrev pub group : ℕ → List ℕ
@@ -64,11 +63,11 @@ module _ {X : Type 0} (key page : X → ℕ) (xs : List X) where
       (map_once page (filter (λ x. key x == k) xs) (EachPair-filter (λ x y. page x ≡ page y → ⊥) (λ x. key x == k) xs apart))
       (groups_once apart ks h.1)
       (λ p q i j e.
-        let a = group-from k p i in
-        let m = IsIn-from_flat_map group ks q j in
-        let b = group-from m.0 q m.2 in
-        let s = one_by page xs apart a.0 b.0 a.1 b.1 (a.3 ∙ e ∙ sym b.3) in
-        h.0 m.0 m.1 (sym a.2 ∙ ap key s ∙ b.2))
+      let a = group-from k p i in
+      let m = IsIn-from_flat_map group ks q j in
+      let b = group-from m.0 q m.2 in
+      let s = one_by page xs apart a.0 b.0 a.1 b.1 (a.3 ∙ e ∙ sym b.3) in
+      h.0 m.0 m.1 (sym a.2 ∙ ap key s ∙ b.2))
 
 -- the pages that rows count
 pub pages_counted : (rows : List StatRow) → flat_map counted_pages (map page_row rows) ≡ map (λ (row : StatRow). row.page) rows
@@ -100,9 +99,12 @@ module _ (file : List ℕ) (V : List Reference) where
       by_case : (o : Option StatRow) → row_in (role_of r) file r ≡ o → EachPair (λ (x y : StatRow). x.page ≡ y.page → ⊥) (filter_map (λ r. row_in (role_of r) file r) W)
           → EachPair (λ (x y : StatRow). x.page ≡ y.page → ⊥) (cons_option o (filter_map (λ r. row_in (role_of r) file r) W))
       by_case None e k = k
-      by_case (Some x) e k = ((λ y i f.
-          let m = filter_map-from (λ r. row_in (role_of r) file r) W y i in
-          h.0 m.0 m.1 (sym (of_row file r (role_of r) x e).0 ∙ f ∙ (of_row file m.0 (role_of m.0) y m.2).0)), k)
+      by_case (Some x) e k = (
+        (λ y i f.
+            let m = filter_map-from (λ r. row_in (role_of r) file r) W y i in
+            h.0 m.0 m.1 (sym (of_row file r (role_of r) x e).0 ∙ f ∙ (of_row file m.0 (role_of m.0) y m.2).0)),
+        k,
+      )
 
   -- a page that is not visited is shown, and a visited one where it is on the freelist
   pub unvisited_shown : (p : ℕ) → visit_of V p ≡ None → is_shown (other_page file V p) ≡ true

@@ -1,3 +1,4 @@
 pub mod Below
+pub mod Broken
 pub mod Laws
 pub mod Soundness

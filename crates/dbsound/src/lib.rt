@@ -2,7 +2,13 @@
 //! sound one, and back. A theorem is the contract of a function with an empty body.
 #![tactic(auto)]
 
-ghost use Rattle.std.specs.Prelude.{ℕ, List};
+ghost use Rattle.std.specs.Prelude.{ℕ, List, pos, negsuc};
+ghost use Rattle.dbformat.specs.Faults.{fault};
+ghost use Rattle.dbformat.specs.Samples.{long_row_file};
+ghost use Rattle.dbformat.specs.declared.FaultCode.TheVariants.{H01, H08, H09, H10, L01, M01, M02, N01, P09, S02, S03, T06};
+ghost use Rattle.dbformat.specs.declared.Refusal.TheVariants.{Magic};
+ghost use Rattle.dbsound.specs.Broken.{IsRefusedBeside, FailsBeside, wrong_magic, unknown_version, false_fragment, numeric_name};
+ghost use Rattle.dbsound.specs.Broken.{unused_page, false_free_page, no_encoding, one_row, two_leaves, one_trunk, no_table, mapped_trunk, early_root, late_root};
 ghost use Rattle.dbsound.specs.Laws.{IsByItsStarts, IsByItsLinks, HasChainsBelow, HasTreesBelow, HasWholeTrees, CountsPagesOnce};
 ghost use Rattle.dbsound.specs.Soundness.{IsSoundWhereFaultless, IsSoundWhereClean, IsFaultlessWhereSound, IsCleanWhereSound, HasItsUses, IsSoundByFaults, IsSoundByAnswer, IsSoundByVerdict};
 
@@ -48,4 +54,23 @@ pub fn clean_is_sound()
 /// The rows of a form of the statistics that shows all pages count each page of the file once.
 pub fn rows_count_each_page()
     ensures { (file : List ℕ) → CountsPagesOnce file }
+{}
+
+/// Each rule of a sound file can fail alone: beside a sound file stands one that differs from it in a byte or a page and
+/// is not read, or of which just the fault of this rule is told. Two rules have no file here, since they fail in large
+/// files alone: that the schema's tree is at most 20 pages high, and that the schema has at most 65536 roots.
+pub fn each_rule_can_fail_alone()
+    ensures is_read { IsRefusedBeside long_row_file wrong_magic Magic }
+    ensures header { FailsBeside long_row_file unknown_version (fault H01 1 18 (pos 3)) }
+    ensures schema { FailsBeside long_row_file false_fragment (fault P09 1 0 (pos 0)) }
+    ensures spelled { FailsBeside (one_row 0) (one_row 255) (fault S03 1 0 (negsuc 0)) }
+    ensures named { FailsBeside long_row_file numeric_name (fault S02 1 0 (pos 1)) }
+    ensures trees { FailsBeside (two_leaves 6) (two_leaves 5) (fault T06 4 0 (pos 5)) }
+    ensures freelist { FailsBeside (one_trunk 0) (one_trunk 127) (fault L01 2 0 (pos 127)) }
+    ensures once { FailsBeside long_row_file unused_page (fault N01 4 0 (pos 0)) }
+    ensures freelist_size { FailsBeside long_row_file false_free_page (fault H10 1 0 (pos 0)) }
+    ensures greatest { FailsBeside (no_table 1) (no_table 2) (fault H09 1 0 (pos 1)) }
+    ensures format { FailsBeside long_row_file no_encoding (fault H08 1 4 (pos 0)) }
+    ensures mapped { FailsBeside (mapped_trunk 2) (mapped_trunk 5) (fault M01 3 5 (pos 0)) }
+    ensures roots_first { FailsBeside early_root late_root (fault M02 4 0 (pos 3)) }
 {}
