@@ -6,9 +6,9 @@ use Rattle.std.proofs.lemmas.Bool.{cases_Bool, eqb-true}
 use Rattle.dbsurvey.specs.Address.{Address}
 use Rattle.dbformat.specs.Reference.{Reference}
 use Rattle.dbsound.specs.Below.{below}
-use Rattle.dbsound.proofs.Beginnings.{begins}
-use Rattle.dbsound.proofs.Lists.{filter-all, filter-none}
-use Rattle.dbsound.proofs.Each.{Each}
+use Rattle.dbsurvey.proofs.Beginnings.{begins}
+use Rattle.dbsurvey.proofs.Lists.{filter-all, filter-none}
+use Rattle.dbsurvey.proofs.Each.{Each}
 use Rattle.dbsound.proofs.Under.{IsUnder, IsFrom}
 
 eqb_itself : (x : ℕ) → nat_eq x x ≡ true

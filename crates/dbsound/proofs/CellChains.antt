@@ -6,7 +6,7 @@ use Rattle.dbsurvey.specs.Address.{IsIn, Address}
 use Rattle.dbsurvey.specs.Survey.{Link, children}
 use Rattle.dbsurvey.proofs.Order.{IsIn-left, IsIn-cases, IsLeftOf-steps}
 use Rattle.dbsurvey.proofs.Ordering.{IsIn-flat_map, IsIn-from_flat_map}
-use Rattle.dbsurvey.proofs.Composing.{named_at-step, named_at-from}
+use Rattle.dbsurvey.proofs.Composing.{named_at-step, named_at-from, IsIn-named}
 use Rattle.dbformat.specs.Address.{overflow_step, child_step}
 use Rattle.dbformat.specs.Head.{View}
 use Rattle.dbformat.specs.Cell.{Cell, cells, count, overflow_size, right_child}
@@ -17,13 +17,13 @@ use Rattle.dbformat.specs.Report.{walk_faults}
 use Rattle.dbformat.specs.Terms.{Payload, whole, split}
 use Rattle.dbformat.specs.declared.TreeKind.{TreeKind}
 use Rattle.dbsound.specs.Below.{below, use_of, cell_payload, leaf_payloads}
-use Rattle.dbsound.proofs.Beginnings.{begins-apart, begins-longer, begins-shorter, not_begins}
-use Rattle.dbsound.proofs.Lists.{filter-none, filter-from, filter-has}
-use Rattle.dbsound.proofs.Cells.{one_cell}
+use Rattle.dbsurvey.proofs.Beginnings.{begins-apart, begins-longer, begins-shorter, not_begins}
+use Rattle.dbsurvey.proofs.Lists.{filter-none, filter-from, filter-has}
+use Rattle.dbformat.proofs.Cells.{one_cell}
 use Rattle.dbsound.proofs.Followed.{by_its_links}
 use Rattle.dbsound.proofs.Visits.{child_visited}
 use Rattle.dbsound.proofs.WholeChains.{whole_chain}
-use Rattle.dbsound.proofs.TreePages.{IsTreePage, IsIn-named}
+use Rattle.dbsound.proofs.TreePages.{IsTreePage}
 
 in_line : (m n : ℕ) → (m ≡ n) ⊎ ((m < n) ⊎ (n < m))
 in_line m n = grind arith

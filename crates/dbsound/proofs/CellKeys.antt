@@ -13,8 +13,8 @@ use Rattle.dbformat.specs.Cell.{Cell, cells}
 use Rattle.dbformat.specs.Reference.{Reference, tree_view}
 use Rattle.dbformat.specs.KeyFaults.{Key, key_of, keys_of_view, keys_at}
 use Rattle.dbformat.specs.Terms.{IsUpTo, IsAbove, RiseWithin, keys_of}
-use Rattle.dbsound.proofs.Each.{Each, Each-none, Each-append}
-use Rattle.dbsound.proofs.Lists.{flat_map-none}
+use Rattle.dbsurvey.proofs.Each.{Each, Each-none, Each-append}
+use Rattle.dbsurvey.proofs.Lists.{flat_map-none}
 use Rattle.dbsound.proofs.Under.{IsUnder, IsFrom}
 use Rattle.dbsound.proofs.Depths.{IsNoTree, no_view}
 use Rattle.dbsound.proofs.KeyOrder.{AreInOrder, IsInside, IsPlaced, in_order_both, in_order_none, in_order_one, in_order_of}

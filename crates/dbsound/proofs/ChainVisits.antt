@@ -1,12 +1,12 @@
 -- The visits of a chain, and of the payloads of a page, are all that their references lead to.
-use Rattle.std.proofs.Common.{◌≡◌, ℕ, ◌+◌, ◌-◌, ◌≤◌, ◌<◌, inl, inr, true, false, List, [], ◌∷◌, ◌++◌, None, refl, sym, subst, ap, ◌∙◌, arith, append_assoc}
+use Rattle.std.proofs.Common.{◌≡◌, ℕ, ◌+◌, ◌-◌, ◌≤◌, ◌<◌, inl, inr, true, false, List, [], ◌∷◌, ◌++◌, None, refl, sym, subst, ap, ◌∙◌, arith}
 use Rattle.std.specs.Prelude.{flat_map, option_map, option_to_list, nat_lt}
 use Rattle.std.specs.List.{enumerate_from}
 use Rattle.std.proofs.lemmas.List.{append-nil}
 use Rattle.std.proofs.lemmas.Bool.Decides.{nat_tests}
 use Rattle.dbsurvey.specs.Address.{Address}
-use Rattle.dbsurvey.specs.Survey.{Rules, Triple, Link, children, named_at}
-use Rattle.dbsurvey.specs.Whole.{IsWhole, nothing, all_of}
+use Rattle.dbsurvey.specs.Survey.{Link, children, named_at}
+use Rattle.dbsurvey.specs.Whole.{IsWhole, nothing}
 use Rattle.dbformat.specs.Address.{overflow_step, child_step}
 use Rattle.dbformat.specs.Header.{usable_size}
 use Rattle.dbformat.specs.File.{page_bytes}
@@ -17,22 +17,12 @@ use Rattle.dbformat.specs.Survey.{rules_of}
 use Rattle.dbformat.specs.Terms.{Use, Chain, last, full, Payload, whole, split, Payloads, none, more}
 use Rattle.dbformat.specs.declared.TreeKind.{TreeKind}
 use Rattle.dbformat.proofs.Chains.{IsOverflow, links_at}
-use Rattle.dbsound.proofs.Each.{Each, Each-left, Each-right}
+use Rattle.dbsurvey.proofs.Each.{Each, Each-left, Each-right}
 use Rattle.dbsound.proofs.TermVisits.{visit_at, chain_visits, payload_visits, payloads_visits}
+use Rattle.dbsurvey.proofs.WholeParts.{whole_one, whole_both}
+use Rattle.dbsurvey.proofs.Composing.{named_at-append}
 
 -- for any rules
-
-whole_one : {R : Type 0} (rules : Rules R) (c : Triple R) (V : List (Triple R)) → rules.may c ≡ true → IsWhole rules (children rules c) V → IsWhole rules (c ∷ []) (c ∷ V)
-whole_one rules c V m w = subst (λ U. IsWhole rules (c ∷ []) (c ∷ U)) (append-nil V) (all_of m w nothing)
-
-pub whole_both : {R : Type 0} (rules : Rules R) (cs ds V U : List (Triple R)) → IsWhole rules cs V → IsWhole rules ds U → IsWhole rules (cs ++ ds) (V ++ U)
-whole_both rules cs ds V U nothing k = k
-whole_both rules cs ds V U (all_of {c} {cs = rest} {V = A} {U = B} m w u) k =
-    subst (λ X. IsWhole rules (c ∷ (rest ++ ds)) (c ∷ X)) (sym (append_assoc A B U)) (all_of m w (whole_both rules rest ds B U u k))
-
-pub named_at-append : {R : Type 0} (a : Address) (xs ys : List (Link R)) → named_at a (xs ++ ys) ≡ named_at a xs ++ named_at a ys
-named_at-append a [] ys = refl
-named_at-append a (x ∷ xs) ys = ap (λ l. record { address = a ++ (x.step ∷ []); page = x.page; role = x.role } ∷ l) (named_at-append a xs ys)
 
 -- a reference may be followed
 abbrev pub May : List ℕ → Reference → Type 0

@@ -14,7 +14,7 @@ use Rattle.dbformat.specs.Reference.{Reference, tree_view}
 use Rattle.dbformat.specs.KeyFaults.{Key, key_of, keys_of_view, keys_at, keys, earlier_keys, is_out_of_order, key_faults}
 use Rattle.dbformat.specs.Sound.{Sound}
 use Rattle.dbformat.specs.declared.FaultCode.TheVariants.{T06}
-use Rattle.dbsound.proofs.Lists.{flat_map-none, filter-from, any_none}
+use Rattle.dbsurvey.proofs.Lists.{flat_map-none, filter-from, any_none}
 use Rattle.dbsound.proofs.Local.{told_none}
 use Rattle.dbsound.proofs.CellKeys.{view_place}
 use Rattle.dbsound.proofs.Sounds.{all_visits}

@@ -12,8 +12,8 @@ use Rattle.dbformat.specs.Reference.{Reference, tree_view}
 use Rattle.dbformat.specs.PageFaults.{is_leaf_of, leaf_depth, depth_fault, page_faults}
 use Rattle.dbformat.specs.Sound.{Sound, with_root}
 use Rattle.dbformat.specs.declared.FaultCode.TheVariants.{T05}
-use Rattle.dbsound.proofs.Each.{Each, Each-append}
-use Rattle.dbsound.proofs.Lists.{find-some}
+use Rattle.dbsurvey.proofs.Each.{Each, Each-append}
+use Rattle.dbsurvey.proofs.Lists.{find-some}
 use Rattle.dbsound.proofs.Local.{IsClean, clean_page, told_none, tree_clean, forest_clean, freelist_clean}
 use Rattle.dbsound.proofs.Starts.{IsStarted, Alike, alike_both, AreGood, tree_good, forest_good, freelist_good, started_under, started_within, tree_started, forest_started, freelist_under}
 use Rattle.dbsound.proofs.Sounds.{first_visits, root_visits, free_visits, later_visits, all_visits}

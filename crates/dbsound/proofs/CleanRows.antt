@@ -21,7 +21,7 @@ use Rattle.dbformat.specs.KeyFaults.{earlier_roots, row_faults_if, row_faults, r
 use Rattle.dbformat.specs.Sound.{Sound}
 use Rattle.dbformat.specs.declared.FaultCode.TheVariants.{S02, S04}
 use Rattle.dbformat.proofs.LookBack.{by_starts}
-use Rattle.dbsound.proofs.Each.{each_of}
+use Rattle.dbsurvey.proofs.Each.{each_of}
 use Rattle.dbsound.proofs.Local.{told_none}
 use Rattle.dbsound.proofs.SpelledRows.{row_of}
 use Rattle.dbsound.proofs.Sounds.{all_visits, first_is, schema_first, rooted_are}

@@ -12,7 +12,7 @@ use Rattle.dbformat.specs.Terms.{Use, Chain, last, full, Payload, whole, split, 
 use Rattle.dbformat.specs.Terms as Terms
 use Rattle.dbformat.specs.declared.TreeKind.{TreeKind}
 use Rattle.dbformat.proofs.Chains.{IsOverflow}
-use Rattle.dbsound.proofs.Each.{Each, Each-none, Each-cons, Each-one, Each-append, Each-implies}
+use Rattle.dbsurvey.proofs.Each.{Each, Each-none, Each-cons, Each-one, Each-append, Each-implies}
 use Rattle.dbsound.proofs.TermVisits.{visit_at, chain_visits, payload_visits, payloads_visits, tree_visits, children_visits}
 
 -- a tree page not below this depth, and a leaf at it

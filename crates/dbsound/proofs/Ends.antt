@@ -15,12 +15,12 @@ use Rattle.dbformat.specs.Reference.{Reference, role_of, from_of, entry_of}
 use Rattle.dbformat.specs.EndFaults.{greatest_root_reached, greatest_root_fault, free_pages, freelist_fault, visit_of, is_same_entry, entry_fault, use_fault, page_numbers}
 use Rattle.dbformat.specs.Sound.{Sound, with_root}
 use Rattle.dbformat.specs.declared.FaultCode.TheVariants.{H09, H10, N01, M01}
-use Rattle.dbsound.proofs.Each.{each_of}
-use Rattle.dbsound.proofs.Lists.{find-some}
+use Rattle.dbsurvey.proofs.Each.{each_of}
+use Rattle.dbsurvey.proofs.Lists.{find-some}
 use Rattle.dbsound.specs.Below.{use_of}
 use Rattle.dbsound.proofs.Uses.{freelist_uses}
 use Rattle.dbsound.proofs.Local.{told_none}
-use Rattle.dbsound.proofs.Once.{page_or_fixed}
+use Rattle.dbsurvey.proofs.Once.{page_or_fixed}
 use Rattle.dbsound.proofs.RolesOf.{root_pages, root_pages-append, tree_root, forest_roots, freelist_no_root, freelist_free, tree_not_free, forest_not_free, free_pages-append, none_free, all_free}
 use Rattle.dbsound.proofs.Sounds.{first_visits, root_visits, free_visits, later_visits, all_visits, all_uses, uses_are, pages_are}
 

@@ -26,9 +26,9 @@ use Rattle.dbformat.specs.declared.TreeKind.TheVariants as tree
 use Rattle.dbsound.specs.Below.{below, use_of, leaf_payloads}
 use Rattle.dbsound.specs.Soundness.{IsSoundWhereFaultless}
 use Rattle.dbsound.proofs.Roots.{whole_trees}
-use Rattle.dbsound.proofs.Lists.{both_empty, any_true}
-use Rattle.dbsound.proofs.Elements.{from_contains}
-use Rattle.dbsound.proofs.FaultParts.{AllUsed, parts_none}
+use Rattle.dbsurvey.proofs.Lists.{both_empty, any_true}
+use Rattle.dbsurvey.proofs.Elements.{from_contains}
+use Rattle.dbformat.proofs.FaultParts.{AllUsed, parts_none}
 use Rattle.dbsound.proofs.RootOrder.{use_before}
 use Rattle.dbsound.proofs.Pages.{every_page_once, every_page_mapped}
 use Rattle.dbsound.proofs.SchemaRows.{row_of_page, few_rooted, each_taken, AreTaken, taken_rows, rows_spelled, rows_named, rows_rooted}

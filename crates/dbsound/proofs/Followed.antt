@@ -16,7 +16,7 @@ use Rattle.dbformat.proofs.Theory.{are_rules, named-all}
 use Rattle.dbformat.proofs.NoFaults.{follows_all}
 use Rattle.dbsurvey.specs.From.{under}
 use Rattle.dbsound.specs.Laws.{IsByItsStarts, IsByItsLinks}
-use Rattle.dbsound.proofs.Wholes.{by_candidates, by_links}
+use Rattle.dbsurvey.proofs.WholeParts.{by_candidates, by_links}
 
 module _ (file : List ℕ) (V : List Reference) (s : Survey file V) (none : walk_faults file V ≡ []) where
   none_refused : IsNoneRefused (rules_of file) (named_at [] (starts file V)) V

@@ -7,7 +7,7 @@ use Rattle.dbsurvey.specs.Survey.{named_at}
 use Rattle.dbsurvey.specs.Whole.{nothing}
 use Rattle.dbformat.specs.Header.{usable_size}
 use Rattle.dbformat.specs.File.{page_bytes}
-use Rattle.dbformat.specs.Head.{View, view, view_of_kind, page_kind, type_byte, own_kind, is_same_tree, tree_of, pointers_end, content_start}
+use Rattle.dbformat.specs.Head.{View, view, view_of_kind, page_kind, type_byte, own_kind, tree_of, pointers_end, content_start}
 use Rattle.dbformat.specs.SchemaRow.{SchemaRow}
 use Rattle.dbformat.specs.Reference.{root}
 use Rattle.dbformat.specs.Schema.{root_kind, root_start}
@@ -22,17 +22,13 @@ use Rattle.dbformat.specs.declared.RowKind.{RowKind}
 use Rattle.dbformat.specs.declared.RowKind.TheVariants as row
 use Rattle.dbformat.specs.declared.TreeKind.{TreeKind}
 use Rattle.dbformat.specs.declared.TreeKind.TheVariants as tree
-use Rattle.dbsound.proofs.Each.{Each, Each-left, Each-right}
+use Rattle.dbsurvey.proofs.Each.{Each, Each-left, Each-right}
 use Rattle.dbsound.proofs.TermVisits.{visit_at, tree_visits, forest_visits}
-use Rattle.dbsound.proofs.PageCells.{has_all_cells}
-use Rattle.dbsound.proofs.ChainVisits.{May, Whole, whole_both}
+use Rattle.dbformat.proofs.PageCells.{has_all_cells}
+use Rattle.dbsound.proofs.ChainVisits.{May, Whole}
 use Rattle.dbsound.proofs.TreeVisits.{tree_whole}
-
-pub same_tree : (j k : TreeKind) → is_same_tree j k ≡ true → j ≡ k
-same_tree tree.Table tree.Table e = refl
-same_tree tree.Table tree.Index e = cc
-same_tree tree.Index tree.Table e = cc
-same_tree tree.Index tree.Index e = refl
+use Rattle.dbsurvey.proofs.WholeParts.{whole_both}
+use Rattle.dbformat.proofs.CellParts.{same_tree}
 
 kind_of : (p usable : ℕ) (page : List ℕ) (o : Option PageKind) (v : View) → view_of_kind p usable page o ≡ Ok v → o ≡ Some v.kind
 kind_of p usable page None v e = cc

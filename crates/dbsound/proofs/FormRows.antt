@@ -15,19 +15,17 @@ use Rattle.dbformat.specs.Schema.{starts, start, schema, rooted_rows, root_start
 use Rattle.dbformat.specs.SchemaRow.{SchemaRow}
 use Rattle.dbformat.specs.Header.{first_trunk}
 use Rattle.dbsurvey.specs.From.{under}
-use Rattle.dbsound.proofs.Visits.{has_address}
 use Rattle.dbformat.specs.Survey.{Survey, rules_of}
 use Rattle.dbformat.specs.EndFaults.{visit_of, page_numbers}
 use Rattle.dbformat.specs.Rows.{StatRow, StatForm, row_in, stat_rows, other_page, other_rows, trees_reached, tree_rows, page_rows, form_rows, counted_pages, CountsEachPageOnce}
-use Rattle.dbsound.proofs.Lists.{filter-from, filter-has, find-some, filter_map-from, filter_map-has}
-use Rattle.dbsound.proofs.Elements.{IsOnce, EachPair-filter, range_once, map_once}
-use Rattle.dbsound.proofs.Rearranged.{rearranged}
-use Rattle.dbsound.proofs.Pages.{each_once, visit_is, number_of}
-use Rattle.dbsound.proofs.Roots.{roots_are_starts}
-use Rattle.dbsound.proofs.Roles.{child_leads}
+use Rattle.dbsurvey.proofs.Lists.{filter-from, filter-has, find-some, filter_map-from, filter_map-has}
+use Rattle.dbsurvey.proofs.Elements.{IsOnce, EachPair-filter, range_once, map_once}
+use Rattle.dbsurvey.proofs.Rearranged.{rearranged}
+use Rattle.dbformat.proofs.Roles.{child_leads}
 use Rattle.dbsound.proofs.Keys.{same_start}
 use Rattle.dbsurvey.proofs.Composing.{named_at-step, named_at-from}
 use Rattle.dbsound.proofs.RowPages.{of_row, row_of, group, group-from, groups-have, groups_once, pages_counted, trees_counted, is_shown, others_counted, rows_apart, unvisited_shown, visited_shown}
+use Rattle.dbformat.proofs.Visited.{each_once, visit_is, number_of, has_address, root_is_start}
 
 -- the starts are roots of trees, and a trunk
 start_role : (file : List ℕ) (V : List Reference) (l : Link Way) → IsIn l (starts file V) → (is_root l.role.role ≡ true) ⊎ (is_on_freelist l.role.role ≡ true)
@@ -72,7 +70,7 @@ module _ (file : List ℕ) (V : List Reference) (s : Survey file V) where
   trees_once = by_start (filter (λ r. is_root (role_of r)) V)
       (EachPair-filter (λ (x y : Reference). IsBefore x.address y.address) (λ r. is_root (role_of r)) V s.ascending)
       (λ t i. let f = filter-from (λ r. is_root (role_of r)) V t i in
-      let m = named_at-step [] (starts file V) t (roots_are_starts file V s t f.0 f.1) in
+      let m = named_at-step [] (starts file V) t (root_is_start file V s t f.0 f.1) in
       m.1 ∙ ap (λ k. k ∷ []) (sym (ap start_of m.1)))
     where
       by_start : (W : List Reference) → EachPair (λ x y. IsBefore x.address y.address) W → ((t : Reference) → IsIn t W → t.address ≡ start_of t.address ∷ []) → IsOnce (map (λ (r : Reference). start_of r.address) W)

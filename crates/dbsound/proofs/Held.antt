@@ -1,5 +1,5 @@
 -- What the visits of a chain hold: its bytes, and as many as are left.
-use Rattle.std.proofs.Common.{arith, ◌≡◌, ℕ, ◌-◌, ◌≤◌, inl, inr, min, None, List, [], ◌∷◌, ◌++◌, length, drop, refl, ap, ◌∙◌, length-append, length-take, length-drop}
+use Rattle.std.proofs.Common.{arith, ◌≡◌, ℕ, ◌-◌, ◌≤◌, inl, inr, min, List, [], ◌∷◌, ◌++◌, length, drop, refl, ap, ◌∙◌, length-append, length-take, length-drop}
 use Rattle.std.specs.Prelude.{flat_map, unwrap_or}
 use Rattle.std.proofs.lemmas.List.{append-nil}
 use Rattle.dbsurvey.specs.Address.{Address}
@@ -12,8 +12,9 @@ use Rattle.dbformat.specs.Reference.{Role, root, child, first_overflow, later_ov
 use Rattle.dbformat.specs.Schema.{held_bytes}
 use Rattle.dbformat.specs.Terms.{Use, Chain, last, full, Payload, whole, split}
 use Rattle.dbformat.proofs.Chains.{IsOverflow}
-use Rattle.dbsound.proofs.Each.{Each}
+use Rattle.dbsurvey.proofs.Each.{Each}
 use Rattle.dbsound.proofs.TermVisits.{visit_at, chain_visits, payload_visits}
+use Rattle.dbformat.proofs.CellSizes.{IsSized}
 
 abbrev pub held_in : List ℕ → List Reference → List ℕ
 held_in file V = flat_map (held_bytes file) V
@@ -53,11 +54,6 @@ pub payload_held : {file : List ℕ} {p : ℕ} {c : Cell} {uses : List Use} {byt
     (i : ℕ) (a : Address) → c.local ++ held_in file (payload_visits t i a) ≡ bytes
 payload_held {c} (whole e) i a = append-nil c.local
 payload_held {c} (split e t) i a = ap (λ l. c.local ++ l) (chain_held t i (a ++ overflow_step i ∷ []) refl)
-
--- as much of a payload stands in its cell as does not overflow
-pub record IsSized (c : Cell) : Type 0 where
-  pub within : length c.local ≤ c.size
-  pub all_local : c.overflow ≡ None → length c.local ≡ c.size
 
 pub payload_long : {file : List ℕ} {p : ℕ} {c : Cell} {uses : List Use} {bytes : List ℕ} (t : Payload file p c uses bytes)
     (i : ℕ) (a : Address) → IsSized c → Each (IsLong file) (payload_visits t i a) → length bytes ≡ c.size

@@ -16,14 +16,15 @@ use Rattle.dbformat.specs.Report.{walk_faults}
 use Rattle.dbformat.specs.Terms.{Use, Tree, interior, Children, right_only, and_left, IsUpTo, role_in_tree, use_as}
 use Rattle.dbformat.specs.declared.TreeKind.{TreeKind}
 use Rattle.dbsound.specs.Below.{below, use_of, view_payloads, cell_payload, leaf_payloads}
-use Rattle.dbsound.proofs.Cells.{RiseFrom, cells_rise, cells-from, is_of_kind}
-use Rattle.dbsound.proofs.TreePages.{IsTreePage, IsIn-named}
+use Rattle.dbformat.proofs.Cells.{RiseFrom, cells_rise, cells-from, is_of_kind}
+use Rattle.dbsound.proofs.TreePages.{IsTreePage}
 use Rattle.dbsound.proofs.CellChains.{at_step, payload_at}
 use Rattle.dbsound.proofs.PageParts.{left_part, cell_part, below_page}
 use Rattle.dbsound.proofs.Keys.{low-none, cell_key, has_key, above_cell, up_to_cell}
-use Rattle.dbsound.proofs.Visits.{has_address}
 use Rattle.dbsound.proofs.Leaves.{AreLow, AreHigh, HasTree, with_parts}
-use Rattle.dbsound.proofs.CellParts.{second}
+use Rattle.dbformat.proofs.CellParts.{second}
+use Rattle.dbsurvey.proofs.Composing.{IsIn-named}
+use Rattle.dbformat.proofs.Visited.{has_address}
 
 with_child_parts : {file : List ℕ} {p : ℕ} {kind : TreeKind} {height : ℕ} {low high : Option ℤ} {cs : List Cell} {right : ℕ} {uses uses' : List Use} {payloads payloads' : List (List ℕ)}
     → uses ≡ uses' → payloads ≡ payloads' → Children file p kind height low high cs right uses payloads → Children file p kind height low high cs right uses' payloads'

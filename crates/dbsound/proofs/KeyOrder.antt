@@ -8,7 +8,7 @@ use Rattle.dbsurvey.specs.Address.{IsIn, Address, IsBefore}
 use Rattle.dbsurvey.proofs.Order.{IsIn-cases, IsBefore-irreflexive}
 use Rattle.dbformat.specs.KeyFaults.{Key, is_out_of_order}
 use Rattle.dbformat.specs.Terms.{IsUpTo, IsAbove}
-use Rattle.dbsound.proofs.Each.{Each, Each-append, Each-none}
+use Rattle.dbsurvey.proofs.Each.{Each, Each-append, Each-none}
 
 -- no key is out of order after one at a smaller place
 abbrev pub IsSorted : List Key → Type 0

@@ -1,7 +1,7 @@
 -- The keys of a tree in a survey without faults: none is out of order after one at an earlier place. So the keys behind
 -- a cell are above its key, and those before it are up to it.
-use Rattle.std.proofs.Common.{◌≡◌, ℕ, ◌<◌, inl, inr, Bool, true, false, cond, List, [], ◌∷◌, ◌++◌, Option, Some, None, ℤ, refl, sym, ap, subst, ◌∙◌, arith, append_assoc}
-use Rattle.std.specs.Prelude.{flat_map, not, int_lt, int_le, ◌&&◌, ◌||◌, ◌==◌}
+use Rattle.std.proofs.Common.{◌≡◌, ℕ, ◌<◌, inl, Bool, true, false, cond, List, [], ◌∷◌, ◌++◌, Option, Some, None, ℤ, refl, sym, ap, subst, ◌∙◌, arith, append_assoc}
+use Rattle.std.specs.Prelude.{flat_map, not, int_lt, int_le, ◌&&◌, ◌==◌}
 use Rattle.std.specs.List.{list_any}
 use Rattle.std.proofs.lemmas.Bool.{and_from}
 use Rattle.std.proofs.Common.{eq-eqb}
@@ -19,16 +19,7 @@ use Rattle.dbformat.specs.KeyFaults.{Key, key_of, keys_of_view, keys_at, keys, e
 use Rattle.dbformat.specs.Report.{walk_faults}
 use Rattle.dbformat.specs.Terms.{IsAbove, IsUpTo}
 use Rattle.dbformat.proofs.NoFaults.{follows_all}
-use Rattle.dbsound.proofs.Lists.{filter-has, both_empty, none_of}
-
-list_any-false : {X : Type 0} (p : X → Bool) (xs : List X) → list_any p xs ≡ false → (x : X) → IsIn x xs → p x ≡ false
-list_any-false p [] e x i = absurd i
-list_any-false {X} p (y ∷ xs) e x i = by_case (p y) refl e (list_any-false p xs) i
-  where
-    by_case : (b : Bool) → p y ≡ b → (b || list_any p xs) ≡ false → (list_any p xs ≡ false → (x : X) → IsIn x xs → p x ≡ false) → IsIn x (y ∷ xs) → p x ≡ false
-    by_case true f e more i = cc
-    by_case false f e more (inl g) = ap p g ∙ f
-    by_case false f e more (inr j) = more e x j
+use Rattle.dbsurvey.proofs.Lists.{filter-has, both_empty, none_of, list_any-false}
 
 told_none : {X : Type 0} (b : Bool) (x : X) → cond b (x ∷ []) [] ≡ [] → b ≡ false
 told_none true x e = cc

@@ -14,11 +14,11 @@ use Rattle.dbformat.specs.EndFaults.{least_other_page, is_root_page, late_root_f
 use Rattle.dbformat.specs.Sound.{Sound}
 use Rattle.dbformat.specs.declared.FaultCode.TheVariants.{M02}
 use Rattle.dbsound.specs.Below.{use_of}
-use Rattle.dbsound.proofs.Lists.{filter-from, any_one}
+use Rattle.dbsurvey.proofs.Lists.{filter-from, any_one}
 use Rattle.dbsound.proofs.Local.{told_none}
 use Rattle.dbsound.proofs.Sounds.{all_visits, all_uses, uses_are}
 use Rattle.dbsound.proofs.RootOrder.{root_use}
-use Rattle.dbsound.proofs.Elements.{contains}
+use Rattle.dbsurvey.proofs.Elements.{contains}
 
 -- the least of some numbers is one of them
 least_in : (a : ℕ) (xs : List ℕ) → IsIn (fold min a xs) (a ∷ xs)

@@ -13,14 +13,14 @@ use Rattle.dbformat.specs.Report.{walk_faults}
 use Rattle.dbformat.specs.Terms.{Use, Tree, leaf, Payloads, none, more, IsUpTo, RiseWithin, keys_of, role_in_tree, use_as}
 use Rattle.dbformat.specs.declared.TreeKind.{TreeKind}
 use Rattle.dbsound.specs.Below.{below, use_of, cell_payload, view_payloads, leaf_payloads}
-use Rattle.dbsound.proofs.Lists.{flat_map-same, flat_map-flat_map, flat_map-none, map-flat_map}
-use Rattle.dbsound.proofs.Cells.{RiseFrom, cells_rise, is_of_kind}
-use Rattle.dbsound.proofs.Visits.{has_address}
+use Rattle.dbsurvey.proofs.Lists.{flat_map-same, flat_map-flat_map, flat_map-none, map-flat_map}
+use Rattle.dbformat.proofs.Cells.{RiseFrom, cells_rise, is_of_kind}
 use Rattle.dbsound.proofs.TreePages.{IsTreePage}
 use Rattle.dbsound.proofs.CellChains.{at_step, payload_at}
 use Rattle.dbsound.proofs.PageParts.{left_part, cell_part, below_page}
 use Rattle.dbsound.proofs.Keys.{IsKey, IsLow, cell_key, has_key, above_cell}
-use Rattle.dbsound.proofs.CellParts.{second}
+use Rattle.dbformat.proofs.CellParts.{second}
+use Rattle.dbformat.proofs.Visited.{has_address}
 
 -- the same tree, whose pages and payloads are said otherwise
 pub with_parts : {file : List ℕ} {is_child : Bool} {from p : ℕ} {kind : TreeKind} {height : ℕ} {low high : Option ℤ} {uses uses' : List Use} {payloads payloads' : List (List ℕ)}

@@ -24,7 +24,7 @@ use Rattle.dbformat.specs.SchemaRow.{SchemaRow}
 use Rattle.dbformat.specs.declared.FaultCode.TheVariants.{H08}
 use Rattle.dbformat.specs.declared.TreeKind.{TreeKind}
 use Rattle.dbsound.proofs.Local.{IsClean, own_faults, told_none}
-use Rattle.dbsound.proofs.PageCells.{has_all_cells}
+use Rattle.dbformat.proofs.PageCells.{has_all_cells}
 use Rattle.dbsound.proofs.Sounds.{all_visits, survey_is, uses_are}
 use Rattle.dbsound.proofs.Uses.{uses_of}
 use Rattle.dbsound.proofs.CleanPages.{all_clean, is_leaf}
@@ -32,8 +32,8 @@ use Rattle.dbsound.proofs.CleanRows.{in_schema, row_taken}
 use Rattle.dbsound.proofs.Walks.{walk_none}
 use Rattle.dbsound.proofs.Ends.{root_none, freelist_none, use_none}
 use Rattle.dbsound.proofs.LateRoots.{late_none}
-use Rattle.dbsound.proofs.FaultParts.{none_by_parts}
-use Rattle.dbsound.proofs.Lists.{any_one}
+use Rattle.dbformat.proofs.FaultParts.{none_by_parts}
+use Rattle.dbsurvey.proofs.Lists.{any_one}
 
 -- a clean page of a tree is one without a fault within it
 clean_whole : (file : List ℕ) (r : Reference) (v : View) → IsClean file r → tree_view file r ≡ Some v → (kind : TreeKind) × (is_child : Bool) × Terms.IsWhole file kind is_child r.page v

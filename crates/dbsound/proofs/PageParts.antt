@@ -13,7 +13,7 @@ use Rattle.dbformat.specs.Survey.{Survey}
 use Rattle.dbformat.specs.Report.{walk_faults}
 use Rattle.dbformat.specs.declared.TreeKind.{TreeKind}
 use Rattle.dbsound.specs.Below.{below}
-use Rattle.dbsound.proofs.Lists.{flat_map-same, flat_map-flat_map}
+use Rattle.dbsurvey.proofs.Lists.{flat_map-same, flat_map-flat_map}
 use Rattle.dbsound.proofs.Followed.{by_its_links}
 use Rattle.dbsound.proofs.TreePages.{IsTreePage}
 use Rattle.dbsound.proofs.CellChains.{at_step, no_chain}

@@ -15,7 +15,7 @@ use Rattle.dbformat.specs.Sound.{Forest, no_tree, and_tree}
 use Rattle.dbformat.specs.EndFaults.{free_pages}
 use Rattle.dbformat.specs.declared.TreeKind.{TreeKind}
 use Rattle.dbformat.proofs.Chains.{IsOverflow}
-use Rattle.dbsound.proofs.Each.{Each, Each-none, Each-cons, Each-one, Each-append}
+use Rattle.dbsurvey.proofs.Each.{Each, Each-none, Each-cons, Each-one, Each-append}
 use Rattle.dbsound.proofs.TermVisits.{visit_at, chain_visits, payload_visits, payloads_visits, tree_visits, children_visits, leaf_visits, freelist_visits, forest_visits}
 
 -- neither a root nor on the freelist

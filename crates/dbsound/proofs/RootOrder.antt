@@ -18,12 +18,11 @@ use Rattle.dbformat.specs.EndFaults.{visit_of, least_other_page, is_root_page, l
 use Rattle.dbformat.specs.Terms.{Use, use_as, is_root_use}
 use Rattle.dbformat.proofs.Rising.{starts_rise}
 use Rattle.dbsound.specs.Below.{use_of}
-use Rattle.dbsound.proofs.Lists.{filter-has, any_true}
-use Rattle.dbsound.proofs.Elements.{IsIn-from_range}
-use Rattle.dbsound.proofs.Pages.{visit_is, number_of}
-use Rattle.dbsound.proofs.Roots.{roots_are_starts}
+use Rattle.dbsurvey.proofs.Lists.{filter-has, any_true}
+use Rattle.dbsurvey.proofs.Elements.{IsIn-from_range}
 use Rattle.dbsound.proofs.Trees.{start_triple}
-use Rattle.dbsound.proofs.FaultParts.{NoneLate}
+use Rattle.dbformat.proofs.FaultParts.{NoneLate}
+use Rattle.dbformat.proofs.Visited.{visit_is, number_of, root_is_start}
 
 -- the least of some numbers
 
@@ -57,7 +56,7 @@ root_use r = by_role (role_of r)
 module _ (file : List ℕ) (V : List Reference) (s : Survey file V) where
   -- a root that is visited is that of a start
   root_start_of : (r : Reference) → IsIn r V → is_root (role_of r) ≡ true → (l : Link Way) × IsIn l (starts file V) × (r ≡ start_triple l)
-  root_start_of r i e = named_at-from [] (starts file V) r (roots_are_starts file V s r i e)
+  root_start_of r i e = named_at-from [] (starts file V) r (root_is_start file V s r i e)
 
   not_late : (p least : ℕ) → late_root_fault file V p ≡ [] → has_pointer_map file ≡ true → is_root_page V p ≡ true → least_other_page V ≡ Some least → p ≤ least
   unfolding late_root_fault

@@ -1,23 +1,16 @@
 -- A visited root is a start, and the tree at it is not too high.
-use Rattle.std.proofs.Common.{◌≡◌, ℕ, inl, inr, false, List, [], ap, arith}
-use Rattle.std.proofs.lemmas.Bool.{both_ways}
+use Rattle.std.proofs.Common.{◌≡◌, ℕ, false, List, [], ap, arith}
 use Rattle.dbsurvey.proofs.Composing.{named_at-step}
 use Rattle.dbformat.specs.Address.{start_of, depth}
-use Rattle.dbformat.specs.Reference.{is_root, role_of}
+use Rattle.dbformat.specs.Reference.{is_root}
 use Rattle.dbformat.specs.Schema.{starts}
-use Rattle.dbsound.specs.Laws.{AreRootsStarts, HasWholeTrees}
-use Rattle.dbsound.proofs.Roles.{child_leads}
+use Rattle.dbsound.specs.Laws.{HasWholeTrees}
 use Rattle.dbsound.proofs.WholeTrees.{trees_below, first_not_deep}
-
-pub roots_are_starts : (file : List ℕ) → AreRootsStarts file
-roots_are_starts file V s r i is_a_root = elim ((s.exact r).0 i).0 [
-  | inl j ↦ j
-  | inr u ↦ absurd (both_ways (is_root (role_of r)) (child_leads file u.0 r u.2).0 is_a_root)
-]
+use Rattle.dbformat.proofs.Visited.{root_is_start}
 
 pub whole_trees : (file : List ℕ) → HasWholeTrees file
 whole_trees file V s faultless r kind i e =
-    let start = named_at-step [] (starts file V) r (roots_are_starts file V s r i (ap is_root e)) in
+    let start = named_at-step [] (starts file V) r (root_is_start file V s r i (ap is_root e)) in
     let f : depth r.address ≡ 1 = ap depth start.1 in
     let t = trees_below file V s faultless r kind false i e in
     let d = first_not_deep file V s faultless (start_of r.address) in

@@ -11,8 +11,8 @@ use Rattle.dbformat.specs.Address.{start_of}
 use Rattle.dbformat.specs.Reference.{Role, root, child, first_overflow, later_overflow, trunk, free_leaf, Reference, role_of, is_on_freelist, tree_view}
 use Rattle.dbformat.specs.EndFaults.{visit_of}
 use Rattle.dbformat.specs.Rows.{StatRow, row_in, tree_page_row, page_row, tree_row, other_row, OtherPage, other_visited, other_page, counted_pages}
-use Rattle.dbsound.proofs.Lists.{filter-from, filter-has, filter_map-from}
-use Rattle.dbsound.proofs.Elements.{IsOnce, EachPair-filter, map_once, one_by}
+use Rattle.dbsurvey.proofs.Lists.{filter-from, filter-has, filter_map-from}
+use Rattle.dbsurvey.proofs.Elements.{IsOnce, EachPair-filter, map_once, one_by}
 use Rattle.dbsurvey.specs.Whole.{HasEachPageOnce}
 
 -- the row of a visit has its page and its start, and a visit has none exactly where it is on the freelist

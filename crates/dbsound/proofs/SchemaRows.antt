@@ -20,8 +20,8 @@ use Rattle.dbformat.specs.Sound.{with_root}
 use Rattle.dbformat.specs.declared.RowFault.{RowFault}
 use Rattle.dbformat.specs.declared.RowFault.TheVariants.{Malformed, Root}
 use Rattle.dbformat.proofs.NoFaults.{follows_all}
-use Rattle.dbsound.proofs.Lists.{both_empty}
-use Rattle.dbsound.proofs.Places.{own_places, count_rooted, few_by_place}
+use Rattle.dbsurvey.proofs.Lists.{both_empty}
+use Rattle.dbformat.proofs.SchemaPlaces.{own_places, count_rooted, few_by_place}
 use Rattle.std.proofs.lemmas.List.Elements.{All-nil, All-cons}
 
 -- whose row of the schema a cell is

@@ -6,7 +6,7 @@ use Rattle.dbsurvey.specs.Address.{IsIn, Address}
 use Rattle.dbsurvey.specs.From.{under}
 use Rattle.dbsurvey.specs.Survey.{Link, Rules, named_at}
 use Rattle.dbsurvey.specs.Whole.{IsWhole}
-use Rattle.dbsurvey.proofs.Composing.{named_at-from, named_at-apart}
+use Rattle.dbsurvey.proofs.Composing.{named_at-from, named_at-apart, IsIn-named}
 use Rattle.dbformat.specs.Address.{schema_start}
 use Rattle.dbformat.specs.Reference.{Way, Reference}
 use Rattle.dbformat.specs.Schema.{starts}
@@ -14,10 +14,9 @@ use Rattle.dbformat.specs.Survey.{Survey, rules_of}
 use Rattle.dbformat.specs.Report.{walk_faults}
 use Rattle.dbformat.proofs.Rising.{starts_rise}
 use Rattle.dbsound.specs.Below.{below}
-use Rattle.dbsound.proofs.Wholes.{whole_below, parts_whole}
+use Rattle.dbsurvey.proofs.WholeParts.{whole_below, parts_whole}
 use Rattle.dbformat.proofs.Theory.{are_rules}
 use Rattle.dbsound.proofs.Followed.{all_of_starts, by_its_starts}
-use Rattle.dbsound.proofs.TreePages.{IsIn-named}
 use Rattle.dbsound.proofs.PageParts.{below-links}
 
 -- the first step of an address

@@ -1,8 +1,8 @@
 -- The survey of a sound file: the visits of its terms.
-use Rattle.std.proofs.Common.{arith, ◌≡◌, ℕ, zero, suc, ◌+◌, ◌≤◌, Bool, true, false, cond, not, ◌&&◌, Some, None, Ok, List, [], ◌∷◌, ◌++◌, map, length, take, refl, sym, ap, subst, append_assoc, ◌∙◌}
+use Rattle.std.proofs.Common.{arith, ◌≡◌, ℕ, ◌+◌, ◌≤◌, Bool, true, false, cond, not, ◌&&◌, Some, None, Ok, List, [], ◌∷◌, ◌++◌, map, length, take, refl, sym, ap, subst, append_assoc, ◌∙◌}
 use Rattle.std.specs.Prelude.{flat_map, filter_map, is_some, nat_lt, nat_le, ◌==◌}
 use Rattle.std.specs.List.{enumerate_from, cons_option}
-use Rattle.std.proofs.lemmas.List.{map-append}
+use Rattle.std.proofs.lemmas.List.{map-append, take_all}
 use Rattle.std.proofs.lemmas.Bool.{and_from}
 use Rattle.std.proofs.lemmas.Bool.Decides.{nat_tests}
 use Rattle.dbsurvey.specs.Address.{IsIn, EachPair}
@@ -26,18 +26,20 @@ use Rattle.dbformat.specs.Sound.{Sound, Forest, no_tree, and_tree, with_root}
 use Rattle.dbformat.proofs.Accepted.{is_accepted}
 use Rattle.dbformat.proofs.Theory.{are_rules}
 use Rattle.dbformat.proofs.LookBack.{by_starts}
-use Rattle.dbsound.proofs.Each.{Each, Each-none, Each-append, Each-left, Each-right}
+use Rattle.dbsurvey.proofs.Each.{Each, Each-none, Each-append, Each-left, Each-right}
 use Rattle.dbsound.proofs.TermVisits.{tree_visits, forest_visits, freelist_visits}
 use Rattle.dbsound.proofs.Uses.{uses_of, tree_uses, forest_uses, freelist_uses}
-use Rattle.dbsound.proofs.ChainVisits.{May, Whole, whole_both, named_at-append}
+use Rattle.dbsound.proofs.ChainVisits.{May, Whole}
 use Rattle.dbsound.proofs.TreeVisits.{tree_whole, freelist_whole, list_start}
 use Rattle.dbsound.proofs.ForestVisits.{forest_whole}
 use Rattle.dbsound.proofs.Depths.{tree_depth, no_tree_depth}
 use Rattle.dbsound.proofs.Starts.{freelist_no_tree}
 use Rattle.dbsound.proofs.Held.{IsLong}
 use Rattle.dbsound.proofs.SpelledRows.{row_of, tree_rows}
-use Rattle.dbsound.proofs.Once.{page_in_range, page_not_fixed, pages_once}
-use Rattle.dbsound.proofs.LongPages.{long_page}
+use Rattle.dbsurvey.proofs.Once.{page_in_range, page_not_fixed, pages_once}
+use Rattle.dbformat.proofs.LongPages.{long_page}
+use Rattle.dbsurvey.proofs.WholeParts.{whole_both}
+use Rattle.dbsurvey.proofs.Composing.{named_at-append}
 
 -- no tree page is too deep
 abbrev pub IsShallow : Reference → Type 0
@@ -156,12 +158,6 @@ rooted-rows (r ∷ rows) = by_case (r.root == 0) (rooted-rows rows)
 
 pub rooted_are : (cs : List SchemaCell) (rows : List SchemaRow) → map row_of cs ≡ map Ok rows → rooted_rows cs ≡ with_root rows
 rooted_are cs rows e = rooted-map cs ∙ ap (filter_map rooted) e ∙ rooted-rows rows
-
-take_all : {X : Type 0} (n : ℕ) (xs : List X) → length xs ≤ n → take n xs ≡ xs
-take_all zero [] h = refl
-take_all (suc n) [] h = refl
-take_all zero (x ∷ xs) h = absurd (omega arith)
-take_all (suc n) (x ∷ xs) h = ap (λ l. x ∷ l) (take_all n xs (omega arith))
 
 module _ (file : List ℕ) (s : Sound file) where
   rooted_first : rooted_rows (schema file (first_visits file s)) ≡ with_root s.rows

@@ -1,6 +1,6 @@
 -- The payloads of the schema's tree spell its rows.
 use Rattle.std.proofs.Common.{◌≡◌, ℕ, zero, suc, inl, inr, Bool, true, false, cond, ◌&&◌, List, [], ◌∷◌, ◌++◌, map, length, Option, Some, None, refl, sym, ap, subst, ◌∙◌, arith}
-use Rattle.std.specs.Prelude.{flat_map, filter, Result, Ok, nat_eq, ◌==◌}
+use Rattle.std.specs.Prelude.{flat_map, Result, Ok, nat_eq, ◌==◌}
 use Rattle.std.specs.List.{starts_with}
 use Rattle.std.proofs.lemmas.List.{map-append}
 use Rattle.std.proofs.lemmas.Bool.{eqb-true, ne_eqb, and_left}
@@ -21,15 +21,7 @@ use Rattle.dbsound.specs.Below.{below, cell_payload, view_payloads, leaf_payload
 use Rattle.dbsound.proofs.Sections.{starts_at}
 use Rattle.dbsound.proofs.Followed.{all_of_starts}
 use Rattle.dbsound.proofs.SchemaRows.{each_taken}
-
--- the elements that pass a test, each by its list
-kept_lists : {X Y : Type 0} (p : X → Bool) (f g : X → List Y) (xs : List X) → ((x : X) → IsIn x xs → f x ≡ cond (p x) (g x) []) → flat_map f xs ≡ flat_map g (filter p xs)
-kept_lists p f g [] h = refl
-kept_lists {X} p f g (x ∷ xs) h = ap (λ l. l ++ flat_map f xs) (h x (inl refl)) ∙ by_case (p x) (kept_lists p f g xs (λ y i. h y (inr i)))
-  where
-    by_case : (b : Bool) → flat_map f xs ≡ flat_map g (filter p xs) → cond b (g x) [] ++ flat_map f xs ≡ flat_map g (cond b (x ∷ filter p xs) (filter p xs))
-    by_case true e = ap (λ l. g x ++ l) e
-    by_case false e = e
+use Rattle.dbsurvey.proofs.Lists.{kept_lists}
 
 same_test : (k : ℕ) → (k == 0) ≡ (nat_eq 0 k && true)
 same_test zero = refl

@@ -17,16 +17,16 @@ use Rattle.dbformat.specs.Terms.{Use, Payload, Payloads, none, more, role_in_tre
 use Rattle.dbformat.specs.declared.RowFault.{RowFault}
 use Rattle.dbformat.specs.declared.TreeKind.{TreeKind}
 use Rattle.dbformat.specs.declared.TreeKind.TheVariants as tree
-use Rattle.dbsound.proofs.Each.{Each, Each-left, Each-right}
-use Rattle.dbsound.proofs.Lists.{flat_map-none}
+use Rattle.dbsurvey.proofs.Each.{Each, Each-left, Each-right}
+use Rattle.dbsurvey.proofs.Lists.{flat_map-none}
 use Rattle.dbsound.proofs.TermVisits.{visit_at, payload_visits, payloads_visits, tree_visits, children_visits}
 use Rattle.dbsound.proofs.Under.{IsFrom, payload_under, payloads_from, tree_under, children_from}
 use Rattle.dbsound.proofs.BeginningVisits.{all_begin, none_begin_from, none_begin_under}
-use Rattle.dbsound.proofs.Beginnings.{begins-longer, not_begins}
+use Rattle.dbsurvey.proofs.Beginnings.{begins-longer, not_begins}
 use Rattle.dbsound.specs.Below.{below}
-use Rattle.dbsound.proofs.Held.{held_in, IsLong, IsSized, payload_held, payload_long}
-use Rattle.dbsound.proofs.Sizes.{leaf_sized}
-use Rattle.dbsound.proofs.PageCells.{has_right, has_all_cells}
+use Rattle.dbsound.proofs.Held.{held_in, IsLong, payload_held, payload_long}
+use Rattle.dbformat.proofs.CellSizes.{leaf_sized, IsSized}
+use Rattle.dbformat.proofs.PageCells.{has_right, has_all_cells}
 use Rattle.dbsound.proofs.Depths.{IsNoTree, no_view, own_view, payload_no_tree, payloads_no_tree}
 
 abbrev pub row_of : SchemaCell → Result SchemaRow RowFault

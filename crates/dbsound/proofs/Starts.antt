@@ -13,7 +13,7 @@ use Rattle.dbformat.specs.Terms.{Use, Tree, Freelist, no_trunk, and_trunk}
 use Rattle.dbformat.specs.Sound.{Forest, no_tree, and_tree}
 use Rattle.dbformat.specs.declared.TreeKind.{TreeKind}
 use Rattle.dbformat.specs.declared.TreeKind.TheVariants as tree
-use Rattle.dbsound.proofs.Each.{Each, Each-none, Each-cons, Each-append, Each-implies}
+use Rattle.dbsurvey.proofs.Each.{Each, Each-none, Each-cons, Each-append, Each-implies}
 use Rattle.dbsound.proofs.TermVisits.{visit_at, tree_visits, leaf_visits, freelist_visits, forest_visits}
 use Rattle.dbsound.proofs.Under.{IsUnder, under_itself, tree_under}
 use Rattle.dbsound.proofs.Depths.{IsNoTree, no_view, tree_depth}

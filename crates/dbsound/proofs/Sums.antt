@@ -23,9 +23,9 @@ use Rattle.dbformat.specs.Terms.{Freelist}
 use Rattle.dbformat.proofs.Theory.{named-all}
 use Rattle.dbformat.proofs.NoFaults.{follows_all}
 use Rattle.dbsound.specs.Below.{below, use_of}
-use Rattle.dbsound.proofs.Lists.{filter-from}
+use Rattle.dbsurvey.proofs.Lists.{filter-from, count_all, count_none, count-append}
 use Rattle.dbsound.proofs.Trunks.{room_for_leaves, freelist_of}
-use Rattle.dbsound.proofs.Roles.{all_as, one_root, no_roots, count_all, count_none, count-append}
+use Rattle.dbformat.proofs.Roles.{all_as, one_root, no_roots}
 use Rattle.dbsound.proofs.Trees.{row_starts, sections_of, start_triple, parts_are, whole_start, whole_free}
 
 -- the freelist's start is one of a trunk

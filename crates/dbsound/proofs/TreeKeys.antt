@@ -15,12 +15,11 @@ use Rattle.dbformat.specs.declared.PageKind.{PageKind}
 use Rattle.dbformat.specs.declared.PageKind.TheVariants.{InteriorIndex, InteriorTable, LeafIndex, LeafTable}
 use Rattle.dbformat.specs.declared.TreeKind.{TreeKind}
 use Rattle.dbformat.specs.declared.TreeKind.TheVariants as tree
-use Rattle.dbsound.proofs.Each.{Each, Each-cons, Each-append}
+use Rattle.dbsurvey.proofs.Each.{Each, Each-cons, Each-append}
 use Rattle.dbsound.proofs.TermVisits.{visit_at, payload_visits, payloads_visits, tree_visits, children_visits}
 use Rattle.dbsound.proofs.Under.{tree_under, children_from}
-use Rattle.dbsound.proofs.PageCells.{has_right, has_all_cells}
-use Rattle.dbsound.proofs.CellParts.{Fits}
-use Rattle.dbsound.proofs.ForestVisits.{same_tree}
+use Rattle.dbformat.proofs.PageCells.{has_right, has_all_cells}
+use Rattle.dbformat.proofs.CellParts.{Fits, same_tree}
 use Rattle.dbsound.proofs.Depths.{own_view, payload_no_tree, payloads_no_tree}
 use Rattle.dbsound.proofs.KeyOrder.{AreInOrder}
 use Rattle.dbsound.proofs.CellKeys.{keys_in, none_in, no_keys, key_none, leaf_keys, cell_keys}

@@ -1,12 +1,12 @@
 -- A visited page of a tree, in a survey without faults, is whole.
-use Rattle.std.proofs.Common.{◌≡◌, ℕ, inl, inr, Bool, true, false, List, [], ◌∷◌, ◌++◌, Some, refl, sym, ap, ◌∙◌}
+use Rattle.std.proofs.Common.{◌≡◌, ℕ, Bool, true, false, List, [], ◌++◌, Some, refl, sym, ap, ◌∙◌}
 use Rattle.std.specs.Prelude.{Result, Ok, Err}
-use Rattle.dbsurvey.specs.Address.{IsIn, Address}
-use Rattle.dbsurvey.specs.Survey.{Link, children, named_at}
+use Rattle.dbsurvey.specs.Address.{IsIn}
+use Rattle.dbsurvey.specs.Survey.{children, named_at}
 use Rattle.dbformat.specs.Header.{usable_size}
 use Rattle.dbformat.specs.File.{page_bytes}
 use Rattle.dbformat.specs.Head.{View, view, undamaged, if_of_tree, is_same_tree, tree_of}
-use Rattle.dbformat.specs.Reference.{Way, Reference, role_of, page_links, role_links, tree_kind, tree_view}
+use Rattle.dbformat.specs.Reference.{Reference, role_of, page_links, role_links, tree_kind, tree_view}
 use Rattle.dbformat.specs.Survey.{Survey, rules_of}
 use Rattle.dbformat.specs.PageFaults.{page_faults, tree_page_faults, faults_of_view, role_faults, depth_fault}
 use Rattle.dbformat.specs.Report.{walk_faults}
@@ -14,7 +14,7 @@ use Rattle.dbformat.specs.Terms.{IsWhole, role_in_tree}
 use Rattle.dbformat.specs.declared.TreeKind.{TreeKind}
 use Rattle.dbformat.specs.declared.HeadFault.{HeadFault}
 use Rattle.dbformat.specs.declared.HeadFault.TheVariants.{UnknownType, ContentStart}
-use Rattle.dbsound.proofs.Lists.{both_empty}
+use Rattle.dbsurvey.proofs.Lists.{both_empty}
 use Rattle.dbsound.proofs.Visits.{visit_faultless}
 
 -- a page without faults is undamaged
@@ -33,11 +33,6 @@ pub record IsTreePage (file : List ℕ) (V : List Reference) (r : Reference) (ki
   pub view_is : tree_view file r ≡ Some v
   pub links_are : children (rules_of file) r ≡ named_at r.address (page_links r.page kind (Some v))
   pub depth_is : depth_fault file V r ≡ []
-
-pub IsIn-named : (a : Address) (ls : List (Link Way)) (l : Link Way) → IsIn l ls → IsIn (record { address = a ++ (l.step ∷ []); page = l.page; role = l.role }) (named_at a ls)
-IsIn-named a [] l h = h
-IsIn-named a (k ∷ ls) l (inl e) = inl (ap (λ l. record { address = a ++ (l.step ∷ []); page = l.page; role = l.role }) e)
-IsIn-named a (k ∷ ls) l (inr h) = inr (IsIn-named a ls l h)
 
 faults_in_tree : (file : List ℕ) (V : List Reference) (r : Reference) (kind : TreeKind) (is_child : Bool) → role_faults (role_in_tree is_child kind) file V r ≡ tree_page_faults kind is_child r.page (usable_size file) (page_bytes file r.page) ++ depth_fault file V r
 faults_in_tree file V r kind true = refl

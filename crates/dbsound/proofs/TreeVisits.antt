@@ -20,11 +20,13 @@ use Rattle.dbformat.specs.Terms as Terms
 use Rattle.dbformat.specs.declared.TreeKind.{TreeKind}
 use Rattle.dbformat.specs.declared.PageKind.{PageKind}
 use Rattle.dbformat.specs.declared.PageKind.TheVariants.{InteriorIndex, InteriorTable, LeafIndex, LeafTable}
-use Rattle.dbsound.proofs.Each.{Each, Each-left, Each-right}
+use Rattle.dbsurvey.proofs.Each.{Each, Each-left, Each-right}
 use Rattle.dbsound.proofs.TermVisits.{visit_at, payload_visits, payloads_visits, tree_visits, children_visits, leaf_visits, freelist_visits}
-use Rattle.dbsound.proofs.PageCells.{has_all_cells}
-use Rattle.dbsound.proofs.CellParts.{Fits}
-use Rattle.dbsound.proofs.ChainVisits.{May, Whole, whole_both, named_at-append, visit_whole, chain_link, payload_whole, payloads_whole}
+use Rattle.dbformat.proofs.PageCells.{has_all_cells}
+use Rattle.dbformat.proofs.CellParts.{Fits}
+use Rattle.dbsound.proofs.ChainVisits.{May, Whole, visit_whole, chain_link, payload_whole, payloads_whole}
+use Rattle.dbsurvey.proofs.WholeParts.{whole_both}
+use Rattle.dbsurvey.proofs.Composing.{named_at-append}
 
 tree_links : (file : List ℕ) (is_child : Bool) (kind : TreeKind) (p : ℕ) (v : View) → undamaged kind p (usable_size file) (page_bytes file p) ≡ Some v
     → role_links (role_in_tree is_child kind) p (usable_size file) (page_bytes file p) ≡ page_links p kind (Some v)

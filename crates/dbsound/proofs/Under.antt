@@ -7,7 +7,7 @@ use Rattle.dbformat.specs.Cell.{Cell}
 use Rattle.dbformat.specs.Reference.{Role, Reference}
 use Rattle.dbformat.specs.Terms.{Use, Chain, last, full, Payload, whole, split, Payloads, none, more, role_in_tree, Tree, leaf, interior, Children, right_only, and_left}
 use Rattle.dbformat.specs.declared.TreeKind.{TreeKind}
-use Rattle.dbsound.proofs.Each.{Each, Each-none, Each-cons, Each-append, Each-implies}
+use Rattle.dbsurvey.proofs.Each.{Each, Each-none, Each-cons, Each-append, Each-implies}
 use Rattle.dbsound.proofs.TermVisits.{visit_at, chain_visits, payload_visits, payloads_visits, tree_visits, children_visits}
 
 -- b begins with a

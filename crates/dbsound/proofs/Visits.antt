@@ -1,11 +1,10 @@
 -- What is known of each visit of a survey without faults.
-use Rattle.std.proofs.Common.{◌≡◌, ℕ, ◌<◌, List, [], ◌∷◌, ◌++◌, length, inl, inr, ap, arith, sym, ◌∙◌}
+use Rattle.std.proofs.Common.{◌≡◌, ℕ, ◌<◌, List, [], length, ap, arith}
 use Rattle.std.specs.Prelude.{flat_map}
-use Rattle.dbsurvey.specs.Address.{IsIn, Address}
+use Rattle.dbsurvey.specs.Address.{IsIn}
 use Rattle.dbsurvey.specs.Survey.{children, named_at}
 use Rattle.dbsurvey.proofs.Order.{IsIn-right}
 use Rattle.dbsurvey.proofs.Ordering.{IsIn-flat_map}
-use Rattle.dbsurvey.proofs.Composing.{named_at-step}
 use Rattle.dbformat.specs.Reference.{Reference}
 use Rattle.dbformat.specs.Schema.{starts}
 use Rattle.dbformat.specs.Survey.{Survey, rules_of, references}
@@ -14,7 +13,7 @@ use Rattle.dbformat.specs.Report.{walk_faults}
 use Rattle.dbformat.proofs.Theory.{named-all}
 use Rattle.dbformat.proofs.NoFaults.{follows_all}
 use Rattle.dbsound.specs.Below.{below}
-use Rattle.dbsound.proofs.Lists.{length-of_part}
+use Rattle.dbsurvey.proofs.Lists.{length-of_part}
 use Rattle.dbsound.proofs.Followed.{by_its_links}
 
 module _ (file : List ℕ) (V : List Reference) (s : Survey file V) (none : walk_faults file V ≡ []) where
@@ -31,18 +30,3 @@ module _ (file : List ℕ) (V : List Reference) (s : Survey file V) (none : walk
       let e = ap length (by_its_links file V s none r i) in
       let k = length-of_part (λ d. below V d.address) (children (rules_of file) r) d j in
       omega arith
-
-module _ (file : List ℕ) (V : List Reference) (s : Survey file V) where
-  -- a visited page has an address that goes on from another
-  pub stepped : (r : Reference) → IsIn r V → (a : Address) × (step : ℕ) × (r.address ≡ a ++ (step ∷ []))
-  stepped r i = elim ((s.exact r).0 i).0 [
-    | inl j ↦ (let k = named_at-step [] (starts file V) r j in ([], k.0, k.1))
-    | inr u ↦ (let k = named_at-step u.0.address ((rules_of file).links u.0.page u.0.role) r u.2 in (u.0.address, k.0, k.1))
-  ]
-
-  pub has_address : (r : Reference) → IsIn r V → r.address ≡ [] → ⊥
-  has_address r i e = let k = stepped r i in no_step k.0 k.1 (sym k.2 ∙ e)
-    where
-      no_step : (a : Address) (x : ℕ) → a ++ (x ∷ []) ≡ [] → ⊥
-      no_step [] x e = cc
-      no_step (y ∷ a) x e = cc

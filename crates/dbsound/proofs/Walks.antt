@@ -24,7 +24,7 @@ use Rattle.dbformat.specs.Sound.{Sound}
 use Rattle.dbformat.specs.declared.TreeKind.{TreeKind}
 use Rattle.dbformat.proofs.Theory.{are_rules, told_in_order, links-follows, no_place, no_tell}
 use Rattle.dbformat.proofs.Rising.{starts_rise}
-use Rattle.dbsound.proofs.Lists.{flat_map-none}
+use Rattle.dbsurvey.proofs.Lists.{flat_map-none}
 use Rattle.dbsound.proofs.Sounds.{first_visits, all_visits, first_is, all_whole}
 use Rattle.dbsound.proofs.CleanPages.{pages_none}
 use Rattle.dbsound.proofs.CleanKeys.{keys_none}

@@ -1,6 +1,6 @@
 -- A survey without faults has a tree at each root: its leaves have one depth, and no page is too deep.
 use Rattle.std.proofs.Common.{◌≡◌, ℕ, zero, suc, ◌≤◌, inl, inr, Bool, true, false, List, [], ◌∷◌, length, Option, Some, None, ℤ, refl, sym, ap, ◌∙◌, arith, append-nil, eq-eqb}
-use Rattle.std.specs.Prelude.{find, not, ◌&&◌, ◌==◌, nat_lt, is_some, option_and_then, pos}
+use Rattle.std.specs.Prelude.{find, not, ◌&&◌, ◌==◌, nat_lt, is_some, pos}
 use Rattle.std.specs.Option.{option_map_or}
 use Rattle.std.proofs.lemmas.Bool.{and_parts, and_from, eqb-true, cases_Bool, both_ways, not-true, not-false, ltb-false}
 use Rattle.dbsurvey.specs.Address.{IsIn}
@@ -26,11 +26,12 @@ use Rattle.dbsound.specs.Laws.{HasTreesBelow}
 use Rattle.dbsound.proofs.Followed.{by_its_links}
 use Rattle.dbsound.proofs.Visits.{child_visited, fewer_below}
 use Rattle.dbsound.proofs.TreePages.{tree_page}
-use Rattle.dbsound.proofs.Lists.{find-none, find-some}
+use Rattle.dbsurvey.proofs.Lists.{find-none, find-some}
 use Rattle.dbsound.proofs.Keys.{same_start, low-none}
-use Rattle.dbsound.proofs.Visits.{has_address}
+use Rattle.dbformat.proofs.Visited.{has_address}
 use Rattle.dbsound.proofs.Leaves.{AreLow, AreHigh, HasTree, leaf_at}
 use Rattle.dbsound.proofs.Interiors.{interior_at}
+use Rattle.dbformat.proofs.CellParts.{then_some}
 
 tree_role : (role : Role) (kind : TreeKind) → tree_kind role ≡ Some kind → (is_child : Bool) × (role ≡ role_in_tree is_child kind)
 tree_role (root k) kind e = (false, cc)
@@ -40,13 +41,9 @@ tree_role (later_overflow left) kind e = cc
 tree_role trunk kind e = cc
 tree_role free_leaf kind e = cc
 
-view_kind : {A B : Type 0} (o : Option A) (f : A → Option B) (y : B) → option_and_then f o ≡ Some y → (x : A) × (o ≡ Some x)
-view_kind None f y e = cc
-view_kind (Some x) f y e = (x, refl)
-
 tree_kind-from : (file : List ℕ) (r : Reference) (v : View) → tree_view file r ≡ Some v → (kind : TreeKind) × (tree_kind (role_of r) ≡ Some kind)
 unfolding tree_view
-tree_kind-from file r v e = view_kind (tree_kind (role_of r)) (λ kind. undamaged kind r.page (usable_size file) (page_bytes file r.page)) v e
+tree_kind-from file r v e = let h = then_some (tree_kind (role_of r)) (λ kind. undamaged kind r.page (usable_size file) (page_bytes file r.page)) v e in (h.0, h.1)
 
 module _ (file : List ℕ) (V : List Reference) (s : Survey file V) (faultless : walk_faults file V ≡ []) where
   -- a visited page of a tree is not too deep

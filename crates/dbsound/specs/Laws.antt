@@ -3,7 +3,7 @@ use Rattle.std.specs.Prelude.{◌≡◌, ℕ, ◌+◌, ◌≤◌, Bool, true, fa
 use Rattle.dbsurvey.specs.Address.{IsIn}
 use Rattle.dbsurvey.specs.Survey.{children, named_at}
 use Rattle.dbformat.specs.Address.{start_of, depth}
-use Rattle.dbformat.specs.Reference.{Reference, root, is_root, role_of, from_of, bytes_left}
+use Rattle.dbformat.specs.Reference.{Reference, root, role_of, from_of, bytes_left}
 use Rattle.dbformat.specs.Schema.{starts, held_bytes}
 use Rattle.dbformat.specs.Survey.{Survey, rules_of, most_depth}
 use Rattle.dbformat.specs.PageFaults.{leaf_depth}
@@ -23,11 +23,6 @@ abbrev pub IsByItsLinks : List ℕ → Type 0
 IsByItsLinks file = (V : List Reference) → Survey file V → walk_faults file V ≡ []
     → (r : Reference) → IsIn r V
     → below V r.address ≡ r ∷ flat_map (λ d. below V d.address) (children (rules_of file) r)
-
--- a visited root is a start
-abbrev pub AreRootsStarts : List ℕ → Type 0
-AreRootsStarts file = (V : List Reference) → Survey file V
-    → (r : Reference) → IsIn r V → is_root (role_of r) ≡ true → IsIn r (named_at [] (starts file V))
 
 -- at each overflow page that is visited begins a chain, whose pages are those below it
 abbrev pub HasChainsBelow : List ℕ → Type 0

@@ -1,7 +1,7 @@
 -- All that candidates lead to, cut by addresses: it is what is below them, one after another, and what is below each of
 -- its triples is the triple and what is below its references.
 use Rattle.std.proofs.Common.{◌≡◌, ℕ, ◌⊎◌, inl, inr, true, false, cond, List, [], ◌∷◌, ◌++◌, refl, sym, ap, subst, ◌∙◌, append_assoc, append-nil}
-use Rattle.std.specs.Prelude.{flat_map, nat_eq}
+use Rattle.std.specs.Prelude.{filter, flat_map, nat_eq}
 use Rattle.std.specs.List.{starts_with}
 use Rattle.std.proofs.lemmas.List.Elements.{filter-append}
 use Rattle.dbsurvey.specs.Address.{IsIn, Address, IsLeftOf}
@@ -10,9 +10,21 @@ use Rattle.dbsurvey.specs.Traverse.{AreApart}
 use Rattle.dbsurvey.specs.Whole.{IsWhole, nothing, all_of}
 use Rattle.dbsurvey.proofs.Order.{IsIn-cases}
 use Rattle.dbsurvey.proofs.Composing.{named_at-step, named_at-apart}
-use Rattle.dbsound.specs.Below.{below}
-use Rattle.dbsound.proofs.Beginnings.{begins, begins-apart, begins-shorter, begins-longer, not_begins}
-use Rattle.dbsound.proofs.Lists.{filter-all, filter-none, flat_map-same}
+use Rattle.dbsurvey.proofs.Beginnings.{begins, begins-apart, begins-shorter, begins-longer, not_begins}
+use Rattle.dbsurvey.proofs.Lists.{filter-all, filter-none, flat_map-same}
+
+-- the triples at an address and below it
+abbrev pub below : {R : Type 0} → List (Triple R) → Address → List (Triple R)
+below V a = filter (λ r. starts_with nat_eq r.address a) V
+
+-- what candidates lead to, put together
+pub whole_one : {R : Type 0} (rules : Rules R) (c : Triple R) (V : List (Triple R)) → rules.may c ≡ true → IsWhole rules (children rules c) V → IsWhole rules (c ∷ []) (c ∷ V)
+whole_one rules c V m w = subst (λ U. IsWhole rules (c ∷ []) (c ∷ U)) (append-nil V) (all_of m w nothing)
+
+pub whole_both : {R : Type 0} (rules : Rules R) (cs ds V U : List (Triple R)) → IsWhole rules cs V → IsWhole rules ds U → IsWhole rules (cs ++ ds) (V ++ U)
+whole_both rules cs ds V U nothing k = k
+whole_both rules cs ds V U (all_of {c} {cs = rest} {V = A} {U = B} m w u) k =
+    subst (λ X. IsWhole rules (c ∷ (rest ++ ds)) (c ∷ X)) (sym (append_assoc A B U)) (all_of m w (whole_both rules rest ds B U u k))
 
 module _ {R : Type 0} (rules : Rules R) where
   -- each triple begins with the address of a candidate

@@ -7,8 +7,8 @@ use Rattle.std.proofs.lemmas.List.Sorted.{sum_by-IsPermutation}
 use Rattle.std.proofs.lemmas.Bool.{cases_Bool, eqb-true}
 use Rattle.std.proofs.lemmas.Bool.Decides.{nat_tests}
 use Rattle.dbsurvey.specs.Address.{IsIn}
-use Rattle.dbsound.proofs.Elements.{IsOnce, IsIn-range, IsIn-from_range}
-use Rattle.dbsound.proofs.Lists.{filter-has, filter-from}
+use Rattle.dbsurvey.proofs.Elements.{IsOnce, IsIn-range, IsIn-from_range}
+use Rattle.dbsurvey.proofs.Lists.{filter-has, filter-from}
 
 -- how often p stands in a list
 abbrev one_at : ℕ → ℕ → ℕ

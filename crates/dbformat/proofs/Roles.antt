@@ -1,9 +1,7 @@
 -- Roles below a start: no link leads to a root, and links of a trunk stay on the freelist, and those of other pages off it.
-use Rattle.std.proofs.Common.{◌≡◌, ℕ, ◌+◌, ◌-◌, inl, inr, Bool, true, false, cond, List, [], ◌∷◌, ◌++◌, map, length, Option, Some, None, refl, sym, ap, subst, ◌∙◌, arith}
-use Rattle.std.specs.Prelude.{flat_map, filter, count_by, option_map, option_to_list, nat_le, nat_lt, ◌==◌}
+use Rattle.std.proofs.Common.{◌≡◌, ℕ, ◌-◌, inl, inr, Bool, true, false, cond, List, [], ◌∷◌, ◌++◌, map, Option, Some, None, refl, sym, ap, subst, ◌∙◌}
+use Rattle.std.specs.Prelude.{flat_map, filter, option_map, option_to_list, nat_le, nat_lt, ◌==◌}
 use Rattle.std.specs.List.{enumerate_from}
-use Rattle.std.proofs.lemmas.List.Sums.{sum_by-append}
-use Rattle.std.proofs.Common.{zero-add}
 use Rattle.dbsurvey.specs.Address.{IsIn}
 use Rattle.dbsurvey.specs.Survey.{Link, children}
 use Rattle.dbsurvey.specs.Whole.{IsWhole, nothing, all_of}
@@ -19,7 +17,7 @@ use Rattle.dbformat.specs.Address.{overflow_step, child_step}
 use Rattle.dbformat.specs.Reference.{Role, root, child, first_overflow, later_overflow, trunk, free_leaf, Way, Reference, role_of, is_root, is_on_freelist, link, cell_links, right_links, page_links, overflow_links, trunk_links, role_links, leaf_link, next_trunk, trunk_next, leaf_count, most_leaves, free_leaves}
 use Rattle.dbformat.specs.Survey.{rules_of}
 use Rattle.dbformat.specs.declared.TreeKind.{TreeKind}
-use Rattle.dbsound.proofs.Lists.{filter-none}
+use Rattle.dbsurvey.proofs.Lists.{filter-none}
 
 -- a link that leads to no root, on or off the freelist
 abbrev LeadsOn : Bool → Link Way → Type 0
@@ -121,25 +119,3 @@ module _ (file : List ℕ) where
   no_roots {cs} {X} w h = filter-none (λ r. is_root (role_of r)) X (λ t i. no_root w h t i)
 
 -- counts
-
-count_more : {X : Type 0} (p : X → Bool) (x : X) (xs : List X) → count_by p (x ∷ xs) ≡ cond (p x) 1 0 + count_by p xs
-count_more p x xs = sum_by-append (λ x. cond (p x) 1 0) (x ∷ []) xs ∙ ap (λ n. n + count_by p xs) (zero-add (cond (p x) 1 0))
-
-pub count_all : {X : Type 0} (p : X → Bool) (xs : List X) → ((x : X) → IsIn x xs → p x ≡ true) → count_by p xs ≡ length xs
-count_all p [] h = refl
-count_all p (x ∷ xs) h =
-    let m = count_more p x xs in
-    let a : cond {A = ℕ} (p x) 1 0 ≡ 1 = ap (λ b. cond b 1 0) (h x (inl refl)) in
-    let r = count_all p xs (λ y i. h y (inr i)) in
-    omega arith
-
-pub count_none : {X : Type 0} (p : X → Bool) (xs : List X) → ((x : X) → IsIn x xs → p x ≡ false) → count_by p xs ≡ 0
-count_none p [] h = refl
-count_none p (x ∷ xs) h =
-    let m = count_more p x xs in
-    let a : cond {A = ℕ} (p x) 1 0 ≡ 0 = ap (λ b. cond b 1 0) (h x (inl refl)) in
-    let r = count_none p xs (λ y i. h y (inr i)) in
-    omega arith
-
-pub count-append : {X : Type 0} (p : X → Bool) (xs ys : List X) → count_by p (xs ++ ys) ≡ count_by p xs + count_by p ys
-count-append p xs ys = sum_by-append (λ x. cond (p x) 1 0) xs ys

@@ -4,7 +4,7 @@ use Rattle.std.specs.Prelude.{IsPermutation}
 use Rattle.std.proofs.lemmas.List.Sorted.{IsPermutation-refl, IsPermutation-sym, IsPermutation-trans, IsPermutation-cons, IsPermutation-middle}
 use Rattle.dbsurvey.specs.Address.{IsIn}
 use Rattle.dbsurvey.proofs.Order.{IsIn-left, IsIn-right, IsIn-cases, EachPair-append, EachPair-left, EachPair-right, EachPair-across}
-use Rattle.dbsound.proofs.Elements.{IsOnce}
+use Rattle.dbsurvey.proofs.Elements.{IsOnce}
 
 -- where an element stands
 pub parted : {X : Type 0} (x : X) (ys : List X) → IsIn x ys → (front : List X) × (back : List X) × (ys ≡ front ++ x ∷ back)

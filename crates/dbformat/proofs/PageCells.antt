@@ -13,9 +13,9 @@ use Rattle.dbformat.specs.declared.CellFault.{CellFault}
 use Rattle.dbformat.specs.declared.CellFault.TheVariants.{Offset, Unreadable}
 use Rattle.dbformat.specs.declared.HeadFault.{HeadFault}
 use Rattle.dbformat.specs.declared.TreeKind.{TreeKind}
-use Rattle.dbsound.proofs.CellParts.{Fits, cell_fits, at_offset, from_ok, second, numbered}
-use Rattle.dbsound.proofs.Each.{Each, Each-none, Each-cons}
-use Rattle.dbsound.proofs.Lists.{both_empty, none_of}
+use Rattle.dbformat.proofs.CellParts.{Fits, cell_fits, at_offset, from_ok, second, numbered}
+use Rattle.dbsurvey.proofs.Each.{Each, Each-none, Each-cons}
+use Rattle.dbsurvey.proofs.Lists.{both_empty, none_of}
 
 -- the view of an undamaged page is of the tree's kind
 undamaged_parts : (kind : TreeKind) (r : Result View HeadFault) (v : View) → if_of_tree kind r ≡ Some v → (r ≡ Ok v) × (is_same_tree (tree_of v.kind) kind ≡ true)

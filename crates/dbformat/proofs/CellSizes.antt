@@ -20,11 +20,14 @@ use Rattle.dbformat.specs.declared.PageKind.TheVariants.{InteriorIndex, Interior
 use Rattle.dbformat.specs.declared.PayloadKind.TheVariants.{TableLeaf}
 use Rattle.dbformat.specs.declared.TreeKind.{TreeKind}
 use Rattle.dbformat.specs.declared.TreeKind.TheVariants as tree
-use Rattle.dbsound.proofs.Each.{Each}
-use Rattle.dbsound.proofs.PageCells.{has_all_cells}
-use Rattle.dbsound.proofs.CellParts.{at_offset, then_some}
-use Rattle.dbsound.proofs.ForestVisits.{same_tree}
-use Rattle.dbsound.proofs.Held.{IsSized}
+use Rattle.dbsurvey.proofs.Each.{Each}
+use Rattle.dbformat.proofs.PageCells.{has_all_cells}
+use Rattle.dbformat.proofs.CellParts.{at_offset, then_some, same_tree}
+
+-- as much of a payload stands in its cell as does not overflow
+pub record IsSized (c : Cell) : Type 0 where
+  pub within : length c.local ≤ c.size
+  pub all_local : c.overflow ≡ None → length c.local ≡ c.size
 
 -- no more than the payload
 local_within : (usable size : ℕ) → 480 ≤ usable → local_len TableLeaf usable size ≤ size

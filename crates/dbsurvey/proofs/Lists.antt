@@ -1,10 +1,11 @@
--- Lists that are filtered, searched and joined.
-use Rattle.std.proofs.Common.{◌≡◌, Bool, true, false, cond, List, [], ◌∷◌, ◌++◌, Option, ◌||◌, length, map, Some, None, ◌≤◌, inl, inr, refl, sym, ap, ◌∙◌, arith, length-append}
+-- Lists that are filtered, searched, joined and counted, by their elements.
+use Rattle.std.proofs.Common.{◌≡◌, Bool, true, false, cond, List, [], ◌∷◌, ◌++◌, Option, ◌||◌, length, map, Some, None, ◌≤◌, inl, inr, refl, sym, ap, ◌∙◌, arith, length-append, count_by, ℕ, ◌+◌, zero-add}
 use Rattle.std.specs.Prelude.{filter, filter_map, find, flat_map}
 use Rattle.std.specs.List.{list_any, cons_option}
 use Rattle.std.proofs.lemmas.List.{map-append}
 use Rattle.std.proofs.lemmas.Grind.{flat_map-append}
 use Rattle.dbsurvey.specs.Address.{IsIn}
+use Rattle.std.proofs.lemmas.List.Sums.{sum_by-append}
 
 module _ {X : Type 0} (p : X → Bool) where
   pub filter-all : (xs : List X) → ((x : X) → IsIn x xs → p x ≡ true) → filter p xs ≡ xs
@@ -122,3 +123,43 @@ module _ {X Y : Type 0} (g : X → Option Y) where
       by_case : (o : Option Y) → IsIn y (filter_map g xs) → IsIn y (cons_option o (filter_map g xs))
       by_case None i = i
       by_case (Some w) i = inr i
+
+pub count_more : {X : Type 0} (p : X → Bool) (x : X) (xs : List X) → count_by p (x ∷ xs) ≡ cond (p x) 1 0 + count_by p xs
+count_more p x xs = sum_by-append (λ x. cond (p x) 1 0) (x ∷ []) xs ∙ ap (λ n. n + count_by p xs) (zero-add (cond (p x) 1 0))
+
+pub count_all : {X : Type 0} (p : X → Bool) (xs : List X) → ((x : X) → IsIn x xs → p x ≡ true) → count_by p xs ≡ length xs
+count_all p [] h = refl
+count_all p (x ∷ xs) h =
+    let m = count_more p x xs in
+    let a : cond {A = ℕ} (p x) 1 0 ≡ 1 = ap (λ b. cond b 1 0) (h x (inl refl)) in
+    let r = count_all p xs (λ y i. h y (inr i)) in
+    omega arith
+
+pub count_none : {X : Type 0} (p : X → Bool) (xs : List X) → ((x : X) → IsIn x xs → p x ≡ false) → count_by p xs ≡ 0
+count_none p [] h = refl
+count_none p (x ∷ xs) h =
+    let m = count_more p x xs in
+    let a : cond {A = ℕ} (p x) 1 0 ≡ 0 = ap (λ b. cond b 1 0) (h x (inl refl)) in
+    let r = count_none p xs (λ y i. h y (inr i)) in
+    omega arith
+
+pub count-append : {X : Type 0} (p : X → Bool) (xs ys : List X) → count_by p (xs ++ ys) ≡ count_by p xs + count_by p ys
+count-append p xs ys = sum_by-append (λ x. cond (p x) 1 0) xs ys
+
+pub list_any-false : {X : Type 0} (p : X → Bool) (xs : List X) → list_any p xs ≡ false → (x : X) → IsIn x xs → p x ≡ false
+list_any-false p [] e x i = absurd i
+list_any-false {X} p (y ∷ xs) e x i = by_case (p y) refl e (list_any-false p xs) i
+  where
+    by_case : (b : Bool) → p y ≡ b → (b || list_any p xs) ≡ false → (list_any p xs ≡ false → (x : X) → IsIn x xs → p x ≡ false) → IsIn x (y ∷ xs) → p x ≡ false
+    by_case true f e more i = cc
+    by_case false f e more (inl g) = ap p g ∙ f
+    by_case false f e more (inr j) = more e x j
+
+-- the elements that pass a test, each by its list
+pub kept_lists : {X Y : Type 0} (p : X → Bool) (f g : X → List Y) (xs : List X) → ((x : X) → IsIn x xs → f x ≡ cond (p x) (g x) []) → flat_map f xs ≡ flat_map g (filter p xs)
+kept_lists p f g [] h = refl
+kept_lists {X} p f g (x ∷ xs) h = ap (λ l. l ++ flat_map f xs) (h x (inl refl)) ∙ by_case (p x) (kept_lists p f g xs (λ y i. h y (inr i)))
+  where
+    by_case : (b : Bool) → flat_map f xs ≡ flat_map g (filter p xs) → cond b (g x) [] ++ flat_map f xs ≡ flat_map g (cond b (x ∷ filter p xs) (filter p xs))
+    by_case true e = ap (λ l. g x ++ l) e
+    by_case false e = e

@@ -1,20 +1,20 @@
 -- Each row of the schema has a place of its own; and by how many rows with a root stand before one of them, there are few.
-use Rattle.std.proofs.Common.{◌≡◌, ℕ, zero, suc, ◌+◌, ◌<◌, ◌≤◌, ◌⊎◌, inl, inr, Bool, true, false, cond, List, [], ◌∷◌, ◌++◌, map, length, Option, Some, None, refl, sym, ap, subst, ◌∙◌, arith}
-use Rattle.std.specs.Prelude.{filter, flat_map, option_map, ◌==◌}
+use Rattle.std.proofs.Common.{◌≡◌, ℕ, ◌+◌, ◌<◌, ◌≤◌, ◌⊎◌, inl, inr, Bool, true, false, cond, List, [], ◌∷◌, ◌++◌, map, length, Option, Some, None, refl, sym, ap, subst, ◌∙◌, arith}
+use Rattle.std.specs.Prelude.{filter, ◌==◌}
 use Rattle.std.specs.List.{cons_option}
-use Rattle.std.specs.Result.{result_ok}
 use Rattle.dbsurvey.specs.Address.{IsIn, EachPair, Address, IsBefore}
 use Rattle.dbsurvey.specs.InOrder.{is_before}
-use Rattle.dbsurvey.proofs.Order.{EachPair-append, IsBefore-irreflexive, IsBefore-trans, cases_before}
-use Rattle.dbsurvey.proofs.Ordering.{is_before-from, IsIn-from_map, IsIn-from_flat_map}
+use Rattle.dbsurvey.proofs.Order.{IsBefore-irreflexive, IsBefore-trans, cases_before}
+use Rattle.dbsurvey.proofs.Ordering.{is_before-from, IsIn-from_map}
 use Rattle.dbformat.specs.Address.{start_of, key_step, schema_start}
 use Rattle.dbformat.specs.Head.{View, is_interior}
-use Rattle.dbformat.specs.Cell.{Cell, cell, cells, count}
+use Rattle.dbformat.specs.Cell.{cells}
 use Rattle.dbformat.specs.SchemaRow.{SchemaRow}
 use Rattle.dbformat.specs.Reference.{Reference, tree_view}
 use Rattle.dbformat.specs.Schema.{SchemaCell, schema_cell, leaf_rows, rows_at, schema, rooted, rooted_rows}
 use Rattle.dbformat.specs.Survey.{Survey}
-use Rattle.dbsound.proofs.CellParts.{numbered}
+use Rattle.dbsurvey.proofs.Elements.{each_list, each_map, each_weaker}
+use Rattle.dbformat.proofs.Cells.{cells_rise, rise_pairs}
 
 -- places
 
@@ -33,42 +33,6 @@ same_front (x ∷ a) (y ∷ b) s t e =
     let k = h.0 in
     (cc, h.1)
 
--- what follows for the lists of some elements, one after another
-each_list : {X Y : Type 0} (rel : Y → Y → Type 0) (f : X → List Y) (xs : List X) → ((x : X) → EachPair rel (f x))
-    → EachPair (λ x y. (u w : Y) → IsIn u (f x) → IsIn w (f y) → rel u w) xs → EachPair rel (flat_map f xs)
-each_list rel f [] h k = tt
-each_list rel f (x ∷ xs) h k = EachPair-append rel (f x) (flat_map f xs) (h x) (each_list rel f xs h k.1)
-    (λ u w i j. let m = IsIn-from_flat_map f xs w j in k.0 m.0 m.1 u w i m.2)
-
-each_map : {X Y : Type 0} (rel : Y → Y → Type 0) (f : X → Y) (xs : List X) → EachPair (λ x y. rel (f x) (f y)) xs → EachPair rel (map f xs)
-each_map rel f [] h = tt
-each_map rel f (x ∷ xs) h = ((λ y i. let m = IsIn-from_map f xs y i in subst (rel (f x)) (sym m.2) (h.0 m.0 m.1)), each_map rel f xs h.1)
-
-each_weaker : {X : Type 0} (rel also : X → X → Type 0) (xs : List X) → ((x y : X) → rel x y → also x y) → EachPair rel xs → EachPair also xs
-each_weaker rel also [] h k = tt
-each_weaker rel also (x ∷ xs) h k = ((λ y i. h x y (k.0 y i)), each_weaker rel also xs h k.1)
-
-numbered-low : (f : ℕ → Option Cell) (k n : ℕ) (x : ℕ × Cell) → IsIn x (numbered f k n) → k ≤ x.0
-numbered-low f k zero x i = absurd i
-numbered-low f k (suc n) x i = by_case (f k) i (numbered-low f (k + 1) n x)
-  where
-    by_case : (o : Option Cell) → IsIn x (cons_option (option_map (λ c. (k, c)) o) (numbered f (k + 1) n)) → (IsIn x (numbered f (k + 1) n) → k + 1 ≤ x.0) → k ≤ x.0
-    by_case None i h = let l = h i in omega arith
-    by_case (Some c) (inl e) h = let l : x.0 ≡ k = ap (λ x. x.0) e in omega arith
-    by_case (Some c) (inr j) h = let l = h j in omega arith
-
-numbered-rise : (f : ℕ → Option Cell) (k n : ℕ) → EachPair (λ x y. x.0 < y.0) (numbered f k n)
-numbered-rise f k zero = tt
-numbered-rise f k (suc n) = by_case (f k) (numbered-rise f (k + 1) n)
-  where
-    by_case : (o : Option Cell) → EachPair (λ x y. x.0 < y.0) (numbered f (k + 1) n) → EachPair (λ x y. x.0 < y.0) (cons_option (option_map (λ c. (k, c)) o) (numbered f (k + 1) n))
-    by_case None h = h
-    by_case (Some c) h = ((λ y i. let l = numbered-low f (k + 1) n y i in omega arith), h)
-
-cells_rise : (v : View) → EachPair (λ x y. x.0 < y.0) (cells v)
-unfolding cells
-cells_rise v = numbered-rise (λ i. result_ok (cell v i)) 0 (count v)
-
 abbrev pub HaveOwnPlaces : List SchemaCell → Type 0
 HaveOwnPlaces S = EachPair (λ c d. c.place ≡ d.place → ⊥) S
 
@@ -80,7 +44,7 @@ module _ (file : List ℕ) (V : List Reference) where
       by_kind true v = tt
       by_kind false v = each_map (λ c d. c.place ≡ d.place → ⊥) (schema_cell file V r) (cells v)
           (each_weaker (λ x y. x.0 < y.0) (λ x y. (schema_cell file V r x).place ≡ (schema_cell file V r y).place → ⊥) (cells v)
-          (λ x y l e. let h = (same_front r.address r.address (key_step x.0) (key_step y.0) e).1 in let f : ⊥ = omega arith in f) (cells_rise v))
+          (λ x y l e. let h = (same_front r.address r.address (key_step x.0) (key_step y.0) e).1 in let f : ⊥ = omega arith in f) (rise_pairs 0 (cells v) (cells_rise v)))
 
       by_start : (b : Bool) (o : Option View) → HaveOwnPlaces (cond b (leaf_rows file V r o) [])
       by_start false o = tt

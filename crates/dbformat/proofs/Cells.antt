@@ -3,12 +3,12 @@ use Rattle.std.proofs.Common.{◌≡◌, ℕ, zero, suc, ◌+◌, ◌≤◌, ◌
 use Rattle.std.specs.Prelude.{⊤, filter_map, option_map}
 use Rattle.std.specs.List.{range_with_len, cons_option}
 use Rattle.std.specs.Result.{result_ok}
-use Rattle.dbsurvey.specs.Address.{IsIn}
+use Rattle.dbsurvey.specs.Address.{IsIn, EachPair}
 use Rattle.dbformat.specs.Head.{View, is_interior}
 use Rattle.dbformat.specs.Cell.{Cell, cell, cells, count}
 use Rattle.dbformat.specs.declared.PageKind.{PageKind}
 use Rattle.dbformat.specs.declared.PageKind.TheVariants.{InteriorIndex, InteriorTable, LeafIndex, LeafTable}
-use Rattle.dbsound.proofs.CellParts.{Fits, cell_fits, at_offset, from_ok}
+use Rattle.dbformat.proofs.CellParts.{Fits, cell_fits, at_offset, from_ok}
 
 -- numbered cells whose numbers rise, from k on
 abbrev pub RiseFrom : ℕ → List (ℕ × Cell) → Type 0
@@ -18,6 +18,15 @@ RiseFrom k (x ∷ xs) = (k ≤ x.0) × RiseFrom (suc x.0) xs
 RiseFrom-lower : (j k : ℕ) (xs : List (ℕ × Cell)) → j ≤ k → RiseFrom k xs → RiseFrom j xs
 RiseFrom-lower j k [] h r = tt
 RiseFrom-lower j k (x ∷ xs) h r = let l = r.0 in (omega arith, r.1)
+
+rise_from : (k : ℕ) (xs : List (ℕ × Cell)) → RiseFrom k xs → (y : ℕ × Cell) → IsIn y xs → k ≤ y.0
+rise_from k [] r y i = absurd i
+rise_from k (x ∷ xs) r y (inl e) = let l = r.0 in let m = ap (λ (z : ℕ × Cell). z.0) e in omega arith
+rise_from k (x ∷ xs) r y (inr i) = let l = r.0 in let m = rise_from (suc x.0) xs r.1 y i in omega arith
+
+pub rise_pairs : (k : ℕ) (xs : List (ℕ × Cell)) → RiseFrom k xs → EachPair (λ x y. x.0 < y.0) xs
+rise_pairs k [] r = tt
+rise_pairs k (x ∷ xs) r = ((λ y i. let l = rise_from (suc x.0) xs r.1 y i in omega arith), rise_pairs (suc x.0) xs r.1)
 
 module _ (f : ℕ → Option Cell) where
   abbrev numbered : ℕ → Option (ℕ × Cell)

@@ -4,13 +4,15 @@ use Rattle.std.specs.Prelude.{filter_map, option_map, option_and_then, ok_or, na
 use Rattle.std.specs.List.{range_with_len}
 use Rattle.std.specs.Result.{result_ok}
 use Rattle.dbformat.specs.Varint.{varint, signed}
-use Rattle.dbformat.specs.Head.{View, content_start}
+use Rattle.dbformat.specs.Head.{View, content_start, is_same_tree}
 use Rattle.dbformat.specs.Cell.{Cell, cell, cell_at, cell_pointer, payload_cell, bytes_from}
 use Rattle.dbformat.specs.declared.CellFault.{CellFault}
 use Rattle.dbformat.specs.declared.CellFault.TheVariants.{Offset, Unreadable}
 use Rattle.dbformat.specs.declared.PageKind.{PageKind}
 use Rattle.dbformat.specs.declared.PageKind.TheVariants.{InteriorIndex, InteriorTable, LeafIndex, LeafTable}
 use Rattle.dbformat.specs.declared.PayloadKind.{PayloadKind}
+use Rattle.dbformat.specs.declared.TreeKind.{TreeKind}
+use Rattle.dbformat.specs.declared.TreeKind.TheVariants as tree
 
 -- the parts of a cell, by the kind of its page
 abbrev pub Fits : PageKind → Cell → Type 0
@@ -80,3 +82,9 @@ second xs = map (λ (i, c). c) xs
 -- those of some numbers that are there
 abbrev pub numbered : (ℕ → Option Cell) → ℕ → ℕ → List (ℕ × Cell)
 numbered f k n = filter_map (λ i. option_map (λ c. (i, c)) (f i)) (range_with_len k n)
+
+pub same_tree : (j k : TreeKind) → is_same_tree j k ≡ true → j ≡ k
+same_tree tree.Table tree.Table e = refl
+same_tree tree.Table tree.Index e = cc
+same_tree tree.Index tree.Table e = cc
+same_tree tree.Index tree.Index e = refl

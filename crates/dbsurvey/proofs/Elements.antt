@@ -1,11 +1,12 @@
 -- Lists whose elements stand once, and ranges of numbers.
-use Rattle.std.proofs.Common.{◌≡◌, ℕ, zero, suc, ◌+◌, ◌<◌, ◌≤◌, ◌⊎◌, inl, inr, Bool, true, false, cond, List, [], ◌∷◌, map, ◌∙◌, refl, sym, ap, arith}
+use Rattle.std.proofs.Common.{◌≡◌, ℕ, zero, suc, ◌+◌, ◌<◌, ◌≤◌, ◌⊎◌, inl, inr, Bool, true, false, cond, List, [], ◌∷◌, map, ◌∙◌, refl, sym, ap, arith, flat_map, subst}
 use Rattle.std.specs.Prelude.{filter, All, Contains}
 use Rattle.std.specs.List.{range_with_len}
 use Rattle.std.proofs.lemmas.List.Elements.{All-nil, All-cons, All-contains}
 use Rattle.dbsurvey.specs.Address.{IsIn, EachPair}
-use Rattle.dbsurvey.proofs.Ordering.{IsIn-from_map}
-use Rattle.dbsound.proofs.Lists.{filter-from}
+use Rattle.dbsurvey.proofs.Ordering.{IsIn-from_map, IsIn-from_flat_map}
+use Rattle.dbsurvey.proofs.Lists.{filter-from}
+use Rattle.dbsurvey.proofs.Order.{EachPair-append}
 
 -- no element stands twice
 abbrev pub IsOnce : {X : Type 0} → List X → Type 0
@@ -60,3 +61,18 @@ one_by f (z ∷ xs) h x y (inl g) (inl k) e = g ∙ sym k
 one_by f (z ∷ xs) h x y (inl g) (inr j) e = absurd (h.0 y j (ap f (sym g) ∙ e))
 one_by f (z ∷ xs) h x y (inr i) (inl k) e = absurd (h.0 x i (ap f (sym k) ∙ sym e))
 one_by f (z ∷ xs) h x y (inr i) (inr j) e = one_by f xs h.1 x y i j e
+
+-- what follows for the lists of some elements, one after another
+pub each_list : {X Y : Type 0} (rel : Y → Y → Type 0) (f : X → List Y) (xs : List X) → ((x : X) → EachPair rel (f x))
+    → EachPair (λ x y. (u w : Y) → IsIn u (f x) → IsIn w (f y) → rel u w) xs → EachPair rel (flat_map f xs)
+each_list rel f [] h k = tt
+each_list rel f (x ∷ xs) h k = EachPair-append rel (f x) (flat_map f xs) (h x) (each_list rel f xs h k.1)
+    (λ u w i j. let m = IsIn-from_flat_map f xs w j in k.0 m.0 m.1 u w i m.2)
+
+pub each_map : {X Y : Type 0} (rel : Y → Y → Type 0) (f : X → Y) (xs : List X) → EachPair (λ x y. rel (f x) (f y)) xs → EachPair rel (map f xs)
+each_map rel f [] h = tt
+each_map rel f (x ∷ xs) h = ((λ y i. let m = IsIn-from_map f xs y i in subst (rel (f x)) (sym m.2) (h.0 m.0 m.1)), each_map rel f xs h.1)
+
+pub each_weaker : {X : Type 0} (rel also : X → X → Type 0) (xs : List X) → ((x y : X) → rel x y → also x y) → EachPair rel xs → EachPair also xs
+each_weaker rel also [] h k = tt
+each_weaker rel also (x ∷ xs) h k = ((λ y i. h x y (k.0 y i)), each_weaker rel also xs h k.1)

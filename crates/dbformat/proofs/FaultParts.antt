@@ -7,7 +7,7 @@ use Rattle.dbformat.specs.File.{geometry}
 use Rattle.dbformat.specs.Reference.{Reference}
 use Rattle.dbformat.specs.EndFaults.{sum_faults, use_fault, late_root_fault, page_end_faults, page_numbers, end_faults}
 use Rattle.dbformat.specs.Report.{walk_faults, faults}
-use Rattle.dbsound.proofs.Lists.{both_empty, none_of, flat_map-none}
+use Rattle.dbsurvey.proofs.Lists.{both_empty, none_of, flat_map-none}
 
 module _ (file : List ℕ) (V : List Reference) where
   -- each page has its use
