@@ -15,23 +15,9 @@ use Rattle.dbformat.specs.Schema.{SchemaCell, schema_cell, leaf_rows, rows_at, s
 use Rattle.dbformat.specs.Survey.{Survey}
 use Rattle.dbsurvey.proofs.Elements.{each_list, each_map, each_weaker}
 use Rattle.dbformat.proofs.Cells.{cells_rise, rise_pairs}
+use Rattle.dbformat.proofs.Places.{same_front}
 
 -- places
-
-not_nil : (a : Address) (s : ℕ) → [] ≡ a ++ s ∷ [] → ⊥
-not_nil [] s e = cc
-not_nil (x ∷ a) s e = cc
-
-same_front : (a b : Address) (s t : ℕ) → a ++ s ∷ [] ≡ b ++ t ∷ [] → (a ≡ b) × (s ≡ t)
-same_front [] [] s t e = (refl, cc)
-same_front [] (y ∷ b) s t e = let f : [] ≡ b ++ t ∷ [] = cc in absurd (not_nil b t f)
-same_front (x ∷ a) [] s t e = let f : [] ≡ a ++ s ∷ [] = cc in absurd (not_nil a s f)
-same_front (x ∷ a) (y ∷ b) s t e =
-    let f : x ≡ y = cc in
-    let g : a ++ s ∷ [] ≡ b ++ t ∷ [] = cc in
-    let h = same_front a b s t g in
-    let k = h.0 in
-    (cc, h.1)
 
 abbrev pub HaveOwnPlaces : List SchemaCell → Type 0
 HaveOwnPlaces S = EachPair (λ c d. c.place ≡ d.place → ⊥) S

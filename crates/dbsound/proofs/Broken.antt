@@ -8,8 +8,8 @@ use Rattle.dbformat.specs.declared.Fault.{Fault}
 use Rattle.dbformat.specs.declared.Refusal.{Refusal}
 use Rattle.dbformat.proofs.Theory.{one_survey}
 use Rattle.dbsound.specs.Broken.{IsRefusedBeside, FailsBeside}
-use Rattle.dbsound.proofs.Faultless.{faultless_sound}
-use Rattle.dbsound.proofs.NoFault.{no_fault}
+use Rattle.dbsound.proofs.FaultlessFiles.Sound.{faultless_sound}
+use Rattle.dbsound.proofs.SoundFiles.NoFault.{no_fault}
 
 pub sound_by : {file : List ℕ} → refusal file ≡ None → faults file (survey file) ≡ [] → Sound file
 sound_by {file = file} read none = faultless_sound file (survey file) (one_survey file).0 read none

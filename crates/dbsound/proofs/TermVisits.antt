@@ -1,4 +1,19 @@
--- The visits of a term: its pages as references, each at its address, in the order of addresses.
+-- The visits of a term: its pages as references, each at its address, in the order of addresses. They are defined here, and
+-- each module has a property of them, by induction on terms.
+
+-- where they stand, and their uses
+pub mod Under
+pub mod Beginning
+pub mod Uses
+-- they are all that the first of them leads to
+pub mod Chains
+pub mod Trees
+pub mod Forests
+-- their roles, faults that rest on a page alone, depths, and what two visits of one tree have in common
+pub mod Roles
+pub mod OwnFaults
+pub mod Depths
+pub mod Starts
 use Rattle.std.proofs.Common.{ℕ, ◌+◌, Bool, List, [], ◌∷◌, ◌++◌, Option, ℤ}
 use Rattle.dbsurvey.specs.Address.{Address}
 use Rattle.dbformat.specs.Address.{overflow_step, child_step}

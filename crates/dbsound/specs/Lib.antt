@@ -1,4 +1,5 @@
 pub mod Below
 pub mod Broken
-pub mod Laws
 pub mod Soundness
+pub mod Statistics
+pub mod Surveys

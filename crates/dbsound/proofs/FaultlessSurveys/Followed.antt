@@ -1,0 +1,39 @@
+-- A survey without faults is all that its starts lead to.
+use Rattle.std.proofs.Common.{◌≡◌, ℕ, List, [], sym, subst}
+use Rattle.dbsurvey.specs.Survey.{named_at}
+use Rattle.dbsurvey.specs.Traverse.{survey_of}
+use Rattle.dbsurvey.specs.Whole.{IsWhole, IsNoneRefused}
+use Rattle.dbsurvey.proofs.Composing.{named_at-apart}
+use Rattle.dbsurvey.proofs.Traversal.{free_at_most, survey_is_survey_of}
+use Rattle.dbsurvey.proofs.Unfolding.{part_whole}
+use Rattle.dbformat.specs.File.{geometry}
+use Rattle.dbformat.specs.Reference.{Reference}
+use Rattle.dbformat.specs.Schema.{schema_link, starts}
+use Rattle.dbformat.specs.Survey.{Survey, rules_of}
+use Rattle.dbformat.specs.Report.{walk_faults}
+use Rattle.dbformat.proofs.Rising.{starts_rise}
+use Rattle.dbformat.proofs.Theory.{are_rules, named-all}
+use Rattle.dbformat.proofs.NoFaults.{follows_all}
+use Rattle.dbsurvey.specs.From.{under}
+use Rattle.dbsound.specs.Surveys.{IsByItsStarts, IsByItsLinks}
+use Rattle.dbsurvey.proofs.WholeParts.{by_candidates, by_links}
+
+module _ (file : List ℕ) (V : List Reference) (s : Survey file V) (none : walk_faults file V ≡ []) where
+  none_refused : IsNoneRefused (rules_of file) (named_at [] (starts file V)) V
+  none_refused d n = ((follows_all file V s none).0 d (named-all file V d n)).0
+
+  pub all_of_starts : IsWhole (rules_of file) (named_at [] (starts file V)) V
+  all_of_starts =
+      let pages = (geometry file).pages in
+      let cs = named_at [] (starts file V) in
+      let rise = starts_rise file (under schema_link.step V) in
+      let e : V ≡ survey_of (rules_of file) pages (starts file V) = survey_is_survey_of (rules_of file) pages (are_rules file) (starts file V) rise V s in
+      subst (λ U. IsWhole (rules_of file) cs U) (sym e)
+      (part_whole (rules_of file) pages (are_rules file) pages [] cs (free_at_most pages []) (named_at-apart [] (starts file V) rise)
+      (subst (λ U. IsNoneRefused (rules_of file) cs U) e none_refused))
+
+pub by_its_starts : (file : List ℕ) → IsByItsStarts file
+by_its_starts file V s none = by_candidates (rules_of file) (are_rules file).rising (all_of_starts file V s none) (named_at-apart [] (starts file V) (starts_rise file (under schema_link.step V)))
+
+pub by_its_links : (file : List ℕ) → IsByItsLinks file
+by_its_links file V s none r i = by_links (rules_of file) (are_rules file).rising (all_of_starts file V s none) (named_at-apart [] (starts file V) (starts_rise file (under schema_link.step V))) r i
