@@ -17,8 +17,6 @@ use Rattle.dbsurvey.proofs.Elements.{each_list, each_map, each_weaker}
 use Rattle.dbformat.proofs.Cells.{cells_rise, rise_pairs}
 use Rattle.dbformat.proofs.Places.{same_front}
 
--- places
-
 abbrev pub HaveOwnPlaces : List SchemaCell → Type 0
 HaveOwnPlaces S = EachPair (λ c d. c.place ≡ d.place → ⊥) S
 

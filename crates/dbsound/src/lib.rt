@@ -1,5 +1,26 @@
-//! A file is sound exactly where no fault is told of it: the theorems that lead from the survey of a file to the terms of a
-//! sound one, and back. A theorem is the contract of a function with an empty body.
+//! A file is sound exactly where no fault is told of it.
+//!
+//! `dbformat` says twice when a file is good. Its *report* (specs/Report) tells the faults that are found along the survey of
+//! the file: of its header, of each page, reference, key and row of the schema, and at the end. *Sound* (specs/Sound) knows no
+//! survey: finite terms, which are trees with their overflow chains and a freelist, account for each page once and keep every
+//! rule. Here is proved that the two agree. A theorem is the contract of a function with an empty body; its statement stands in
+//! specs/, and its proof in proofs/, where each folder has a file of its name that lists what is in it.
+//!
+//! **Clean means sound** (proofs/FaultlessSurveys, then FaultlessFiles). Where no fault is told no reference is refused. So the
+//! survey is all that its starts lead to, and below a visit stand the visit and what is below each reference of its page: that
+//! is `surveys_are_whole`. By recursion on how many pages are below a visit, a chain begins at each overflow page and a tree at
+//! each page of a tree: that is `visits_begin_terms`. The keys of a cell bound those below its children, as no key is out of
+//! order; all leaves of a start have one depth, and none is too deep. A tree at each root, the chain of trunks, the rows that
+//! the schema's payloads spell, and what the end says of all pages are then the parts of a sound file.
+//!
+//! **Sound means clean** (proofs/TermVisits, TermKeys and TermRows, then SoundFiles). The visits of a term are its pages, each
+//! at its address, by recursion on the term; each property of them is an induction of its own. They are all that the first of
+//! them leads to, their keys are in order, leaves have one depth, and the rows that are read along them are those that the
+//! payloads spell. As each page has one use, the visits of all terms are the survey, and no reference is refused. Then test by
+//! test nothing is told: of a page for itself, of two pages of one tree, of the schema's rows, and at the end.
+//!
+//! What is known of surveys under any rules stands in `dbsurvey`, and what is known of the pages, cells and visits of any file
+//! in `dbformat`.
 #![tactic(auto)]
 
 ghost use Rattle.std.specs.Prelude.{ℕ, List, pos, negsuc};
@@ -24,9 +45,9 @@ pub fn clean_is_sound()
     ensures uses { (file : List ℕ) → HasItsUses file }
 {}
 
-/// Each rule of a sound file can fail alone: beside a sound file stands one that differs from it in a byte or a page and
-/// is not read, or of which just the fault of this rule is told. Two rules have no file here, since they fail in large
-/// files alone: that the schema's tree is at most 20 pages high, and that the schema has at most 65536 roots.
+/// Each rule of a sound file can fail alone: beside a sound file stands one that differs from it in a byte, a page, or the
+/// order of two, and is not read, or just the fault of this rule is told of it. Two rules have no file here, since they fail
+/// in large files alone: that the schema's tree is at most 20 pages high, and that the schema has at most 65536 roots.
 pub fn each_rule_can_fail_alone()
     ensures is_read { IsRefusedBeside long_row_file wrong_magic Magic }
     ensures header { FailsBeside long_row_file unknown_version (fault H01 1 18 (pos 3)) }

@@ -1,5 +1,5 @@
 -- Which addresses begin with another.
-use Rattle.std.proofs.Common.{◌≡◌, ℕ, true, false, [], ◌∷◌, ◌++◌, inl, inr, refl, sym, subst, ◌∙◌, eq-eqb, append_assoc}
+use Rattle.std.proofs.Common.{◌≡◌, ℕ, true, false, [], ◌∷◌, ◌++◌, inl, inr, refl, sym, subst, ◌∙◌, eq-eqb, append_assoc, ◌≢◌}
 use Rattle.std.specs.Prelude.{nat_eq}
 use Rattle.std.specs.List.{starts_with}
 use Rattle.std.proofs.lemmas.Bool.{and_parts, and_from, eqb-true, cases_Bool}
@@ -40,3 +40,10 @@ begins-longer (y ∷ a) x s h = begins-longer a x s (and_parts (nat_eq y y) (sta
 
 pub not_begins : (b a : Address) → (starts_with nat_eq b a ≡ true → ⊥) → starts_with nat_eq b a ≡ false
 not_begins b a h = elim (cases_Bool (starts_with nat_eq b a)) [ inl e ↦ absurd (h e) | inr e ↦ e ]
+
+pub begins-other : (a : Address) (s s' : ℕ) (r r' : Address) → s ≢ s' → starts_with nat_eq (a ++ (s ∷ r)) (a ++ (s' ∷ r')) ≡ false
+begins-other [] s s' r r' n = elim (cases_Bool (nat_eq s' s)) [
+  | inl e ↦ absurd (n (sym (eqb-true s' s e)))
+  | inr e ↦ rw e refl
+]
+begins-other (x ∷ a) s s' r r' n = rw (eq-eqb x x refl) (begins-other a s s' r r' n)

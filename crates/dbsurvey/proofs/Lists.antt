@@ -1,5 +1,5 @@
 -- Lists that are filtered, searched, joined and counted, by their elements.
-use Rattle.std.proofs.Common.{◌≡◌, Bool, true, false, cond, List, [], ◌∷◌, ◌++◌, Option, ◌||◌, length, map, Some, None, ◌≤◌, inl, inr, refl, sym, ap, ◌∙◌, arith, length-append, count_by, ℕ, ◌+◌, zero-add}
+use Rattle.std.proofs.Common.{◌≡◌, Bool, true, false, cond, List, [], ◌∷◌, ◌++◌, Option, ◌||◌, length, map, Some, None, ◌≤◌, inl, inr, refl, sym, ap, ◌∙◌, arith, length-append, count_by, ℕ, ◌+◌, zero-add, ◌<◌}
 use Rattle.std.specs.Prelude.{filter, filter_map, find, flat_map}
 use Rattle.std.specs.List.{list_any, cons_option}
 use Rattle.std.proofs.lemmas.List.{map-append}
@@ -163,3 +163,19 @@ kept_lists {X} p f g (x ∷ xs) h = ap (λ l. l ++ flat_map f xs) (h x (inl refl
     by_case : (b : Bool) → flat_map f xs ≡ flat_map g (filter p xs) → cond b (g x) [] ++ flat_map f xs ≡ flat_map g (cond b (x ∷ filter p xs) (filter p xs))
     by_case true e = ap (λ l. g x ++ l) e
     by_case false e = e
+
+pub cons-longer : {X : Type 0} (o : Option X) (xs ys : List X) → length xs ≤ length ys → length (cons_option o xs) ≤ length (cons_option o ys)
+cons-longer None xs ys h = h
+cons-longer (Some x) xs ys h = omega arith
+
+pub cons-longer-lt : {X : Type 0} (o : Option X) (xs ys : List X) → length xs < length ys → length (cons_option o xs) < length (cons_option o ys)
+cons-longer-lt None xs ys h = h
+cons-longer-lt (Some x) xs ys h = omega arith
+
+pub cons-at-least : {X : Type 0} (o : Option X) (xs ys : List X) → length xs ≤ length ys → length xs ≤ length (cons_option o ys)
+cons-at-least None xs ys h = h
+cons-at-least (Some x) xs ys h = omega arith
+
+pub cons-at-least-lt : {X : Type 0} (o : Option X) (xs ys : List X) → length xs < length ys → length xs < length (cons_option o ys)
+cons-at-least-lt None xs ys h = h
+cons-at-least-lt (Some x) xs ys h = omega arith

@@ -1,7 +1,6 @@
 -- In a file without faults each root page is before each page that is no root.
-use Rattle.std.proofs.Common.{◌≡◌, ◌≢◌, ℕ, ◌<◌, ◌≤◌, inl, inr, Bool, true, false, not, ◌&&◌, List, [], ◌∷◌, map, Some, refl, sym, ap, subst, ◌∙◌, arith}
-use Rattle.std.specs.Prelude.{filter, fold, min, nat_lt, ◌==◌}
-use Rattle.std.specs.List.{reduce}
+use Rattle.std.proofs.Common.{◌≡◌, ◌≢◌, ℕ, ◌<◌, ◌≤◌, inl, inr, Bool, true, false, not, ◌&&◌, List, [], map, Some, refl, sym, ap, subst, ◌∙◌, arith}
+use Rattle.std.specs.Prelude.{filter, nat_lt, ◌==◌}
 use Rattle.std.proofs.lemmas.Bool.{and_from, ne_eqb, eq-eqb, ltb-false}
 use Rattle.dbsurvey.specs.Address.{IsIn}
 use Rattle.dbsurvey.specs.From.{under}
@@ -24,24 +23,7 @@ use Rattle.dbsound.proofs.FaultlessFiles.Forest.{start_triple}
 use Rattle.dbformat.proofs.FaultParts.{NoneLate}
 use Rattle.dbformat.proofs.Visited.{visit_is, number_of, root_is_start}
 use Rattle.dbsound.proofs.TermVisits.Uses.{root_use}
-
--- the least of some numbers
-
-fold_least : (a : ℕ) (xs : List ℕ) → fold min a xs ≤ a
-fold_least a [] = omega arith
-fold_least a (x ∷ xs) = let h = fold_least (min a x) xs in omega arith
-
-fold_less : (a : ℕ) (xs : List ℕ) (x : ℕ) → IsIn x xs → fold min a xs ≤ x
-fold_less a [] x i = absurd i
-fold_less a (y ∷ xs) x (inl e) = let h = fold_least (min a y) xs in omega arith
-fold_less a (y ∷ xs) x (inr i) = fold_less (min a y) xs x i
-
-least_of : (xs : List ℕ) (x : ℕ) → IsIn x xs → (least : ℕ) × (reduce min xs ≡ Some least) × (least ≤ x)
-least_of [] x i = absurd i
-least_of (y ∷ xs) x (inl e) = (fold min y xs, refl, let h = fold_least y xs in omega arith)
-least_of (y ∷ xs) x (inr i) = (fold min y xs, refl, fold_less y xs x i)
-
--- roles and uses
+use Rattle.dbsurvey.proofs.Least.{least_of}
 
 module _ (file : List ℕ) (V : List Reference) (s : Survey file V) where
   -- a root that is visited is that of a start

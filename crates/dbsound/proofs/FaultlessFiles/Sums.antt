@@ -17,11 +17,9 @@ use Rattle.dbformat.specs.Reference.{Role, root, trunk, Way, Reference, role_of,
 use Rattle.dbformat.specs.Schema.{schema, rooted_rows, start, schema_link, root_start, freelist_starts}
 use Rattle.dbformat.specs.Survey.{Survey, rules_of}
 use Rattle.dbformat.specs.EndFaults.{greatest_root_reached, free_pages}
-use Rattle.dbformat.specs.PageFaults.{page_faults}
 use Rattle.dbformat.specs.Report.{walk_faults}
 use Rattle.dbformat.specs.Terms.{Freelist}
-use Rattle.dbformat.proofs.Theory.{named-all}
-use Rattle.dbformat.proofs.NoFaults.{follows_all}
+use Rattle.dbformat.proofs.NoFaults.{page_none}
 use Rattle.dbsound.specs.Below.{below, use_of}
 use Rattle.dbsurvey.proofs.Lists.{filter-from, count_all, count_none, count-append}
 use Rattle.dbsound.proofs.FaultlessSurveys.Trunks.{room_for_leaves, freelist_of}
@@ -109,10 +107,7 @@ module _ (file : List ℕ) (V : List Reference) (s : Survey file V) (none : walk
       ∙ map-append use_of (S ++ R) U
       ∙ ap (λ X. X ++ map use_of U) (map-append use_of S R)
 
-  fine : (t : Reference) → IsIn t V → page_faults file V t ≡ []
-  fine t i = ((follows_all file V s none).0 t (named-all file V t ((s.exact t).0 i).0)).1
-
   pub freelist_stands : Freelist file (first_trunk file) (map use_of (sections_of V (freelist_starts file)))
   freelist_stands = freelist_of file U (whole_free file V s none) (λ t i e.
       let m = IsIn-from_flat_map (λ l. below V (l.step ∷ [])) (freelist_starts file) t i in
-      room_for_leaves file V t e (fine t (filter-from _ V t m.2).0))
+      room_for_leaves file V t e (page_none file V s none t (filter-from _ V t m.2).0))

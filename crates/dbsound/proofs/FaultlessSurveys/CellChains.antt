@@ -1,5 +1,5 @@
 -- The payload of each cell of a visited page: its chain is what is below the page at the cell's step.
-use Rattle.std.proofs.Common.{◌≡◌, ℕ, ◌<◌, ◌⊎◌, inl, inr, Bool, true, List, [], ◌∷◌, ◌++◌, map, Option, Some, None, refl, sym, ap, subst, ◌∙◌, arith, append-nil}
+use Rattle.std.proofs.Common.{◌≡◌, ℕ, ◌⊎◌, inl, inr, Bool, true, List, [], ◌∷◌, ◌++◌, map, Option, Some, None, refl, sym, ap, subst, ◌∙◌, arith, append-nil}
 use Rattle.std.specs.Prelude.{flat_map, nat_eq, option_map, option_to_list}
 use Rattle.std.specs.List.{starts_with}
 use Rattle.dbsurvey.specs.Address.{IsIn, Address}
@@ -24,9 +24,8 @@ use Rattle.dbsound.proofs.FaultlessSurveys.Followed.{by_its_links}
 use Rattle.dbsound.proofs.FaultlessSurveys.Visits.{child_visited}
 use Rattle.dbsound.proofs.FaultlessSurveys.Chains.{whole_chain}
 use Rattle.dbsound.proofs.FaultlessSurveys.TreePages.{IsTreePage}
-
-in_line : (m n : ℕ) → (m ≡ n) ⊎ ((m < n) ⊎ (n < m))
-in_line m n = grind arith
+use Rattle.std.proofs.lemmas.Bool.{cases_order}
+use Rattle.dbformat.proofs.Places.{same_front}
 
 -- what is below a page at a step
 abbrev pub at_step : List Reference → Address → ℕ → List Reference
@@ -36,10 +35,6 @@ one_link : (p step item : ℕ) (role : Role) (o : Option ℕ) (l : Link Way) →
 one_link p step item role None l j = absurd j
 one_link p step item role (Some q) l (inl e) = (q, refl, ap (λ l. l.step) e)
 one_link p step item role (Some q) l (inr j) = absurd j
-
-one_last : (a : Address) (x y : ℕ) → a ++ (x ∷ []) ≡ a ++ (y ∷ []) → x ≡ y
-one_last [] x y e = cc
-one_last (z ∷ a) x y e = one_last a x y (cc)
 
 -- the step of a link of a page is that of a cell's chain, or of a child
 link_step : (p : ℕ) (kind : TreeKind) (v : View) (l : Link Way) → IsIn l (page_links p kind (Some v))
@@ -65,7 +60,7 @@ module _ (file : List ℕ) (V : List Reference) (s : Survey file V) (none : walk
       in_child t d j k l =
           let n = named_at-step r.address ((rules_of file).links r.page r.role) d j in
           let m : starts_with nat_eq t.address (r.address ++ (n.0 ∷ [])) ≡ true = subst (λ a. starts_with nat_eq t.address a ≡ true) n.1 l in
-          elim (in_line n.0 step) [
+          elim (cases_order n.0 step) [
             | inl e ↦ h d j (n.1 ∙ ap (λ x. r.address ++ (x ∷ [])) e)
             | inr o ↦ (elim o [
               | inl lt ↦ begins-apart (r.address ++ (n.0 ∷ [])) (r.address ++ (step ∷ [])) t.address (IsLeftOf-steps r.address n.0 step lt) m k
@@ -88,7 +83,7 @@ module _ (file : List ℕ) (V : List Reference) (s : Survey file V) (none : walk
     overflow_link : (x : ℕ × Cell) → IsIn x (cells v) → x.1.overflow ≡ None → (d : Reference) → IsIn d (children (rules_of file) r) → d.address ≡ r.address ++ (overflow_step x.0 ∷ []) → ⊥
     overflow_link x j e d k f =
         let l = named_at-from r.address (page_links r.page kind (Some v)) d (subst (IsIn d) page.links_are k) in
-        let g : l.0.step ≡ overflow_step x.0 = one_last r.address l.0.step (overflow_step x.0) (sym (ap (λ d. d.address) l.2) ∙ f) in
+        let g : l.0.step ≡ overflow_step x.0 = (same_front r.address r.address l.0.step (overflow_step x.0) (sym (ap (λ d. d.address) l.2) ∙ f)).1 in
         elim (link_step r.page kind v l.0 l.1) [
           | inl y ↦ (let h : y.0.0 ≡ x.0 = omega (arith, y.4) in let m = one_cell v y.0 x y.1 j h in let n = sym y.3 ∙ ap (λ c. c.overflow) m ∙ e in cc)
           | inr n ↦ omega (arith, n.1)

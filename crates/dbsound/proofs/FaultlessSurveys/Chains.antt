@@ -17,7 +17,8 @@ use Rattle.dbformat.proofs.Chains.{links_at, faults_at, ends, overflow_of}
 use Rattle.dbsound.specs.Below.{below, use_of, leaf_payloads}
 use Rattle.dbsound.specs.Surveys.{HasChainsBelow}
 use Rattle.dbsound.proofs.FaultlessSurveys.Followed.{by_its_links}
-use Rattle.dbsound.proofs.FaultlessSurveys.Visits.{visit_faultless, child_visited, fewer_below}
+use Rattle.dbsound.proofs.FaultlessSurveys.Visits.{child_visited, fewer_below}
+use Rattle.dbformat.proofs.NoFaults.{page_none}
 
 no_tree : (role : Role) (left : ℕ) → bytes_left role ≡ Some left → tree_kind role ≡ None
 no_tree (first_overflow m) left e = refl
@@ -62,7 +63,7 @@ module _ (file : List ℕ) (V : List Reference) (s : Survey file V) (none : walk
   at_end : (r : Reference) (left : ℕ) → left ≤ usable_size file - 4 → bytes_left (role_of r) ≡ Some left → IsIn r V → IsChainOf file V r left (r ∷ [])
   unfolding page_faults
   at_end r left h e i =
-      let f = sym (faults_at file V (role_of r) r left (overflow_of (role_of r) left e)) ∙ visit_faultless file V s none r i in (
+      let f = sym (faults_at file V (role_of r) r left (overflow_of (role_of r) left e)) ∙ page_none file V s none r i in (
         subst (λ bytes. Chain file (role_of r) (from_of r) r.page left (use_of r ∷ []) bytes) (sym (append-nil (held_bytes file r) ∙ holds r left e))
             (last h (ends (usable_size file) left r.page (page_bytes file r.page) h f)),
         append-nil (leaf_payloads file V r) ∙ no_payloads file V r left e,

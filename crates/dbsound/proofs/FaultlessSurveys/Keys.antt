@@ -1,14 +1,14 @@
 -- The keys of a tree in a survey without faults: none is out of order after one at an earlier place. So the keys behind
 -- a cell are above its key, and those before it are up to it.
-use Rattle.std.proofs.Common.{◌≡◌, ℕ, ◌<◌, inl, Bool, true, false, cond, List, [], ◌∷◌, ◌++◌, Option, Some, None, ℤ, refl, sym, ap, subst, ◌∙◌, arith, append_assoc}
+use Rattle.std.proofs.Common.{◌≡◌, ℕ, ◌<◌, inl, Bool, true, false, cond, List, [], ◌∷◌, ◌++◌, Option, Some, None, ℤ, refl, sym, ap, subst, ◌∙◌, arith}
 use Rattle.std.specs.Prelude.{flat_map, int_lt, int_le, ◌&&◌, ◌==◌}
 use Rattle.std.specs.List.{list_any}
 use Rattle.std.proofs.lemmas.Bool.{and_from}
 use Rattle.std.proofs.Common.{eq-eqb}
 use Rattle.std.proofs.lemmas.Int.{ints}
-use Rattle.dbsurvey.specs.Address.{IsIn, Address, IsBefore, IsLeftOf}
+use Rattle.dbsurvey.specs.Address.{IsIn, Address, IsBefore}
 use Rattle.dbsurvey.specs.InOrder.{is_before}
-use Rattle.dbsurvey.proofs.Order.{IsLeftOf-before, IsLeftOf-longer, IsLeftOf-steps}
+use Rattle.dbsurvey.proofs.Order.{IsBefore-steps}
 use Rattle.dbsurvey.proofs.Ordering.{is_before-from, IsIn-flat_map, IsIn-from_flat_map}
 use Rattle.dbformat.specs.Address.{start_of, key_step}
 use Rattle.dbformat.specs.Head.{View, is_interior}
@@ -60,11 +60,6 @@ low-from value k k' same e = by_case k.is_rowid refl e
     by_case true f e = record { above = λ g. grind (arith, ints); from = grind (arith, ints) }
     by_case false f e = record { above = λ g. cc; from = grind (arith, ints) }
 
-places-before : (a : Address) (m n : ℕ) (b c : Address) → m < n → IsBefore (a ++ (m ∷ b)) (a ++ (n ∷ c))
-places-before a m n b c h = IsLeftOf-before (a ++ (m ∷ b)) (a ++ (n ∷ c))
-    (subst (λ x. IsLeftOf x (a ++ (n ∷ c))) (append_assoc a (m ∷ []) b) (subst (λ x. IsLeftOf ((a ++ (m ∷ [])) ++ b) x) (append_assoc a (n ∷ []) c)
-    (IsLeftOf-longer (a ++ (m ∷ [])) (a ++ (n ∷ [])) b c (IsLeftOf-steps a m n h))))
-
 module _ (file : List ℕ) (V : List Reference) (s : Survey file V) (none : walk_faults file V ≡ []) (r : Reference) (i : IsIn r V) (long : r.address ≡ [] → ⊥) (v : View) (view_is : tree_view file r ≡ Some v) where
   pub has_key : (x : ℕ × Cell) (value : ℤ) → IsIn x (cells v) → x.1.key ≡ Some value → IsKey file V (cell_key r v x.0 value)
   has_key x value j e = (r, i, subst (λ o. IsIn (cell_key r v x.0 value) (keys_of_view r o)) (sym view_is) (IsIn-flat_map (key_of r v) (cells v) x (cell_key r v x.0 value) j (in_cell x e)))
@@ -82,7 +77,7 @@ module _ (file : List ℕ) (V : List Reference) (s : Survey file V) (none : walk
         by_case (Some value) e = low-from value k (cell_key r v x.0 value) refl
             (in_order file V s none k (cell_key r v x.0 value) is_key (has_key x value j e)
             (same_start r.address long (key_step x.0 ∷ []) (step ∷ b) ∙ sym (ap start_of at))
-            (subst (IsBefore (r.address ++ (key_step x.0 ∷ []))) (sym at) (places-before r.address (key_step x.0) step [] b h)))
+            (subst (IsBefore (r.address ++ (key_step x.0 ∷ []))) (sym at) (IsBefore-steps r.address (key_step x.0) step [] b h)))
 
     -- keys before that of a cell of an interior page are up to it
     pub up_to_cell : is_interior v.kind ≡ true → step < key_step x.0 → IsUpTo (Some k.value) x.1.key
@@ -93,6 +88,6 @@ module _ (file : List ℕ) (V : List Reference) (s : Survey file V) (none : walk
         by_case (Some value) e =
             let f = in_order file V s none (cell_key r v x.0 value) k (has_key x value j e) is_key
             (ap start_of at ∙ same_start r.address long (step ∷ b) (key_step x.0 ∷ []))
-            (subst (λ p. IsBefore p (r.address ++ (key_step x.0 ∷ []))) (sym at) (places-before r.address step (key_step x.0) b [] h)) in
+            (subst (λ p. IsBefore p (r.address ++ (key_step x.0 ∷ []))) (sym at) (IsBefore-steps r.address step (key_step x.0) b [] h)) in
             let g : int_lt value k.value ≡ false = rw interior at f in
             grind (arith, ints)

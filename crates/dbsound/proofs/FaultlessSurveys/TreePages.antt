@@ -15,7 +15,7 @@ use Rattle.dbformat.specs.declared.TreeKind.{TreeKind}
 use Rattle.dbformat.specs.declared.HeadFault.{HeadFault}
 use Rattle.dbformat.specs.declared.HeadFault.TheVariants.{UnknownType, ContentStart}
 use Rattle.dbsurvey.proofs.Lists.{both_empty}
-use Rattle.dbsound.proofs.FaultlessSurveys.Visits.{visit_faultless}
+use Rattle.dbformat.proofs.NoFaults.{page_none}
 
 -- a page without faults is undamaged
 view-from : (kind : TreeKind) (is_child : Bool) (p : ℕ) (page : List ℕ) (w : Result View HeadFault) → faults_of_view kind is_child p page w ≡ [] → (v : View) × (if_of_tree kind w ≡ Some v)
@@ -58,7 +58,7 @@ tree_page file V s none r kind is_child i e =
     let bytes = page_bytes file p in
     let usable = usable_size file in
     let f : tree_page_faults kind is_child p usable bytes ++ depth_fault file V r ≡ [] =
-    sym (ap (λ role. role_faults role file V r) e ∙ faults_in_tree file V r kind is_child) ∙ visit_faultless file V s none r i in
+    sym (ap (λ role. role_faults role file V r) e ∙ faults_in_tree file V r kind is_child) ∙ page_none file V s none r i in
     let g = both_empty (tree_page_faults kind is_child p usable bytes) (depth_fault file V r) f in
     let v = view-from kind is_child p bytes (view p usable bytes) g.0 in (
       v.0,

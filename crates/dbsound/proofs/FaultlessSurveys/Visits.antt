@@ -8,18 +8,13 @@ use Rattle.dbsurvey.proofs.Ordering.{IsIn-flat_map}
 use Rattle.dbformat.specs.Reference.{Reference}
 use Rattle.dbformat.specs.Schema.{starts}
 use Rattle.dbformat.specs.Survey.{Survey, rules_of, references}
-use Rattle.dbformat.specs.PageFaults.{page_faults}
 use Rattle.dbformat.specs.Report.{walk_faults}
-use Rattle.dbformat.proofs.Theory.{named-all}
 use Rattle.dbformat.proofs.NoFaults.{follows_all}
 use Rattle.dbsound.specs.Below.{below}
 use Rattle.dbsurvey.proofs.Lists.{length-of_part}
 use Rattle.dbsound.proofs.FaultlessSurveys.Followed.{by_its_links}
 
 module _ (file : List ℕ) (V : List Reference) (s : Survey file V) (none : walk_faults file V ≡ []) where
-  pub visit_faultless : (r : Reference) → IsIn r V → page_faults file V r ≡ []
-  visit_faultless r i = ((follows_all file V s none).0 r (named-all file V r ((s.exact r).0 i).0)).1
-
   -- a reference of a visited page is visited
   pub child_visited : (r d : Reference) → IsIn r V → IsIn d (children (rules_of file) r) → IsIn d V
   child_visited r d i j = ((follows_all file V s none).0 d (IsIn-right d (named_at [] (starts file V)) (flat_map (references file) V) (IsIn-flat_map (references file) V r d i j))).0

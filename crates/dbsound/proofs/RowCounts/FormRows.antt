@@ -23,9 +23,10 @@ use Rattle.dbsurvey.proofs.Elements.{IsOnce, EachPair-filter, range_once, map_on
 use Rattle.dbsurvey.proofs.Rearranged.{rearranged}
 use Rattle.dbformat.proofs.Roles.{child_leads}
 use Rattle.dbsurvey.proofs.Composing.{named_at-step, named_at-from}
-use Rattle.dbsound.proofs.RowCounts.RowPages.{of_row, row_of, group, group-from, groups-have, groups_once, pages_counted, trees_counted, is_shown, others_counted, rows_apart, unvisited_shown, visited_shown}
+use Rattle.dbsound.proofs.RowCounts.RowPages.{of_row, row_of, pages_counted, trees_counted, is_shown, others_counted, rows_apart, unvisited_shown, visited_shown}
 use Rattle.dbformat.proofs.Visited.{each_once, visit_is, number_of, has_address, root_is_start}
 use Rattle.dbformat.proofs.Places.{same_start}
+use Rattle.dbsurvey.proofs.Groups.{group, group-from, groups-have, groups_once}
 
 -- the starts are roots of trees, and a trunk
 start_role : (file : List ℕ) (V : List Reference) (l : Link Way) → IsIn l (starts file V) → (is_root l.role.role ≡ true) ⊎ (is_on_freelist l.role.role ≡ true)

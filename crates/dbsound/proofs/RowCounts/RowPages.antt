@@ -1,18 +1,14 @@
 -- Which pages the rows of visits, of trees and of other pages count.
 use Rattle.std.proofs.Common.{◌≡◌, ℕ, Bool, true, false, cond, List, [], ◌∷◌, ◌++◌, map, Option, Some, None, refl, sym, ap, ◌∙◌}
-use Rattle.std.specs.Prelude.{filter, filter_map, flat_map, option_map, ◌==◌}
+use Rattle.std.specs.Prelude.{filter, filter_map, flat_map, option_map}
 use Rattle.std.specs.List.{cons_option}
-use Rattle.std.proofs.lemmas.Bool.{eqb-true, eq-eqb}
-use Rattle.dbsurvey.specs.Address.{IsIn, EachPair}
-use Rattle.dbsurvey.proofs.Order.{EachPair-append}
-use Rattle.dbsurvey.proofs.Ordering.{IsIn-map, IsIn-from_map, IsIn-flat_map, IsIn-from_flat_map}
+use Rattle.dbsurvey.specs.Address.{EachPair}
 use Rattle.dbformat.specs.Head.{View}
 use Rattle.dbformat.specs.Address.{start_of}
 use Rattle.dbformat.specs.Reference.{Role, root, child, first_overflow, later_overflow, trunk, free_leaf, Reference, role_of, is_on_freelist, tree_view}
 use Rattle.dbformat.specs.EndFaults.{visit_of}
 use Rattle.dbformat.specs.Rows.{StatRow, row_in, tree_page_row, page_row, tree_row, other_row, OtherPage, other_visited, other_page, counted_pages}
-use Rattle.dbsurvey.proofs.Lists.{filter-from, filter-has, filter_map-from}
-use Rattle.dbsurvey.proofs.Elements.{IsOnce, EachPair-filter, map_once, one_by}
+use Rattle.dbsurvey.proofs.Lists.{filter_map-from}
 use Rattle.dbsurvey.specs.Whole.{HasEachPageOnce}
 
 -- the row of a visit has its page and its start, and a visit has none exactly where it is on the freelist
@@ -41,33 +37,6 @@ row_of file r (first_overflow left) e = (_, refl)
 row_of file r (later_overflow left) e = (_, refl)
 row_of file r trunk e = cc
 row_of file r free_leaf e = cc
-
--- numbers that are grouped by a key
-module _ {X : Type 0} (key page : X → ℕ) (xs : List X) where
-  abbrev pub group : ℕ → List ℕ
-  group k = map page (filter (λ x. key x == k) xs)
-
-  pub group-from : (k p : ℕ) → IsIn p (group k) → (x : X) × IsIn x xs × (key x ≡ k) × (page x ≡ p)
-  group-from k p i =
-      let m = IsIn-from_map page (filter (λ x. key x == k) xs) p i in
-      let h = filter-from (λ x. key x == k) xs m.0 m.1 in
-      (m.0, h.0, eqb-true (key m.0) k h.1, sym m.2)
-
-  pub groups-have : (ks : List ℕ) (x : X) → IsIn x xs → IsIn (key x) ks → IsIn (page x) (flat_map group ks)
-  groups-have ks x i j = IsIn-flat_map group ks (key x) (page x) j
-      (IsIn-map page (filter (λ y. key y == key x) xs) x (filter-has (λ y. key y == key x) xs x i (eq-eqb (key x) (key x) refl)))
-
-  pub groups_once : EachPair (λ x y. page x ≡ page y → ⊥) xs → (ks : List ℕ) → IsOnce ks → IsOnce (flat_map group ks)
-  groups_once apart [] h = tt
-  groups_once apart (k ∷ ks) h = EachPair-append (λ x y. x ≡ y → ⊥) (group k) (flat_map group ks)
-      (map_once page (filter (λ x. key x == k) xs) (EachPair-filter (λ x y. page x ≡ page y → ⊥) (λ x. key x == k) xs apart))
-      (groups_once apart ks h.1)
-      (λ p q i j e.
-      let a = group-from k p i in
-      let m = IsIn-from_flat_map group ks q j in
-      let b = group-from m.0 q m.2 in
-      let s = one_by page xs apart a.0 b.0 a.1 b.1 (a.3 ∙ e ∙ sym b.3) in
-      h.0 m.0 m.1 (sym a.2 ∙ ap key s ∙ b.2))
 
 -- the pages that rows count
 pub pages_counted : (rows : List StatRow) → flat_map counted_pages (map page_row rows) ≡ map (λ (row : StatRow). row.page) rows

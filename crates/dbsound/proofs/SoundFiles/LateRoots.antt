@@ -1,7 +1,6 @@
 -- Where roots come first no root page is late.
-use Rattle.std.proofs.Common.{arith, ◌≡◌, ◌⊎◌, ℕ, ◌<◌, inl, inr, min, Bool, true, false, not, ◌&&◌, Option, Some, None, List, [], ◌∷◌, map, refl, sym, subst, ◌∙◌}
-use Rattle.std.specs.Prelude.{filter, fold, Contains, pos, nat_lt, ◌==◌}
-use Rattle.std.specs.List.{reduce}
+use Rattle.std.proofs.Common.{arith, ◌≡◌, ℕ, ◌<◌, Bool, true, false, not, ◌&&◌, Option, Some, None, List, [], map, refl, sym, subst, ◌∙◌}
+use Rattle.std.specs.Prelude.{filter, Contains, pos, nat_lt, ◌==◌}
 use Rattle.std.proofs.lemmas.Bool.{and_parts, eqb-true, not-true}
 use Rattle.std.proofs.lemmas.Bool.Decides.{nat_tests}
 use Rattle.dbsurvey.specs.Address.{IsIn}
@@ -19,21 +18,7 @@ use Rattle.dbsound.proofs.SoundFiles.Survey.{all_visits, all_uses, uses_are}
 use Rattle.dbsurvey.proofs.Elements.{contains}
 use Rattle.dbformat.proofs.TestsLemmas.{told_none}
 use Rattle.dbsound.proofs.TermVisits.Uses.{root_use}
-
--- the least of some numbers is one of them
-least_in : (a : ℕ) (xs : List ℕ) → IsIn (fold min a xs) (a ∷ xs)
-least_in a [] = inl refl
-least_in a (x ∷ xs) = elim (least_in (min a x) xs) [
-  | inl e ↦ (elim (one_of a x) [ inl f ↦ inl (e ∙ f) | inr f ↦ inr (inl (e ∙ f)) ])
-  | inr i ↦ inr (inr i)
-]
-  where
-    one_of : (a x : ℕ) → (min a x ≡ a) ⊎ (min a x ≡ x)
-    one_of a x = grind arith
-
-reduced_in : (xs : List ℕ) (n : ℕ) → reduce min xs ≡ Some n → IsIn n xs
-reduced_in [] n e = cc
-reduced_in (x ∷ xs) n e = let same : fold min x xs ≡ n = cc in subst (λ m. IsIn m (x ∷ xs)) same (least_in x xs)
+use Rattle.dbsurvey.proofs.Least.{reduced_in}
 
 module _ (file : List ℕ) (s : Sound file) where
   abbrev V : List Reference

@@ -2,12 +2,10 @@
 use Rattle.std.proofs.Common.{arith, ◌≡◌, ℕ, ◌<◌, ◌≤◌, inl, inr, Bool, true, false, cond, not, ◌&&◌, Option, Some, None, Ok, List, [], ◌∷◌, ◌++◌, map, length, refl, sym, ap, subst, ◌∙◌}
 use Rattle.std.specs.Prelude.{filter, is_none, IsSome, nat_le, pos, ◌==◌}
 use Rattle.std.specs.List.{cons_option}
-use Rattle.std.proofs.lemmas.Bool.{cases_Bool}
 use Rattle.std.proofs.lemmas.Bool.Decides.{nat_tests}
-use Rattle.dbsurvey.specs.Address.{IsIn, Address}
+use Rattle.dbsurvey.specs.Address.{IsIn}
 use Rattle.dbsurvey.specs.InOrder.{is_before}
-use Rattle.dbsurvey.proofs.Order.{IsBefore-irreflexive}
-use Rattle.dbsurvey.proofs.Ordering.{IsIn-map, IsIn-from_map, IsIn-flat_map, is_before-means}
+use Rattle.dbsurvey.proofs.Ordering.{IsIn-map, IsIn-from_map, IsIn-flat_map, is_before-itself}
 use Rattle.dbformat.specs.Faults.{fault}
 use Rattle.dbformat.specs.Tests.{told_if}
 use Rattle.dbformat.specs.Address.{start_of, schema_start, last_root_start}
@@ -25,26 +23,11 @@ use Rattle.dbsurvey.proofs.Each.{each_of}
 use Rattle.dbsound.proofs.TermRows.Spelled.{row_of}
 use Rattle.dbsound.proofs.SoundFiles.Survey.{all_visits, first_is, schema_first, rooted_are}
 use Rattle.dbformat.proofs.TestsLemmas.{told_none}
+use Rattle.dbsurvey.proofs.Lists.{cons-longer, cons-longer-lt, cons-at-least, cons-at-least-lt}
 
 some_named : (o : Option (List ℕ)) → IsSome o → is_none o ≡ false
 some_named None h = cc
 some_named (Some x) h = refl
-
-cons-longer : {X : Type 0} (o : Option X) (xs ys : List X) → length xs ≤ length ys → length (cons_option o xs) ≤ length (cons_option o ys)
-cons-longer None xs ys h = h
-cons-longer (Some x) xs ys h = omega arith
-
-cons-longer-lt : {X : Type 0} (o : Option X) (xs ys : List X) → length xs < length ys → length (cons_option o xs) < length (cons_option o ys)
-cons-longer-lt None xs ys h = h
-cons-longer-lt (Some x) xs ys h = omega arith
-
-cons-at-least : {X : Type 0} (o : Option X) (xs ys : List X) → length xs ≤ length ys → length xs ≤ length (cons_option o ys)
-cons-at-least None xs ys h = h
-cons-at-least (Some x) xs ys h = omega arith
-
-cons-at-least-lt : {X : Type 0} (o : Option X) (xs ys : List X) → length xs < length ys → length xs < length (cons_option o ys)
-cons-at-least-lt None xs ys h = h
-cons-at-least-lt (Some x) xs ys h = omega arith
 
 no_more : (p : SchemaCell → Bool) (cs : List SchemaCell) → length (rooted_rows (filter p cs)) ≤ length (rooted_rows cs)
 no_more p [] = omega arith
@@ -67,9 +50,6 @@ fewer p (d ∷ cs) c q (inr i) f e = by_case (p d) (fewer p cs c q i f e)
     by_case : (b : Bool) → length (rooted_rows (filter p cs)) < length (rooted_rows cs) → length (rooted_rows (cond b (d ∷ filter p cs) (filter p cs))) < length (rooted_rows (d ∷ cs))
     by_case true h = cons-longer-lt (rooted d.row) (rooted_rows (filter p cs)) (rooted_rows cs) h
     by_case false h = cons-at-least-lt (rooted d.row) (rooted_rows (filter p cs)) (rooted_rows cs) h
-
-before_itself : (a : Address) → is_before a a ≡ false
-before_itself a = elim (cases_Bool (is_before a a)) [ inl e ↦ absurd (IsBefore-irreflexive a (is_before-means a a e)) | inr e ↦ e ]
 
 row_none : (is_full : Bool) (c : SchemaCell) (q : SchemaRow) → c.row ≡ Ok q → IsSome q.name → (not (q.root == 0) && is_full) ≡ false → row_faults_if is_full c ≡ []
 row_none is_full c q e n f = rw e (
@@ -95,7 +75,7 @@ module _ (file : List ℕ) (s : Sound file) (survey : Survey file (all_visits fi
       by_root : (b : Bool) → (q.root == 0) ≡ b → (not b && nat_le last_root_start (earlier_roots file (all_visits file s) c.place)) ≡ false
       by_root true f = refl
       by_root false f = less (earlier_roots file (all_visits file s) c.place) (length (rooted_rows (schema file (all_visits file s))))
-          (fewer (λ d. is_before d.place c.place) (schema file (all_visits file s)) c q i (before_itself c.place) (ap rooted e ∙ ap (λ b. cond b None (Some q)) f)) few_rooted
+          (fewer (λ d. is_before d.place c.place) (schema file (all_visits file s)) c q i (is_before-itself c.place) (ap rooted e ∙ ap (λ b. cond b None (Some q)) f)) few_rooted
 
   row_is_taken : (c : SchemaCell) → IsIn c (schema file (all_visits file s)) → row_faults file (all_visits file s) c ≡ []
   unfolding row_faults

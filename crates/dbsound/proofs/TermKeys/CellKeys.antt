@@ -18,20 +18,13 @@ use Rattle.dbsurvey.proofs.Lists.{flat_map-none}
 use Rattle.dbsound.proofs.TermVisits.Under.{IsUnder, IsFrom}
 use Rattle.dbsound.proofs.TermVisits.Depths.{IsNoTree, no_view}
 use Rattle.dbsound.proofs.TermKeys.KeyOrder.{AreInOrder, IsInside, IsPlaced, in_order_both, in_order_none, in_order_one, in_order_of}
-use Rattle.dbformat.proofs.Places.{cell_key}
+use Rattle.dbformat.proofs.Places.{cell_key, key_place}
 
 pub key_some : (r : Reference) (v : View) (i : ℕ) (c : Cell) (k : ℤ) → c.key ≡ Some k → key_of r v (i, c) ≡ cell_key r v i k ∷ []
 key_some r v i c k e = rw e refl
 
 pub key_none : (r : Reference) (v : View) (i : ℕ) (c : Cell) → c.key ≡ None → key_of r v (i, c) ≡ []
 key_none r v i c e = rw e refl
-
-key_place : (r : Reference) (v : View) (x : ℕ × Cell) (k : Key) → IsIn k (key_of r v x) → k.place ≡ then_step r.address (key_step x.0)
-key_place r v (i, c) k h = by_key c.key refl
-  where
-    by_key : (o : Option ℤ) → c.key ≡ o → k.place ≡ then_step r.address (key_step i)
-    by_key None e = absurd (subst (λ l. IsIn k l) (key_none r v i c e) h)
-    by_key (Some n) e = elim (subst (λ l. IsIn k l) (key_some r v i c n e) h) [ inl f ↦ ap (λ k. k.place) f | inr n ↦ absurd n ]
 
 -- the keys of some visits
 abbrev pub keys_in : List ℕ → List Reference → List Key

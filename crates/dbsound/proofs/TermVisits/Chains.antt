@@ -22,8 +22,6 @@ use Rattle.dbsound.proofs.TermVisits.{visit_at, chain_visits, payload_visits, pa
 use Rattle.dbsurvey.proofs.WholeParts.{whole_one, whole_both}
 use Rattle.dbsurvey.proofs.Composing.{named_at-append}
 
--- for any rules
-
 -- a reference may be followed
 abbrev pub May : List ℕ → Reference → Type 0
 May file t = (rules_of file).may t ≡ true
