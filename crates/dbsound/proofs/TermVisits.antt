@@ -29,6 +29,7 @@ use Rattle.dbformat.specs.declared.TreeKind.{TreeKind}
 abbrev pub visit_at : Role → ℕ → ℕ → ℕ → Address → Reference
 visit_at role from item p a = record { address = a; page = p; role = record { role = role; from = from; item = item } }
 
+-- the pages of a chain
 abbrev pub chain_visits : {file : List ℕ} {role : Role} {from p left : ℕ} {uses : List Use} {bytes : List ℕ}
     → Chain file role from p left uses bytes → ℕ → Address → List Reference
 chain_visits (last {role} {from} {p} h e) item a = visit_at role from item p a ∷ []

@@ -17,6 +17,9 @@ use Rattle.dbsurvey.proofs.Lists.{filter-all, filter-none, flat_map-same}
 abbrev pub below : {R : Type 0} → List (Triple R) → Address → List (Triple R)
 below V a = filter (λ r. starts_with nat_eq r.address a) V
 
+pub below-append : {R : Type 0} (A B : List (Triple R)) (a : Address) → below (A ++ B) a ≡ below A a ++ below B a
+below-append A B a = filter-append (λ t. starts_with nat_eq t.address a) A B
+
 -- what candidates lead to, put together
 pub whole_one : {R : Type 0} (rules : Rules R) (c : Triple R) (V : List (Triple R)) → rules.may c ≡ true → IsWhole rules (children rules c) V → IsWhole rules (c ∷ []) (c ∷ V)
 whole_one rules c V m w = subst (λ U. IsWhole rules (c ∷ []) (c ∷ U)) (append-nil V) (all_of m w nothing)
@@ -50,9 +53,6 @@ module _ {R : Type 0} (rules : Rules R) where
         | inl l ↦ begins-apart a d.0 t.address l (begins-shorter a s t.address k) d.2
         | inr l ↦ begins-apart d.0 a t.address l d.2 (begins-shorter a s t.address k)
       ]))
-
-  below-append : (A B : List (Triple R)) (a : Address) → below (A ++ B) a ≡ below A a ++ below B a
-  below-append A B a = filter-append (λ t. starts_with nat_eq t.address a) A B
 
   module _ (rising : (page : ℕ) (role : R) → IsRising (rules.links page role)) where
     children_apart : (t : Triple R) → AreApart (children rules t)

@@ -36,6 +36,7 @@ row_starts file k rows = map (root_start file) (enumerate_from k rows)
 abbrev pub sections_of : List Reference → List (Link Way) → List Reference
 sections_of V ls = flat_map (λ l. below V (l.step ∷ [])) ls
 
+-- the reference of a start
 abbrev pub start_triple : Link Way → Reference
 start_triple l = record { address = l.step ∷ []; page = l.page; role = l.role }
 

@@ -25,7 +25,6 @@ use Rattle.dbformat.proofs.SchemaPlaces.{own_places, count_rooted, few_by_place}
 use Rattle.std.proofs.lemmas.List.Elements.{All-nil, All-cons}
 
 -- whose row of the schema a cell is
-
 abbrev pub IsRowOf : List ℕ → List Reference → Reference → SchemaCell → Type 0
 IsRowOf file V r c = (v : View) × (tree_view file r ≡ Some v) × (is_interior v.kind ≡ false) × ((start_of r.address == schema_start) ≡ true)
     × ((x : ℕ × Cell) × IsIn x (cells v) × (c ≡ schema_cell file V r x))
@@ -47,7 +46,6 @@ row_of_page file V r c i = by_start (start_of r.address == schema_start) refl i
     by_start false s i = absurd i
 
 -- what no fault says of a row
-
 IsTaken : List ℕ → List Reference → SchemaCell → Type 0
 IsTaken file V c = (r : SchemaRow) × (c.row ≡ Ok r) × IsSome r.name × ((not (r.root == 0) && nat_le last_root_start (earlier_roots file V c.place)) ≡ false)
 
@@ -105,6 +103,7 @@ module _ (file : List ℕ) (V : List Reference) (s : Survey file V) (none : walk
 abbrev pub taken_rows : List SchemaCell → List SchemaRow
 taken_rows S = filter_map (λ c. result_ok c.row) S
 
+-- each row was taken, with a name
 abbrev pub AreTaken : List SchemaCell → Type 0
 AreTaken S = (c : SchemaCell) → IsIn c S → (r : SchemaRow) × (c.row ≡ Ok r) × IsSome r.name
 

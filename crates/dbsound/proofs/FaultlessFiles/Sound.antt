@@ -34,15 +34,12 @@ use Rattle.dbsound.proofs.FaultlessFiles.SchemaRows.{row_of_page, few_rooted, ea
 use Rattle.dbsound.proofs.FaultlessFiles.Forest.{row_starts, sections_of, start_triple, TreesStand, forest, starts_are, start_visited}
 use Rattle.dbsound.proofs.FaultlessFiles.Sums.{free_count, greatest_is, uses_are, freelist_stands}
 use Rattle.dbsound.proofs.FaultlessFiles.Spelled.{spells}
+use Rattle.dbsound.proofs.TermVisits.Uses.{used_pages}
 
 -- a page with a cell has a count of cells
 cell_counts : (v : View) (x : ℕ × Cell) → IsIn x (cells v) → not (count v == 0) ≡ true
 unfolding cells
 cell_counts v x i = ap not (ne_eqb (count v) 0 (λ e. subst (λ n. IsIn x (filter_map (λ i. option_map (λ c. (i, c)) (result_ok (cell v i))) (range_with_len 0 n))) e i))
-
-pages-of_uses : (V : List Reference) → map (λ u. u.page) (map use_of V) ≡ map (λ r. r.page) V
-pages-of_uses [] = refl
-pages-of_uses (r ∷ V) = ap (λ l. r.page ∷ l) (pages-of_uses V)
 
 module _ (file : List ℕ) (V : List Reference) (s : Survey file V) where
   sums_none : sum_faults file V ≡ [] → (format_fault file V ≡ []) × (greatest_root_fault file V ≡ []) × (freelist_fault file V ≡ [])
@@ -107,7 +104,7 @@ module _ (file : List ℕ) (V : List Reference) (s : Survey file V) where
   pages_stand : walk_faults file V ≡ [] → AllUsed file V
       → IsPermutation (map (λ u. u.page) (schema_part ++ root_part ++ free_part) ++ fixed_pages (geometry file)) (page_numbers (geometry file))
   pages_stand walk none = subst (λ us. IsPermutation (map (λ u. u.page) us ++ fixed_pages (geometry file)) (page_numbers (geometry file))) (uses_are file V s walk)
-      (subst (λ ps. IsPermutation (ps ++ fixed_pages (geometry file)) (page_numbers (geometry file))) (sym (pages-of_uses V)) (every_page_once file V s none))
+      (subst (λ ps. IsPermutation (ps ++ fixed_pages (geometry file)) (page_numbers (geometry file))) (sym (used_pages V)) (every_page_once file V s none))
 
   uses_mapped : walk_faults file V ≡ [] → AllUsed file V
       → All (λ u. IfSome (map_entry file u.page) (λ e. e ≡ u.entry)) (schema_part ++ root_part ++ free_part)

@@ -48,6 +48,7 @@ root_off (Role.later_overflow left) e = refl
 root_off Role.free_leaf e = cc
 
 module _ (file : List ℕ) (V : List Reference) (s : Survey file V) (none : walk_faults file V ≡ []) where
+  -- what is below the first start, those of rows, and that of the freelist
   abbrev S : List Reference
   S = below V (schema_start ∷ [])
 

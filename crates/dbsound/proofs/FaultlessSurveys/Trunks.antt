@@ -54,6 +54,7 @@ start_is file = by_test (first_trunk file == 0) refl
     by_test true e = inl (eqb-true (first_trunk file) 0 e, refl)
     by_test false e = inr (eqb-false (first_trunk file) 0 e, (start freelist_start trunk (first_trunk file), refl, refl, refl))
 
+-- the reference of a link at address a
 abbrev at_link : Address → Link Way → Reference
 at_link a l = record { address = a ++ (l.step ∷ []); page = l.page; role = l.role }
 

@@ -47,6 +47,7 @@ pub trees_counted : (of_tree : ℕ → List StatRow) (ks : List ℕ) → flat_ma
 trees_counted of_tree [] = refl
 trees_counted of_tree (k ∷ ks) = ap (λ l. map (λ (row : StatRow). row.page) (of_tree k) ++ l) (trees_counted of_tree ks)
 
+-- whether a page has a row of its own beside those of trees
 abbrev pub is_shown : Option OtherPage → Bool
 is_shown None = false
 is_shown (Some what) = true

@@ -28,7 +28,7 @@ use Rattle.dbformat.proofs.Theory.{are_rules}
 use Rattle.dbformat.proofs.LookBack.{by_starts}
 use Rattle.dbsurvey.proofs.Each.{Each, Each-none, Each-append, Each-left, Each-right}
 use Rattle.dbsound.proofs.TermVisits.{tree_visits, forest_visits, freelist_visits}
-use Rattle.dbsound.proofs.TermVisits.Uses.{uses_of, tree_uses, forest_uses, freelist_uses}
+use Rattle.dbsound.proofs.TermVisits.Uses.{uses_of, tree_uses, forest_uses, freelist_uses, used_pages}
 use Rattle.dbsound.proofs.TermVisits.Chains.{May, Whole}
 use Rattle.dbsound.proofs.TermVisits.Trees.{tree_whole, freelist_whole, list_start}
 use Rattle.dbsound.proofs.TermVisits.Forests.{forest_whole}
@@ -67,10 +67,6 @@ not_too_deep t h = by_kind (is_some (tree_kind (role_of t))) h
 is_page_from : (n p : ℕ) → 1 ≤ p → p ≤ n → (nat_le 1 p && nat_le p n) ≡ true
 is_page_from n p l m = grind (arith, nat_tests)
 
-used_pages : (V : List Reference) → map (λ u. u.page) (uses_of V) ≡ map (λ t. t.page) V
-used_pages [] = refl
-used_pages (t ∷ V) = ap (λ l. t.page ∷ l) (used_pages V)
-
 once_from : (V : List Reference) → EachPair (λ x y. x ≡ y → ⊥) (map (λ t. t.page) V) → HasEachPageOnce V
 once_from [] h = tt
 once_from (t ∷ V) h = ((λ u i e. h.0 u.page (IsIn-map (λ t. t.page) V u i) e), once_from V h.1)
@@ -90,6 +86,7 @@ module _ (file : List ℕ) (s : Sound file) where
   abbrev pub later_visits : List Reference
   later_visits = root_visits ++ free_visits
 
+  -- all of them, and their uses
   abbrev pub all_visits : List Reference
   all_visits = first_visits ++ later_visits
 

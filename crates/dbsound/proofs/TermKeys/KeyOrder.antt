@@ -102,7 +102,6 @@ in_order_of low high K L f h = record {
   inside = λ k i. h.inside k (f k i);
 }
 
--- places below steps of one address
-
+-- a key below a step of address a, from step n on
 abbrev pub IsPlaced : Address → ℕ → Key → Type 0
 IsPlaced a n k = (s : ℕ) × (rest : List ℕ) × (n ≤ s) × (k.place ≡ a ++ (s ∷ rest))

@@ -67,7 +67,6 @@ mutual
       (subst (λ o. AreInOrder o high (flat_map (key_of r v) (enumerate_from (i + 1) cs) ++ keys_in file (children_visits ts (i + 1) r.address))) m.1 (children_keys ts (i + 1) r v o (λ d j. k d (inr j)) e))
 
 -- an index tree has no keys
-
 none_own : (r : Reference) (v : View) (i : ℕ) (cs : List Cell) → Each (λ c. c.key ≡ None) cs → flat_map (key_of r v) (enumerate_from i cs) ≡ []
 none_own r v i [] h = refl
 none_own r v i (c ∷ cs) h = ap (λ l. l ++ flat_map (key_of r v) (enumerate_from (i + 1) cs)) (key_none r v i c (h c (inl refl))) ∙ none_own r v (i + 1) cs (λ d j. h d (inr j))

@@ -16,6 +16,7 @@ use Rattle.dbsurvey.proofs.Each.{Each}
 use Rattle.dbsound.proofs.TermVisits.{visit_at, chain_visits, payload_visits}
 use Rattle.dbformat.proofs.CellSizes.{IsSized}
 
+-- the bytes that some visits hold
 abbrev pub held_in : List ℕ → List Reference → List ℕ
 held_in file V = flat_map (held_bytes file) V
 

@@ -3,7 +3,6 @@ use Rattle.std.proofs.Common.{arith, ◌≡◌, ◌≢◌, ℕ, ◌+◌, ◌*◌
 use Rattle.std.specs.Prelude.{flat_map, nat_eq, ◌==◌}
 use Rattle.std.specs.List.{enumerate_from, starts_with}
 use Rattle.std.proofs.lemmas.List.{append-nil, map-append}
-use Rattle.std.proofs.lemmas.List.Elements.{filter-append}
 use Rattle.std.proofs.lemmas.Grind.{flat_map-append}
 use Rattle.dbsurvey.specs.Address.{Address}
 use Rattle.dbformat.specs.Header.{usable_size, encoding}
@@ -28,7 +27,9 @@ use Rattle.dbsound.proofs.TermRows.Held.{held_in, IsLong, payload_held, payload_
 use Rattle.dbformat.proofs.CellSizes.{leaf_sized, IsSized}
 use Rattle.dbformat.proofs.PageCells.{has_right, has_all_cells}
 use Rattle.dbsound.proofs.TermVisits.Depths.{IsNoTree, no_view, own_view, payload_no_tree, payloads_no_tree}
+use Rattle.dbsurvey.proofs.WholeParts.{below-append}
 
+-- what a row of the schema is taken as
 abbrev pub row_of : SchemaCell → Result SchemaRow RowFault
 row_of c = c.row
 
@@ -39,9 +40,6 @@ spelled file bytes = schema_row bytes (length bytes) (encoding file)
 -- from step n of address a on, V has just what U has
 abbrev pub HasHere : Address → ℕ → List Reference → List Reference → Type 0
 HasHere a n V U = (s : ℕ) (rest : Address) → n ≤ s → below V (a ++ (s ∷ rest)) ≡ below U (a ++ (s ∷ rest))
-
-below-append : (b : Address) (X Y : List Reference) → below (X ++ Y) b ≡ below X b ++ below Y b
-below-append b X Y = filter-append (λ r. starts_with nat_eq r.address b) X Y
 
 step_less : (i s : ℕ) → 3 * (i + 1) ≤ s → overflow_step i ≢ s
 step_less i s h e = omega arith
@@ -59,7 +57,7 @@ module _ (file : List ℕ) (V : List Reference) where
   unfolding payload
   row_is {c} {bytes} t i a U here later sized long =
       let chained : below V (a ++ (overflow_step i ∷ [])) ≡ payload_visits t i a = here (overflow_step i) [] (omega arith)
-      ∙ below-append (a ++ (overflow_step i ∷ [])) (payload_visits t i a) U
+      ∙ below-append (payload_visits t i a) U (a ++ (overflow_step i ∷ []))
       ∙ ap (λ l. below (payload_visits t i a) (a ++ (overflow_step i ∷ [])) ++ l) (none_begin_from a (3 * (i + 1)) (overflow_step i) [] U (omega arith) later)
       ∙ append-nil (below (payload_visits t i a) (a ++ (overflow_step i ∷ [])))
       ∙ all_begin (a ++ (overflow_step i ∷ [])) (payload_visits t i a) (payload_under t i a) in
@@ -76,7 +74,7 @@ module _ (file : List ℕ) (V : List Reference) where
       ap (λ x. x ∷ map row_of (map (schema_cell file V r) (enumerate_from (i + 1) cs)))
       (row_is t i r.address B here (payloads_from ts (i + 1) r.address) (sized c (inl refl)) (Each-left (IsLong file) A B long))
       ∙ ap (λ l. spelled file bytes ∷ l) (leaf_rows_are ts (i + 1) r
-      (λ s rest l. here s rest (omega arith) ∙ below-append (r.address ++ (s ∷ rest)) A B
+      (λ s rest l. here s rest (omega arith) ∙ below-append A B (r.address ++ (s ∷ rest))
       ∙ ap (λ l. l ++ below B (r.address ++ (s ∷ rest))) (none_begin_under r.address (overflow_step i) s rest A (step_less i s l) (payload_under t i r.address)))
       (λ d j. sized d (inr j)) (Each-right (IsLong file) A B long))
 
@@ -90,6 +88,7 @@ module _ (file : List ℕ) (V : List Reference) where
   none_rows : (U : List Reference) → Each IsNoTree U → flat_map (rows_at file V) U ≡ []
   none_rows U h = flat_map-none (rows_at file V) U (λ r i. no_rows r (h r i))
 
+  -- the rows at some visits, by the chains that V has
   abbrev pub rows_in : List Reference → List (Result SchemaRow RowFault)
   rows_in U = map row_of (flat_map (rows_at file V) U)
 
@@ -123,12 +122,12 @@ skip_own a r s rest U e = ap (λ b. cond b (r ∷ below U (a ++ (s ∷ rest))) (
 between : (a : Address) (s : ℕ) (rest : Address) (A B C : List Reference) → below A (a ++ (s ∷ rest)) ≡ [] → below C (a ++ (s ∷ rest)) ≡ []
     → below (A ++ B ++ C) (a ++ (s ∷ rest)) ≡ below B (a ++ (s ∷ rest))
 between a s rest A B C e f = let b = a ++ (s ∷ rest) in
-    below-append b (A ++ B) C ∙ ap (λ l. below (A ++ B) b ++ l) f ∙ append-nil (below (A ++ B) b) ∙ below-append b A B ∙ ap (λ l. l ++ below B b) e
+    below-append (A ++ B) C b ∙ ap (λ l. below (A ++ B) b ++ l) f ∙ append-nil (below (A ++ B) b) ∙ below-append A B b ∙ ap (λ l. l ++ below B b) e
 
 behind : (a : Address) (s : ℕ) (rest : Address) (A B C : List Reference) → below A (a ++ (s ∷ rest)) ≡ [] → below B (a ++ (s ∷ rest)) ≡ []
     → below (A ++ B ++ C) (a ++ (s ∷ rest)) ≡ below C (a ++ (s ∷ rest))
 behind a s rest A B C e f = let b = a ++ (s ∷ rest) in
-    below-append b (A ++ B) C ∙ ap (λ l. l ++ below C b) (below-append b A B ∙ ap (λ l. l ++ below B b) e ∙ f)
+    below-append (A ++ B) C b ∙ ap (λ l. l ++ below C b) (below-append A B b ∙ ap (λ l. l ++ below B b) e ∙ f)
 
 mutual
   pub tree_rows : {file : List ℕ} {is_child : Bool} {from p : ℕ} {kind : TreeKind} {height : ℕ} {low high : Option ℤ} {uses : List Use} {payloads : List (List ℕ)}

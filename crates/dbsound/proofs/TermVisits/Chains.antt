@@ -31,6 +31,7 @@ unfolding rules_of
 links_of file role from item p a = refl
 
 module _ (file : List ℕ) where
+  -- V is all that the references lead to, where each may be followed
   abbrev pub Whole : List Reference → List Reference → Type 0
   Whole cs V = IsWhole (rules_of file) cs V
 
@@ -58,6 +59,7 @@ chain_whole {file} (full {role} {from} {p} {left} h t) item a o m =
     (chain_links file role p left o ∙ one_link file p (usable_size file) left (page_bytes file p) h) m
     (chain_whole t 0 (a ++ 0 ∷ []) refl (λ u i. m u (inr i)))
 
+-- the link of a cell to its chain
 abbrev pub chain_link : ℕ → ℕ → Cell → List (Link Way)
 chain_link p i c = option_to_list (option_map (link p (overflow_step i) i (first_overflow (overflow_size c))) c.overflow)
 

@@ -32,6 +32,7 @@ own_faults (later_overflow left) file p = overflow_fault (usable_size file) left
 own_faults trunk file p = trunk_fault (usable_size file) p (page_bytes file p)
 own_faults free_leaf file p = []
 
+-- a visit whose page has none of these
 abbrev pub IsClean : List ℕ → Reference → Type 0
 IsClean file r = own_faults (role_of r) file r.page ≡ []
 

@@ -1,9 +1,8 @@
 -- Which visits of a term are of roots, and which of the freelist.
-use Rattle.std.proofs.Common.{ℤ, arith, ◌≡◌, ℕ, suc, ◌+◌, inl, inr, Bool, true, false, cond, Option, List, [], ◌∷◌, ◌++◌, map, length, refl, ap, ◌∙◌}
+use Rattle.std.proofs.Common.{ℤ, ◌≡◌, ℕ, ◌+◌, inl, inr, Bool, true, false, cond, Option, List, [], ◌∷◌, ◌++◌, map, length, refl, ap, ◌∙◌}
 use Rattle.std.specs.Prelude.{filter}
 use Rattle.std.proofs.lemmas.List.{map-append}
 use Rattle.std.proofs.lemmas.List.Elements.{filter-append}
-use Rattle.std.proofs.lemmas.List.Sums.{sum_by-append, sum_by-cons}
 use Rattle.dbsurvey.specs.Address.{Address}
 use Rattle.dbformat.specs.Address.{overflow_step, child_step}
 use Rattle.dbformat.specs.File.{page_bytes}
@@ -17,6 +16,7 @@ use Rattle.dbformat.specs.declared.TreeKind.{TreeKind}
 use Rattle.dbformat.proofs.Chains.{IsOverflow}
 use Rattle.dbsurvey.proofs.Each.{Each, Each-none, Each-cons, Each-one, Each-append}
 use Rattle.dbsound.proofs.TermVisits.{visit_at, chain_visits, payload_visits, payloads_visits, tree_visits, children_visits, leaf_visits, freelist_visits, forest_visits}
+use Rattle.dbsurvey.proofs.Lists.{count-append, count_none, count_all}
 
 -- neither a root nor on the freelist
 pub record IsBelow (t : Reference) : Type 0 where
@@ -88,8 +88,7 @@ forest_roots no_tree k = refl
 forest_roots (and_tree {r} {rows} i h t f) k = root_pages-append (tree_visits t k (k ∷ [])) (forest_visits f (k + 1))
     ∙ ap (λ l. l ++ root_pages (forest_visits f (k + 1))) (tree_root t k (k ∷ []) refl) ∙ ap (λ l. r.root ∷ l) (forest_roots f (k + 1))
 
--- how many are on the freelist
-
+-- which are on the freelist, and how many
 abbrev IsFree : Reference → Type 0
 IsFree t = is_on_freelist (role_of t) ≡ true
 
@@ -132,19 +131,11 @@ pub forest_not_free : {file : List ℕ} {rows : List SchemaRow} {uses : List Use
 forest_not_free no_tree k = Each-none IsNotFree
 forest_not_free (and_tree i h t f) k = Each-append IsNotFree (tree_visits t k (k ∷ [])) (forest_visits f (k + 1)) (tree_not_free t k (k ∷ [])) (forest_not_free f (k + 1))
 
-abbrev one_free : Reference → ℕ
-one_free r = cond (is_on_freelist (role_of r)) 1 0
-
 pub free_pages-append : (A B : List Reference) → free_pages (A ++ B) ≡ free_pages A + free_pages B
-free_pages-append A B = sum_by-append one_free A B
+free_pages-append A B = count-append (λ r. is_on_freelist (role_of r)) A B
 
 pub none_free : (V : List Reference) → Each IsNotFree V → free_pages V ≡ 0
-none_free [] h = refl
-none_free (t ∷ V) h = let c = sum_by-cons one_free t V in let o : one_free t ≡ 0 = ap (λ b. cond b 1 0) (h t (inl refl)) in let r = none_free V (λ u i. h u (inr i)) in c ∙ ap (λ n. n + free_pages V) o ∙ ap (λ n. 0 + n) r
+none_free V h = count_none (λ r. is_on_freelist (role_of r)) V h
 
 pub all_free : (V : List Reference) → Each IsFree V → free_pages V ≡ length V
-all_free [] h = refl
-all_free (t ∷ V) h = let c = sum_by-cons one_free t V in let o : one_free t ≡ 1 = ap (λ b. cond b 1 0) (h t (inl refl)) in let r = all_free V (λ u i. h u (inr i)) in c ∙ ap (λ n. n + free_pages V) o ∙ ap (λ n. 1 + n) r ∙ one_more (length V)
-  where
-    one_more : (n : ℕ) → 1 + n ≡ suc n
-    one_more n = omega arith
+all_free V h = count_all (λ r. is_on_freelist (role_of r)) V h

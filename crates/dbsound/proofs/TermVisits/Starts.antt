@@ -99,7 +99,6 @@ forest_good no_tree k = λ r t i j e. absurd i
 forest_good {file} (and_tree {rows} i h t f) k = alike_both (AreGood file) k (k + 1) (k + 1 + length rows) (tree_visits t k (k ∷ [])) (forest_visits f (k + 1)) (tree_started t k k) (forest_started f (k + 1)) (tree_good t k k) (forest_good f (k + 1))
 
 -- the freelist has no tree page
-
 leaves_no_tree : (p : ℕ) (leaves : List ℕ) (j : ℕ) (a : Address) → Each IsNoTree (leaf_visits p leaves j a)
 leaves_no_tree p [] j a = Each-none IsNoTree
 leaves_no_tree p (q ∷ leaves) j a = Each-cons IsNoTree (visit_at free_leaf p j q (a ++ j ∷ [])) (leaf_visits p leaves (j + 1) a) refl (leaves_no_tree p leaves (j + 1) a)

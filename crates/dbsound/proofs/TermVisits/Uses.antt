@@ -13,6 +13,7 @@ use Rattle.dbformat.specs.declared.TreeKind.{TreeKind}
 use Rattle.dbsound.specs.Below.{use_of}
 use Rattle.dbsound.proofs.TermVisits.{chain_visits, payload_visits, payloads_visits, tree_visits, children_visits, leaf_visits, freelist_visits, forest_visits}
 
+-- the uses of some visits
 abbrev pub uses_of : List Reference → List Use
 uses_of V = map use_of V
 
@@ -72,3 +73,7 @@ root_use r = by_role (role_of r)
     by_role (later_overflow left) = refl
     by_role trunk = refl
     by_role free_leaf = refl
+
+pub used_pages : (V : List Reference) → map (λ u. u.page) (uses_of V) ≡ map (λ t. t.page) V
+used_pages [] = refl
+used_pages (t ∷ V) = ap (λ l. t.page ∷ l) (used_pages V)
