@@ -3,7 +3,6 @@
 
 -- what is below the starts, and below each visit
 pub mod Followed
-pub mod Visits
 pub mod Sections
 -- chains, and the payloads of cells
 pub mod Chains
@@ -15,6 +14,5 @@ pub mod Keys
 pub mod Leaves
 pub mod Interiors
 pub mod Trees
-pub mod Roots
 -- the freelist
 pub mod Trunks

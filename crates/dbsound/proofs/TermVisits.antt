@@ -3,7 +3,6 @@
 
 -- where they stand, and their uses
 pub mod Under
-pub mod Beginning
 pub mod Uses
 -- they are all that the first of them leads to
 pub mod Chains

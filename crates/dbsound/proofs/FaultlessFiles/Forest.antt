@@ -87,13 +87,15 @@ module _ (file : List ℕ) (V : List Reference) (s : Survey file V) (none : walk
       ∙ ap (sections_of V) starts_are
       ∙ ap (λ X. below V (schema_start ∷ []) ++ X) (flat_map-append (λ l. below V (l.step ∷ [])) (row_starts file 1 (rooted_rows (schema file V))) (freelist_starts file))
 
-  pub whole_start : (l : Link Way) → IsIn l (schema_link ∷ (row_starts file 1 (rooted_rows (schema file V)) ++ freelist_starts file)) → IsWhole (rules_of file) (named_at [] (l ∷ [])) (below V (l.step ∷ []))
+  pub whole_start : (l : Link Way) → IsIn l (schema_link ∷ (row_starts file 1 (rooted_rows (schema file V)) ++ freelist_starts file))
+      → IsWhole (rules_of file) (named_at [] (l ∷ [])) (below V (l.step ∷ []))
   whole_start l i = (by_sections file V s none).1 l (in_starts l i)
 
   pub whole_free : IsWhole (rules_of file) (named_at [] (freelist_starts file)) (sections_of V (freelist_starts file))
   whole_free = by_case (first_trunk file == 0) (λ l i. whole_start l (inr (IsIn-right l (row_starts file 1 (rooted_rows (schema file V))) (freelist_starts file) i)))
     where
-      by_case : (b : Bool) → ((l : Link Way) → IsIn l (cond b [] (start freelist_start trunk (first_trunk file) ∷ [])) → IsWhole (rules_of file) (named_at [] (l ∷ [])) (below V (l.step ∷ [])))
+      by_case : (b : Bool)
+          → ((l : Link Way) → IsIn l (cond b [] (start freelist_start trunk (first_trunk file) ∷ [])) → IsWhole (rules_of file) (named_at [] (l ∷ [])) (below V (l.step ∷ [])))
           → IsWhole (rules_of file) (named_at [] (cond b [] (start freelist_start trunk (first_trunk file) ∷ []))) (sections_of V (cond b [] (start freelist_start trunk (first_trunk file) ∷ [])))
       by_case true h = nothing
       by_case false h = subst (λ X. IsWhole (rules_of file) (named_at [] (start freelist_start trunk (first_trunk file) ∷ [])) X)

@@ -52,7 +52,8 @@ IsTaken file V c = (r : SchemaRow) × (c.row ≡ Ok r) × IsSome r.name × ((not
 taken_if : (is_full : Bool) (c : SchemaCell) → row_faults_if is_full c ≡ [] → (r : SchemaRow) × (c.row ≡ Ok r) × IsSome r.name × ((not (r.root == 0) && is_full) ≡ false)
 taken_if is_full c e = by_row c.row refl
   where
-    by_tests : (r : SchemaRow) → c.row ≡ Ok r → (a b : Bool) → is_some r.name ≡ a → (not (r.root == 0) && is_full) ≡ b → (r : SchemaRow) × (c.row ≡ Ok r) × IsSome r.name × ((not (r.root == 0) && is_full) ≡ false)
+    by_tests : (r : SchemaRow) → c.row ≡ Ok r → (a b : Bool) → is_some r.name ≡ a → (not (r.root == 0) && is_full) ≡ b
+        → (r : SchemaRow) × (c.row ≡ Ok r) × IsSome r.name × ((not (r.root == 0) && is_full) ≡ false)
     by_tests r o true false n f = (r, o, n, f)
     by_tests r o false b n f = let h = rw (o, n) at e in cc
     by_tests r o true true n f = let h = rw (o, n, f) at e in cc
@@ -63,7 +64,8 @@ taken_if is_full c e = by_row c.row refl
     by_row (Ok r) o = by_tests r o (is_some r.name) (not (r.root == 0) && is_full) refl refl
 
 module _ (file : List ℕ) (V : List Reference) (s : Survey file V) (none : walk_faults file V ≡ []) where
-  row_is_taken : (r : Reference) (v : View) (x : ℕ × Cell) → IsIn r V → tree_view file r ≡ Some v → is_interior v.kind ≡ false → (start_of r.address == schema_start) ≡ true
+  row_is_taken : (r : Reference) (v : View) (x : ℕ × Cell) → IsIn r V → tree_view file r ≡ Some v → is_interior v.kind ≡ false
+      → (start_of r.address == schema_start) ≡ true
       → IsIn x (cells v) → IsTaken file V (schema_cell file V r x)
   unfolding row_faults IsTaken
   row_is_taken r v x i e f t j =
@@ -78,7 +80,8 @@ module _ (file : List ℕ) (V : List Reference) (s : Survey file V) (none : walk
       let h = row_of_page file V m.0 c m.2 in
       subst (IsTaken file V) (sym h.4.2) (row_is_taken m.0 h.0 h.4.0 m.1 h.1 h.2 h.3 h.4.1)
 
-  few_at : (c : SchemaCell) → IsIn c (schema file V) → (r : SchemaRow) × (rooted c.row ≡ Some r) → count_rooted (filter (λ d. is_before d.place c.place) (schema file V)) < last_root_start
+  few_at : (c : SchemaCell) → IsIn c (schema file V) → (r : SchemaRow) × (rooted c.row ≡ Some r)
+      → count_rooted (filter (λ d. is_before d.place c.place) (schema file V)) < last_root_start
   unfolding IsTaken
   few_at c i h = by_taken (all_taken c i)
     where
@@ -88,7 +91,8 @@ module _ (file : List ℕ) (V : List Reference) (s : Survey file V) (none : walk
       by_tests r o false true e f g = let k = rw (e, f) at g in cc
       by_tests r o false false e f g = leb-false last_root_start (earlier_roots file V c.place) f
 
-      by_taken : (r : SchemaRow) × (c.row ≡ Ok r) × IsSome r.name × ((not (r.root == 0) && nat_le last_root_start (earlier_roots file V c.place)) ≡ false) → earlier_roots file V c.place < last_root_start
+      by_taken : (r : SchemaRow) × (c.row ≡ Ok r) × IsSome r.name × ((not (r.root == 0) && nat_le last_root_start (earlier_roots file V c.place)) ≡ false)
+          → earlier_roots file V c.place < last_root_start
       by_taken t = by_tests t.0 t.1 (t.0.root == 0) (nat_le last_root_start (earlier_roots file V c.place)) refl refl t.3
 
   pub few_rooted : length (rooted_rows (schema file V)) ≤ last_root_start
@@ -130,6 +134,7 @@ rows_rooted (c ∷ S) h =
     ∙ by_root t.0 (t.0.root == 0) refl (rows_rooted S (λ d i. h d (inr i)))
     ∙ sym (ap (λ o. cons_option (rooted o) (rooted_rows S)) t.1)
   where
-    by_root : (r : SchemaRow) (b : Bool) → (r.root == 0) ≡ b → with_root (taken_rows S) ≡ rooted_rows S → with_root (r ∷ taken_rows S) ≡ cons_option (rooted (Ok r)) (rooted_rows S)
+    by_root : (r : SchemaRow) (b : Bool) → (r.root == 0) ≡ b → with_root (taken_rows S) ≡ rooted_rows S
+        → with_root (r ∷ taken_rows S) ≡ cons_option (rooted (Ok r)) (rooted_rows S)
     by_root r true e k = rw e k
     by_root r false e k = rw e (ap (λ l. r ∷ l) k)

@@ -24,7 +24,6 @@ use Rattle.dbformat.specs.Terms.{Use}
 use Rattle.dbformat.specs.Sound.{Sound, Forest, with_root, fixed_pages}
 use Rattle.dbformat.specs.declared.TreeKind.TheVariants as tree
 use Rattle.dbsound.specs.Below.{below, use_of, leaf_payloads}
-use Rattle.dbsound.proofs.FaultlessSurveys.Roots.{whole_trees}
 use Rattle.dbsurvey.proofs.Lists.{both_empty, any_true}
 use Rattle.dbsurvey.proofs.Elements.{from_contains}
 use Rattle.dbformat.proofs.FaultParts.{AllUsed, parts_none}
@@ -35,6 +34,7 @@ use Rattle.dbsound.proofs.FaultlessFiles.Forest.{row_starts, sections_of, start_
 use Rattle.dbsound.proofs.FaultlessFiles.Sums.{free_count, greatest_is, uses_are, freelist_stands}
 use Rattle.dbsound.proofs.FaultlessFiles.Spelled.{spells}
 use Rattle.dbsound.proofs.TermVisits.Uses.{used_pages}
+use Rattle.dbsound.proofs.FaultlessSurveys.Trees.{whole_trees}
 
 -- a page with a cell has a count of cells
 cell_counts : (v : View) (x : ℕ × Cell) → IsIn x (cells v) → not (count v == 0) ≡ true
@@ -78,7 +78,8 @@ module _ (file : List ℕ) (V : List Reference) (s : Survey file V) where
   format_is : format_fault file V ≡ [] → taken_rows (schema file V) ≢ [] → (schema_format file ≢ 0) × (encoding_number file ≢ 0)
   format_is e some = by_rows (schema file V) (λ c i. has_a_row c i) some
     where
-      by_tests : (a b : Bool) → (schema_format file == 0) ≡ a → (encoding_number file == 0) ≡ b → has_rows file V ≡ true → (schema_format file ≢ 0) × (encoding_number file ≢ 0)
+      by_tests : (a b : Bool) → (schema_format file == 0) ≡ a → (encoding_number file == 0) ≡ b → has_rows file V ≡ true
+          → (schema_format file ≢ 0) × (encoding_number file ≢ 0)
       by_tests true b f g h = let k = rw (f, h) at e in cc
       by_tests false true f g h = let k = rw (f, g, h) at e in cc
       by_tests false false f g h = ((λ z. let k = sym f ∙ ap (λ n. n == 0) z in cc), (λ z. let k = sym g ∙ ap (λ n. n == 0) z in cc))

@@ -52,7 +52,8 @@ module _ (file : List ℕ) (V : List Reference) where
       ap (λ o. o ∷ map spell (map (cell_payload file V r) xs)) (e ∙ sym t.1)
       ∙ ap (λ l. (schema_cell file V r x).row ∷ l) (spell_cells r xs (λ c i. h c (inr i)))
 
-  spell_page : (r : Reference) → ((c : SchemaCell) → IsIn c (rows_of r) → (r : SchemaRow) × (c.row ≡ Ok r)) → map spell (leaf_payloads file V r) ≡ map (λ c. c.row) (rows_of r)
+  spell_page : (r : Reference) → ((c : SchemaCell) → IsIn c (rows_of r) → (r : SchemaRow) × (c.row ≡ Ok r))
+      → map spell (leaf_payloads file V r) ≡ map (λ c. c.row) (rows_of r)
   spell_page r h = by_view (tree_view file r) h
     where
       by_kind : (v : View) (b : Bool) → ((c : SchemaCell) → IsIn c (cond b [] (map (schema_cell file V r) (cells v))) → (r : SchemaRow) × (c.row ≡ Ok r))
@@ -60,11 +61,13 @@ module _ (file : List ℕ) (V : List Reference) where
       by_kind v true h = refl
       by_kind v false h = spell_cells r (cells v) h
 
-      by_view : (o : Option View) → ((c : SchemaCell) → IsIn c (leaf_rows file V r o) → (r : SchemaRow) × (c.row ≡ Ok r)) → map spell (view_payloads file V r o) ≡ map (λ c. c.row) (leaf_rows file V r o)
+      by_view : (o : Option View) → ((c : SchemaCell) → IsIn c (leaf_rows file V r o) → (r : SchemaRow) × (c.row ≡ Ok r))
+          → map spell (view_payloads file V r o) ≡ map (λ c. c.row) (leaf_rows file V r o)
       by_view None h = refl
       by_view (Some v) h = by_kind v (is_interior v.kind) h
 
-  spell_pages : (X : List Reference) → ((c : SchemaCell) → IsIn c (flat_map rows_of X) → (r : SchemaRow) × (c.row ≡ Ok r)) → map spell (flat_map (leaf_payloads file V) X) ≡ map (λ c. c.row) (flat_map rows_of X)
+  spell_pages : (X : List Reference) → ((c : SchemaCell) → IsIn c (flat_map rows_of X) → (r : SchemaRow) × (c.row ≡ Ok r))
+      → map spell (flat_map (leaf_payloads file V) X) ≡ map (λ c. c.row) (flat_map rows_of X)
   spell_pages [] h = refl
   spell_pages (r ∷ X) h =
       map-append spell (leaf_payloads file V r) (flat_map (leaf_payloads file V) X)

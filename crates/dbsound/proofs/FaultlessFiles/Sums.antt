@@ -79,7 +79,8 @@ module _ (file : List ℕ) (V : List Reference) (s : Survey file V) (none : walk
       let c : count_by p U ≡ length U = count_all p U (all_as file true (whole_free file V s none) (λ c i. ap is_on_freelist (free_role file c i))) in
       omega arith
 
-  row_roots : (k : ℕ) (rows : List SchemaRow) → ((l : Link Way) → IsIn l (row_starts file k rows) → IsWhole (rules_of file) (named_at [] (l ∷ [])) (below V (l.step ∷ [])))
+  row_roots : (k : ℕ) (rows : List SchemaRow)
+      → ((l : Link Way) → IsIn l (row_starts file k rows) → IsWhole (rules_of file) (named_at [] (l ∷ [])) (below V (l.step ∷ [])))
       → map (λ r. r.page) (filter (λ r. is_root (role_of r)) (sections_of V (row_starts file k rows))) ≡ map (λ r. r.root) rows
   row_roots k [] h = refl
   row_roots k (r ∷ rows) h =

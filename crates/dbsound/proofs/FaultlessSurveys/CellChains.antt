@@ -20,8 +20,7 @@ use Rattle.dbsound.specs.Below.{below, use_of, cell_payload, leaf_payloads}
 use Rattle.dbsurvey.proofs.Beginnings.{begins-apart, begins-longer, begins-shorter, not_begins}
 use Rattle.dbsurvey.proofs.Lists.{filter-none, filter-from, filter-has}
 use Rattle.dbformat.proofs.Cells.{one_cell}
-use Rattle.dbsound.proofs.FaultlessSurveys.Followed.{by_its_links}
-use Rattle.dbsound.proofs.FaultlessSurveys.Visits.{child_visited}
+use Rattle.dbsound.proofs.FaultlessSurveys.Followed.{by_its_links, child_visited}
 use Rattle.dbsound.proofs.FaultlessSurveys.Chains.{whole_chain}
 use Rattle.dbsound.proofs.FaultlessSurveys.TreePages.{IsTreePage}
 use Rattle.std.proofs.lemmas.Bool.{cases_order}
@@ -31,7 +30,8 @@ use Rattle.dbformat.proofs.Places.{same_front}
 abbrev pub at_step : List Reference → Address → ℕ → List Reference
 at_step V a step = below V (a ++ (step ∷ []))
 
-one_link : (p step item : ℕ) (role : Role) (o : Option ℕ) (l : Link Way) → IsIn l (option_to_list (option_map (link p step item role) o)) → (q : ℕ) × (o ≡ Some q) × (l.step ≡ step)
+one_link : (p step item : ℕ) (role : Role) (o : Option ℕ) (l : Link Way) → IsIn l (option_to_list (option_map (link p step item role) o))
+    → (q : ℕ) × (o ≡ Some q) × (l.step ≡ step)
 one_link p step item role None l j = absurd j
 one_link p step item role (Some q) l (inl e) = (q, refl, ap (λ l. l.step) e)
 one_link p step item role (Some q) l (inr j) = absurd j
@@ -56,7 +56,8 @@ module _ (file : List ℕ) (V : List Reference) (s : Survey file V) (none : walk
   nothing_at : (step : ℕ) → ((d : Reference) → IsIn d (children (rules_of file) r) → d.address ≡ r.address ++ (step ∷ []) → ⊥) → at_step V r.address step ≡ []
   nothing_at step h = filter-none (λ t. starts_with nat_eq t.address (r.address ++ (step ∷ []))) V (λ t j. not_begins t.address (r.address ++ (step ∷ [])) (λ k. in_part t j k))
     where
-      in_child : (t d : Reference) → IsIn d (children (rules_of file) r) → starts_with nat_eq t.address (r.address ++ (step ∷ [])) ≡ true → starts_with nat_eq t.address d.address ≡ true → ⊥
+      in_child : (t d : Reference) → IsIn d (children (rules_of file) r) → starts_with nat_eq t.address (r.address ++ (step ∷ [])) ≡ true
+          → starts_with nat_eq t.address d.address ≡ true → ⊥
       in_child t d j k l =
           let n = named_at-step r.address ((rules_of file).links r.page r.role) d j in
           let m : starts_with nat_eq t.address (r.address ++ (n.0 ∷ [])) ≡ true = subst (λ a. starts_with nat_eq t.address a ≡ true) n.1 l in
@@ -80,7 +81,8 @@ module _ (file : List ℕ) (V : List Reference) (s : Survey file V) (none : walk
 
   module _ (kind : TreeKind) (is_child : Bool) (v : View) (page : IsTreePage file V r kind is_child v) where
     -- the link at an overflow step is its cell's
-    overflow_link : (x : ℕ × Cell) → IsIn x (cells v) → x.1.overflow ≡ None → (d : Reference) → IsIn d (children (rules_of file) r) → d.address ≡ r.address ++ (overflow_step x.0 ∷ []) → ⊥
+    overflow_link : (x : ℕ × Cell) → IsIn x (cells v) → x.1.overflow ≡ None → (d : Reference) → IsIn d (children (rules_of file) r)
+        → d.address ≡ r.address ++ (overflow_step x.0 ∷ []) → ⊥
     overflow_link x j e d k f =
         let l = named_at-from r.address (page_links r.page kind (Some v)) d (subst (IsIn d) page.links_are k) in
         let g : l.0.step ≡ overflow_step x.0 = (same_front r.address r.address l.0.step (overflow_step x.0) (sym (ap (λ d. d.address) l.2) ∙ f)).1 in

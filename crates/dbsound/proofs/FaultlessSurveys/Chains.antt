@@ -16,8 +16,7 @@ use Rattle.dbformat.specs.Terms.{Chain, last, full}
 use Rattle.dbformat.proofs.Chains.{links_at, faults_at, ends, overflow_of}
 use Rattle.dbsound.specs.Below.{below, use_of, leaf_payloads}
 use Rattle.dbsound.specs.Surveys.{HasChainsBelow}
-use Rattle.dbsound.proofs.FaultlessSurveys.Followed.{by_its_links}
-use Rattle.dbsound.proofs.FaultlessSurveys.Visits.{child_visited, fewer_below}
+use Rattle.dbsound.proofs.FaultlessSurveys.Followed.{by_its_links, child_visited, fewer_below}
 use Rattle.dbformat.proofs.NoFaults.{page_none}
 
 no_tree : (role : Role) (left : ℕ) → bytes_left role ≡ Some left → tree_kind role ≡ None
@@ -49,7 +48,8 @@ module _ (file : List ℕ) (V : List Reference) (s : Survey file V) (none : walk
   unfolding next_of
   next_left r left = refl
 
-  children_of : (r : Reference) (left : ℕ) → bytes_left (role_of r) ≡ Some left → children (rules_of file) r ≡ named_at r.address (overflow_links r.page (usable_size file) left (page_bytes file r.page))
+  children_of : (r : Reference) (left : ℕ) → bytes_left (role_of r) ≡ Some left
+      → children (rules_of file) r ≡ named_at r.address (overflow_links r.page (usable_size file) left (page_bytes file r.page))
   unfolding rules_of
   children_of r left e = ap (named_at r.address) (links_at file (role_of r) r left (overflow_of (role_of r) left e))
 
@@ -93,7 +93,8 @@ module _ (file : List ℕ) (V : List Reference) (s : Survey file V) (none : walk
   cases : (left : ℕ) → (left ≤ usable_size file - 4) ⊎ (usable_size file - 4 < left)
   cases left = grind arith
 
-  chain_of : (n : ℕ) (r : Reference) (left : ℕ) → length (below V r.address) ≤ n → bytes_left (role_of r) ≡ Some left → IsIn r V → IsChainOf file V r left (below V r.address)
+  chain_of : (n : ℕ) (r : Reference) (left : ℕ) → length (below V r.address) ≤ n → bytes_left (role_of r) ≡ Some left → IsIn r V
+      → IsChainOf file V r left (below V r.address)
   chain_of zero r left small e i = absurd (let f = ap length (by_its_links file V s none r i) in omega arith)
   chain_of (suc n) r left small e i = step n r left small e i (chain_of n) (cases left)
 

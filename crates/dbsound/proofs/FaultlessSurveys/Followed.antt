@@ -1,6 +1,7 @@
--- A survey without faults is all that its starts lead to.
-use Rattle.std.proofs.Common.{◌≡◌, ℕ, List, [], sym, subst}
-use Rattle.dbsurvey.specs.Survey.{named_at}
+-- A survey without faults is all that its starts lead to; so each reference of a visited page is visited, and fewer pages
+-- are below it.
+use Rattle.std.proofs.Common.{◌≡◌, ℕ, List, [], sym, subst, ◌<◌, length, ap, arith}
+use Rattle.dbsurvey.specs.Survey.{named_at, children}
 use Rattle.dbsurvey.specs.Traverse.{survey_of}
 use Rattle.dbsurvey.specs.Whole.{IsWhole, IsNoneRefused}
 use Rattle.dbsurvey.proofs.Composing.{named_at-apart}
@@ -9,7 +10,7 @@ use Rattle.dbsurvey.proofs.Unfolding.{part_whole}
 use Rattle.dbformat.specs.File.{geometry}
 use Rattle.dbformat.specs.Reference.{Reference}
 use Rattle.dbformat.specs.Schema.{schema_link, starts}
-use Rattle.dbformat.specs.Survey.{Survey, rules_of}
+use Rattle.dbformat.specs.Survey.{Survey, rules_of, references}
 use Rattle.dbformat.specs.Report.{walk_faults}
 use Rattle.dbformat.proofs.Rising.{starts_rise}
 use Rattle.dbformat.proofs.Theory.{are_rules, named-all}
@@ -17,6 +18,12 @@ use Rattle.dbformat.proofs.NoFaults.{follows_all}
 use Rattle.dbsurvey.specs.From.{under}
 use Rattle.dbsound.specs.Surveys.{IsByItsStarts, IsByItsLinks}
 use Rattle.dbsurvey.proofs.WholeParts.{by_candidates, by_links}
+use Rattle.std.specs.Prelude.{flat_map}
+use Rattle.dbsurvey.specs.Address.{IsIn}
+use Rattle.dbsurvey.proofs.Order.{IsIn-right}
+use Rattle.dbsurvey.proofs.Ordering.{IsIn-flat_map}
+use Rattle.dbsound.specs.Below.{below}
+use Rattle.dbsurvey.proofs.Lists.{length-of_part}
 
 module _ (file : List ℕ) (V : List Reference) (s : Survey file V) (none : walk_faults file V ≡ []) where
   none_refused : IsNoneRefused (rules_of file) (named_at [] (starts file V)) V
@@ -37,3 +44,15 @@ by_its_starts file V s none = by_candidates (rules_of file) (are_rules file).ris
 
 pub by_its_links : (file : List ℕ) → IsByItsLinks file
 by_its_links file V s none r i = by_links (rules_of file) (are_rules file).rising (all_of_starts file V s none) (named_at-apart [] (starts file V) (starts_rise file (under schema_link.step V))) r i
+
+module _ (file : List ℕ) (V : List Reference) (s : Survey file V) (none : walk_faults file V ≡ []) where
+  -- a reference of a visited page is visited
+  pub child_visited : (r d : Reference) → IsIn r V → IsIn d (children (rules_of file) r) → IsIn d V
+  child_visited r d i j = ((follows_all file V s none).0 d (IsIn-right d (named_at [] (starts file V)) (flat_map (references file) V) (IsIn-flat_map (references file) V r d i j))).0
+
+  -- fewer pages are below it
+  pub fewer_below : (r d : Reference) → IsIn r V → IsIn d (children (rules_of file) r) → length (below V d.address) < length (below V r.address)
+  fewer_below r d i j =
+      let e = ap length (by_its_links file V s none r i) in
+      let k = length-of_part (λ d. below V d.address) (children (rules_of file) r) d j in
+      omega arith

@@ -40,7 +40,8 @@ up_to_none (Some k) = tt
 three_uses : (C L F R : List Reference) → (map use_of C ++ map use_of L) ++ map use_of (F ++ R) ≡ map use_of (((C ++ L) ++ F) ++ R)
 three_uses C L F R = ap (λ l. l ++ map use_of (F ++ R)) (sym (map-append use_of C L)) ∙ sym (map-append use_of (C ++ L) (F ++ R)) ∙ ap (map use_of) (sym (append_assoc (C ++ L) F R))
 
-three_payloads : (lp : Reference → List (List ℕ)) (C L F R : List Reference) → flat_map lp C ≡ [] → flat_map lp L ++ flat_map lp (F ++ R) ≡ flat_map lp (((C ++ L) ++ F) ++ R)
+three_payloads : (lp : Reference → List (List ℕ)) (C L F R : List Reference) → flat_map lp C ≡ []
+    → flat_map lp L ++ flat_map lp (F ++ R) ≡ flat_map lp (((C ++ L) ++ F) ++ R)
 three_payloads lp C L F R e =
     ap (λ l. (l ++ flat_map lp L) ++ flat_map lp (F ++ R)) (sym e)
     ∙ ap (λ l. l ++ flat_map lp (F ++ R)) (sym (flat_map-append lp C L))
@@ -113,7 +114,8 @@ module _ (file : List ℕ) (V : List Reference) (s : Survey file V) (faultless :
         by_case None e = tt
         by_case (Some value) e = highs (cell_key r v x.0 value) (has_key file V s faultless r i (has_address file V s r i) v page.view_is x value j e) (key_step x.0) [] refl
 
-    children_at : (h : ℕ) → suc D ≡ suc h + depth r.address → (low high : Option ℤ) (n : ℕ) (xs : List (ℕ × Cell)) → ((x : ℕ × Cell) → IsIn x xs → IsIn x (cells v)) → RiseFrom n xs → n ≤ count v
+    children_at : (h : ℕ) → suc D ≡ suc h + depth r.address → (low high : Option ℤ) (n : ℕ) (xs : List (ℕ × Cell))
+        → ((x : ℕ × Cell) → IsIn x xs → IsIn x (cells v)) → RiseFrom n xs → n ≤ count v
         → AreLow file V low r.address (3 * n) → AreHigh file V high r.address
         → Children file r.page kind h low high (second xs) right_page (map use_of (flat_map (cell_part V r.address) xs ++ right_below)) (flat_map (leaf_payloads file V) (flat_map (cell_part V r.address) xs ++ right_below))
     children_at h high_is low high n [] all rise few lows highs =

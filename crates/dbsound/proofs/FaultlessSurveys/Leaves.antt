@@ -50,7 +50,8 @@ module _ (file : List ℕ) (V : List Reference) (s : Survey file V) (faultless :
     chain_part x = at_step V r.address (overflow_step x.0)
 
     -- the chains of some cells
-    chains : (xs : List (ℕ × Cell)) → ((x : ℕ × Cell) → IsIn x xs → IsIn x (cells v)) → Payloads file r.page (second xs) (flat_map (λ x. map use_of (chain_part x)) xs) (map (cell_payload file V r) xs)
+    chains : (xs : List (ℕ × Cell)) → ((x : ℕ × Cell) → IsIn x xs → IsIn x (cells v))
+        → Payloads file r.page (second xs) (flat_map (λ x. map use_of (chain_part x)) xs) (map (cell_payload file V r) xs)
     chains [] h = none
     chains (x ∷ xs) h = more (payload_at file V s faultless r i kind is_child v page x (h x (inl refl))).0 (chains xs (λ y j. h y (inr j)))
 
@@ -95,7 +96,8 @@ module _ (file : List ℕ) (V : List Reference) (s : Survey file V) (faultless :
                     (above_cell file V s faultless r i (has_address file V s r i) v page.view_is x (h x (inl refl)) k k_is step b at (omega arith))),
               )
 
-      pub leaf_at : (D : ℕ) (low high : Option ℤ) → depth r.address ≡ D → AreLow file V low r.address 0 → AreHigh file V high r.address → HasTree file V D kind is_child r low high
+      pub leaf_at : (D : ℕ) (low high : Option ℤ) → depth r.address ≡ D → AreLow file V low r.address 0 → AreHigh file V high r.address
+          → HasTree file V D kind is_child r low high
       leaf_at D low high deep lows highs = (
         1,
         omega arith,

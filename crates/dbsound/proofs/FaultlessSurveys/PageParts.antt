@@ -40,7 +40,8 @@ module _ (V : List Reference) (a : Address) (p : ℕ) where
   abbrev at_link : Link Way → List Reference
   at_link l = at_step V a l.step
 
-  at_overflow : (step item : ℕ) (role : Role) (o : Option ℕ) → (o ≡ None → at_step V a step ≡ []) → flat_map at_link (option_to_list (option_map (link p step item role) o)) ≡ at_step V a step
+  at_overflow : (step item : ℕ) (role : Role) (o : Option ℕ) → (o ≡ None → at_step V a step ≡ [])
+      → flat_map at_link (option_to_list (option_map (link p step item role) o)) ≡ at_step V a step
   at_overflow step item role None h = sym (h refl)
   at_overflow step item role (Some first) h = append-nil (at_step V a step)
 
@@ -56,7 +57,8 @@ module _ (V : List Reference) (a : Address) (p : ℕ) where
   at_right : (kind : TreeKind) (v : View) → flat_map at_link (right_links p kind v) ≡ right_part V a v
   at_right kind v = by_case (is_interior v.kind)
     where
-      by_case : (b : Bool) → flat_map at_link (option_to_list (option_map (link p (child_step (count v)) (count v) (child kind)) (cond b (Some (right_number v.number v.bytes)) None))) ≡ cond b (at_step V a (child_step (count v))) []
+      by_case : (b : Bool)
+          → flat_map at_link (option_to_list (option_map (link p (child_step (count v)) (count v) (child kind)) (cond b (Some (right_number v.number v.bytes)) None))) ≡ cond b (at_step V a (child_step (count v))) []
       by_case true = append-nil (at_step V a (child_step (count v)))
       by_case false = refl
 

@@ -24,7 +24,8 @@ abbrev pub BeginsAt : ℕ → Address → Type 0
 BeginsAt k a = (b : Address) × (a ≡ k ∷ b)
 
 -- what some links lead to begins at one of them
-pub starts_at : (rules : Rules Way) (ls : List (Link Way)) {U : List Reference} → IsWhole rules (named_at [] ls) U → (t : Reference) → IsIn t U → (l : Link Way) × IsIn l ls × BeginsAt l.step t.address
+pub starts_at : (rules : Rules Way) (ls : List (Link Way)) {U : List Reference} → IsWhole rules (named_at [] ls) U → (t : Reference) → IsIn t U
+    → (l : Link Way) × IsIn l ls × BeginsAt l.step t.address
 starts_at rules ls w t i =
     let h = whole_below rules w t i in
     let k = named_at-from [] ls h.0 h.1 in

@@ -18,7 +18,8 @@ use Rattle.dbsurvey.proofs.Lists.{both_empty}
 use Rattle.dbformat.proofs.NoFaults.{page_none}
 
 -- a page without faults is undamaged
-view-from : (kind : TreeKind) (is_child : Bool) (p : ℕ) (page : List ℕ) (w : Result View HeadFault) → faults_of_view kind is_child p page w ≡ [] → (v : View) × (if_of_tree kind w ≡ Some v)
+view-from : (kind : TreeKind) (is_child : Bool) (p : ℕ) (page : List ℕ) (w : Result View HeadFault) → faults_of_view kind is_child p page w ≡ []
+    → (v : View) × (if_of_tree kind w ≡ Some v)
 view-from kind is_child p page (Err UnknownType) e = cc
 view-from kind is_child p page (Err ContentStart) e = cc
 view-from kind is_child p page (Ok v) e = by_case (is_same_tree (tree_of v.kind) kind) refl e
@@ -34,11 +35,13 @@ pub record IsTreePage (file : List ℕ) (V : List Reference) (r : Reference) (ki
   pub links_are : children (rules_of file) r ≡ named_at r.address (page_links r.page kind (Some v))
   pub depth_is : depth_fault file V r ≡ []
 
-faults_in_tree : (file : List ℕ) (V : List Reference) (r : Reference) (kind : TreeKind) (is_child : Bool) → role_faults (role_in_tree is_child kind) file V r ≡ tree_page_faults kind is_child r.page (usable_size file) (page_bytes file r.page) ++ depth_fault file V r
+faults_in_tree : (file : List ℕ) (V : List Reference) (r : Reference) (kind : TreeKind) (is_child : Bool)
+    → role_faults (role_in_tree is_child kind) file V r ≡ tree_page_faults kind is_child r.page (usable_size file) (page_bytes file r.page) ++ depth_fault file V r
 faults_in_tree file V r kind true = refl
 faults_in_tree file V r kind false = refl
 
-links_in_tree : (kind : TreeKind) (is_child : Bool) (p usable : ℕ) (page : List ℕ) → role_links (role_in_tree is_child kind) p usable page ≡ page_links p kind (undamaged kind p usable page)
+links_in_tree : (kind : TreeKind) (is_child : Bool) (p usable : ℕ) (page : List ℕ)
+    → role_links (role_in_tree is_child kind) p usable page ≡ page_links p kind (undamaged kind p usable page)
 links_in_tree kind true p usable page = refl
 links_in_tree kind false p usable page = refl
 
@@ -46,7 +49,8 @@ kind_in_tree : (kind : TreeKind) (is_child : Bool) → tree_kind (role_in_tree i
 kind_in_tree kind true = refl
 kind_in_tree kind false = refl
 
-view_in_tree : (file : List ℕ) (r : Reference) (kind : TreeKind) → tree_kind (role_of r) ≡ Some kind → tree_view file r ≡ undamaged kind r.page (usable_size file) (page_bytes file r.page)
+view_in_tree : (file : List ℕ) (r : Reference) (kind : TreeKind) → tree_kind (role_of r) ≡ Some kind
+    → tree_view file r ≡ undamaged kind r.page (usable_size file) (page_bytes file r.page)
 unfolding tree_view
 view_in_tree file r kind e = rw e refl
 

@@ -24,7 +24,8 @@ pub room_for_leaves : (file : List ℕ) (V : List Reference) (r : Reference) →
 unfolding page_faults
 room_for_leaves file V r e none = by_test (nat_lt (most_leaves (usable_size file)) (leaf_count (page_bytes file r.page))) refl (ap (λ role. role_faults role file V r) (sym e) ∙ none)
   where
-    by_test : (b : Bool) → nat_lt (most_leaves (usable_size file)) (leaf_count (page_bytes file r.page)) ≡ b → trunk_fault (usable_size file) r.page (page_bytes file r.page) ≡ []
+    by_test : (b : Bool) → nat_lt (most_leaves (usable_size file)) (leaf_count (page_bytes file r.page)) ≡ b
+        → trunk_fault (usable_size file) r.page (page_bytes file r.page) ≡ []
         → leaf_count (page_bytes file r.page) ≤ most_leaves (usable_size file)
     by_test true f h = let k = rw f at h in cc
     by_test false f h = ltb-false (most_leaves (usable_size file)) (leaf_count (page_bytes file r.page)) f

@@ -74,7 +74,8 @@ module _ (file : List ℕ) (V : List Reference) (s : Survey file V) where
       let m = named_at-step [] (starts file V) t (root_is_start file V s t f.0 f.1) in
       m.1 ∙ ap (λ k. k ∷ []) (sym (ap start_of m.1)))
     where
-      by_start : (W : List Reference) → EachPair (λ x y. IsBefore x.address y.address) W → ((t : Reference) → IsIn t W → t.address ≡ start_of t.address ∷ []) → IsOnce (map (λ (r : Reference). start_of r.address) W)
+      by_start : (W : List Reference) → EachPair (λ x y. IsBefore x.address y.address) W → ((t : Reference) → IsIn t W → t.address ≡ start_of t.address ∷ [])
+          → IsOnce (map (λ (r : Reference). start_of r.address) W)
       by_start [] b h = tt
       by_start (t ∷ W) b h = (
         (λ k i e.

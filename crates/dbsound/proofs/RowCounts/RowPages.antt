@@ -12,7 +12,8 @@ use Rattle.dbsurvey.proofs.Lists.{filter_map-from}
 use Rattle.dbsurvey.specs.Whole.{HasEachPageOnce}
 
 -- the row of a visit has its page and its start, and a visit has none exactly where it is on the freelist
-pub of_row : (file : List ℕ) (r : Reference) (role : Role) (row : StatRow) → row_in role file r ≡ Some row → (row.page ≡ r.page) × (row.start ≡ start_of r.address) × (is_on_freelist role ≡ false)
+pub of_row : (file : List ℕ) (r : Reference) (role : Role) (row : StatRow) → row_in role file r ≡ Some row
+    → (row.page ≡ r.page) × (row.start ≡ start_of r.address) × (is_on_freelist role ≡ false)
 of_row file r role row e = by_role role e
   where
     same : (x : StatRow) → Some x ≡ Some row → x.page ≡ r.page → x.start ≡ start_of r.address → (row.page ≡ r.page) × (row.start ≡ start_of r.address)
@@ -43,7 +44,8 @@ pub pages_counted : (rows : List StatRow) → flat_map counted_pages (map page_r
 pages_counted [] = refl
 pages_counted (row ∷ rows) = ap (λ l. row.page ∷ l) (pages_counted rows)
 
-pub trees_counted : (of_tree : ℕ → List StatRow) (ks : List ℕ) → flat_map counted_pages (map (λ k. tree_row k (of_tree k)) ks) ≡ flat_map (λ k. map (λ (row : StatRow). row.page) (of_tree k)) ks
+pub trees_counted : (of_tree : ℕ → List StatRow) (ks : List ℕ)
+    → flat_map counted_pages (map (λ k. tree_row k (of_tree k)) ks) ≡ flat_map (λ k. map (λ (row : StatRow). row.page) (of_tree k)) ks
 trees_counted of_tree [] = refl
 trees_counted of_tree (k ∷ ks) = ap (λ l. map (λ (row : StatRow). row.page) (of_tree k) ++ l) (trees_counted of_tree ks)
 
@@ -52,7 +54,8 @@ abbrev pub is_shown : Option OtherPage → Bool
 is_shown None = false
 is_shown (Some what) = true
 
-pub others_counted : (other : ℕ → Option OtherPage) (ps : List ℕ) → flat_map counted_pages (filter_map (λ p. option_map (other_row p) (other p)) ps) ≡ filter (λ p. is_shown (other p)) ps
+pub others_counted : (other : ℕ → Option OtherPage) (ps : List ℕ)
+    → flat_map counted_pages (filter_map (λ p. option_map (other_row p) (other p)) ps) ≡ filter (λ p. is_shown (other p)) ps
 others_counted other [] = refl
 others_counted other (p ∷ ps) = by_case (other p) (others_counted other ps)
   where

@@ -99,7 +99,8 @@ module _ (file : List ℕ) (s : Sound file) where
       itself : (n : ℕ) → (n == n) ≡ false → ⊥
       itself n e = grind (arith, nat_tests)
 
-      by_case : (b : Bool) → (t.page == p) ≡ b → (IsIn p (map (λ t. t.page) W) → find (λ r. r.page == p) W ≡ None → ⊥) → IsIn p (t.page ∷ map (λ t. t.page) W) → cond b (Some t) (find (λ r. r.page == p) W) ≡ None → ⊥
+      by_case : (b : Bool) → (t.page == p) ≡ b → (IsIn p (map (λ t. t.page) W) → find (λ r. r.page == p) W ≡ None → ⊥) → IsIn p (t.page ∷ map (λ t. t.page) W)
+          → cond b (Some t) (find (λ r. r.page == p) W) ≡ None → ⊥
       by_case true f on i e = cc
       by_case false f on (inl g) e = itself p (subst (λ q. (q == p) ≡ false) (sym g) f)
       by_case false f on (inr i) e = on i e

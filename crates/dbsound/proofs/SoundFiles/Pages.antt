@@ -54,12 +54,14 @@ module _ (file : List ℕ) (s : Sound file) where
       (Each-append (IsClean file) (root_visits file s) (free_visits file s) (forest_clean s.trees 1) (freelist_clean s.freelist 0 freelist_start (freelist_start ∷ [])))
 
   -- a leaf
-  pub is_leaf : (k : ℕ) (r : Reference) → is_leaf_of file k r ≡ true → (start_of r.address ≡ k) × ((v : View) × (tree_view file r ≡ Some v) × (is_interior v.kind ≡ false))
+  pub is_leaf : (k : ℕ) (r : Reference) → is_leaf_of file k r ≡ true
+      → (start_of r.address ≡ k) × ((v : View) × (tree_view file r ≡ Some v) × (is_interior v.kind ≡ false))
   is_leaf k r e =
       let p = and_parts (start_of r.address == k) (option_map_or (λ v. not (is_interior v.kind)) (tree_view file r) false) e in
       (eqb-true (start_of r.address) k p.0, by_view (tree_view file r) refl p.1)
     where
-      by_view : (o : Option View) → tree_view file r ≡ o → option_map_or (λ v. not (is_interior v.kind)) o false ≡ true → (v : View) × (tree_view file r ≡ Some v) × (is_interior v.kind ≡ false)
+      by_view : (o : Option View) → tree_view file r ≡ o → option_map_or (λ v. not (is_interior v.kind)) o false ≡ true
+          → (v : View) × (tree_view file r ≡ Some v) × (is_interior v.kind ≡ false)
       by_view None f e = cc
       by_view (Some v) f e = (v, f, not-true (is_interior v.kind) e)
 
@@ -71,7 +73,8 @@ module _ (file : List ℕ) (s : Sound file) where
       itself : (n : ℕ) → not (n == n) ≡ false
       itself n = grind (arith, nat_tests)
 
-      by_found : is_leaf_of file (start_of r.address) r ≡ true → (o : Option Reference) → find (is_leaf_of file (start_of r.address)) V ≡ o → not (depth r.address == option_map_or (λ r. depth r.address) o (depth r.address)) ≡ false
+      by_found : is_leaf_of file (start_of r.address) r ≡ true → (o : Option Reference) → find (is_leaf_of file (start_of r.address)) V ≡ o
+          → not (depth r.address == option_map_or (λ r. depth r.address) o (depth r.address)) ≡ false
       by_found e None f = itself (depth r.address)
       by_found e (Some t) f =
           let h = find-some (is_leaf_of file (start_of r.address)) V t f in

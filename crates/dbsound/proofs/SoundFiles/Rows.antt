@@ -33,11 +33,13 @@ no_more : (p : SchemaCell → Bool) (cs : List SchemaCell) → length (rooted_ro
 no_more p [] = omega arith
 no_more p (c ∷ cs) = by_case (p c) (no_more p cs)
   where
-    by_case : (b : Bool) → length (rooted_rows (filter p cs)) ≤ length (rooted_rows cs) → length (rooted_rows (cond b (c ∷ filter p cs) (filter p cs))) ≤ length (rooted_rows (c ∷ cs))
+    by_case : (b : Bool) → length (rooted_rows (filter p cs)) ≤ length (rooted_rows cs)
+        → length (rooted_rows (cond b (c ∷ filter p cs) (filter p cs))) ≤ length (rooted_rows (c ∷ cs))
     by_case true h = cons-longer (rooted c.row) (rooted_rows (filter p cs)) (rooted_rows cs) h
     by_case false h = cons-at-least (rooted c.row) (rooted_rows (filter p cs)) (rooted_rows cs) h
 
-fewer : (p : SchemaCell → Bool) (cs : List SchemaCell) (c : SchemaCell) (q : SchemaRow) → IsIn c cs → p c ≡ false → rooted c.row ≡ Some q → length (rooted_rows (filter p cs)) < length (rooted_rows cs)
+fewer : (p : SchemaCell → Bool) (cs : List SchemaCell) (c : SchemaCell) (q : SchemaRow) → IsIn c cs → p c ≡ false → rooted c.row ≡ Some q
+    → length (rooted_rows (filter p cs)) < length (rooted_rows cs)
 fewer p [] c q i f e = absurd i
 fewer p (d ∷ cs) c q (inl same) f e =
     let g : p d ≡ false = ap p (sym same) ∙ f in
@@ -47,7 +49,8 @@ fewer p (d ∷ cs) c q (inl same) f e =
     (subst (λ o. length (rooted_rows (filter p cs)) < length (cons_option o (rooted_rows cs))) (sym r) (omega arith))
 fewer p (d ∷ cs) c q (inr i) f e = by_case (p d) (fewer p cs c q i f e)
   where
-    by_case : (b : Bool) → length (rooted_rows (filter p cs)) < length (rooted_rows cs) → length (rooted_rows (cond b (d ∷ filter p cs) (filter p cs))) < length (rooted_rows (d ∷ cs))
+    by_case : (b : Bool) → length (rooted_rows (filter p cs)) < length (rooted_rows cs)
+        → length (rooted_rows (cond b (d ∷ filter p cs) (filter p cs))) < length (rooted_rows (d ∷ cs))
     by_case true h = cons-longer-lt (rooted d.row) (rooted_rows (filter p cs)) (rooted_rows cs) h
     by_case false h = cons-at-least-lt (rooted d.row) (rooted_rows (filter p cs)) (rooted_rows cs) h
 
@@ -66,7 +69,8 @@ module _ (file : List ℕ) (s : Sound file) (survey : Survey file (all_visits fi
   pub row_taken : (c : SchemaCell) → IsIn c (schema file (all_visits file s)) → (q : SchemaRow) × IsIn q s.rows × (c.row ≡ Ok q)
   row_taken c i = IsIn-from_map Ok s.rows c.row (subst (λ l. IsIn c.row l) schema_all (IsIn-map row_of (schema file (all_visits file s)) c i))
 
-  not_full : (c : SchemaCell) (q : SchemaRow) → IsIn c (schema file (all_visits file s)) → c.row ≡ Ok q → (not (q.root == 0) && nat_le last_root_start (earlier_roots file (all_visits file s) c.place)) ≡ false
+  not_full : (c : SchemaCell) (q : SchemaRow) → IsIn c (schema file (all_visits file s)) → c.row ≡ Ok q
+      → (not (q.root == 0) && nat_le last_root_start (earlier_roots file (all_visits file s) c.place)) ≡ false
   not_full c q i e = by_root (q.root == 0) refl
     where
       less : (n m : ℕ) → n < m → m ≤ last_root_start → nat_le last_root_start n ≡ false
@@ -83,7 +87,8 @@ module _ (file : List ℕ) (s : Sound file) (survey : Survey file (all_visits fi
       let q = row_taken c i in
       row_none (nat_le last_root_start (earlier_roots file (all_visits file s) c.place)) c q.0 q.2 (each_of (λ r. IsSome r.name) s.rows s.named q.0 q.1) (not_full c q.0 i q.2)
 
-  pub in_schema : (r : Reference) (v : View) (x : ℕ × Cell) → IsIn r (all_visits file s) → tree_view file r ≡ Some v → IsIn x (cells v) → (start_of r.address == schema_start) ≡ true → is_interior v.kind ≡ false
+  pub in_schema : (r : Reference) (v : View) (x : ℕ × Cell) → IsIn r (all_visits file s) → tree_view file r ≡ Some v → IsIn x (cells v)
+      → (start_of r.address == schema_start) ≡ true → is_interior v.kind ≡ false
       → IsIn (schema_cell file (all_visits file s) r x) (schema file (all_visits file s))
   unfolding schema
   in_schema r v x i e j f g = IsIn-flat_map (rows_at file (all_visits file s)) (all_visits file s) r (schema_cell file (all_visits file s) r x) i in_rows
@@ -93,10 +98,12 @@ module _ (file : List ℕ) (s : Sound file) (survey : Survey file (all_visits fi
           (subst (λ o. IsIn (schema_cell file (all_visits file s) r x) (leaf_rows file (all_visits file s) r o)) (sym e)
           (subst (λ b. IsIn (schema_cell file (all_visits file s) r x) (cond b [] (map (schema_cell file (all_visits file s) r) (cells v)))) (sym g) (IsIn-map (schema_cell file (all_visits file s) r) (cells v) x j)))
 
-  pub rows_none : (r : Reference) (v : View) (x : ℕ × Cell) → IsIn r (all_visits file s) → tree_view file r ≡ Some v → IsIn x (cells v) → row_faults_at file (all_visits file s) r v x ≡ []
+  pub rows_none : (r : Reference) (v : View) (x : ℕ × Cell) → IsIn r (all_visits file s) → tree_view file r ≡ Some v → IsIn x (cells v)
+      → row_faults_at file (all_visits file s) r v x ≡ []
   rows_none r v x i e j = by_start (start_of r.address == schema_start) (is_interior v.kind) refl refl
     where
-      by_start : (b d : Bool) → (start_of r.address == schema_start) ≡ b → is_interior v.kind ≡ d → cond (b && not d) (row_faults file (all_visits file s) (schema_cell file (all_visits file s) r x)) [] ≡ []
+      by_start : (b d : Bool) → (start_of r.address == schema_start) ≡ b → is_interior v.kind ≡ d
+          → cond (b && not d) (row_faults file (all_visits file s) (schema_cell file (all_visits file s) r x)) [] ≡ []
       by_start false d f g = refl
       by_start true true f g = refl
       by_start true false f g = row_is_taken (schema_cell file (all_visits file s) r x) (in_schema r v x i e j f g)

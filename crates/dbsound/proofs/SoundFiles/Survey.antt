@@ -149,7 +149,8 @@ rooted-rows : (rows : List SchemaRow) → filter_map rooted (map Ok rows) ≡ wi
 rooted-rows [] = refl
 rooted-rows (r ∷ rows) = by_case (r.root == 0) (rooted-rows rows)
   where
-    by_case : (b : Bool) → filter_map rooted (map Ok rows) ≡ with_root rows → cons_option (cond b None (Some r)) (filter_map rooted (map Ok rows)) ≡ cond (not b) (r ∷ with_root rows) (with_root rows)
+    by_case : (b : Bool) → filter_map rooted (map Ok rows) ≡ with_root rows
+        → cons_option (cond b None (Some r)) (filter_map rooted (map Ok rows)) ≡ cond (not b) (r ∷ with_root rows) (with_root rows)
     by_case true h = h
     by_case false h = ap (λ l. r ∷ l) h
 

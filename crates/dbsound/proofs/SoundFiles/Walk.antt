@@ -31,7 +31,8 @@ use Rattle.dbsound.proofs.SoundFiles.Keys.{keys_none}
 use Rattle.dbsound.proofs.SoundFiles.Rows.{rows_none}
 
 module _ (file : List ℕ) (s : Sound file) (survey : Survey file (all_visits file s)) where
-  places_none : (r : Reference) (v : View) (x : ℕ × Cell) → IsIn r (all_visits file s) → tree_view file r ≡ Some v → IsIn x (cells v) → cell_place_faults file (all_visits file s) r v x ≡ []
+  places_none : (r : Reference) (v : View) (x : ℕ × Cell) → IsIn r (all_visits file s) → tree_view file r ≡ Some v → IsIn x (cells v)
+      → cell_place_faults file (all_visits file s) r v x ≡ []
   places_none r v x i e j = ap (λ l. l ++ flat_map (key_faults file (all_visits file s)) (key_of r v x)) (rows_none file s survey r v x i e j) ∙ keys_none file s r v x i e j
 
   -- no reference is refused
@@ -45,7 +46,8 @@ module _ (file : List ℕ) (s : Sound file) (survey : Survey file (all_visits fi
       (goes-errands [] (map Follow (starts file (all_visits file s))) ∙ ap (named_at []) (links-follows (starts file (all_visits file s))) ∙ starts_are) n)
 
 -- what is told at a place is a key of a cell
-key_of_cell : (r : Reference) (kind : TreeKind) (v : View) (x : ℕ × Cell) (step : ℕ) (event : Event) → IsIn (Place step event) (cell_items r kind v x) → event ≡ at_key r v x
+key_of_cell : (r : Reference) (kind : TreeKind) (v : View) (x : ℕ × Cell) (step : ℕ) (event : Event) → IsIn (Place step event) (cell_items r kind v x)
+    → event ≡ at_key r v x
 key_of_cell r kind v (i, c) step event h = elim (IsIn-cases (Place step event) (map Follow (cell_links r.page kind (i, c))) (Place (key_step i) (at_key r v (i, c)) ∷ []) h) [
   | inl k ↦ absurd (no_place (cell_links r.page kind (i, c)) step event k)
   | inr k ↦ (elim k [ inl e ↦ ap event_in e | inr n ↦ absurd n ])
@@ -55,14 +57,16 @@ key_of_cell r kind v (i, c) step event h = elim (IsIn-cases (Place step event) (
     event_in (Follow l) = event
     event_in (Place step e) = e
 
-key_of_page : (r : Reference) (kind : TreeKind) (o : Option View) (step : ℕ) (event : Event) → IsIn (Place step event) (page_items r kind o) → (v : View) × (x : ℕ × Cell) × (o ≡ Some v) × IsIn x (cells v) × (event ≡ at_key r v x)
+key_of_page : (r : Reference) (kind : TreeKind) (o : Option View) (step : ℕ) (event : Event) → IsIn (Place step event) (page_items r kind o)
+    → (v : View) × (x : ℕ × Cell) × (o ≡ Some v) × IsIn x (cells v) × (event ≡ at_key r v x)
 key_of_page r kind None step event h = absurd h
 key_of_page r kind (Some v) step event h = elim (IsIn-cases (Place step event) (flat_map (cell_items r kind v) (cells v)) (map Follow (right_links r.page kind v)) h) [
   | inl k ↦ (let m = IsIn-from_flat_map (cell_items r kind v) (cells v) (Place step event) k in (v, m.0, refl, m.1, key_of_cell r kind v m.0 step event m.2))
   | inr k ↦ absurd (no_place (right_links r.page kind v) step event k)
 ]
 
-key_of_role : (file : List ℕ) (r : Reference) (role : Role) (step : ℕ) (event : Event) → role_of r ≡ role → IsIn (Place step event) (role_items role r (usable_size file) (page_bytes file r.page))
+key_of_role : (file : List ℕ) (r : Reference) (role : Role) (step : ℕ) (event : Event) → role_of r ≡ role
+    → IsIn (Place step event) (role_items role r (usable_size file) (page_bytes file r.page))
     → (v : View) × (x : ℕ × Cell) × (tree_view file r ≡ Some v) × IsIn x (cells v) × (event ≡ at_key r v x)
 unfolding tree_view
 key_of_role file r role step event e h = by_role role e h
@@ -70,7 +74,8 @@ key_of_role file r role step event e h = by_role role e h
     view_in : Role → Option View
     view_in role = option_and_then (λ kind. undamaged kind r.page (usable_size file) (page_bytes file r.page)) (tree_kind role)
 
-    by_role : (role : Role) → role_of r ≡ role → IsIn (Place step event) (role_items role r (usable_size file) (page_bytes file r.page)) → (v : View) × (x : ℕ × Cell) × (view_in (role_of r) ≡ Some v) × IsIn x (cells v) × (event ≡ at_key r v x)
+    by_role : (role : Role) → role_of r ≡ role → IsIn (Place step event) (role_items role r (usable_size file) (page_bytes file r.page))
+        → (v : View) × (x : ℕ × Cell) × (view_in (role_of r) ≡ Some v) × IsIn x (cells v) × (event ≡ at_key r v x)
     by_role (root kind) e h = let k = key_of_page r kind (undamaged kind r.page (usable_size file) (page_bytes file r.page)) step event h in (k.0, k.1, ap view_in e ∙ k.2, k.3, k.4)
     by_role (child kind) e h = let k = key_of_page r kind (undamaged kind r.page (usable_size file) (page_bytes file r.page)) step event h in (k.0, k.1, ap view_in e ∙ k.2, k.3, k.4)
     by_role (first_overflow left) e h = absurd (no_place (overflow_links r.page (usable_size file) left (page_bytes file r.page)) step event h)
@@ -90,7 +95,8 @@ placed_in a (Place step event ∷ is) e (inl k) = (step, inl (ap (λ x. Place st
 placed_in a (Place step event ∷ is) e (inr h) = let m = placed_in a is e h in (m.0, inr m.1)
 
 module _ (file : List ℕ) (s : Sound file) (survey : Survey file (all_visits file s)) where
-  told_none_at : (e : Told Event) → IsTold (rules_of file) (story_of file) (start_errands file (all_visits file s)) (all_visits file s) e → event_faults file (all_visits file s) e.event ≡ []
+  told_none_at : (e : Told Event) → IsTold (rules_of file) (story_of file) (start_errands file (all_visits file s)) (all_visits file s) e
+      → event_faults file (all_visits file s) e.event ≡ []
   unfolding story_of
   told_none_at e (of_errand i) = absurd (no_tell [] (starts file (all_visits file s)) e i)
   told_none_at e (of_page r i f) = subst (λ x. event_faults file (all_visits file s) x.event ≡ []) (sym f) (pages_none file s r i)

@@ -88,7 +88,8 @@ leaf_keys r v i (c ∷ cs) low high l h = by_key c.key refl (λ low'. leaf_keys 
     rest : List Key
     rest = flat_map (key_of r v) (enumerate_from (i + 1) cs)
 
-    by_key : (o : Option ℤ) → c.key ≡ o → ((low' : Option ℤ) → RiseWithin low' high (keys_of cs) → AreInOrder low' high rest) → AreInOrder low high (key_of r v (i, c) ++ rest)
+    by_key : (o : Option ℤ) → c.key ≡ o → ((low' : Option ℤ) → RiseWithin low' high (keys_of cs) → AreInOrder low' high rest)
+        → AreInOrder low high (key_of r v (i, c) ++ rest)
     by_key None e on = subst (λ l. AreInOrder low high (l ++ rest)) (sym (key_none r v i c e)) (on low (let k = rw e at h in k))
     by_key (Some k) e on =
         let g : RiseWithin low high (k ∷ keys_of cs) = rw e at h in
@@ -120,7 +121,8 @@ module _ (file : List ℕ) (r : Reference) (v : View) (i : ℕ) (c : Cell) (cs :
   is_own x (inl e) = e
   is_own x (inr n) = absurd n
 
-  low_part : IsUpTo low (Some m) → AreInOrder low (Some m) (keys_in file B) → Each (IsUnder (r.address ++ child_step i ∷ [])) B → AreInOrder low (Some m) (keys_in file B ++ cell_key r v i m ∷ [])
+  low_part : IsUpTo low (Some m) → AreInOrder low (Some m) (keys_in file B) → Each (IsUnder (r.address ++ child_step i ∷ [])) B
+      → AreInOrder low (Some m) (keys_in file B ++ cell_key r v i m ∷ [])
   low_part l b u = in_order_both low (Some m) m (keys_in file B) (cell_key r v i m ∷ []) l (up_to_itself m) b (in_order_one (Some m) (Some m) (cell_key r v i m) own_inside)
       (λ x y p q. placed_apart r.address (key_step i) x y (below x p) (key_step i, [], omega arith, ap (λ k. k.place) (is_own y q)))
     where
@@ -141,7 +143,8 @@ module _ (file : List ℕ) (r : Reference) (v : View) (i : ℕ) (c : Cell) (cs :
     | inr q ↦ (key_step i, [], omega arith, ap (λ k. k.place) (is_own x q))
   ]
 
-  pub cell_keys : IsUpTo low (Some m) → IsUpTo (Some m) high → Each IsNoTree A → Each (IsUnder (r.address ++ child_step i ∷ [])) B → Each (IsFrom r.address (3 * (i + 1))) C
+  pub cell_keys : IsUpTo low (Some m) → IsUpTo (Some m) high → Each IsNoTree A → Each (IsUnder (r.address ++ child_step i ∷ [])) B
+      → Each (IsFrom r.address (3 * (i + 1))) C
       → AreInOrder low (Some m) (keys_in file B) → AreInOrder (Some m) high (own_rest ++ keys_in file C)
       → AreInOrder low high (flat_map (key_of r v) (enumerate_from i (c ∷ cs)) ++ keys_in file (A ++ B ++ C))
   cell_keys l h a u f b d =

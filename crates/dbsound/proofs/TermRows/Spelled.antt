@@ -19,8 +19,7 @@ use Rattle.dbformat.specs.declared.TreeKind.TheVariants as tree
 use Rattle.dbsurvey.proofs.Each.{Each, Each-left, Each-right}
 use Rattle.dbsurvey.proofs.Lists.{flat_map-none}
 use Rattle.dbsound.proofs.TermVisits.{visit_at, payload_visits, payloads_visits, tree_visits, children_visits}
-use Rattle.dbsound.proofs.TermVisits.Under.{IsFrom, payload_under, payloads_from, tree_under, children_from}
-use Rattle.dbsound.proofs.TermVisits.Beginning.{all_begin, none_begin_from, none_begin_under}
+use Rattle.dbsound.proofs.TermVisits.Under.{IsFrom, payload_under, payloads_from, tree_under, children_from, all_begin, none_begin_from, none_begin_under}
 use Rattle.dbsurvey.proofs.Beginnings.{begins-longer, not_begins}
 use Rattle.dbsound.specs.Below.{below}
 use Rattle.dbsound.proofs.TermRows.Held.{held_in, IsLong, payload_held, payload_long}
@@ -95,7 +94,8 @@ module _ (file : List ℕ) (V : List Reference) where
   rows_both : (X Y : List Reference) → rows_in (X ++ Y) ≡ rows_in X ++ rows_in Y
   rows_both X Y = ap (map row_of) (flat_map-append (rows_at file V) X Y) ∙ map-append row_of (flat_map (rows_at file V) X) (flat_map (rows_at file V) Y)
 
-  leaf_rows_at : (r : Reference) (v : View) → start_of r.address ≡ 0 → tree_view file r ≡ Some v → is_interior v.kind ≡ false → (xs : List (ℕ × Cell)) → cells v ≡ xs → rows_at file V r ≡ map (schema_cell file V r) xs
+  leaf_rows_at : (r : Reference) (v : View) → start_of r.address ≡ 0 → tree_view file r ≡ Some v → is_interior v.kind ≡ false → (xs : List (ℕ × Cell))
+      → cells v ≡ xs → rows_at file V r ≡ map (schema_cell file V r) xs
   leaf_rows_at r v s e l xs f = by_start (start_of r.address == 0) (ap (λ n. n == 0) s)
     where
       by_view : leaf_rows file V r (tree_view file r) ≡ map (schema_cell file V r) xs
@@ -132,7 +132,8 @@ behind a s rest A B C e f = let b = a ++ (s ∷ rest) in
 mutual
   pub tree_rows : {file : List ℕ} {is_child : Bool} {from p : ℕ} {kind : TreeKind} {height : ℕ} {low high : Option ℤ} {uses : List Use} {payloads : List (List ℕ)}
       (t : Tree file is_child from p kind height low high uses payloads) (V : List Reference) (item : ℕ) (b : Address) → 480 ≤ usable_size file → kind ≡ tree.Table
-      → HasHere (0 ∷ b) 0 V (tree_visits t item (0 ∷ b)) → Each (IsLong file) (tree_visits t item (0 ∷ b)) → rows_in file V (tree_visits t item (0 ∷ b)) ≡ map (spelled file) payloads
+      → HasHere (0 ∷ b) 0 V (tree_visits t item (0 ∷ b)) → Each (IsLong file) (tree_visits t item (0 ∷ b))
+      → rows_in file V (tree_visits t item (0 ∷ b)) ≡ map (spelled file) payloads
   tree_rows {file} (leaf {is_child} {from} {p} {kind} v w l r ps) V item b wide e here long =
       let ref = visit_at (role_in_tree is_child kind) from item p (0 ∷ b) in
       let rest = payloads_visits ps 0 (0 ∷ b) in
@@ -151,7 +152,8 @@ mutual
 
   children_rows : {file : List ℕ} {p : ℕ} {kind : TreeKind} {height : ℕ} {low high : Option ℤ} {cs : List Cell} {right : ℕ} {uses : List Use} {payloads : List (List ℕ)}
       (t : Children file p kind height low high cs right uses payloads) (V : List Reference) (i : ℕ) (b : Address) → 480 ≤ usable_size file → kind ≡ tree.Table
-      → HasHere (0 ∷ b) (3 * i) V (children_visits t i (0 ∷ b)) → Each (IsLong file) (children_visits t i (0 ∷ b)) → rows_in file V (children_visits t i (0 ∷ b)) ≡ map (spelled file) payloads
+      → HasHere (0 ∷ b) (3 * i) V (children_visits t i (0 ∷ b)) → Each (IsLong file) (children_visits t i (0 ∷ b))
+      → rows_in file V (children_visits t i (0 ∷ b)) ≡ map (spelled file) payloads
   children_rows {file} (right_only t) V i b wide e here long =
       tree_rows t V i (b ++ child_step i ∷ []) wide e (λ s more n.
       subst (λ x. below V x ≡ below (tree_visits t i (0 ∷ (b ++ child_step i ∷ []))) x) (sym (append_assoc (0 ∷ b) (child_step i ∷ []) (s ∷ more)))

@@ -26,7 +26,8 @@ use Rattle.dbsurvey.proofs.Composing.{named_at-append}
 abbrev pub May : List ℕ → Reference → Type 0
 May file t = (rules_of file).may t ≡ true
 
-links_of : (file : List ℕ) (role : Role) (from item p : ℕ) (a : Address) → children (rules_of file) (visit_at role from item p a) ≡ named_at a (role_links role p (usable_size file) (page_bytes file p))
+links_of : (file : List ℕ) (role : Role) (from item p : ℕ) (a : Address)
+    → children (rules_of file) (visit_at role from item p a) ≡ named_at a (role_links role p (usable_size file) (page_bytes file p))
 unfolding rules_of
 links_of file role from item p a = refl
 
@@ -36,18 +37,21 @@ module _ (file : List ℕ) where
   Whole cs V = IsWhole (rules_of file) cs V
 
   -- the visit of a page whose links are these, and what they lead to
-  pub visit_whole : (role : Role) (from item p : ℕ) (a : Address) (ls : List (Link Way)) (V : List Reference) → role_links role p (usable_size file) (page_bytes file p) ≡ ls
+  pub visit_whole : (role : Role) (from item p : ℕ) (a : Address) (ls : List (Link Way)) (V : List Reference)
+      → role_links role p (usable_size file) (page_bytes file p) ≡ ls
       → Each (May file) (visit_at role from item p a ∷ V) → Whole (named_at a ls) V → Whole (visit_at role from item p a ∷ []) (visit_at role from item p a ∷ V)
   visit_whole role from item p a ls V e m w = whole_one (rules_of file) (visit_at role from item p a) V (m (visit_at role from item p a) (inl refl))
       (subst (λ cs. Whole cs V) (sym (links_of file role from item p a ∙ ap (λ ls. named_at a ls) e)) w)
 
-  chain_links : (role : Role) (p left : ℕ) → IsOverflow role left → role_links role p (usable_size file) (page_bytes file p) ≡ overflow_links p (usable_size file) left (page_bytes file p)
+  chain_links : (role : Role) (p left : ℕ) → IsOverflow role left
+      → role_links role p (usable_size file) (page_bytes file p) ≡ overflow_links p (usable_size file) left (page_bytes file p)
   chain_links role p left o = links_at file role (visit_at role 0 0 p []) left o
 
   no_links : (p usable left : ℕ) (page : List ℕ) → left ≤ usable - 4 → overflow_links p usable left page ≡ []
   no_links p usable left page h = let e : nat_lt (usable - 4) left ≡ false = grind (arith, nat_tests) in rw e refl
 
-  one_link : (p usable left : ℕ) (page : List ℕ) → usable - 4 < left → overflow_links p usable left page ≡ link p 0 0 (later_overflow (left - (usable - 4))) (overflow_next page) ∷ []
+  one_link : (p usable left : ℕ) (page : List ℕ) → usable - 4 < left
+      → overflow_links p usable left page ≡ link p 0 0 (later_overflow (left - (usable - 4))) (overflow_next page) ∷ []
   one_link p usable left page h = let e : nat_lt (usable - 4) left ≡ true = grind (arith, nat_tests) in rw e refl
 
 chain_whole : {file : List ℕ} {role : Role} {from p left : ℕ} {uses : List Use} {bytes : List ℕ} (t : Chain file role from p left uses bytes)

@@ -58,7 +58,8 @@ payloads_no_tree none i a = Each-none IsNoTree
 payloads_no_tree (more t ts) i a = Each-append IsNoTree (payload_visits t i a) (payloads_visits ts (i + 1) a) (payload_no_tree t i a) (payloads_no_tree ts (i + 1) a)
 
 -- the view of a page of a tree
-pub own_view : (file : List ℕ) (is_child : Bool) (kind : TreeKind) (from item p : ℕ) (a : Address) (v : View) → undamaged kind p (usable_size file) (page_bytes file p) ≡ Some v
+pub own_view : (file : List ℕ) (is_child : Bool) (kind : TreeKind) (from item p : ℕ) (a : Address) (v : View)
+    → undamaged kind p (usable_size file) (page_bytes file p) ≡ Some v
     → tree_view file (visit_at (role_in_tree is_child kind) from item p a) ≡ Some v
 unfolding tree_view
 own_view file true kind from item p a v e = e

@@ -49,14 +49,16 @@ own_by_type t k e = two (t == 2) refl e
     ten true d e = let same : LeafIndex ≡ k = cc in ap tree_of same
     ten false d e = thirteen d e
 
-    five : (b c d : Bool) → (b ≡ true → c ≡ false) → cond b (Some InteriorTable) (cond c (Some LeafIndex) (cond d (Some LeafTable) None)) ≡ Some k → cond c tree.Index tree.Table ≡ tree_of k
+    five : (b c d : Bool) → (b ≡ true → c ≡ false) → cond b (Some InteriorTable) (cond c (Some LeafIndex) (cond d (Some LeafTable) None)) ≡ Some k
+        → cond c tree.Index tree.Table ≡ tree_of k
     five true c d n e = let same : InteriorTable ≡ k = cc in rw (n refl) (ap tree_of same)
     five false c d n e = ten c d e
 
     not_ten : (t == 5) ≡ true → (t == 10) ≡ false
     not_ten e = grind (arith, nat_tests)
 
-    two : (b : Bool) → (t == 2) ≡ b → cond b (Some InteriorIndex) (cond (t == 5) (Some InteriorTable) (cond (t == 10) (Some LeafIndex) (cond (t == 13) (Some LeafTable) None))) ≡ Some k
+    two : (b : Bool) → (t == 2) ≡ b
+        → cond b (Some InteriorIndex) (cond (t == 5) (Some InteriorTable) (cond (t == 10) (Some LeafIndex) (cond (t == 13) (Some LeafTable) None))) ≡ Some k
         → cond (b || (t == 10)) tree.Index tree.Table ≡ tree_of k
     two true f e = let same : InteriorIndex ≡ k = cc in ap tree_of same
     two false f e = five (t == 5) (t == 10) (t == 13) not_ten e
@@ -68,7 +70,8 @@ own_is {file} {kind} {is_child} {p} {v} w =
     own_by_type (type_byte p (page_bytes file p)) v.kind (kind_of p (usable_size file) (page_bytes file p) (page_kind (type_byte p (page_bytes file p))) v h.view_is)
     ∙ same_tree (tree_of v.kind) kind h.same_kind
 
-root_kind_is : {file : List ℕ} {kind : TreeKind} {is_child : Bool} {p : ℕ} {v : View} → Terms.IsWhole file kind is_child p v → (k : RowKind) (name : Option (List ℕ)) → (k ≡ row.Index → kind ≡ tree.Index)
+root_kind_is : {file : List ℕ} {kind : TreeKind} {is_child : Bool} {p : ℕ} {v : View} → Terms.IsWhole file kind is_child p v
+    → (k : RowKind) (name : Option (List ℕ)) → (k ≡ row.Index → kind ≡ tree.Index)
     → root_kind file (record { kind = k; root = p; name = name }) ≡ kind
 root_kind_is w row.Index name i = sym (i refl)
 root_kind_is w row.Table name i = own_is w

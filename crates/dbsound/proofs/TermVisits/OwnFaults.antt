@@ -49,7 +49,8 @@ clean_page file V r c d = by_role (role_of r) c
     by_role trunk c = c
     by_role free_leaf c = c
 
-overflow_own : (role : Role) (left : ℕ) (file : List ℕ) (p : ℕ) → IsOverflow role left → own_faults role file p ≡ overflow_fault (usable_size file) left p (page_bytes file p)
+overflow_own : (role : Role) (left : ℕ) (file : List ℕ) (p : ℕ) → IsOverflow role left
+    → own_faults role file p ≡ overflow_fault (usable_size file) left p (page_bytes file p)
 overflow_own (first_overflow m) left file p o = rw o refl
 overflow_own (later_overflow m) left file p o = rw o refl
 overflow_own (root kind) left file p o = absurd o
@@ -80,7 +81,8 @@ payloads_clean : {file : List ℕ} {p : ℕ} {cs : List Cell} {uses : List Use} 
 payloads_clean {file} none i a = Each-none (IsClean file)
 payloads_clean {file} (more t ts) i a = Each-append (IsClean file) (payload_visits t i a) (payloads_visits ts (i + 1) a) (payload_clean t i a) (payloads_clean ts (i + 1) a)
 
-tree_own : (is_child : Bool) (kind : TreeKind) (file : List ℕ) (p : ℕ) → tree_page_faults kind is_child p (usable_size file) (page_bytes file p) ≡ [] → own_faults (role_in_tree is_child kind) file p ≡ []
+tree_own : (is_child : Bool) (kind : TreeKind) (file : List ℕ) (p : ℕ) → tree_page_faults kind is_child p (usable_size file) (page_bytes file p) ≡ []
+    → own_faults (role_in_tree is_child kind) file p ≡ []
 tree_own true kind file p e = e
 tree_own false kind file p e = e
 
@@ -109,7 +111,8 @@ not_less m n h = grind (arith, nat_tests)
 trunk_clean : (usable p : ℕ) (page : List ℕ) → leaf_count page ≤ most_leaves usable → trunk_fault usable p page ≡ []
 trunk_clean usable p page h = told_none (nat_lt (most_leaves usable) (leaf_count page)) (fault L01 p 0 (pos (leaf_count page))) (not_less (most_leaves usable) (leaf_count page) h)
 
-pub freelist_clean : {file : List ℕ} {p : ℕ} {uses : List Use} (t : Freelist file p uses) (from item : ℕ) (a : Address) → Each (IsClean file) (freelist_visits t from item a)
+pub freelist_clean : {file : List ℕ} {p : ℕ} {uses : List Use} (t : Freelist file p uses) (from item : ℕ) (a : Address)
+    → Each (IsClean file) (freelist_visits t from item a)
 freelist_clean {file} no_trunk from item a = Each-none (IsClean file)
 freelist_clean {file} (and_trunk {p} n l t) from item a =
     let page = page_bytes file p in

@@ -74,7 +74,8 @@ no_roots : (V : List Reference) → Each (λ t. is_root (role_of t) ≡ false) V
 no_roots [] h = refl
 no_roots (t ∷ V) h = ap (λ b. map (λ r. r.page) (cond b (t ∷ filter (λ r. is_root (role_of r)) V) (filter (λ r. is_root (role_of r)) V))) (h t (inl refl)) ∙ no_roots V (λ u i. h u (inr i))
 
-one_root : (from item p : ℕ) (a : Address) (is_child : Bool) (kind : TreeKind) (V : List Reference) → is_child ≡ false → Each IsBelow V → root_pages (visit_at (role_in_tree is_child kind) from item p a ∷ V) ≡ p ∷ []
+one_root : (from item p : ℕ) (a : Address) (is_child : Bool) (kind : TreeKind) (V : List Reference) → is_child ≡ false → Each IsBelow V
+    → root_pages (visit_at (role_in_tree is_child kind) from item p a ∷ V) ≡ p ∷ []
 one_root from item p a true kind V e h = cc
 one_root from item p a false kind V e h = ap (λ l. p ∷ l) (no_roots V (λ t i. (h t i).no_root))
 
@@ -112,7 +113,8 @@ free_no_root (later_overflow left) e = refl
 free_no_root trunk e = refl
 free_no_root free_leaf e = refl
 
-pub freelist_no_root : {file : List ℕ} {p : ℕ} {uses : List Use} (t : Freelist file p uses) (from item : ℕ) (a : Address) → root_pages (freelist_visits t from item a) ≡ []
+pub freelist_no_root : {file : List ℕ} {p : ℕ} {uses : List Use} (t : Freelist file p uses) (from item : ℕ) (a : Address)
+    → root_pages (freelist_visits t from item a) ≡ []
 freelist_no_root t from item a = no_roots (freelist_visits t from item a) (λ u i. free_no_root (role_of u) (freelist_free t from item a u i))
 
 root_not_free : (is_child : Bool) (kind : TreeKind) → is_on_freelist (role_in_tree is_child kind) ≡ false

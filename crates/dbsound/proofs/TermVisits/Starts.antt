@@ -28,7 +28,8 @@ IsStarted low high t = (s : ℕ) × (rest : List ℕ) × (low ≤ s) × (s < hig
 abbrev pub Alike : (Reference → Reference → Type 0) → List Reference → Type 0
 Alike rel V = (r t : Reference) → IsIn r V → IsIn t V → start_of r.address ≡ start_of t.address → rel r t
 
-pub alike_both : (rel : Reference → Reference → Type 0) (low mid high : ℕ) (X Y : List Reference) → Each (IsStarted low mid) X → Each (IsStarted mid high) Y → Alike rel X → Alike rel Y → Alike rel (X ++ Y)
+pub alike_both : (rel : Reference → Reference → Type 0) (low mid high : ℕ) (X Y : List Reference) → Each (IsStarted low mid) X → Each (IsStarted mid high) Y
+    → Alike rel X → Alike rel Y → Alike rel (X ++ Y)
 alike_both rel low mid high X Y sx sy x y r t i j e = by_cases (IsIn-cases r X Y i) (IsIn-cases t X Y j)
   where
     other : (r t : Reference) → IsStarted low mid r → IsStarted mid high t → start_of r.address ≡ start_of t.address → ⊥
@@ -42,7 +43,8 @@ alike_both rel low mid high X Y sx sy x y r t i j e = by_cases (IsIn-cases r X Y
 
 -- the leaf t stands as deep as the leaf r
 pub record AreLevel (file : List ℕ) (r t : Reference) : Type 0 where
-  pub level : (v w : View) → tree_view file r ≡ Some v → is_interior v.kind ≡ false → tree_view file t ≡ Some w → is_interior w.kind ≡ false → length r.address ≡ length t.address
+  pub level : (v w : View) → tree_view file r ≡ Some v → is_interior v.kind ≡ false → tree_view file t ≡ Some w → is_interior w.kind ≡ false
+      → length r.address ≡ length t.address
 
 -- no key of t is out of order after one of r
 abbrev pub AreSorted : List ℕ → Reference → Reference → Type 0
@@ -88,7 +90,8 @@ pub tree_started : {file : List ℕ} {is_child : Bool} {from p : ℕ} {kind : Tr
     (t : Tree file is_child from p kind height low high uses payloads) (item : ℕ) (k : ℕ) → Each (IsStarted k (k + 1)) (tree_visits t item (k ∷ []))
 tree_started t item k = started_under k (k + 1) (tree_visits t item (k ∷ [])) (omega arith) (tree_under t item (k ∷ []))
 
-pub forest_started : {file : List ℕ} {rows : List SchemaRow} {uses : List Use} (f : Forest file rows uses) (k : ℕ) → Each (IsStarted k (k + length rows)) (forest_visits f k)
+pub forest_started : {file : List ℕ} {rows : List SchemaRow} {uses : List Use} (f : Forest file rows uses) (k : ℕ)
+    → Each (IsStarted k (k + length rows)) (forest_visits f k)
 forest_started no_tree k = Each-none (IsStarted k (k + 0))
 forest_started (and_tree {rows} i h t f) k = Each-append (IsStarted k (k + suc (length rows))) (tree_visits t k (k ∷ [])) (forest_visits f (k + 1))
     (started_within k k (k + 1) (k + suc (length rows)) (tree_visits t k (k ∷ [])) (omega arith) (omega arith) (tree_started t k k))
@@ -124,5 +127,6 @@ freelist_under {file} (and_trunk {p} n l t) from item a =
     (Each-append (IsUnder a) (leaf_visits p (free_leaves page) 0 a) rest (leaves_under p (free_leaves page) 0 a)
     (Each-implies (IsUnder (a ++ leaf_count page ∷ [])) (IsUnder a) rest (λ u h. (leaf_count page ∷ h.0, h.1 ∙ append_assoc a (leaf_count page ∷ []) h.0)) (freelist_under t p (leaf_count page) (a ++ leaf_count page ∷ []))))
 
-pub freelist_good : {file : List ℕ} {p : ℕ} {uses : List Use} (t : Freelist file p uses) (from item : ℕ) (a : Address) → Alike (AreGood file) (freelist_visits t from item a)
+pub freelist_good : {file : List ℕ} {p : ℕ} {uses : List Use} (t : Freelist file p uses) (from item : ℕ) (a : Address)
+    → Alike (AreGood file) (freelist_visits t from item a)
 freelist_good {file} t from item a = no_tree_good file (freelist_visits t from item a) (freelist_no_tree t from item a)

@@ -99,7 +99,8 @@ mutual
       (children_whole ts (i + 1) n a (omega arith) (Each-right (May file) (A ++ B) C m))
       (flat_map (cell_links p kind) (enumerate_from (i + 1) cs)) (link p (child_step n) n (child kind) right ∷ []) refl
 
-leaves_whole : (file : List ℕ) (p : ℕ) (leaves : List ℕ) (j : ℕ) (a : Address) → Each (May file) (leaf_visits p leaves j a) → Whole file (named_at a (map (leaf_link p) (enumerate_from j leaves))) (leaf_visits p leaves j a)
+leaves_whole : (file : List ℕ) (p : ℕ) (leaves : List ℕ) (j : ℕ) (a : Address) → Each (May file) (leaf_visits p leaves j a)
+    → Whole file (named_at a (map (leaf_link p) (enumerate_from j leaves))) (leaf_visits p leaves j a)
 leaves_whole file p [] j a m = nothing
 leaves_whole file p (q ∷ leaves) j a m = whole_both (rules_of file) (visit_at free_leaf p j q (a ++ j ∷ []) ∷ []) (named_at a (map (leaf_link p) (enumerate_from (j + 1) leaves)))
     (visit_at free_leaf p j q (a ++ j ∷ []) ∷ []) (leaf_visits p leaves (j + 1) a)
@@ -110,13 +111,15 @@ leaves_whole file p (q ∷ leaves) j a m = whole_both (rules_of file) (visit_at 
 abbrev pub list_start : ℕ → ℕ → ℕ → List (Link Way)
 list_start from item p = cond (p == 0) [] (link from item item trunk p ∷ [])
 
-few_leaves : (p usable : ℕ) (page : List ℕ) → leaf_count page ≤ most_leaves usable → trunk_links p usable page ≡ map (leaf_link p) (enumerate_from 0 (free_leaves page)) ++ next_trunk p page (leaf_count page)
+few_leaves : (p usable : ℕ) (page : List ℕ) → leaf_count page ≤ most_leaves usable
+    → trunk_links p usable page ≡ map (leaf_link p) (enumerate_from 0 (free_leaves page)) ++ next_trunk p page (leaf_count page)
 few_leaves p usable page h = let e : nat_le (leaf_count page) (most_leaves usable) ≡ true = le-leb (leaf_count page) (most_leaves usable) h in rw e refl
 
 some_trunk : (p : ℕ) → p ≢ 0 → (p == 0) ≡ false
 some_trunk p h = grind (arith, nat_tests)
 
-pub freelist_whole : {file : List ℕ} {p : ℕ} {uses : List Use} (t : Freelist file p uses) (from item : ℕ) (a : Address) → Each (May file) (freelist_visits t from item (a ++ item ∷ []))
+pub freelist_whole : {file : List ℕ} {p : ℕ} {uses : List Use} (t : Freelist file p uses) (from item : ℕ) (a : Address)
+    → Each (May file) (freelist_visits t from item (a ++ item ∷ []))
     → Whole file (named_at a (list_start from item p)) (freelist_visits t from item (a ++ item ∷ []))
 freelist_whole no_trunk from item a m = nothing
 freelist_whole {file} (and_trunk {p} n l t) from item a m =

@@ -1,5 +1,6 @@
--- Where the visits of a term stand: below the address of its first page.
-use Rattle.std.proofs.Common.{◌≡◌, ℕ, ◌+◌, ◌*◌, ◌≤◌, Bool, List, [], ◌∷◌, ◌++◌, Option, ℤ, sym, ◌∙◌, arith, append_assoc}
+-- Where the visits of a term stand: below the address of its first page. So they all begin with it, and with no address
+-- beside it.
+use Rattle.std.proofs.Common.{◌≡◌, ℕ, ◌+◌, ◌*◌, ◌≤◌, Bool, List, [], ◌∷◌, ◌++◌, Option, ℤ, sym, ◌∙◌, arith, append_assoc, ◌≢◌, ◌<◌, true, false, subst}
 use Rattle.std.proofs.lemmas.List.{append-nil}
 use Rattle.dbsurvey.specs.Address.{Address}
 use Rattle.dbformat.specs.Address.{overflow_step, child_step}
@@ -9,6 +10,11 @@ use Rattle.dbformat.specs.Terms.{Use, Chain, last, full, Payload, whole, split, 
 use Rattle.dbformat.specs.declared.TreeKind.{TreeKind}
 use Rattle.dbsurvey.proofs.Each.{Each, Each-none, Each-cons, Each-append, Each-implies}
 use Rattle.dbsound.proofs.TermVisits.{visit_at, chain_visits, payload_visits, payloads_visits, tree_visits, children_visits}
+use Rattle.std.specs.Prelude.{nat_eq}
+use Rattle.std.specs.List.{starts_with}
+use Rattle.dbsound.specs.Below.{below}
+use Rattle.dbsurvey.proofs.Beginnings.{begins, begins-other}
+use Rattle.dbsurvey.proofs.Lists.{filter-all, filter-none}
 
 -- b begins with a
 abbrev pub IsUnder : Address → Reference → Type 0
@@ -68,3 +74,14 @@ mutual
   children_from (and_left ps l lo hi t cs) i a = Each-append (IsFrom a (3 * i)) (payload_visits ps i a ++ tree_visits t i (a ++ child_step i ∷ [])) (children_visits cs (i + 1) a)
       (Each-append (IsFrom a (3 * i)) (payload_visits ps i a) (tree_visits t i (a ++ child_step i ∷ [])) (payload_from ps i a) (at_child i a (tree_visits t i (a ++ child_step i ∷ [])) (tree_under t i (a ++ child_step i ∷ []))))
       (Each-implies (IsFrom a (3 * (i + 1))) (IsFrom a (3 * i)) (children_visits cs (i + 1) a) (λ u k. from_less a (3 * i) (3 * (i + 1)) u (omega arith) k) (children_from cs (i + 1) a))
+
+pub all_begin : (b : Address) (V : List Reference) → Each (IsUnder b) V → below V b ≡ V
+all_begin b V h = filter-all (λ r. starts_with nat_eq r.address b) V (λ r i. let u = h r i in subst (λ x. starts_with nat_eq x b ≡ true) (sym u.1) (begins b u.0))
+
+pub none_begin_from : (a : Address) (n s : ℕ) (rest : Address) (V : List Reference) → s < n → Each (IsFrom a n) V → below V (a ++ (s ∷ rest)) ≡ []
+none_begin_from a n s rest V l h = filter-none (λ r. starts_with nat_eq r.address (a ++ (s ∷ rest))) V
+    (λ r i. let u = h r i in let m = u.2 in subst (λ x. starts_with nat_eq x (a ++ (s ∷ rest)) ≡ false) (sym u.3) (begins-other a u.0 s u.1 rest (λ e. omega arith)))
+
+pub none_begin_under : (a : Address) (n s : ℕ) (rest : Address) (V : List Reference) → n ≢ s → Each (IsUnder (a ++ n ∷ [])) V → below V (a ++ (s ∷ rest)) ≡ []
+none_begin_under a n s rest V l h = filter-none (λ r. starts_with nat_eq r.address (a ++ (s ∷ rest))) V
+    (λ r i. let u = h r i in subst (λ x. starts_with nat_eq x (a ++ (s ∷ rest)) ≡ false) (sym (u.1 ∙ append_assoc a (n ∷ []) u.0)) (begins-other a n s u.0 rest l))
