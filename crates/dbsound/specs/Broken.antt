@@ -1,6 +1,6 @@
--- Small files that break one rule of a sound file each, beside a sound file that differs in a byte, a page, or the order of two.
--- Two rules are broken by large files alone, too large to compute with: a tree 21 pages high has over 2^19 pages, since
--- each page below its root has a cell; and a schema with too many roots has 65537 rows.
+-- Small files that break one rule of a sound file each, beside a sound file that differs by a byte, by a page, or by the
+-- order of two pages. Two rules are broken by large files alone, too large to compute with: a tree 21 pages high has over
+-- 2^19 pages, since each page below its root has a cell; and a schema with too many roots has 65537 rows.
 use Rattle.std.specs.Prelude.{◌≡◌, ℕ, List, [], ◌∷◌, ◌++◌, Some, None}
 use Rattle.dbformat.specs.File.{refusal}
 use Rattle.dbformat.specs.Survey.{survey}

@@ -45,9 +45,10 @@ pub fn clean_is_sound()
     ensures uses { (file : List ℕ) → HasItsUses file }
 {}
 
-/// Each rule of a sound file can fail alone: beside a sound file stands one that differs from it in a byte, a page, or the
-/// order of two, and is not read, or just the fault of this rule is told of it. Two rules have no file here, since they fail
-/// in large files alone: that the schema's tree is at most 20 pages high, and that the schema has at most 65536 roots.
+/// Each rule of a sound file can fail alone. Beside a sound file stands one that differs from it by a byte, by a page, or by
+/// the order of two pages, and that is not read, or of which just the fault of this rule is told; so it is not sound. Two
+/// rules have no file here, since large files alone break them: that the schema's tree is at most 20 pages high, and that
+/// the schema has at most 65536 roots.
 pub fn each_rule_can_fail_alone()
     ensures is_read { IsRefusedBeside long_row_file wrong_magic Magic }
     ensures header { FailsBeside long_row_file unknown_version (fault H01 1 18 (pos 3)) }

@@ -1,4 +1,4 @@
-//! What the rows of the statistics count. This is apart from soundness: it holds of each file that has a survey.
+//! What the rows of the statistics count, which is apart from soundness: it holds of each file, sound or not.
 
 ghost use Rattle.std.specs.Prelude.{ℕ, List};
 ghost use Rattle.dbsound.specs.Statistics.{CountsPagesOnce};
