@@ -1,19 +1,17 @@
--- Clean means sound, sound means clean, and both at once.
+-- Clean means sound and sound means clean, at once: by the faults of a file, by the answer of its report, and by its verdict.
 use Rattle.std.proofs.Common.{◌≡◌, ℕ, List, [], ◌∷◌, Option, Some, None, Ok, refl, sym, ap, ◌∙◌}
 use Rattle.std.specs.Option.{option_map_or}
 use Rattle.dbformat.specs.File.{refusal}
 use Rattle.dbformat.specs.Reference.{Reference}
 use Rattle.dbformat.specs.Report.{faults, verdict, refused_report, report_of, report}
-use Rattle.dbformat.specs.Survey.{survey}
 use Rattle.dbformat.specs.declared.Fault.{Fault}
 use Rattle.dbformat.specs.declared.Refusal.{Refusal}
 use Rattle.dbformat.specs.declared.Command.{Command}
 use Rattle.dbformat.specs.declared.Command.TheVariants.{Check, Stat}
 use Rattle.dbformat.specs.declared.Verdict.TheVariants.{Clean}
-use Rattle.dbformat.proofs.Theory.{one_survey}
-use Rattle.dbsound.specs.Soundness.{IsSoundWhereClean, IsCleanWhereSound, IsSoundByFaults, IsSoundByAnswer, IsSoundByVerdict}
-use Rattle.dbsound.proofs.Faultless.{faultless_sound}
-use Rattle.dbsound.proofs.NoFault.{no_fault}
+use Rattle.dbsound.specs.Soundness.{IsSoundByFaults, IsSoundByAnswer, IsSoundByVerdict}
+use Rattle.dbsound.proofs.FaultlessFiles.Sound.{faultless_sound}
+use Rattle.dbsound.proofs.SoundFiles.NoFault.{no_fault}
 
 -- a verdict is clean where there is no fault
 clean_is : (fs : List Fault) → verdict fs ≡ Clean → fs ≡ []
@@ -38,23 +36,17 @@ module _ (file : List ℕ) (V : List Reference) where
       by_refusal None r = let h = sym (answer_read command r) ∙ e in let v : verdict (faults file V) ≡ Clean = cc in (r, clean_is (faults file V) v)
       by_refusal (Some why) r = let h = rw r at e in cc
 
-pub clean_sound : (file : List ℕ) → IsSoundWhereClean file
-clean_sound file command V s e = let h = clean_answer file V command e in faultless_sound file V s h.0 h.1
-
-pub sound_clean : (file : List ℕ) → IsCleanWhereSound file
-sound_clean file sound command V s = answer_read file V command sound.is_read ∙ ap (λ fs. Ok (verdict fs)) (no_fault file sound V s)
-
 pub sound_by_faults : (file : List ℕ) → IsSoundByFaults file
-sound_by_faults file = (
-  (λ sound V s. (sound.is_read, no_fault file sound V s)),
-  (λ h. let one = (one_survey file).0 in let k = h (survey file) one in faultless_sound file (survey file) one k.0 k.1),
-)
+sound_by_faults file V s = ((λ sound. (sound.is_read, no_fault file sound V s)), (λ h. faultless_sound file V s h.0 h.1))
 
 pub sound_by_answer : (file : List ℕ) → IsSoundByAnswer file
-sound_by_answer file command V s = (clean_sound file command V s, (λ sound. sound_clean file sound command V s))
+sound_by_answer file command V s = (
+  (λ e. let h = clean_answer file V command e in faultless_sound file V s h.0 h.1),
+  (λ sound. answer_read file V command sound.is_read ∙ ap (λ fs. Ok (verdict fs)) (no_fault file sound V s)),
+)
 
 pub sound_by_verdict : (file : List ℕ) → IsSoundByVerdict file
-sound_by_verdict file command V s v answer = (
-  (λ e. clean_sound file command V s (answer ∙ ap Ok e)),
-  (λ sound. let h = sym answer ∙ sound_clean file sound command V s in cc),
+sound_by_verdict file command V s v answer = let by_answer = sound_by_answer file command V s in (
+  (λ e. by_answer.0 (answer ∙ ap Ok e)),
+  (λ sound. let h = sym answer ∙ by_answer.1 sound in cc),
 )

@@ -1,4 +1,18 @@
--- The visits of a term: its pages as references, each at its address, in the order of addresses.
+-- The visits of a term: its pages as references, each at its address, in the order of addresses. They are defined here, and
+-- each module has a property of them, by induction on terms.
+
+-- where they stand, and their uses
+pub mod Under
+pub mod Uses
+-- they are all that the first of them leads to
+pub mod Chains
+pub mod Trees
+pub mod Forests
+-- their roles, faults that rest on a page alone, depths, and what two visits of one tree have in common
+pub mod Roles
+pub mod OwnFaults
+pub mod Depths
+pub mod Starts
 use Rattle.std.proofs.Common.{ℕ, ◌+◌, Bool, List, [], ◌∷◌, ◌++◌, Option, ℤ}
 use Rattle.dbsurvey.specs.Address.{Address}
 use Rattle.dbformat.specs.Address.{overflow_step, child_step}
@@ -14,6 +28,7 @@ use Rattle.dbformat.specs.declared.TreeKind.{TreeKind}
 abbrev pub visit_at : Role → ℕ → ℕ → ℕ → Address → Reference
 visit_at role from item p a = record { address = a; page = p; role = record { role = role; from = from; item = item } }
 
+-- the pages of a chain
 abbrev pub chain_visits : {file : List ℕ} {role : Role} {from p left : ℕ} {uses : List Use} {bytes : List ℕ}
     → Chain file role from p left uses bytes → ℕ → Address → List Reference
 chain_visits (last {role} {from} {p} h e) item a = visit_at role from item p a ∷ []

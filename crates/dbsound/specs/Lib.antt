@@ -1,3 +1,5 @@
 pub mod Below
-pub mod Laws
+pub mod Broken
 pub mod Soundness
+pub mod Statistics
+pub mod Surveys

@@ -1,4 +1,4 @@
-use Rattle.dbsound.proofs.Followed
+use Rattle.dbsound.proofs.FaultlessSurveys.Followed
 use Rattle.dbsound.proofs.surveys_are_whole.Goals as goal
 
 pub returns : goal.returns
