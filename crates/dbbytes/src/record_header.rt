@@ -43,7 +43,10 @@ impl HeaderProgress {
                     return HeaderProgress::Malformed;
                 }
                 HeaderProgress::Types {
-                    header: RecordHeader::new((value - u64::from(length)) as u32, size - value as u32),
+                    header: RecordHeader::new(
+                        (value - u64::from(length)) as u32,
+                        size - value as u32,
+                    ),
                 }
             }
         }

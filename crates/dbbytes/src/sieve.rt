@@ -1,6 +1,6 @@
 // A row of the schema whose bytes come in pieces.
-use crate::record_header::{RecordHeader, HeaderProgress};
 use crate::partial::PartialVarint;
+use crate::record_header::{HeaderProgress, RecordHeader};
 use crate::row::{MAX_NAME, SchemaRow, root_number, row_kind, row_name};
 use crate::serial::{COLUMNS, body_lens};
 use crate::window::Window;

@@ -1,5 +1,5 @@
 -- What a status says of a report, by the outcome that it stands for.
-use Rattle.std.proofs.Common.{◌≡◌, ℕ, List, [], Option, None, Some, Result, Ok, Err, ◌≤◌, refl, sym, subst, arith}
+use Rattle.std.proofs.Common.{inl, inr, ◌≡◌, ℕ, List, [], Option, None, Some, Result, Ok, Err, ◌≤◌, refl, sym, subst, arith}
 use Rattle.std.specs.Prelude.{OnOk, IfOk, IfSome, ◌==◌, if◌then◌else◌}
 use Rattle.std.specs.Io.KnownBytes.{Appends}
 use Rattle.std.proofs.lemmas.List.{append-nil}
@@ -17,7 +17,7 @@ use Rattle.dbsource.specs.Failures.{failures_after, one_more}
 use Rattle.dbsource.specs.Outs.{Begins, OutState, Writes}
 use Rattle.dbsource.specs.declared.error.RunError.{RunError}
 use Rattle.dbsource.specs.declared.error.RunError.TheVariants.{NotYet, Refused, ReadFailed, OutOfMemory, WriteFailed}
-use Rattle.dbck.specs.Exit.{IsExit, IsExitOf}
+use Rattle.dbck.specs.Exit.{IsExit, IsExitOf, IsStatusOf}
 use Rattle.dbck.specs.Status.{exit_status}
 
 -- the report of a refused file
@@ -97,3 +97,30 @@ six_failed (Err ReadFailed) n = refl
 six_failed (Err OutOfMemory) n = refl
 six_failed (Err WriteFailed) n = refl
 six_failed (Err NotYet) n = refl
+
+-- a status by its outcome
+status_by : (outcome : Result Verdict RunError) (file : List ℕ) → IsAnswerOf outcome file → IsStatusOf (exit_status outcome) file
+status_by (Ok Clean) file answer = record { memory = λ e. absurd (omega arith); unwritable = λ e. absurd (omega arith); later = λ e. absurd (omega arith); known = inl (omega arith) }
+status_by (Ok (Faulty n)) file answer = record { memory = λ e. absurd (omega arith); unwritable = λ e. absurd (omega arith); later = λ e. absurd (omega arith); known = inl (omega arith) }
+status_by (Err (Refused e)) file answer = record { memory = λ e. absurd (omega arith); unwritable = λ e. absurd (omega arith); later = λ e. absurd (omega arith); known = inr (omega arith, omega arith) }
+status_by (Err ReadFailed) file answer = record { memory = λ e. absurd (omega arith); unwritable = λ e. absurd (omega arith); later = λ e. absurd (omega arith); known = inr (omega arith, omega arith) }
+status_by (Err OutOfMemory) file answer = record { memory = λ e. answer; unwritable = λ e. absurd (omega arith); later = λ e. absurd (omega arith); known = inr (omega arith, omega arith) }
+status_by (Err WriteFailed) file answer = record { memory = λ e. absurd (omega arith); unwritable = λ e. answer; later = λ e. absurd (omega arith); known = inr (omega arith, omega arith) }
+status_by (Err NotYet) file answer = record { memory = λ e. absurd (omega arith); unwritable = λ e. absurd (omega arith); later = λ e. answer; known = inr (omega arith, omega arith) }
+
+-- the same where bytes are told, if they are
+pub statuses : (outcome : Result Verdict RunError) (told : Option (List ℕ)) → IfSome told (IsAnswerOf outcome) → IfSome told (IsStatusOf (exit_status outcome))
+statuses outcome None h = tt
+statuses outcome (Some file) h = status_by outcome file h
+
+-- nothing is written beside a verdict and a failed write
+pub unwritten_but_six : (outcome : Result Verdict RunError) (old new : OutState) → IsUnwritten outcome old.bytes new.bytes
+    → new.failures ≡ failures_after is_write_failed outcome old.failures
+    → 3 ≤ exit_status outcome → (exit_status outcome ≡ 6 → ⊥) → new.bytes ≡ old.bytes
+unwritten_but_six (Ok Clean) old new u f h k = absurd (omega arith)
+unwritten_but_six (Ok (Faulty n)) old new u f h k = absurd (omega arith)
+unwritten_but_six (Err (Refused e)) old new u f h k = u
+unwritten_but_six (Err ReadFailed) old new u f h k = u
+unwritten_but_six (Err OutOfMemory) old new u f h k = u
+unwritten_but_six (Err WriteFailed) old new u f h k = absurd (k refl)
+unwritten_but_six (Err NotYet) old new u f h k = u

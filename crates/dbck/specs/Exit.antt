@@ -1,5 +1,7 @@
 -- What an exit status says of the report of a file, and of what was written of it.
-use Rattle.std.specs.Prelude.{◌≡◌, ℕ, List, Ok, Err}
+use Rattle.std.specs.Prelude.{◌≡◌, ◌≤◌, ◌⊎◌, ℕ, List, Ok, Err, None, true, false, length}
+use Rattle.dbformat.specs.File.{refusal}
+use Rattle.dbformat.specs.Plain.{has_one_page, is_plain}
 use Rattle.std.specs.Io.KnownBytes.{Appends}
 use Rattle.dbformat.specs.Reference.{Reference}
 use Rattle.dbformat.specs.Report.{Report, report}
@@ -26,3 +28,10 @@ pub record IsExit (status : ℕ) (r : Report) (out out' err err' : OutState) : T
 abbrev pub IsExitOf : ℕ → Command → List ℕ → OutState → OutState → OutState → OutState → Type 0
 IsExitOf status command file out out' err err' =
     (V : List Reference) → Survey file V → IsExit status (report command file V) out out' err err'
+
+-- What a status that is no verdict says of the file; and there is no other status.
+pub record IsStatusOf (status : ℕ) (file : List ℕ) : Type 0 where
+  pub memory : status ≡ 5 → (refusal file ≡ None) × (has_one_page file (length file) ≡ true)
+  pub unwritable : status ≡ 6 → (refusal file ≡ None) × (is_plain file ≡ true)
+  pub later : status ≡ 7 → (refusal file ≡ None) × (is_plain file ≡ false)
+  pub known : (status ≤ 1) ⊎ ((3 ≤ status) × (status ≤ 7))

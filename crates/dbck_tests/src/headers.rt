@@ -1,6 +1,6 @@
 // What a header answers, by the length that a source states and its first bytes.
 use crate::fakes::StatedSource;
-use crate::files::file_of;
+use dbfiles::file_of;
 use dbsource::{Header, OpenError, Refusal};
 use std::test::Fail;
 
@@ -125,7 +125,7 @@ const CASES: [Case; 15] = [
 #[test]
 fn counts_pages(rt: HostRuntime) -> Result<(), Fail> {
     for case in CASES {
-        let file = file_of(&rt, rt.alloc(), case.page_size, 1, case.patches)?;
+        let file = file_of(rt.alloc(), case.page_size, 1, case.patches)?;
         let mut source = StatedSource::new(file.as_slice(), case.len, 9);
         let pages = match Header::read(&mut source) {
             Ok(header) => Ok(header.geometry().pages),
@@ -140,7 +140,7 @@ fn counts_pages(rt: HostRuntime) -> Result<(), Fail> {
 // No clause can say it, since asking for a length leaves nothing behind: the length is asked for once, and the bytes once.
 #[test]
 fn asks_twice(rt: HostRuntime) -> Result<(), Fail> {
-    let file = file_of(&rt, rt.alloc(), 512, 1, &[])?;
+    let file = file_of(rt.alloc(), 512, 1, &[])?;
     let mut source = StatedSource::new(file.as_slice(), 512, 9);
     assert!(rt; Header::read(&mut source).is_ok());
     assert!(rt; source.calls() == 2);

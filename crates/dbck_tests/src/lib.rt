@@ -4,8 +4,6 @@
 #[cfg(test)]
 mod fakes;
 #[cfg(test)]
-mod files;
-#[cfg(test)]
 mod headers;
 #[cfg(test)]
 mod outs;

@@ -1,6 +1,6 @@
 // Whole runs: what is written, what is answered and what was asked for.
 use crate::fakes::{SmallOut, StatedSource};
-use crate::files::file_of;
+use dbfiles::file_of;
 use dbreport::{Command, Verdict, run};
 use dbsource::{ByteRange, LogSource, MemOut, MemSource, Refusal, RunError};
 use linked_list_allocator::LocalHeap;
@@ -96,7 +96,7 @@ const ROWS: [Row; 14] = [
 #[test]
 fn rows(rt: HostRuntime) -> Result<(), Fail> {
     for (number, row) in ROWS.iter().enumerate() {
-        let file = file_of(&rt, rt.alloc(), 512, 1, row.patches)?;
+        let file = file_of(rt.alloc(), 512, 1, row.patches)?;
         let mut source = MemSource::new(file.as_slice());
         let mut out = MemOut::new(rt.alloc());
         let mut err = MemOut::new(rt.alloc());
@@ -111,7 +111,7 @@ fn rows(rt: HostRuntime) -> Result<(), Fail> {
 // The first faults alone, and how many are not shown.
 #[test]
 fn shows_so_many_lines(rt: HostRuntime) -> Result<(), Fail> {
-    let file = file_of(&rt, rt.alloc(), 512, 1, &[(18, &[3]), (36, &[0, 0, 0, 4])])?;
+    let file = file_of(rt.alloc(), 512, 1, &[(18, &[3]), (36, &[0, 0, 0, 4])])?;
     let mut out = MemOut::new(rt.alloc());
     let mut err = MemOut::new(rt.alloc());
     let mut source = MemSource::new(file.as_slice());
@@ -137,7 +137,7 @@ fn asks_for_the_header_and_page_1(rt: HostRuntime) -> Result<(), Fail> {
         (512, 1, 100, Err(RunError::Refused(Refusal::NoPage)), 1),
         (512, 1, 511, Err(RunError::Refused(Refusal::NoPage)), 1),
     ] {
-        let file = file_of(&rt, rt.alloc(), page_size, pages, &[])?;
+        let file = file_of(rt.alloc(), page_size, pages, &[])?;
         let bytes = file.as_slice().get(..len).unwrap_or(&[]);
         let mut source = LogSource::new(bytes);
         let mut out = MemOut::new(rt.alloc());
@@ -162,7 +162,7 @@ fn asks_for_the_header_and_page_1(rt: HostRuntime) -> Result<(), Fail> {
 // The length, or either read, fails: nothing is written.
 #[test]
 fn each_read_fails_in_turn(rt: HostRuntime) -> Result<(), Fail> {
-    let file = file_of(&rt, rt.alloc(), 512, 1, &[])?;
+    let file = file_of(rt.alloc(), 512, 1, &[])?;
     for fails_at in 0..4u64 {
         let mut source = StatedSource::new(file.as_slice(), 512, fails_at);
         let mut out = MemOut::new(rt.alloc());
@@ -185,7 +185,7 @@ fn each_read_fails_in_turn(rt: HostRuntime) -> Result<(), Fail> {
 // An out of little room holds a beginning of the report.
 #[test]
 fn each_write_fails_in_turn(rt: HostRuntime) -> Result<(), Fail> {
-    let file = file_of(&rt, rt.alloc(), 512, 1, &[])?;
+    let file = file_of(rt.alloc(), 512, 1, &[])?;
     for room in 0..5usize {
         let mut source = MemSource::new(file.as_slice());
         let mut out = SmallOut::new(room);
@@ -207,7 +207,7 @@ fn each_write_fails_in_turn(rt: HostRuntime) -> Result<(), Fail> {
 // One growth is made, that of the page: without it nothing is written.
 #[test]
 fn the_growth_fails(rt: HostRuntime) -> Result<(), Fail> {
-    let file = file_of(&rt, rt.alloc(), 512, 1, &[])?;
+    let file = file_of(rt.alloc(), 512, 1, &[])?;
     for room in [0usize, 496, 512] {
         let heap = LocalHeap::new(rt.alloc(), room)?;
         let mut source = MemSource::new(file.as_slice());

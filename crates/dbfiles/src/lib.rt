@@ -35,3 +35,24 @@ pub fn base_file(alloc: Global, page_size: u32, pages: u32) -> Result<Vec<u8>, A
     patch(&mut file, 105, &((page_size % 65536) as u16).to_be_bytes());
     Ok(file)
 }
+
+/// The smallest database of so many pages, with these bytes written over those at these places. It is empty, so that a test
+/// over it fails, where the sizes are out of range or some bytes are past the end.
+pub fn file_of(
+    alloc: Global,
+    page_size: u32,
+    pages: u32,
+    patches: &[(usize, &[u8])],
+) -> Result<Vec<u8>, AllocError> {
+    if page_size < 512 || page_size > 65536 || pages < 1 || pages > 1024 {
+        return Ok(Vec::new(alloc));
+    }
+    let mut file = base_file(alloc, page_size, pages)?;
+    for (at, bytes) in patches {
+        match file.len().checked_sub(*at) {
+            Some(room) if bytes.len() <= room => patch(file.as_mut_slice(), *at, *bytes),
+            _ => return Ok(Vec::new(alloc)),
+        }
+    }
+    Ok(file)
+}

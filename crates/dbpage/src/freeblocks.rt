@@ -4,8 +4,8 @@ ghost use Rattle.std.specs.Iterator.{item_count};
 ghost use Rattle.dbpage.specs.Freeblocks.{Walks};
 ghost use Rattle.dbformat.specs.Coverage.{items, freeblocks, freeblock_at, is_good_freeblock, bad_freeblock, unused};
 
-use dbformat::u16_at;
 use crate::view::{PageView, first_freeblock};
+use dbformat::u16_at;
 use std::marker::Model;
 
 /// A good freeblock of a page.

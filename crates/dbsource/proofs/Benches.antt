@@ -1,10 +1,9 @@
 -- A level of a bench that was written through its slice.
-use Rattle.std.proofs.Common.{◌≡◌, ℕ, ◌<◌, ◌≤◌, ◌++◌, List, length, vec_len, map, take, drop, set, refl, ◌∙◌, arith, rules, Vec, nat_lt, true, false, [], ◌∷◌, zero, suc}
+use Rattle.std.proofs.Common.{◌≡◌, ℕ, ◌<◌, ◌++◌, List, length, vec_len, map, take, drop, set, refl, ◌∙◌, arith, rules, Vec, nat_lt, true, [], ◌∷◌, zero, suc}
 use Rattle.std.proofs.lemmas.Grind.{common_steps}
 use Rattle.std.proofs.lemmas.List.{map-set}
 use Rattle.std.proofs.lemmas.List.Elements.{All-set, All-append}
 use Rattle.std.proofs.Math.ListN.{length-set}
-use Rattle.std.proofs.Math.Nat.{lt_of_not-le}
 use Rattle.std.specs.Vec.{with_items}
 use Rattle.dbformat.specs.declared.Geometry.{Geometry}
 use Rattle.dbsource.specs.Bench.{Pages, with_level, AreWhole}
@@ -44,15 +43,3 @@ level_set g levels chain uses i v bytes below h =
     let k : v.len ≡ length v.items = v.ok.0 in
     let b : take v.len (bytes ++ drop (length bytes) v.items) ≡ bytes = grind (arith, common_steps) in
     rw (small, map-set, b) refl
-
--- the bench, where the chain buffer was written through its slice
-pub chain_set : (g : Geometry) (levels : List (List ℕ)) (n : ℕ) (chain uses : List ℕ) (i : ℕ) (bytes : List ℕ)
-    → 20 ≤ i → length bytes ≡ length chain → n ≡ length chain
-    → bench_of g levels (take n (bytes ++ drop (length bytes) chain)) uses ≡ with_level (bench_of g levels chain uses) i bytes
-chain_set g levels n chain uses i bytes above h k =
-    let large : nat_lt i 20 ≡ false = search (rules, nat_tests) in
-    let b : take n (bytes ++ drop (length bytes) chain) ≡ bytes = grind (arith, common_steps) in
-    rw (large, b) refl
-
-pub le_from_not : {i n : ℕ} → (i < n → ⊥) → n ≤ i
-le_from_not {i} {n} never = let h : n < suc i = lt_of_not-le never in omega arith

@@ -21,8 +21,8 @@ abbrev pub IsRefusalOf : OpenError → List ℕ → Type 0
 IsRefusalOf (Refused r) file = refusal file ≡ Some r
 IsRefusalOf ReadFailed file = Unit {0}
 
--- What was asked for: nothing where the length said that the file is too short, the header once where there is another
--- answer, and one of both where the source failed.
+-- What was asked for: nothing where the answer is that the file is too short, the header once where it is another, and
+-- one of both where the source failed.
 abbrev pub IsOpenLog : Result HeaderBytes OpenError → List ByteRange → Type 0
 IsOpenLog (Err (Refused Short)) log = log ≡ []
 IsOpenLog (Err ReadFailed) log = (log ≡ []) ⊎ (log ≡ header_range ∷ [])

@@ -1,5 +1,5 @@
 // The header of a database (Database File Format, 1.3).
-ghost use Rattle.std.specs.Prelude.{◌≡◌, ◌≤◌, length, IfOk, IfErr, IfSome, None};
+ghost use Rattle.std.specs.Prelude.{◌≡◌, ◌<◌, ◌≤◌, length, IfOk, IfErr, IfSome, None};
 ghost use Rattle.dbformat.specs.FixedPages.{geometry_of, IsInRange};
 ghost use Rattle.dbformat.specs.File.{refusal_of};
 ghost use Rattle.dbsource.specs.Errors.{is_open_failed};
@@ -44,6 +44,8 @@ impl Header {
         ensures asks { Asks S.step (IsOpenLog result) is_open_failed result (S.held source.old) (S.held source.new) }
         ensures header { IfOk result (λ h. IfSome (S.held source.old).bytes (IsHeaderOf h)) }
         ensures refusal { IfErr result (λ e. IfSome (S.held source.old).bytes (IsRefusalOf e)) }
+        // Of a file that is too short nothing is asked for but its length.
+        ensures unread { IfSome (S.held source.old).bytes (λ file. length file < 100 → (S.held source.new).trail ≡ (S.held source.old).trail) }
     {
         let file_len = source.len()?;
         if file_len < HEADER_LEN as u64 {

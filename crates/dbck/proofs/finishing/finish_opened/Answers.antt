@@ -1,5 +1,5 @@
 use Rattle.std.proofs.Common.{◌∙◌}
-use Rattle.dbck.proofs.Exits.{exits, six_failed}
+use Rattle.dbck.proofs.Exits.{exits, six_failed, statuses, unwritten_but_six}
 use Rattle.dbck.proofs.finishing.finish_opened.Goals as goal
 
 pub returns-clause-exit : goal.returns-clause-exit
@@ -10,3 +10,9 @@ returns-clause-exit g c =
 
 pub returns-clause-failed : goal.returns-clause-failed
 returns-clause-failed g c = rw c.end.ensures.status (c.run-outcome.ensures.out_failures ∙ six_failed c.run-outcome.result (g.O.Out.held c.args.out.now).failures)
+
+pub returns-clause-status : goal.returns-clause-status
+returns-clause-status g c = rw c.end.ensures.status (statuses c.run-outcome.result (g.S.Source.held c.args.source.now).bytes c.run-outcome.ensures.answer)
+
+pub returns-clause-unwritten : goal.returns-clause-unwritten
+returns-clause-unwritten g c = rw c.end.ensures.status (unwritten_but_six c.run-outcome.result (g.O.Out.held c.args.out.now) (g.O.Out.held c.run-outcome.new.out) c.run-outcome.ensures.unwritten c.run-outcome.ensures.out_failures)
