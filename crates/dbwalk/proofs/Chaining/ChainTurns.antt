@@ -1,0 +1,148 @@
+-- One turn of the walk along a chain.
+use Rattle.std.proofs.Common.{◌≡◌, ℕ, ◌+◌, ◌-◌, ◌≤◌, ◌<◌, true, false, List, [], ◌∷◌, ◌++◌, Option, Some, None, Ok, Err, refl, sym, ap, subst, ◌∙◌, append_assoc}
+use Rattle.std.specs.Prelude.{IfSome}
+use Rattle.std.proofs.lemmas.List.{append-nil}
+use Rattle.dbsurvey.specs.Moves.{Moves}
+use Rattle.dbsurvey.specs.Story.{Errand, Go, errands_of}
+use Rattle.dbsurvey.specs.InOrder.{AreQuiet}
+use Rattle.dbformat.specs.File.{page_bytes}
+use Rattle.dbformat.specs.Header.{usable_size}
+use Rattle.dbformat.specs.Payload.{overflow_next}
+use Rattle.dbformat.specs.Reference.{Way, Reference, role_of, from_of, bytes_left, overflow_links}
+use Rattle.dbformat.specs.Story.{Event, at_page, own_visit, story_of}
+use Rattle.dbformat.proofs.Looping.{by_chain, all_quiet}
+use Rattle.dbformat.specs.Schema.{held_bytes}
+use Rattle.dbbytes.specs.declared.sieve.RowSieve.{RowSieve}
+use Rattle.dbsource.specs.declared.error.RunError.{RunError}
+use Rattle.dbwalk.specs.declared.chain.Chain.{Chain}
+use Rattle.dbwalk.specs.declared.chain.Place.{Place}
+use Rattle.dbwalk.specs.declared.mark.Mark.{Mark}
+use Rattle.dbwalk.specs.declared.mark.Mark.TheVariants.{FirstOverflow, LaterOverflow}
+use Rattle.dbwalk.specs.Chains.{IsChainOf, IsOnWay, next_of}
+use Rattle.dbwalk.specs.Done.{IsDone}
+use Rattle.dbwalk.specs.Entered.{IsNext, Enters}
+use Rattle.dbwalk.specs.Feeding.{Feeds, FeedsChain}
+use Rattle.dbwalk.specs.Finding.{Finding, told_at, told_below}
+use Rattle.dbwalk.specs.Left.{IsLeft}
+use Rattle.dbwalk.specs.Marking.{role_mark, AreMarksOf}
+use Rattle.dbwalk.specs.Outcomes.{StopsBy}
+use Rattle.dbwalk.proofs.Telling.Belows.{told_refused, told_visit}
+use Rattle.dbwalk.proofs.Chaining.Feedings.{feeds_none, feeds_page, fed_whole, fed_refused}
+use Rattle.dbwalk.proofs.Telling.Lefts.{left_start, left_refused, left_visit, left_none, left_stop}
+use Rattle.dbwalk.proofs.Chaining.Overflows.{more_errands, last_errands, next_on_chain, overflow_shallow}
+
+pub if_some_all : {X : Type 0} (Q : X → Type 0) (o : Option X) → ((x : X) → Q x) → IfSome o Q
+if_some_all Q None f = tt
+if_some_all Q (Some x) f = f x
+
+pub if_some_both : {X : Type 0} (P R Q : X → Type 0) (o : Option X) → IfSome o P → IfSome o R → ((x : X) → P x → R x → Q x) → IfSome o Q
+if_some_both P R Q None h k f = tt
+if_some_both P R Q (Some x) h k f = f x h k
+
+-- the same where the second is said of an option that is equal
+pub if_some_moved : {X : Type 0} (P R Q : X → Type 0) (o o' : Option X) → o' ≡ o → IfSome o P → IfSome o' R → ((x : X) → P x → R x → Q x) → IfSome o Q
+if_some_moved P R Q o o' e h k f = if_some_both P R Q o h (subst (λ p. IfSome p R) e k) f
+
+quiet_chain : (file : List ℕ) (d : Reference) (left : ℕ) → bytes_left (role_of d) ≡ Some left → AreQuiet own_visit (errands_of (story_of file) d)
+quiet_chain file d left h = subst (λ es. AreQuiet own_visit es) (sym (by_chain file d left h)) (all_quiet.2 d (overflow_links d.page (usable_size file) left (page_bytes file d.page)))
+
+module _ {S : Type 0} (takes drops : S → Finding → S → Type 0) (file : List ℕ) (W : List Reference) (c : Reference) (before : S) (chain : Chain) (place : Place) (marks : List Mark) (s : S) {first old : Option RowSieve} (on : IsOnWay takes file W c before chain place marks s first old) where
+  relabel : (U : List Reference) (left : List (Errand Way Event)) (m m' : List Mark) (t : S) → IsLeft takes file W (Go c ∷ []) before U left m t → AreMarksOf file U m' → IsLeft takes file W (Go c ∷ []) before U left m' t
+  relabel U left m m' t h k = record { marked = k; past = h.past; apart = h.apart; visits = h.visits; items = h.items; told = h.told; rest = h.rest }
+
+  -- the next reference is refused
+  pub turn_refused : (marks' : List Mark) (t : S) → Enters takes drops file on.visited on.d (Ok false) marks' s t → IsDone {A = Unit {0}} takes drops file W (Go c ∷ []) (Ok tt) marks' before t × FeedsChain file W c first old
+  turn_refused marks' t e = (
+    left_none takes file W (Go c ∷ []) before on.visited marks' t drops tt
+        (relabel on.visited [] marks marks' t (left_refused takes file W (Go c ∷ []) before on.visited marks s t on.d [] on.rest e.0 e.2) e.1),
+    fed_refused file W c on.d first old on.pages on.visited on.fed on.since e.0 on.rest.visits,
+  )
+
+  -- and that could not be told
+  pub turn_not_told : (x : RunError) (marks' : List Mark) (t : S) → Enters takes drops file on.visited on.d (Err x) marks' s t → IsDone {A = Unit {0}} takes drops file W (Go c ∷ []) (Err x) marks' before t
+  turn_not_told x marks' t e = left_stop takes file W (Go c ∷ []) before on.visited marks s drops t marks' x (Go on.d ∷ []) _ (told_below file on.visited []) on.rest
+      (sym (told_refused file on.visited on.d [] e.0)) e.2
+
+  -- it is followed, but its page could not be read or told
+  pub turn_stopped : (x : RunError) (marks' : List Mark) (m t : S) → Enters takes drops file on.visited on.d (Ok true) marks' s m
+      → StopsBy takes drops x m (told_at file (on.visited ++ (on.d ∷ [])) (at_page on.d)) t → IsDone {A = Unit {0}} takes drops file W (Go c ∷ []) (Err x) marks' before t
+  turn_stopped x marks' m t e h = left_stop takes file W (Go c ∷ []) before on.visited marks s drops t marks' x (Go on.d ∷ [])
+      (told_at file (on.visited ++ (on.d ∷ [])) (at_page on.d)) (told_below file (on.visited ++ (on.d ∷ [])) (errands_of (story_of file) on.d ++ [])) on.rest
+      (sym (told_visit file on.visited on.d [] e.0 (quiet_chain file on.d place.left on.left)))
+      (subst (λ y. StopsBy takes drops x y (told_at file (on.visited ++ (on.d ∷ [])) (at_page on.d)) t) (sym e.2) h)
+
+  turn_visited : (marks' : List Mark) (m t : S) → Enters takes drops file on.visited on.d (Ok true) marks' s m
+      → Moves takes m (told_at file (on.visited ++ (on.d ∷ [])) (at_page on.d)) t
+      → IsLeft takes file W (Go c ∷ []) before (on.visited ++ (on.d ∷ [])) (errands_of (story_of file) on.d ++ []) marks' t
+  turn_visited marks' m t e h = left_visit takes file W (Go c ∷ []) before on.visited marks s t marks' on.d [] on.rest e.0 (quiet_chain file on.d place.left on.left) e.1
+      (subst (λ y. Moves takes y (told_at file (on.visited ++ (on.d ∷ [])) (at_page on.d)) t) (sym e.2) h)
+
+  since_more : on.visited ++ on.d ∷ [] ≡ W ++ (on.pages ++ on.d ∷ [])
+  since_more = ap (λ V. V ++ on.d ∷ []) on.since ∙ append_assoc W on.pages (on.d ∷ [])
+
+  -- it was the last page
+  pub turn_last : (marks' : List Mark) (m t : S) → Enters takes drops file on.visited on.d (Ok true) marks' s m
+      → Moves takes m (told_at file (on.visited ++ (on.d ∷ [])) (at_page on.d)) t → place.left ≤ usable_size file - 4
+      → (new : Option RowSieve) → Feeds old (held_bytes file on.d) new
+      → IsDone {A = Unit {0}} takes drops file W (Go c ∷ []) (Ok tt) marks' before t × FeedsChain file W c first new
+  turn_last marks' m t e h l new f =
+      let n = subst (λ es. IsLeft takes file W (Go c ∷ []) before (on.visited ++ (on.d ∷ [])) es marks' t) (ap (λ es. es ++ []) (last_errands file on.d place.left on.left l)) (turn_visited marks' m t e h) in (
+        left_none takes file W (Go c ∷ []) before (on.visited ++ (on.d ∷ [])) marks' t drops tt n,
+        fed_whole file W c first new (on.pages ++ on.d ∷ []) (on.visited ++ on.d ∷ []) (feeds_page file first old new on.pages on.d on.fed f) since_more n.visits,
+      )
+
+  -- the next one is behind it
+  pub turn_more : (marks' : List Mark) (m t : S) (next : ℕ) → Enters takes drops file on.visited on.d (Ok true) marks' s m
+      → Moves takes m (told_at file (on.visited ++ (on.d ∷ [])) (at_page on.d)) t → usable_size file - 4 < place.left → next ≡ overflow_next (page_bytes file place.step.page)
+      → (new : Option RowSieve) → Feeds old (held_bytes file on.d) new
+      → IsOnWay takes file W c before chain (record {
+        number = place.number + 1;
+        left = place.left - (usable_size file - 4);
+        step = record { page = next; mark = LaterOverflow place.step.page; from = place.step.page; item = 0; is_too_deep = false };
+      }) marks' t first new
+  turn_more marks' m t next e h l n new f = record {
+    pages = on.pages ++ on.d ∷ [];
+    fed = feeds_page file first old new on.pages on.d on.fed f;
+    visited = on.visited ++ (on.d ∷ []);
+    since = since_more;
+    d = next_of on.d (place.left - (usable_size file - 4)) (overflow_next (page_bytes file on.d.page));
+    step = record { page = ap (λ p. overflow_next (page_bytes file p)) on.step.page ∙ sym n; mark = ap LaterOverflow on.step.page; from = on.step.page; item = refl; deep = refl };
+    left = refl;
+    on = next_on_chain chain place.number on.d (place.left - (usable_size file - 4)) (overflow_next (page_bytes file on.d.page)) on.on;
+    rest = subst (λ es. IsLeft takes file W (Go c ∷ []) before (on.visited ++ (on.d ∷ [])) es marks' t) (ap (λ es. es ++ []) (more_errands file on.d place.left on.left l)) (turn_visited marks' m t e h);
+  }
+
+  pub turn_more_by : (marks' : List Mark) (m t : S) (next room : ℕ) → room ≡ usable_size file - 4 → Enters takes drops file on.visited on.d (Ok true) marks' s m
+      → Moves takes m (told_at file (on.visited ++ (on.d ∷ [])) (at_page on.d)) t → usable_size file - 4 < place.left → next ≡ overflow_next (page_bytes file place.step.page)
+      → (new : Option RowSieve) → Feeds old (held_bytes file on.d) new
+      → IsOnWay takes file W c before chain (record {
+        number = place.number + 1;
+        left = place.left - room;
+        step = record { page = next; mark = LaterOverflow place.step.page; from = place.step.page; item = 0; is_too_deep = false };
+      }) marks' t first new
+  turn_more_by marks' m t next room r e h l n new f = subst (λ k. IsOnWay takes file W c before chain (record {
+    number = place.number + 1;
+    left = place.left - k;
+    step = record { page = next; mark = LaterOverflow place.step.page; from = place.step.page; item = 0; is_too_deep = false };
+  }) marks' t first new) (sym r) (turn_more marks' m t next e h l n new f)
+
+-- at the first page all is left
+pub way_start : {S : Type 0} (takes : S → Finding → S → Type 0) (file : List ℕ) (W : List Reference) (c : Reference) (chain : Chain) (marks : List Mark) (s : S) (sieve : Option RowSieve) → IsChainOf chain c → IsNext W c → AreMarksOf file W marks
+    → IsOnWay takes file W c s chain (record { number = 0; left = chain.left; step = record { page = chain.first; mark = FirstOverflow chain.page; from = chain.page; item = chain.cell; is_too_deep = false } }) marks s sieve sieve
+way_start takes file W c chain marks s sieve h next m = record {
+  pages = [];
+  fed = feeds_none sieve;
+  visited = W;
+  since = sym (append-nil W);
+  d = c;
+  step = record {
+    page = h.page;
+    mark = ap (λ r. role_mark r (from_of c)) h.role ∙ ap FirstOverflow h.from;
+    from = h.from;
+    item = h.item;
+    deep = overflow_shallow c chain.left (ap bytes_left h.role);
+  };
+  left = ap bytes_left h.role;
+  on = h.place;
+  rest = left_start takes file W (Go c ∷ []) s marks m next ((λ e i. absurd i), tt);
+}

@@ -1,0 +1,136 @@
+-- What is told of an overflow page, and what it leads to.
+use Rattle.std.proofs.Common.{◌≡◌, ℕ, ◌+◌, ◌-◌, ◌*◌, ◌≤◌, ◌<◌, Bool, true, false, cond, not, ◌&&◌, List, [], ◌∷◌, ◌++◌, length, map, take, drop, Option, Some, None, refl, sym, ap, ◌∙◌, arith}
+use Rattle.std.specs.Prelude.{IfSome, option_to_list, nat_le, nat_lt, ◌==◌, pos}
+use Rattle.std.proofs.lemmas.Bool.Decides.{nat_tests}
+use Rattle.std.proofs.lemmas.List.{length-append}
+use Rattle.dbsurvey.specs.Story.{Go, errands_of}
+use Rattle.dbformat.specs.Address.{start_of, then_step, is_child_step, cell_of_step, children_on, chain_on, child_path, chain_place}
+use Rattle.dbformat.specs.Errands.{go}
+use Rattle.dbformat.specs.Faults.{fault}
+use Rattle.dbformat.specs.File.{geometry, page_bytes}
+use Rattle.dbformat.specs.Header.{usable_size}
+use Rattle.dbformat.specs.Payload.{overflow_len, overflow_next}
+use Rattle.dbformat.specs.PageFaults.{overflow_fault, role_faults, page_faults}
+use Rattle.dbformat.specs.Reference.{Role, root, child, first_overflow, later_overflow, trunk, free_leaf, Reference, role_of, bytes_left, link}
+use Rattle.dbformat.specs.Rows.{StatRow, overflow_page_row, row_in}
+use Rattle.dbformat.specs.Story.{at_page, story_of}
+use Rattle.dbformat.specs.Survey.{is_too_deep}
+use Rattle.dbformat.specs.declared.Fault.{Fault}
+use Rattle.dbformat.specs.Tests.{told_if}
+use Rattle.dbformat.specs.declared.FaultCode.TheVariants.{O01}
+use Rattle.dbwalk.specs.declared.sink.Row.{Row}
+use Rattle.dbwalk.specs.Rows.{row_of}
+use Rattle.dbformat.specs.declared.PageType.{PageType}
+use Rattle.dbformat.specs.declared.PageType.TheVariants.{Overflow}
+use Rattle.dbformat.proofs.Looping.{by_chain}
+use Rattle.dbsource.specs.Sources.{IsRangeOf}
+use Rattle.dbwalk.specs.declared.chain.Chain.{Chain}
+use Rattle.dbwalk.specs.Chains.{IsOnChain, next_of}
+use Rattle.dbwalk.specs.Finding.{told_row, told_fault, told_at}
+
+pub if_some_map : {X : Type 0} (P Q : X → Type 0) (o : Option X) → IfSome o P → ((x : X) → P x → Q x) → IfSome o Q
+if_some_map P Q None h f = tt
+if_some_map P Q (Some x) h f = f x h
+
+-- the bytes that a load leaves are those of the page
+pub page_read : (file bytes : List ℕ) (size p : ℕ) → length bytes ≡ size → IsRangeOf file ((p - 1) * size) bytes → (geometry file).page_size ≡ size → bytes ≡ page_bytes file p
+unfolding page_bytes
+page_read file bytes size p l h e =
+    h.1 ∙ ap (λ n. take n (drop ((p - 1) * size) file)) l ∙ ap (λ n. take n (drop ((p - 1) * n) file)) (sym e)
+
+-- what is told of it
+pub told_overflow : (file : List ℕ) (U : List Reference) (c : Reference) (left : ℕ) → bytes_left (role_of c) ≡ Some left
+    → told_at file U (at_page c) ≡ told_row (overflow_page_row c (usable_size file) left) ∷ map told_fault (overflow_fault (usable_size file) left c.page (page_bytes file c.page))
+unfolding page_faults
+told_overflow file U c left h = by_role (role_of c) h
+  where
+    by_left : (l : ℕ) → Some l ≡ Some left → told_row (overflow_page_row c (usable_size file) l) ∷ map told_fault (overflow_fault (usable_size file) l c.page (page_bytes file c.page))
+        ≡ told_row (overflow_page_row c (usable_size file) left) ∷ map told_fault (overflow_fault (usable_size file) left c.page (page_bytes file c.page))
+    by_left l e = let k : l ≡ left = cc in ap (λ l. told_row (overflow_page_row c (usable_size file) l) ∷ map told_fault (overflow_fault (usable_size file) l c.page (page_bytes file c.page))) k
+
+    by_role : (role : Role) → bytes_left role ≡ Some left → map told_row (option_to_list (row_in role file c)) ++ map told_fault (role_faults role file U c)
+        ≡ told_row (overflow_page_row c (usable_size file) left) ∷ map told_fault (overflow_fault (usable_size file) left c.page (page_bytes file c.page))
+    by_role (root kind) e = cc
+    by_role (child kind) e = cc
+    by_role (first_overflow l) e = by_left l e
+    by_role (later_overflow l) e = by_left l e
+    by_role trunk e = cc
+    by_role free_leaf e = cc
+
+pub row_is : (start start' : ℕ) (path path' : List ℕ) (chain chain' : Option (ℕ × ℕ)) (page page' : ℕ) (type type' : PageType) (ncell ncell' payload payload' unused unused' most most' : ℕ)
+    → start ≡ start' → path ≡ path' → chain ≡ chain' → page ≡ page' → type ≡ type' → ncell ≡ ncell' → payload ≡ payload' → unused ≡ unused' → most ≡ most'
+    → (let r : StatRow = record { start = start; path = path; chain = chain; page = page; pagetype = type; ncell = ncell; payload = payload; unused = unused; mx_payload = most } in r)
+    ≡ record { start = start'; path = path'; chain = chain'; page = page'; pagetype = type'; ncell = ncell'; payload = payload'; unused = unused'; mx_payload = most' }
+row_is start start' path path' chain chain' page page' type type' ncell ncell' payload payload' unused unused' most most' a b c d e f g h i = cc
+
+-- a row and a fault that were made of these numbers are what is told of the page
+pub told_is : (file : List ℕ) (U : List Reference) (d : Reference) (chain : Chain) (number page usable left next : ℕ) (row : Row) (f : Option Fault)
+    → usable ≡ usable_size file → next ≡ overflow_next (page_bytes file page) → d.page ≡ page → bytes_left (role_of d) ≡ Some left → IsOnChain chain number d
+    → row.start ≡ chain.start → row.path.now ≡ chain.path.now → row.chain ≡ Some (chain.cell, number)
+    → row.page ≡ page → row.pagetype ≡ Overflow → row.ncell ≡ 0 → row.mx_payload ≡ 0 → row.payload ≡ overflow_len usable left → row.unused ≡ usable - 4 - overflow_len usable left
+    → option_to_list f ≡ told_if (nat_le left (usable - 4) && not (next == 0)) (fault O01 page 0 (pos next))
+    → told_row (row_of row) ∷ map told_fault (option_to_list f) ≡ told_at file U (at_page d)
+told_is file U d chain number page usable left next row f u n p l on a b c e g h i j k m =
+    let same : row_of row ≡ overflow_page_row d (usable_size file) left =
+    row_is row.start (start_of d.address) row.path.now (child_path d.address) row.chain (chain_place d.address) row.page d.page row.pagetype Overflow row.ncell 0 row.payload (overflow_len (usable_size file) left) row.unused (usable_size file - 4 - overflow_len (usable_size file) left) row.mx_payload 0
+    (a ∙ sym on.start) (b ∙ sym on.path) (c ∙ sym on.place) (e ∙ sym p) g h (j ∙ ap (λ x. overflow_len x left) u) (k ∙ ap (λ x. x - 4 - overflow_len x left) u) i in
+    let faults : option_to_list f ≡ overflow_fault (usable_size file) left d.page (page_bytes file d.page) =
+    m ∙ ap (λ x. told_if (nat_le left (x - 4) && not (next == 0)) (fault O01 page 0 (pos next))) u
+    ∙ ap (λ x. told_if (nat_le left (usable_size file - 4) && not (x == 0)) (fault O01 page 0 (pos x))) n
+    ∙ ap (λ x. overflow_fault (usable_size file) left x (page_bytes file x)) (sym p) in
+    ap (λ r. told_row r ∷ map told_fault (option_to_list f)) same
+    ∙ ap (λ fs. told_row (overflow_page_row d (usable_size file) left) ∷ map told_fault fs) faults
+    ∙ sym (told_overflow file U d left l)
+
+-- it is in no tree
+pub overflow_shallow : (c : Reference) (left : ℕ) → bytes_left (role_of c) ≡ Some left → is_too_deep c ≡ false
+overflow_shallow c left h = by_role (role_of c) h
+  where
+    by_role : (role : Role) → bytes_left role ≡ Some left → is_too_deep (record { address = c.address; page = c.page; role = record { role = role; from = 0; item = 0 } }) ≡ false
+    by_role (root kind) e = cc
+    by_role (child kind) e = cc
+    by_role (first_overflow l) e = refl
+    by_role (later_overflow l) e = refl
+    by_role trunk e = cc
+    by_role free_leaf e = cc
+
+-- what it leads to: the next page, where something is left behind it
+pub more_errands : (file : List ℕ) (c : Reference) (left : ℕ) → bytes_left (role_of c) ≡ Some left → usable_size file - 4 < left
+    → errands_of (story_of file) c ≡ Go (next_of c (left - (usable_size file - 4)) (overflow_next (page_bytes file c.page))) ∷ []
+more_errands file c left h l =
+    let e : nat_lt (usable_size file - 4) left ≡ true = grind (arith, nat_tests) in
+    by_chain file c left h
+    ∙ ap (λ b. map (go c) (cond b (link c.page 0 0 (later_overflow (left - (usable_size file - 4))) (overflow_next (page_bytes file c.page)) ∷ []) [])) e
+
+pub last_errands : (file : List ℕ) (c : Reference) (left : ℕ) → bytes_left (role_of c) ≡ Some left → left ≤ usable_size file - 4
+    → errands_of (story_of file) c ≡ []
+last_errands file c left h l =
+    let e : nat_lt (usable_size file - 4) left ≡ false = grind (arith, nat_tests) in
+    by_chain file c left h
+    ∙ ap (λ b. map (go c) (cond b (link c.page 0 0 (later_overflow (left - (usable_size file - 4))) (overflow_next (page_bytes file c.page)) ∷ []) [])) e
+
+-- the place of the next page in the chain
+abbrev at : ℕ → ℕ → Option (ℕ × ℕ)
+at i n = Some (i, n)
+
+chain_more : (steps : List ℕ) (i n : ℕ) → chain_on steps ≡ at i n → (children_on (steps ++ 0 ∷ []) ≡ children_on steps) × (chain_on (steps ++ 0 ∷ []) ≡ at i (n + 1))
+chain_more [] i n h = cc
+chain_more (step ∷ steps) i n h = by_step (is_child_step step) h (chain_more steps i n)
+  where
+    last : (j m l : ℕ) → l ≡ m + 1 → at j m ≡ at i n → at j l ≡ at i (n + 1)
+    last j m l e h = let k : ◌≡◌ {A = ℕ × ℕ} (j, m) (i, n) = cc in let a : j ≡ i = ap (λ x. x.0) k in let b : m ≡ n = ap (λ x. x.1) k in ap (λ k. at j k) (e ∙ ap (λ m. m + 1) b) ∙ ap (λ j. at j (n + 1)) a
+
+    by_step : (b : Bool) → cond b (chain_on steps) (at (cell_of_step step) (length steps)) ≡ at i n
+        → (chain_on steps ≡ at i n → (children_on (steps ++ 0 ∷ []) ≡ children_on steps) × (chain_on (steps ++ 0 ∷ []) ≡ at i (n + 1)))
+        → (cond b (cell_of_step step ∷ children_on (steps ++ 0 ∷ [])) [] ≡ cond b (cell_of_step step ∷ children_on steps) [])
+        × (cond b (chain_on (steps ++ 0 ∷ [])) (at (cell_of_step step) (length (steps ++ 0 ∷ []))) ≡ at i (n + 1))
+    by_step true h f = let k = f h in (ap (λ l. cell_of_step step ∷ l) k.0, k.1)
+    by_step false h f = (refl, last (cell_of_step step) (length steps) (length (steps ++ 0 ∷ [])) (length-append steps (0 ∷ [])) h)
+
+pub next_on_chain : (chain : Chain) (number : ℕ) (c : Reference) (left page : ℕ) → IsOnChain chain number c → IsOnChain chain (number + 1) (next_of c left page)
+next_on_chain chain number c left page h = by_address c.address h.start h.path h.place
+  where
+    by_address : (a : List ℕ) → start_of a ≡ chain.start → child_path a ≡ chain.path.now → chain_place a ≡ Some (chain.cell, number)
+        → IsOnChain chain (number + 1) (record { address = then_step a 0; page = page; role = record { role = later_overflow left; from = c.page; item = 0 } })
+    by_address [] s p q = absurd (let k : None ≡ Some (chain.cell, number) = q in cc)
+    by_address (x ∷ a) s p q = let k = chain_more a chain.cell number q in record { start = s; path = k.0 ∙ p; place = k.1 }

@@ -1,0 +1,3 @@
+-- Trunks and their leaves.
+pub mod FreeLeaves
+pub mod FreeTrunks

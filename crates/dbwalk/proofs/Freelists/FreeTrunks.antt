@@ -1,0 +1,172 @@
+-- The trunks of the freelist, one after another.
+use Rattle.std.proofs.Common.{◌≡◌, ℕ, ◌<◌, ◌≤◌, Bool, true, false, cond, inl, inr, List, [], ◌∷◌, ◌++◌, map, Some, None, Ok, Err, refl, sym, ap, subst, ◌∙◌, arith}
+use Rattle.std.specs.Prelude.{option_to_list, nat_le, nat_lt, ◌==◌, pos}
+use Rattle.std.specs.List.{range_with_len}
+use Rattle.std.proofs.lemmas.Bool.Decides.{nat_tests}
+use Rattle.std.proofs.lemmas.List.{append-nil}
+use Rattle.dbsurvey.specs.Address.{IsIn}
+use Rattle.dbsurvey.specs.Moves.{Moves}
+use Rattle.dbsurvey.specs.Story.{Errand, Told, Go, Tell, errands_of}
+use Rattle.dbsurvey.specs.InOrder.{AreQuiet}
+use Rattle.dbsurvey.specs.Survey.{named_at}
+use Rattle.dbsurvey.specs.Traverse.{is_followed}
+use Rattle.dbsurvey.proofs.Order.{IsIn-cases}
+use Rattle.dbformat.specs.Address.{then_step, freelist_start}
+use Rattle.dbformat.specs.Errands.{go, leaf_errand, leaf_errands}
+use Rattle.dbformat.specs.Faults.{fault}
+use Rattle.dbformat.specs.File.{page_bytes}
+use Rattle.dbformat.specs.Header.{usable_size, first_trunk}
+use Rattle.dbformat.specs.Schema.{start, freelist_starts}
+use Rattle.dbformat.specs.Numbers.{u32_at}
+use Rattle.dbformat.specs.PageFaults.{trunk_fault, role_faults, page_faults}
+use Rattle.dbformat.specs.Reference.{Role, trunk, Way, Reference, role_of, link, next_trunk, leaf_count, most_leaves}
+use Rattle.dbformat.specs.Rows.{row_in}
+use Rattle.dbformat.specs.Story.{Event, at_page, own_visit, story_of}
+use Rattle.dbformat.specs.Survey.{rules_of}
+use Rattle.dbformat.specs.declared.FaultCode.TheVariants.{L01}
+use Rattle.dbformat.proofs.Looping.{by_leaf, all_quiet}
+use Rattle.dbsource.specs.declared.error.RunError.{RunError}
+use Rattle.dbwalk.specs.declared.entering.Step.{Step}
+use Rattle.dbwalk.specs.declared.mark.Mark.{Mark}
+use Rattle.dbwalk.specs.Done.{IsDone}
+use Rattle.dbwalk.specs.Entered.{IsNext, Enters}
+use Rattle.dbwalk.specs.Finding.{Finding, told_row, told_fault, told_at, told_below}
+use Rattle.dbwalk.specs.Left.{IsLeft}
+use Rattle.dbwalk.specs.Marking.{role_mark, AreMarksOf}
+use Rattle.dbwalk.specs.Outcomes.{StopsBy}
+use Rattle.dbwalk.specs.Trunks.{IsFirstTrunk, freelist_reference, IsOnTrunks, TrunkTurns, trunk_step, next_step}
+use Rattle.dbwalk.proofs.Telling.Belows.{told_refused, told_visit}
+use Rattle.dbwalk.proofs.Telling.Lefts.{left_start, left_refused, left_visit, left_none, left_stop}
+use Rattle.dbformat.specs.Survey.{is_too_deep}
+
+-- what is told of a trunk
+pub told_trunk : (file : List ℕ) (V : List Reference) (d : Reference) → role_of d ≡ trunk → told_at file V (at_page d) ≡ map told_fault (trunk_fault (usable_size file) d.page (page_bytes file d.page))
+unfolding page_faults
+told_trunk file V d r = ap (λ role. map told_row (option_to_list (row_in role file d)) ++ map told_fault (role_faults role file V d)) r
+
+-- its leaves fit, or they are too many
+pub told_fitting : (file : List ℕ) (V : List Reference) (d : Reference) → role_of d ≡ trunk → leaf_count (page_bytes file d.page) ≤ most_leaves (usable_size file) → told_at file V (at_page d) ≡ []
+told_fitting file V d r l =
+    let e : nat_lt (most_leaves (usable_size file)) (leaf_count (page_bytes file d.page)) ≡ false = grind (arith, nat_tests) in
+    told_trunk file V d r ∙ ap (λ b. map told_fault (cond b (fault L01 d.page 0 (pos (leaf_count (page_bytes file d.page))) ∷ []) [])) e
+
+pub told_too_many : (file : List ℕ) (V : List Reference) (d : Reference) → role_of d ≡ trunk → most_leaves (usable_size file) < leaf_count (page_bytes file d.page)
+    → told_at file V (at_page d) ≡ told_fault (fault L01 d.page 0 (pos (leaf_count (page_bytes file d.page)))) ∷ []
+told_too_many file V d r l =
+    let e : nat_lt (most_leaves (usable_size file)) (leaf_count (page_bytes file d.page)) ≡ true = grind (arith, nat_tests) in
+    told_trunk file V d r ∙ ap (λ b. map told_fault (cond b (fault L01 d.page 0 (pos (leaf_count (page_bytes file d.page))) ∷ []) [])) e
+
+-- what it leads to
+pub fitting_errands : (file : List ℕ) (d : Reference) → role_of d ≡ trunk → leaf_count (page_bytes file d.page) ≤ most_leaves (usable_size file)
+    → errands_of (story_of file) d ≡ leaf_errands d (page_bytes file d.page) (leaf_count (page_bytes file d.page)) ++ map (go d) (next_trunk d.page (page_bytes file d.page) (leaf_count (page_bytes file d.page)))
+fitting_errands file d r l =
+    let e : nat_le (leaf_count (page_bytes file d.page)) (most_leaves (usable_size file)) ≡ true = grind (arith, nat_tests) in
+    by_leaf file d r ∙ ap (λ b. cond b (leaf_errands d (page_bytes file d.page) (leaf_count (page_bytes file d.page)) ++ map (go d) (next_trunk d.page (page_bytes file d.page) (leaf_count (page_bytes file d.page)))) (map (go d) (next_trunk d.page (page_bytes file d.page) 0))) e
+
+pub crowded_errands : (file : List ℕ) (d : Reference) → role_of d ≡ trunk → most_leaves (usable_size file) < leaf_count (page_bytes file d.page)
+    → errands_of (story_of file) d ≡ map (go d) (next_trunk d.page (page_bytes file d.page) 0)
+crowded_errands file d r l =
+    let e : nat_le (leaf_count (page_bytes file d.page)) (most_leaves (usable_size file)) ≡ false = grind (arith, nat_tests) in
+    by_leaf file d r ∙ ap (λ b. cond b (leaf_errands d (page_bytes file d.page) (leaf_count (page_bytes file d.page)) ++ map (go d) (next_trunk d.page (page_bytes file d.page) (leaf_count (page_bytes file d.page)))) (map (go d) (next_trunk d.page (page_bytes file d.page) 0))) e
+
+-- none of its errands is an event
+no_leaf_own : (d : Reference) (page : List ℕ) (js : List ℕ) (e : Told Event) → IsIn (Tell e) (map (leaf_errand d page) js) → ⊥
+no_leaf_own d page [] e h = h
+no_leaf_own d page (j ∷ js) e (inl k) = cc
+no_leaf_own d page (j ∷ js) e (inr h) = no_leaf_own d page js e h
+
+pub quiet_trunk : (file : List ℕ) (d : Reference) → role_of d ≡ trunk → AreQuiet own_visit (errands_of (story_of file) d)
+quiet_trunk file d r = subst (λ es. AreQuiet own_visit es) (sym (by_leaf file d r)) (by_case (nat_le (leaf_count (page_bytes file d.page)) (most_leaves (usable_size file))))
+  where
+    by_case : (b : Bool) → AreQuiet own_visit (cond b (leaf_errands d (page_bytes file d.page) (leaf_count (page_bytes file d.page)) ++ map (go d) (next_trunk d.page (page_bytes file d.page) (leaf_count (page_bytes file d.page)))) (map (go d) (next_trunk d.page (page_bytes file d.page) 0)))
+    by_case false e h = all_quiet.2 d (next_trunk d.page (page_bytes file d.page) 0) e h
+    by_case true e h = elim (IsIn-cases (Tell e) (leaf_errands d (page_bytes file d.page) (leaf_count (page_bytes file d.page))) (map (go d) (next_trunk d.page (page_bytes file d.page) (leaf_count (page_bytes file d.page)))) h) [
+      | inl k ↦ absurd (no_leaf_own d (page_bytes file d.page) (range_with_len 0 (leaf_count (page_bytes file d.page))) e k)
+      | inr k ↦ all_quiet.2 d (next_trunk d.page (page_bytes file d.page) (leaf_count (page_bytes file d.page))) e k
+    ]
+
+-- it is in no tree
+pub trunk_shallow : (c : Reference) → role_of c ≡ trunk → is_too_deep c ≡ false
+trunk_shallow c h = by_role (role_of c) h
+  where
+    by_role : (role : Role) → role ≡ trunk → is_too_deep (record { address = c.address; page = c.page; role = record { role = role; from = 0; item = 0 } }) ≡ false
+    by_role role e = rw e refl
+
+module _ {S : Type 0} (takes drops : S → Finding → S → Type 0) (file : List ℕ) (W : List Reference) (c : Reference) (before : S) (U : List Reference) (d : Reference) (old marks : List Mark) (s : S) (role : role_of d ≡ trunk) (followed : is_followed (rules_of file) U d ≡ true) (marked : AreMarksOf file (U ++ d ∷ []) marks) (left : IsLeft takes file W (Go c ∷ []) before U (Go d ∷ []) old s) where
+  -- a trunk whose leaves fit: they are left, and the next trunk
+  pub opened_fitting : leaf_count (page_bytes file d.page) ≤ most_leaves (usable_size file)
+      → IsLeft takes file W (Go c ∷ []) before (U ++ d ∷ []) (leaf_errands d (page_bytes file d.page) (leaf_count (page_bytes file d.page)) ++ map (go d) (next_trunk d.page (page_bytes file d.page) (leaf_count (page_bytes file d.page)))) marks s
+  opened_fitting l = subst (λ es. IsLeft takes file W (Go c ∷ []) before (U ++ d ∷ []) es marks s) (append-nil (errands_of (story_of file) d) ∙ fitting_errands file d role l)
+      (left_visit takes file W (Go c ∷ []) before U old s s marks d [] left followed (quiet_trunk file d role) marked (subst (λ L. Moves takes s L s) (sym (told_fitting file (U ++ d ∷ []) d role l)) refl))
+
+  -- one with too many, when that was told: the next trunk is left
+  pub opened_crowded : (t : S) → most_leaves (usable_size file) < leaf_count (page_bytes file d.page)
+      → Moves takes s (told_fault (fault L01 d.page 0 (pos (leaf_count (page_bytes file d.page)))) ∷ []) t
+      → IsLeft takes file W (Go c ∷ []) before (U ++ d ∷ []) (map (go d) (next_trunk d.page (page_bytes file d.page) 0)) marks t
+  opened_crowded t l m = subst (λ es. IsLeft takes file W (Go c ∷ []) before (U ++ d ∷ []) es marks t) (append-nil (errands_of (story_of file) d) ∙ crowded_errands file d role l)
+      (left_visit takes file W (Go c ∷ []) before U old s t marks d [] left followed (quiet_trunk file d role) marked (subst (λ L. Moves takes s L t) (sym (told_too_many file (U ++ d ∷ []) d role l)) m))
+
+  -- and when that could not be told
+  pub opened_untold : (t : S) (x : RunError) → most_leaves (usable_size file) < leaf_count (page_bytes file d.page)
+      → StopsBy takes drops x s (told_fault (fault L01 d.page 0 (pos (leaf_count (page_bytes file d.page)))) ∷ []) t
+      → IsDone {A = Unit {0}} takes drops file W (Go c ∷ []) (Err x) marks before t
+  opened_untold t x l k = left_stop takes file W (Go c ∷ []) before U old s drops t marks x (Go d ∷ [])
+      (told_at file (U ++ d ∷ []) (at_page d)) (told_below file (U ++ d ∷ []) (errands_of (story_of file) d ++ [])) left
+      (sym (told_visit file U d [] followed (quiet_trunk file d role)))
+      (subst (λ L. StopsBy takes drops x s L t) (sym (told_too_many file (U ++ d ∷ []) d role l)) k)
+
+module _ {S : Type 0} (takes drops : S → Finding → S → Type 0) (file : List ℕ) (W : List Reference) (c : Reference) (before : S) (step : Step) (marks : List Mark) (s : S) (on : IsOnTrunks takes file W c before step marks s) where
+  relabel : (U : List Reference) (left : List (Errand Way Event)) (m m' : List Mark) (t : S) → IsLeft takes file W (Go c ∷ []) before U left m t → AreMarksOf file U m' → IsLeft takes file W (Go c ∷ []) before U left m' t
+  relabel U left m m' t h k = record { marked = k; past = h.past; apart = h.apart; visits = h.visits; items = h.items; told = h.told; rest = h.rest }
+
+  -- the next trunk is refused
+  pub trunk_refused : (marks' : List Mark) (t : S) → Enters takes drops file on.visited on.d (Ok false) marks' s t → IsDone {A = Unit {0}} takes drops file W (Go c ∷ []) (Ok tt) marks' before t
+  trunk_refused marks' t e = left_none takes file W (Go c ∷ []) before on.visited marks' t drops tt
+      (relabel on.visited [] marks marks' t (left_refused takes file W (Go c ∷ []) before on.visited marks s t on.d [] on.rest e.0 e.2) e.1)
+
+  -- and that could not be told
+  pub trunk_not_told : (x : RunError) (marks' : List Mark) (t : S) → Enters takes drops file on.visited on.d (Err x) marks' s t → IsDone {A = Unit {0}} takes drops file W (Go c ∷ []) (Err x) marks' before t
+  trunk_not_told x marks' t e = left_stop takes file W (Go c ∷ []) before on.visited marks s drops t marks' x (Go on.d ∷ []) _ (told_below file on.visited []) on.rest
+      (sym (told_refused file on.visited on.d [] e.0)) e.2
+
+  -- it is followed, but its page could not be read
+  pub trunk_unread : (x : RunError) (marks' : List Mark) (m : S) → Enters takes drops file on.visited on.d (Ok true) marks' s m → StopsBy takes drops x m [] m
+      → IsDone {A = Unit {0}} takes drops file W (Go c ∷ []) (Err x) marks' before m
+  trunk_unread x marks' m e h = left_stop takes file W (Go c ∷ []) before on.visited marks s drops m marks' x (Go on.d ∷ []) [] (told_below file on.visited (Go on.d ∷ [])) on.rest refl
+      (subst (λ y. StopsBy takes drops x y [] m) (sym e.2) h)
+
+-- the next trunk, or none
+pub next_turned : {S : Type 0} (takes drops : S → Finding → S → Type 0) (file : List ℕ) (W : List Reference) (c : Reference) (before : S) (d : Reference) (page item : ℕ) (U : List Reference) (marks : List Mark) (s : S) → d.page ≡ page
+    → IsLeft takes file W (Go c ∷ []) before U (map (go d) (next_trunk d.page (page_bytes file d.page) item)) marks s
+    → TrunkTurns takes drops file W c before (Ok (next_step (u32_at 0 (page_bytes file page)) page item)) marks s
+next_turned {S} takes drops file W c before d page item U marks s e h =
+    subst (λ p. TrunkTurns takes drops file W c before (Ok (next_step (u32_at 0 (page_bytes file p)) p item)) marks s) e (by_next (u32_at 0 (page_bytes file d.page)) (u32_at 0 (page_bytes file d.page) == 0) h)
+  where
+    by_next : (n : ℕ) (b : Bool) → IsLeft takes file W (Go c ∷ []) before U (map (go d) (cond b [] (link d.page item item trunk n ∷ []))) marks s
+        → TrunkTurns takes drops file W c before (Ok (cond b None (Some (trunk_step n d.page item)))) marks s
+    by_next n true h = left_none takes file W (Go c ∷ []) before U marks s drops tt h
+    by_next n false h = record {
+      visited = U;
+      d = record { address = then_step d.address item; page = n; role = record { role = trunk; from = d.page; item = item } };
+      step = record { page = refl; mark = refl; from = refl; item = refl; deep = refl };
+      role = refl;
+      rest = h;
+    }
+
+-- at the first trunk all is left
+pub trunks_start : {S : Type 0} (takes : S → Finding → S → Type 0) (file : List ℕ) (W : List Reference) (c : Reference) (first : ℕ) (marks : List Mark) (s : S) → IsFirstTrunk first c → IsNext W c → AreMarksOf file W marks
+    → IsOnTrunks takes file W c s (trunk_step first 0 freelist_start) marks s
+trunks_start takes file W c first marks s h next m = record {
+  visited = W;
+  d = c;
+  step = record { page = h.page; mark = ap (λ r. role_mark r c.role.from) h.role; from = h.from; item = h.item; deep = trunk_shallow c h.role };
+  role = h.role;
+  rest = left_start takes file W (Go c ∷ []) s marks m next ((λ e i. absurd i), tt);
+}
+
+-- it is what the list of starts names, where there is a freelist
+pub freelist_named : (file : List ℕ) → (first_trunk file == 0) ≡ false → named_at [] (freelist_starts file) ≡ freelist_reference (first_trunk file) ∷ []
+freelist_named file e = ap (λ b. named_at [] (cond b [] (start freelist_start trunk (first_trunk file) ∷ []))) e
+
+pub freelist_is_first : (first : ℕ) → IsFirstTrunk first (freelist_reference first)
+freelist_is_first first = record { page = refl; role = refl; from = refl; item = refl }

@@ -1,0 +1,5 @@
+-- The cells of a leaf.
+pub mod LeafCells
+pub mod LeafTurns
+pub mod LeafWays
+pub mod LeafRows

@@ -1,0 +1,86 @@
+-- What stands at the levels of a bench after a page was read, and how many pages are left without a mark.
+use Rattle.std.proofs.Common.{◌≡◌, ℕ, zero, suc, ◌+◌, ◌-◌, ◌<◌, ◌≤◌, Bool, true, false, cond, List, [], ◌∷◌, length, set, Some, None, Result, Ok, Err, refl, sym, ap, subst, arith, ◌∙◌}
+use Rattle.std.specs.Prelude.{slice_get, nat_lt, count_by, ◌==◌, IfOk}
+use Rattle.std.specs.Option.{option_map_or}
+use Rattle.std.proofs.lemmas.Bool.Decides.{nat_tests}
+use Rattle.std.proofs.lemmas.List.{length-map}
+use Rattle.std.proofs.lemmas.List.Sums.{sum_by-cons}
+use Rattle.dbsource.specs.Bench.{Pages, with_level}
+use Rattle.dbwalk.specs.Marking.{page_mark, is_none, unmarked_pages, cleared, Keeps}
+use Rattle.dbwalk.specs.declared.mark.Mark.{Mark}
+use Rattle.dbwalk.specs.Found.{StandsAt}
+
+get_set : {X : Type 0} (xs : List X) (i : ℕ) (x y : X) → slice_get (set xs i x) i ≡ Some y → y ≡ x
+get_set [] i x y e = cc
+get_set (z ∷ xs) zero x y e = cc
+get_set (z ∷ xs) (suc i) x y e = get_set xs i x y e
+
+get_below : {X : Type 0} (xs : List X) (i j : ℕ) (x : X) → j < i → slice_get (set xs i x) j ≡ slice_get xs j
+get_below [] i j x l = refl
+get_below (z ∷ xs) zero j x l = absurd (omega arith)
+get_below (z ∷ xs) (suc i) zero x l = refl
+get_below (z ∷ xs) (suc i) (suc j) x l = get_below xs i j x (omega arith)
+
+-- a page was read to a level
+module _ (old new : Pages) (level : ℕ) (low : level < 20) (bytes : List ℕ) (only : new ≡ with_level old level bytes) where
+  changed : new ≡ record old { levels = set old.levels level bytes }
+  changed = only ∙ ap (λ b. cond b (let p : Pages = record old { levels = set old.levels level bytes } in p) (record old { chain = bytes })) (yes level low)
+    where
+      yes : (n : ℕ) → n < 20 → nat_lt n 20 ≡ true
+      yes n l = grind (arith, nat_tests)
+
+  pub geometry_kept : new.geometry ≡ old.geometry
+  geometry_kept = ap (λ (b : Pages). b.geometry) changed
+
+  levels_are : new.levels ≡ set old.levels level bytes
+  levels_are = ap (λ (b : Pages). b.levels) changed
+
+  pub read_there : (page : List ℕ) → bytes ≡ page → StandsAt new.levels level page
+  read_there page e y h = get_set old.levels level bytes y (ap (λ ls. slice_get ls level) (sym levels_are) ∙ h) ∙ e
+
+  pub below_kept : (n : ℕ) → n < level → slice_get new.levels n ≡ slice_get old.levels n
+  below_kept n l = ap (λ ls. slice_get ls n) levels_are ∙ get_below old.levels level n bytes l
+
+-- pages without a mark, where marks stay
+
+count_more : (x : Mark) (xs : List Mark) → count_by is_none (x ∷ xs) ≡ cond (is_none x) 1 0 + count_by is_none xs
+count_more x xs = sum_by-cons (λ x. cond (is_none x) 1 0) x xs
+
+fewer_by : (xs ys : List Mark) → length ys ≡ length xs → ((i : ℕ) → option_map_or is_none (slice_get xs i) false ≡ false → slice_get ys i ≡ slice_get xs i) → count_by is_none ys ≤ count_by is_none xs
+fewer_by [] [] l h = omega arith
+fewer_by [] (y ∷ ys) l h = absurd (omega arith)
+fewer_by (x ∷ xs) [] l h = absurd (omega arith)
+fewer_by (x ∷ xs) (y ∷ ys) l h =
+    let rest : count_by is_none ys ≤ count_by is_none xs = fewer_by xs ys (omega arith) (λ i u. h (suc i) u) in
+    let a = count_more x xs in
+    let b = count_more y ys in
+    let one : ◌≤◌ (cond (is_none y) 1 0) (cond (is_none x) 1 0) = head (is_none x) refl in
+    omega arith
+  where
+    low : (b : Bool) → cond b 1 0 ≤ 1
+    low true = omega arith
+    low false = omega arith
+
+    head : (b : Bool) → is_none x ≡ b → ◌≤◌ (cond (is_none y) 1 0) (cond (is_none x) 1 0)
+    head true e = subst (λ b. ◌≤◌ (cond (is_none y) 1 0) (cond b 1 0)) (sym e) (low (is_none y))
+    head false e =
+        let s : Some y ≡ Some x = h 0 e in
+        let f : y ≡ x = cc in
+        subst (λ z. ◌≤◌ (cond (is_none z) 1 0) (cond (is_none x) 1 0)) (sym f) (same (cond (is_none x) 1 0))
+      where
+        same : (n : ℕ) → n ≤ n
+        same n = omega arith
+
+pub keeps_fewer : (old new : List Mark) → Keeps old new → unmarked_pages new ≤ unmarked_pages old
+keeps_fewer old new k = fewer_by old new (sym (length-map new cleared) ∙ ap length k.fixed ∙ length-map old cleared)
+    (λ i u. sym (at new i) ∙ k.marks (suc i) (ap (λ o. option_map_or is_none o false) (at old i) ∙ u) ∙ at old i)
+  where
+    some : (i : ℕ) → (suc i == 0) ≡ false
+    some i = grind (arith, nat_tests)
+
+    at : (marks : List Mark) (i : ℕ) → page_mark marks (suc i) ≡ slice_get marks i
+    at marks i = ap (λ b. cond b None (slice_get marks (suc i - 1))) (some i) ∙ ap (slice_get marks) (let e : suc i - 1 ≡ i = omega arith in e)
+
+pub if_ok_all : {A E : Type 0} (r : Result A E) (Q : A → Type 0) → ((x : A) → Q x) → IfOk r Q
+if_ok_all (Ok x) Q h = h x
+if_ok_all (Err e) Q h = tt

@@ -1,0 +1,38 @@
+-- The rows of the schema with a root page, as a walk comes by them: what it knows of their count, and of those that can
+-- be read.
+use Rattle.std.proofs.Common.{◌≡◌, ℕ, ◌+◌, List, [], ◌∷◌, ◌++◌, length, ap, ◌∙◌}
+use Rattle.std.specs.Prelude.{nat_le, filter_map}
+use Rattle.std.specs.Result.{result_ok}
+use Rattle.std.proofs.lemmas.List.{length-append}
+use Rattle.std.proofs.lemmas.List.Elements.{filter_map-append}
+use Rattle.dbsurvey.specs.Address.{Address}
+use Rattle.dbformat.specs.Address.{last_root_start}
+use Rattle.dbformat.specs.KeyFaults.{earlier_roots, row_faults, row_faults_if}
+use Rattle.dbformat.specs.Reference.{Reference}
+use Rattle.dbformat.specs.Schema.{SchemaCell, rooted, rooted_rows}
+use Rattle.dbwalk.specs.Running.{cells_before, rows_before}
+
+-- whether a row has a root page
+abbrev pub roots_in : SchemaCell → ℕ
+roots_in c = length (rooted_rows (c ∷ []))
+
+module _ (file : List ℕ) (U V : List Reference) (p q : Address) where
+  -- the same rows, the same count
+  pub roots_same : cells_before file V q ≡ cells_before file U p → earlier_roots file V q ≡ earlier_roots file U p
+  roots_same e = ap (λ l. length (rooted_rows l)) e
+
+  -- one row more
+  pub roots_more : (c : SchemaCell) → cells_before file V q ≡ cells_before file U p ++ c ∷ [] → earlier_roots file V q ≡ earlier_roots file U p + roots_in c
+  roots_more c e = ap (λ l. length (rooted_rows l)) e ∙ ap length (filter_map-append (λ c. rooted c.row) (cells_before file U p) (c ∷ []))
+      ∙ length-append (rooted_rows (cells_before file U p)) (rooted_rows (c ∷ []))
+
+  pub rows_same : cells_before file V q ≡ cells_before file U p → rows_before file V q ≡ rows_before file U p
+  rows_same e = ap (filter_map (λ c. result_ok c.row)) e
+
+  pub rows_more : (c : SchemaCell) → cells_before file V q ≡ cells_before file U p ++ c ∷ [] → rows_before file V q ≡ rows_before file U p ++ filter_map (λ c. result_ok c.row) (c ∷ [])
+  rows_more c e = ap (filter_map (λ c. result_ok c.row)) e ∙ filter_map-append (λ c. result_ok c.row) (cells_before file U p) (c ∷ [])
+
+-- By the count of root pages so far the faults of a row are known: from the 65537th root page on the list is full.
+pub row_told : (file : List ℕ) (W : List Reference) (d : SchemaCell) (n : ℕ) → earlier_roots file W d.place ≡ n → row_faults file W d ≡ row_faults_if (nat_le last_root_start n) d
+unfolding row_faults
+row_told file W d n e = ap (λ n. row_faults_if (nat_le last_root_start n) d) e

@@ -1,0 +1,5 @@
+-- What is told below some errands.
+pub mod Belows
+pub mod Lefts
+pub mod Tellings
+pub mod Entries

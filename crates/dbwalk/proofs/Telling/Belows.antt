@@ -1,0 +1,109 @@
+-- What is told and visited below some errands, errand by errand.
+use Rattle.std.proofs.Common.{◌≡◌, ℕ, true, false, inl, inr, List, [], ◌∷◌, ◌++◌, None, refl, sym, ap, ◌∙◌, append_assoc}
+use Rattle.std.proofs.lemmas.List.{append-nil}
+use Rattle.dbsurvey.specs.Survey.{children}
+use Rattle.dbsurvey.specs.Traverse.{is_followed, part_of}
+use Rattle.dbsurvey.specs.Story.{Told, Errand, Go, Tell, goes, errands_of}
+use Rattle.dbsurvey.specs.InOrder.{AreQuiet}
+use Rattle.dbsurvey.proofs.Remaining.{rest_none, rest_skip, rest_visit, rest_join}
+use Rattle.dbsurvey.proofs.ReadBack.{below_none, below_event, below_refused, below_visit, below_join}
+use Rattle.dbsurvey.proofs.Tellings.{goes-append, goes-of}
+use Rattle.dbformat.specs.File.{geometry}
+use Rattle.dbformat.specs.Reference.{Way, Reference}
+use Rattle.dbformat.specs.Survey.{rules_of}
+use Rattle.dbformat.specs.Story.{Event, at_page, at_refused, own_visit, story_of}
+use Rattle.dbformat.proofs.Theory.{are_rules, is_story, shows_visits}
+use Rattle.dbwalk.specs.Finding.{told_at, told_below, visited_below}
+
+event_of : Event → Errand Way Event → Event
+event_of x (Go c) = x
+event_of x (Tell d) = d.event
+
+quiet_tell : (e : Told Event) → own_visit e.event ≡ None → AreQuiet own_visit (Tell e ∷ [])
+unfolding event_of
+quiet_tell e q d (inl h) = ap (λ x. own_visit (event_of e.event x)) h ∙ q
+quiet_tell e q d (inr h) = absurd h
+
+module _ (file : List ℕ) where
+  abbrev pages : ℕ
+  pages = (geometry file).pages
+
+  of_page : (c : Reference) → (story_of file).own c ≡ at_page c
+  unfolding story_of
+  of_page c = refl
+
+  of_refused : (c : Reference) → (story_of file).refused c ≡ at_refused c
+  unfolding story_of
+  of_refused c = refl
+
+  -- what is visited
+
+  pub visited_none : (W : List Reference) → visited_below file W [] ≡ []
+  visited_none W = rest_none (rules_of file) pages (are_rules file) W
+
+  pub visited_refused : (W : List Reference) (c : Reference) (es : List (Errand Way Event)) → is_followed (rules_of file) W c ≡ false
+      → visited_below file W (Go c ∷ es) ≡ visited_below file W es
+  visited_refused W c es h = rest_skip (rules_of file) pages (are_rules file) W c (goes es) h
+
+  pub visited_visit : (W : List Reference) (c : Reference) (es : List (Errand Way Event)) → is_followed (rules_of file) W c ≡ true
+      → W ++ visited_below file W (Go c ∷ es) ≡ (W ++ (c ∷ [])) ++ visited_below file (W ++ (c ∷ [])) (errands_of (story_of file) c ++ es)
+  visited_visit W c es h =
+      let cs : goes (errands_of (story_of file) c ++ es) ≡ children (rules_of file) c ++ goes es = goes-append (errands_of (story_of file) c) es
+      ∙ ap (λ cs. cs ++ goes es) (goes-of (rules_of file) (story_of file) (is_story file) c) in
+      ap (λ V. W ++ V) (rest_visit (rules_of file) pages (are_rules file) W c (goes es) h)
+      ∙ sym (append_assoc W (c ∷ []) (part_of (rules_of file) pages (W ++ (c ∷ [])) (children (rules_of file) c ++ goes es)))
+      ∙ ap (λ cs. (W ++ (c ∷ [])) ++ part_of (rules_of file) pages (W ++ (c ∷ [])) cs) (sym cs)
+
+  pub visited_join : (W : List Reference) (es fs : List (Errand Way Event))
+      → W ++ visited_below file W (es ++ fs) ≡ (W ++ visited_below file W es) ++ visited_below file (W ++ visited_below file W es) fs
+  visited_join W es fs =
+      ap (λ cs. W ++ part_of (rules_of file) pages W cs) (goes-append es fs)
+      ∙ ap (λ V. W ++ V) (rest_join (rules_of file) pages (are_rules file) W (goes es) (goes fs))
+      ∙ sym (append_assoc W (visited_below file W es) (visited_below file (W ++ visited_below file W es) fs))
+
+  -- what is told
+
+  pub told_none : (W : List Reference) → told_below file W [] ≡ []
+  told_none W = below_none (rules_of file) (story_of file) pages (are_rules file) own_visit (told_at file) W
+
+  pub told_join : (W : List Reference) (es fs : List (Errand Way Event)) → AreQuiet own_visit es
+      → told_below file W (es ++ fs) ≡ told_below file W es ++ told_below file (W ++ visited_below file W es) fs
+  told_join W es fs q = below_join (rules_of file) (story_of file) pages (are_rules file) own_visit (told_at file) (is_story file) (shows_visits file) W es fs q
+
+  quiet_go : (c : Reference) → AreQuiet own_visit (Go c ∷ [])
+  quiet_go c e (inl h) = cc
+  quiet_go c e (inr h) = absurd h
+
+  pub told_event : (W : List Reference) (e : Told Event) (es : List (Errand Way Event)) → own_visit e.event ≡ None
+      → told_below file W (Tell e ∷ es) ≡ told_at file W e.event ++ told_below file W es
+  told_event W e es q =
+      told_join W (Tell e ∷ []) es (quiet_tell e q)
+      ∙ ap (λ L. L ++ told_below file (W ++ visited_below file W (Tell e ∷ [])) es) (below_event (rules_of file) (story_of file) pages (are_rules file) own_visit (told_at file) W e q)
+      ∙ ap (λ V. told_at file W e.event ++ told_below file (W ++ V) es) (visited_none W)
+      ∙ ap (λ U. told_at file W e.event ++ told_below file U es) (append-nil W)
+
+  pub told_refused : (W : List Reference) (c : Reference) (es : List (Errand Way Event)) → is_followed (rules_of file) W c ≡ false
+      → told_below file W (Go c ∷ es) ≡ told_at file W (at_refused c) ++ told_below file W es
+  told_refused W c es h =
+      told_join W (Go c ∷ []) es (quiet_go c)
+      ∙ ap (λ L. L ++ told_below file (W ++ visited_below file W (Go c ∷ [])) es)
+      (below_refused (rules_of file) (story_of file) pages (are_rules file) own_visit (told_at file) (shows_visits file) W c h ∙ ap (told_at file W) (of_refused c))
+      ∙ ap (λ V. told_at file W (at_refused c) ++ told_below file (W ++ V) es) (visited_refused W c [] h ∙ visited_none W)
+      ∙ ap (λ U. told_at file W (at_refused c) ++ told_below file U es) (append-nil W)
+
+  pub told_visit : (W : List Reference) (c : Reference) (es : List (Errand Way Event)) → is_followed (rules_of file) W c ≡ true
+      → AreQuiet own_visit (errands_of (story_of file) c)
+      → told_below file W (Go c ∷ es) ≡ told_at file (W ++ (c ∷ [])) (at_page c) ++ told_below file (W ++ (c ∷ [])) (errands_of (story_of file) c ++ es)
+  told_visit W c es h quiet =
+      let U : List Reference = W ++ (c ∷ []) in
+      let fs : List (Errand Way Event) = errands_of (story_of file) c in
+      let here : told_below file W (Go c ∷ []) ≡ told_at file U (at_page c) ++ told_below file U fs =
+      below_visit (rules_of file) (story_of file) pages (are_rules file) own_visit (told_at file) (is_story file) (shows_visits file) W c h
+      ∙ ap (λ e. told_at file U e ++ told_below file U fs) (of_page c) in
+      let below : W ++ visited_below file W (Go c ∷ []) ≡ U ++ visited_below file U fs =
+      visited_visit W c [] h ∙ ap (λ es. U ++ visited_below file U es) (append-nil fs) in
+      told_join W (Go c ∷ []) es (quiet_go c)
+      ∙ ap (λ L. L ++ told_below file (W ++ visited_below file W (Go c ∷ [])) es) here
+      ∙ ap (λ V. (told_at file U (at_page c) ++ told_below file U fs) ++ told_below file V es) below
+      ∙ append_assoc (told_at file U (at_page c)) (told_below file U fs) (told_below file (U ++ visited_below file U fs) es)
+      ∙ ap (λ L. told_at file U (at_page c) ++ L) (sym (told_join U fs es quiet))

@@ -1,0 +1,126 @@
+-- What is left of a walk, step by step.
+use Rattle.std.proofs.Common.{◌≡◌, ℕ, true, false, inl, inr, List, [], ◌∷◌, ◌++◌, None, Ok, Err, refl, sym, ap, subst, ◌∙◌, append_assoc}
+use Rattle.std.proofs.lemmas.List.{append-nil}
+use Rattle.dbsurvey.specs.Address.{IsIn, IsBefore, IsLeftOf}
+use Rattle.dbsurvey.specs.Traverse.{is_followed}
+use Rattle.dbsurvey.specs.Moves.{Moves}
+use Rattle.dbsurvey.specs.Story.{step_of, Told, Errand, Go, Tell, errand_key, errands_of, AreErrandsApart}
+use Rattle.dbsurvey.specs.InOrder.{AreQuiet, IsPast}
+use Rattle.dbsurvey.proofs.Order.{IsIn-cases, IsIn-right, EachPair-append, EachPair-left, EachPair-right, IsLeftOf-before, IsLeftOf-longer}
+use Rattle.dbsurvey.proofs.Moving.{Moves-append}
+use Rattle.dbsurvey.proofs.Past.{past_visit, past_join, errands_apart}
+use Rattle.dbsurvey.proofs.Tellings.{errands_at-step}
+use Rattle.dbformat.specs.File.{geometry}
+use Rattle.dbformat.specs.Reference.{Way, Reference}
+use Rattle.dbformat.specs.Survey.{rules_of}
+use Rattle.dbformat.specs.Story.{Event, at_page, at_refused, own_visit, story_of}
+use Rattle.dbformat.proofs.Theory.{are_rules, is_story}
+use Rattle.dbsource.specs.declared.error.RunError.{RunError}
+use Rattle.dbwalk.specs.declared.mark.Mark.{Mark}
+use Rattle.dbwalk.specs.Marking.{AreMarksOf}
+use Rattle.dbwalk.specs.Finding.{Finding, told_at, told_below, visited_below}
+use Rattle.dbwalk.specs.Outcomes.{StopsBy}
+use Rattle.dbwalk.specs.Done.{IsDone}
+use Rattle.dbwalk.specs.Left.{IsLeft}
+use Rattle.dbwalk.proofs.Telling.Tellings.{stops_by_first, stops_by_after}
+use Rattle.dbwalk.proofs.Telling.Belows.{visited_none, visited_refused, visited_visit, visited_join, told_none, told_join, told_event, told_refused, told_visit}
+
+past_rest : (U : List Reference) (e : Errand Way Event) (es : List (Errand Way Event)) → IsPast U (e ∷ es) → IsPast U es
+past_rest U e es h u f i j = h u f i (inr j)
+
+-- the errands of a visited candidate are apart, and left of those behind it
+visit_apart : (file : List ℕ) (c : Reference) (es : List (Errand Way Event)) → AreErrandsApart (Go c ∷ es) → AreErrandsApart (errands_of (story_of file) c ++ es)
+visit_apart file c es h = EachPair-append (λ e f. IsLeftOf (errand_key e) (errand_key f)) (errands_of (story_of file) c) es
+    (errands_apart (rules_of file) (story_of file) (is_story file) c) h.1
+    (λ e f i j. let k = errands_at-step c.address ((story_of file).items c) e i in
+    subst (λ a. IsLeftOf a (errand_key f)) (sym k.2) (subst (λ b. IsLeftOf (c.address ++ (step_of k.0 ∷ [])) b) (append-nil (errand_key f)) (IsLeftOf-longer c.address (errand_key f) (step_of k.0 ∷ []) [] (h.0 f j))))
+
+past_visit_all : (file : List ℕ) (U : List Reference) (c : Reference) (es : List (Errand Way Event)) → IsPast U (Go c ∷ es) → AreErrandsApart (Go c ∷ es) → IsPast (U ++ (c ∷ [])) (errands_of (story_of file) c ++ es)
+past_visit_all file U c es past apart u f i j = elim (IsIn-cases f (errands_of (story_of file) c) es j) [
+  | inl k ↦ past_visit (story_of file) U c (λ v g m n. past v g m (first g n)) u f i k
+  | inr k ↦ (elim (IsIn-cases u U (c ∷ []) i) [
+    | inl m ↦ past u f m (inr k)
+    | inr m ↦ (elim m [ inl e ↦ subst (λ w. IsBefore w.address (errand_key f)) (sym e) (IsLeftOf-before c.address (errand_key f) (apart.0 f k)) | inr n ↦ absurd n ])
+  ])
+]
+  where
+    first : (g : Errand Way Event) → IsIn g (Go c ∷ []) → IsIn g (Go c ∷ es)
+    first g (inl e) = inl e
+    first g (inr n) = absurd n
+
+module _ {S : Type 0} (takes : S → Finding → S → Type 0) (file : List ℕ) (W : List Reference) (errands : List (Errand Way Event)) (before : S) where
+  -- at the start all is left
+  pub left_start : (marks : List Mark) → AreMarksOf file W marks → IsPast W errands → AreErrandsApart errands → IsLeft takes file W errands before W errands marks before
+  left_start marks m p a = record { marked = m; past = p; apart = a; visits = refl; items = []; told = refl; rest = refl }
+
+  module _ (U : List Reference) (marks : List Mark) (s : S) where
+    -- an event is told
+    pub left_event : (t : S) (e : Told Event) (es : List (Errand Way Event)) → IsLeft takes file W errands before U (Tell e ∷ es) marks s → own_visit e.event ≡ None
+        → Moves takes s (told_at file U e.event) t → IsLeft takes file W errands before U es marks t
+    left_event t e es h q m = record {
+      marked = h.marked;
+      past = past_rest U (Tell e) es h.past;
+      apart = h.apart.1;
+      visits = h.visits;
+      items = h.items ++ told_at file U e.event;
+      told = Moves-append takes before s t h.items (told_at file U e.event) h.told m;
+      rest = append_assoc h.items (told_at file U e.event) (told_below file U es) ∙ ap (λ L. h.items ++ L) (sym (told_event file U e es q)) ∙ h.rest;
+    }
+
+    -- a candidate is refused, and that is told
+    pub left_refused : (t : S) (c : Reference) (es : List (Errand Way Event)) → IsLeft takes file W errands before U (Go c ∷ es) marks s → is_followed (rules_of file) U c ≡ false
+        → Moves takes s (told_at file U (at_refused c)) t → IsLeft takes file W errands before U es marks t
+    left_refused t c es h f m = record {
+      marked = h.marked;
+      past = past_rest U (Go c) es h.past;
+      apart = h.apart.1;
+      visits = ap (λ V. U ++ V) (sym (visited_refused file U c es f)) ∙ h.visits;
+      items = h.items ++ told_at file U (at_refused c);
+      told = Moves-append takes before s t h.items (told_at file U (at_refused c)) h.told m;
+      rest = append_assoc h.items (told_at file U (at_refused c)) (told_below file U es) ∙ ap (λ L. h.items ++ L) (sym (told_refused file U c es f)) ∙ h.rest;
+    }
+
+    -- a candidate is visited: it is marked, and its own event is told
+    pub left_visit : (t : S) (marks' : List Mark) (c : Reference) (es : List (Errand Way Event)) → IsLeft takes file W errands before U (Go c ∷ es) marks s → is_followed (rules_of file) U c ≡ true
+        → AreQuiet own_visit (errands_of (story_of file) c) → AreMarksOf file (U ++ (c ∷ [])) marks'
+        → Moves takes s (told_at file (U ++ (c ∷ [])) (at_page c)) t → IsLeft takes file W errands before (U ++ (c ∷ [])) (errands_of (story_of file) c ++ es) marks' t
+    left_visit t marks' c es h f quiet marked m = record {
+      marked = marked;
+      past = past_visit_all file U c es h.past h.apart;
+      apart = visit_apart file c es h.apart;
+      visits = sym (visited_visit file U c es f) ∙ h.visits;
+      items = h.items ++ told_at file (U ++ (c ∷ [])) (at_page c);
+      told = Moves-append takes before s t h.items (told_at file (U ++ (c ∷ [])) (at_page c)) h.told m;
+      rest = append_assoc h.items (told_at file (U ++ (c ∷ [])) (at_page c)) (told_below file (U ++ (c ∷ [])) (errands_of (story_of file) c ++ es))
+          ∙ ap (λ L. h.items ++ L) (sym (told_visit file U c es f quiet)) ∙ h.rest;
+    }
+
+    -- a call does the first errands
+    pub left_call : {A : Type 0} (drops : S → Finding → S → Type 0) (t : S) (marks' : List Mark) (a : A) (es fs : List (Errand Way Event)) → IsLeft takes file W errands before U (es ++ fs) marks s
+        → AreQuiet own_visit es → IsDone takes drops file U es (Ok a) marks' s t → IsLeft takes file W errands before (U ++ visited_below file U es) fs marks' t
+    left_call drops t marks' a es fs h quiet done = record {
+      marked = done.marked;
+      past = past_join (rules_of file) (geometry file).pages (are_rules file) U es fs h.apart (EachPair-left (λ e f. IsLeftOf (errand_key e) (errand_key f)) es fs h.apart) (λ u f i j. h.past u f i (IsIn-right f es fs j));
+      apart = EachPair-right (λ e f. IsLeftOf (errand_key e) (errand_key f)) es fs h.apart;
+      visits = sym (visited_join file U es fs) ∙ h.visits;
+      items = h.items ++ told_below file U es;
+      told = Moves-append takes before s t h.items (told_below file U es) h.told done.told;
+      rest = append_assoc h.items (told_below file U es) (told_below file (U ++ visited_below file U es) fs) ∙ ap (λ L. h.items ++ L) (sym (told_join file U es fs quiet)) ∙ h.rest;
+    }
+
+    -- nothing is left
+    pub left_none : {A : Type 0} (drops : S → Finding → S → Type 0) (a : A) → IsLeft takes file W errands before U [] marks s → IsDone takes drops file W errands (Ok a) marks before s
+    left_none drops a h = record {
+      marked = subst (λ V. AreMarksOf file V marks) (sym (append-nil U) ∙ ap (λ V. U ++ V) (sym (visited_none file U)) ∙ h.visits) h.marked;
+      told = subst (λ L. Moves takes before L s) (sym (append-nil h.items) ∙ ap (λ L. h.items ++ L) (sym (told_none file U)) ∙ h.rest) h.told;
+    }
+
+    -- an error, while the first items of what is left are told
+    pub left_stop : {A : Type 0} (drops : S → Finding → S → Type 0) (t : S) (marks' : List Mark) (e : RunError) (left : List (Errand Way Event)) (part rest : List Finding)
+        → IsLeft takes file W errands before U left marks s → part ++ rest ≡ told_below file U left
+        → StopsBy takes drops e s part t → IsDone {A = A} takes drops file W errands (Err e) marks' before t
+    left_stop drops t marks' e left part rest h whole k = record {
+      marked = tt;
+      told = subst (λ L. StopsBy takes drops e before L t) (ap (λ L. h.items ++ L) whole ∙ h.rest)
+          (stops_by_after takes drops e before s t h.items (part ++ rest) h.told (stops_by_first takes drops e s t part rest k));
+    }

@@ -1,0 +1,314 @@
+-- What is left of a walk with a stack, step by step.
+use Rattle.std.proofs.Common.{◌≡◌, ℕ, suc, ◌+◌, ◌-◌, ◌<◌, ◌≤◌, inl, inr, true, false, cond, List, [], ◌∷◌, ◌++◌, length, map, Option, Some, None, Result, Ok, Err, refl, sym, ap, subst, arith, ◌∙◌, append_assoc}
+use Rattle.std.specs.Prelude.{filter, flat_map, nat_le, option_map, option_to_list, option_and_then, unwrap_or, ◌==◌}
+use Rattle.std.specs.Option.{option_map_or}
+use Rattle.std.specs.Result.{result_ok}
+use Rattle.std.proofs.lemmas.Bool.{cases_Bool, cases_order, eqb-true}
+use Rattle.std.proofs.lemmas.Bool.Decides.{nat_tests}
+use Rattle.std.proofs.lemmas.List.{append-nil, length-append}
+use Rattle.dbsurvey.specs.Address.{IsIn}
+use Rattle.dbsurvey.specs.Story.{Item, Follow, Place, step_of, Go, AreRising, errands_at, errands_of}
+use Rattle.dbsurvey.proofs.Order.{IsIn-left, IsIn-right, IsIn-cases}
+use Rattle.dbsurvey.proofs.Ordering.{IsIn-map, IsIn-from_map, IsIn-flat_map, IsIn-from_flat_map}
+use Rattle.dbformat.specs.Header.{usable_size}
+use Rattle.dbformat.specs.File.{page_bytes}
+use Rattle.dbformat.specs.Address.{then_step, overflow_step, child_step, key_step, cell_of_step}
+use Rattle.dbformat.specs.Head.{View, undamaged}
+use Rattle.dbformat.specs.Cell.{Cell, cell, cells, count, overflow_size, child_number, right_child}
+use Rattle.dbformat.specs.Reference.{Role, root, child, first_overflow, later_overflow, trunk, free_leaf, Way, Reference, role_of, tree_kind, tree_view, link, cell_links, right_links}
+use Rattle.dbformat.specs.Story.{Event, at_key, cell_items, page_items, role_items, story_of}
+use Rattle.dbformat.specs.Errands.{go, tell_cell}
+use Rattle.dbformat.specs.declared.TreeKind.{TreeKind}
+use Rattle.dbformat.specs.declared.CellFault.{CellFault}
+use Rattle.dbformat.proofs.Theory.{is_story}
+use Rattle.dbwalk.proofs.Running.RunningKeys.{cells_in, cells_from}
+use Rattle.dbwalk.specs.Stack.{errands_from, child_page, child_at, top_visit, left_over, IsFrame, AreFrames}
+use Rattle.dbwalk.specs.Running.{IsVisit}
+use Rattle.dbwalk.specs.declared.frame.Frame.{Frame}
+
+-- rising items from a step on
+
+le_yes : (s n : ℕ) → s ≤ n → nat_le s n ≡ true
+le_yes s n l = grind (arith, nat_tests)
+
+le_no : (s n : ℕ) → n < s → nat_le s n ≡ false
+le_no s n l = grind (arith, nat_tests)
+
+module _ {R E : Type 0} where
+  abbrev from : ℕ → List (Item R E) → List (Item R E)
+  from s items = filter (λ i. nat_le s (step_of i)) items
+
+  from_all : (s : ℕ) (items : List (Item R E)) → ((i : Item R E) → IsIn i items → s ≤ step_of i) → from s items ≡ items
+  from_all s [] h = refl
+  from_all s (i ∷ items) h = ap (λ b. cond b (i ∷ from s items) (from s items)) (le_yes s (step_of i) (h i (inl refl))) ∙ ap (λ l. i ∷ l) (from_all s items (λ j m. h j (inr m)))
+
+  from_end : (s : ℕ) (items : List (Item R E)) → ((i : Item R E) → IsIn i items → step_of i < s) → from s items ≡ []
+  from_end s [] h = refl
+  from_end s (i ∷ items) h = ap (λ b. cond b (i ∷ from s items) (from s items)) (le_no s (step_of i) (h i (inl refl))) ∙ from_end s items (λ j m. h j (inr m))
+
+  from_none : (s : ℕ) (items : List (Item R E)) → ((i : Item R E) → IsIn i items → step_of i ≡ s → ⊥) → from s items ≡ from (suc s) items
+  from_none s [] h = refl
+  from_none s (i ∷ items) h = ap (λ b. cond b (i ∷ from s items) (from s items)) same ∙ ap (λ l. cond (nat_le (suc s) (step_of i)) (i ∷ l) l) (from_none s items (λ j m. h j (inr m)))
+    where
+      same : nat_le s (step_of i) ≡ nat_le (suc s) (step_of i)
+      same = let d = h i (inl refl) in elim (cases_Bool (nat_le (suc s) (step_of i))) [
+        | inl e ↦ le_yes s (step_of i) (let l : suc s ≤ step_of i = grind (arith, nat_tests) in omega arith) ∙ sym e
+        | inr e ↦ le_no s (step_of i) (let l : step_of i < suc s = grind (arith, nat_tests) in below (step_of i) l d) ∙ sym e
+      ]
+        where
+          below : (n : ℕ) → n < suc s → (n ≡ s → ⊥) → n < s
+          below n l d = elim (cases_order n s) [
+            | inl e ↦ absurd (d e)
+            | inr k ↦ (elim k [ inl m ↦ m | inr m ↦ absurd (omega arith) ])
+          ]
+
+  from_item : (s : ℕ) (items : List (Item R E)) (x : Item R E) → AreRising items → IsIn x items → step_of x ≡ s → from s items ≡ x ∷ from (suc s) items
+  from_item s [] x rise h e = absurd h
+  from_item s (i ∷ items) x rise (inl f) e =
+      let n : step_of i ≡ s = ap step_of (sym f) ∙ e in
+      ap (λ b. cond b (i ∷ from s items) (from s items)) (le_yes s (step_of i) (omega arith))
+      ∙ ap (λ l. i ∷ l) (from_all s items (λ j m. let k = rise.0 j m in omega arith) ∙ sym (from_all (suc s) items (λ j m. let k = rise.0 j m in omega arith)))
+      ∙ ap (λ i. i ∷ from (suc s) items) (sym f)
+      ∙ ap (λ l. x ∷ l) (sym (ap (λ b. cond b (i ∷ from (suc s) items) (from (suc s) items)) (le_no (suc s) (step_of i) (omega arith))))
+  from_item s (i ∷ items) x rise (inr m) e =
+      let k = rise.0 x m in
+      ap (λ b. cond b (i ∷ from s items) (from s items)) (le_no s (step_of i) (omega arith))
+      ∙ from_item s items x rise.1 m e
+      ∙ ap (λ l. x ∷ l) (sym (ap (λ b. cond b (i ∷ from (suc s) items) (from (suc s) items)) (le_no (suc s) (step_of i) (omega arith))))
+
+-- the items of a tree page, by its view
+tree_items : (file : List ℕ) (r : Reference) (kind : TreeKind) (o : Option View) → tree_kind (role_of r) ≡ Some kind → tree_view file r ≡ o → (story_of file).items r ≡ page_items r kind o
+unfolding story_of tree_view
+tree_items file r kind o e f = by_role (role_of r) e f
+  where
+    same : (x y : TreeKind) → Some x ≡ Some y → x ≡ y
+    same x y e = cc
+
+    by_role : (role : Role) → tree_kind role ≡ Some kind → option_and_then (λ kind. undamaged kind r.page (usable_size file) (page_bytes file r.page)) (tree_kind role) ≡ o → role_items role r (usable_size file) (page_bytes file r.page) ≡ page_items r kind o
+    by_role (root k) e f = ap (λ o. page_items r k o) f ∙ ap (λ k. page_items r k o) (same k kind e)
+    by_role (child k) e f = ap (λ o. page_items r k o) f ∙ ap (λ k. page_items r k o) (same k kind e)
+    by_role (first_overflow left) e f = cc
+    by_role (later_overflow left) e f = cc
+    by_role trunk e f = cc
+    by_role free_leaf e f = cc
+
+-- An undamaged page of a tree, step by step.
+module _ (file : List ℕ) (r : Reference) (kind : TreeKind) (v : View) (role : tree_kind (role_of r) ≡ Some kind) (viewed : tree_view file r ≡ Some v) where
+  items_are : (story_of file).items r ≡ page_items r kind (Some v)
+  items_are = tree_items file r kind (Some v) role viewed
+
+  rising : AreRising (page_items r kind (Some v))
+  rising = subst (λ is. AreRising is) items_are ((is_story file).rising r)
+
+  -- at which step an item stands
+  data IsItem (i : Item Way Event) : Type 0 where
+    of_overflow : (n : ℕ) (x : Cell) (p : ℕ) → n < count v → cell v n ≡ Ok x → x.overflow ≡ Some p → i ≡ Follow (link r.page (overflow_step n) n (first_overflow (overflow_size x)) p) → IsItem i
+    of_left : (n : ℕ) (x : Cell) (p : ℕ) → n < count v → cell v n ≡ Ok x → x.left ≡ Some p → i ≡ Follow (link r.page (child_step n) n (child kind) p) → IsItem i
+    of_key : (n : ℕ) (x : Cell) → n < count v → cell v n ≡ Ok x → i ≡ Place (key_step n) (at_key r v (n, x)) → IsItem i
+    of_right : (p : ℕ) → right_child v ≡ Some p → i ≡ Follow (link r.page (child_step (count v)) (count v) (child kind) p) → IsItem i
+
+  listed : {X Y : Type 0} (f : X → Y) (o : Option X) (y : Y) → IsIn y (option_to_list (option_map f o)) → (x : X) × (o ≡ Some x) × (y ≡ f x)
+  listed f None y h = absurd h
+  listed f (Some x) y (inl e) = (x, refl, e)
+  listed f (Some x) y (inr h) = absurd h
+
+  item_from : (i : Item Way Event) → IsIn i (page_items r kind (Some v)) → IsItem i
+  item_from i h = elim (IsIn-cases i (flat_map (cell_items r kind v) (cells v)) (map Follow (right_links r.page kind v)) h) [
+    | inl k ↦ (let m = IsIn-from_flat_map (cell_items r kind v) (cells v) i k in of_cell m.0.0 m.0.1 (cells_from v m.0 m.1) m.2)
+    | inr k ↦ (let m = IsIn-from_map Follow (right_links r.page kind v) i k in
+        let n = listed (link r.page (child_step (count v)) (count v) (child kind)) (right_child v) m.0 m.1 in of_right n.0 n.1 (m.2 ∙ ap Follow n.2))
+  ]
+    where
+      of_cell : (n : ℕ) (x : Cell) → (cell v n ≡ Ok x) × (n < count v) → IsIn i (cell_items r kind v (n, x)) → IsItem i
+      of_cell n x read k = elim (IsIn-cases i (map Follow (cell_links r.page kind (n, x))) (Place (key_step n) (at_key r v (n, x)) ∷ []) k) [
+        | inl j ↦ (let m = IsIn-from_map Follow (cell_links r.page kind (n, x)) i j in
+            elim (IsIn-cases m.0 (option_to_list (option_map (link r.page (overflow_step n) n (first_overflow (overflow_size x))) x.overflow)) (option_to_list (option_map (link r.page (child_step n) n (child kind)) x.left)) m.1) [
+              | inl q ↦ (let w = listed (link r.page (overflow_step n) n (first_overflow (overflow_size x))) x.overflow m.0 q in of_overflow n x w.0 read.1 read.0 w.1 (m.2 ∙ ap Follow w.2))
+              | inr q ↦ (let w = listed (link r.page (child_step n) n (child kind)) x.left m.0 q in of_left n x w.0 read.1 read.0 w.1 (m.2 ∙ ap Follow w.2))
+            ])
+        | inr j ↦ (elim j [ inl e ↦ of_key n x read.1 read.0 e | inr z ↦ absurd z ])
+      ]
+
+  one_listed : {X : Type 0} (o : Option X) (x : X) → o ≡ Some x → IsIn x (option_to_list o)
+  one_listed o x e = subst (λ o. IsIn x (option_to_list o)) (sym e) (inl refl)
+
+  in_cell : (n : ℕ) (x : Cell) (i : Item Way Event) → n < count v → cell v n ≡ Ok x → IsIn i (cell_items r kind v (n, x)) → IsIn i (page_items r kind (Some v))
+  in_cell n x i l e h = IsIn-left i (flat_map (cell_items r kind v) (cells v)) (map Follow (right_links r.page kind v)) (IsIn-flat_map (cell_items r kind v) (cells v) (n, x) i (cells_in v n x l e) h)
+
+  next_item : (s : ℕ) (i : Item Way Event) → IsIn i (page_items r kind (Some v)) → step_of i ≡ s → errands_from file r s ≡ errands_at r.address (i ∷ from (suc s) (page_items r kind (Some v)))
+  next_item s i h e = ap (λ is. errands_at r.address (from s is)) items_are ∙ ap (λ is. errands_at r.address is) (from_item s (page_items r kind (Some v)) i rising h e)
+
+  no_item : (s : ℕ) → ((i : Item Way Event) → IsItem i → step_of i ≡ s → ⊥) → errands_from file r s ≡ errands_from file r (suc s)
+  no_item s h = ap (λ is. errands_at r.address (from s is)) items_are
+      ∙ ap (λ is. errands_at r.address is) (from_none s (page_items r kind (Some v)) (λ i k e. h i (item_from i k) e))
+      ∙ ap (λ is. errands_at r.address (from (suc s) is)) (sym items_are)
+
+  behind : (s : ℕ) → errands_at r.address (from s (page_items r kind (Some v))) ≡ errands_from file r s
+  behind s = ap (λ is. errands_at r.address (from s is)) (sym items_are)
+
+  -- from the first step on there is all
+  pub from_first : errands_from file r 0 ≡ errands_of (story_of file) r
+  from_first = ap (λ is. errands_at r.address is) (from_all 0 ((story_of file).items r) (λ i h. omega arith))
+
+  -- the overflow chain of a cell
+  pub step_chain : (n : ℕ) (x : Cell) (p : ℕ) → n < count v → cell v n ≡ Ok x → x.overflow ≡ Some p
+      → errands_from file r (overflow_step n) ≡ go r (link r.page (overflow_step n) n (first_overflow (overflow_size x)) p) ∷ errands_from file r (suc (overflow_step n))
+  step_chain n x p l e f =
+      let k = link r.page (overflow_step n) n (first_overflow (overflow_size x)) p in
+      next_item (overflow_step n) (Follow k)
+      (in_cell n x (Follow k) l e (IsIn-left (Follow k) (map Follow (cell_links r.page kind (n, x))) _ (IsIn-map Follow (cell_links r.page kind (n, x)) k
+      (IsIn-left k (option_to_list (option_map (link r.page (overflow_step n) n (first_overflow (overflow_size x))) x.overflow)) _ (one_listed (option_map (link r.page (overflow_step n) n (first_overflow (overflow_size x))) x.overflow) k (ap (option_map (link r.page (overflow_step n) n (first_overflow (overflow_size x)))) f)))))) refl
+      ∙ ap (λ es. go r k ∷ es) (behind (suc (overflow_step n)))
+
+  -- the place of a cell's key
+  pub step_key : (n : ℕ) (x : Cell) → n < count v → cell v n ≡ Ok x → errands_from file r (key_step n) ≡ tell_cell r v n x ∷ errands_from file r (suc (key_step n))
+  step_key n x l e =
+      next_item (key_step n) (Place (key_step n) (at_key r v (n, x)))
+      (in_cell n x (Place (key_step n) (at_key r v (n, x))) l e (IsIn-right (Place (key_step n) (at_key r v (n, x))) (map Follow (cell_links r.page kind (n, x))) _ (inl refl))) refl
+      ∙ ap (λ es. tell_cell r v n x ∷ es) (behind (suc (key_step n)))
+
+  -- the left child of a cell
+  step_left : (n : ℕ) (x : Cell) (p : ℕ) → n < count v → cell v n ≡ Ok x → x.left ≡ Some p
+      → errands_from file r (child_step n) ≡ go r (link r.page (child_step n) n (child kind) p) ∷ errands_from file r (suc (child_step n))
+  step_left n x p l e f =
+      let k = link r.page (child_step n) n (child kind) p in
+      next_item (child_step n) (Follow k)
+      (in_cell n x (Follow k) l e (IsIn-left (Follow k) (map Follow (cell_links r.page kind (n, x))) _ (IsIn-map Follow (cell_links r.page kind (n, x)) k
+      (IsIn-right k (option_to_list (option_map (link r.page (overflow_step n) n (first_overflow (overflow_size x))) x.overflow)) _ (one_listed (option_map (link r.page (child_step n) n (child kind)) x.left) k (ap (option_map (link r.page (child_step n) n (child kind))) f)))))) refl
+      ∙ ap (λ es. go r k ∷ es) (behind (suc (child_step n)))
+
+  -- the right child
+  step_right : (p : ℕ) → right_child v ≡ Some p
+      → errands_from file r (child_step (count v)) ≡ go r (link r.page (child_step (count v)) (count v) (child kind) p) ∷ errands_from file r (suc (child_step (count v)))
+  step_right p f =
+      let k = link r.page (child_step (count v)) (count v) (child kind) p in
+      next_item (child_step (count v)) (Follow k)
+      (IsIn-right (Follow k) (flat_map (cell_items r kind v) (cells v)) (map Follow (right_links r.page kind v)) (IsIn-map Follow (right_links r.page kind v) k
+      (one_listed (option_map (link r.page (child_step (count v)) (count v) (child kind)) (right_child v)) k (ap (option_map (link r.page (child_step (count v)) (count v) (child kind))) f)))) refl
+      ∙ ap (λ es. go r k ∷ es) (behind (suc (child_step (count v))))
+
+  -- behind the right child is nothing
+  pub step_end : (s : ℕ) → child_step (count v) < s → errands_from file r s ≡ []
+  step_end s l = ap (λ is. errands_at r.address (from s is)) items_are ∙ ap (λ is. errands_at r.address is) (from_end s (page_items r kind (Some v)) (λ i h. low i (item_from i h)))
+    where
+      low : (i : Item Way Event) → IsItem i → step_of i < s
+      low i (of_overflow n x p m e f g) = let k : step_of i ≡ overflow_step n = ap step_of g in omega arith
+      low i (of_left n x p m e f g) = let k : step_of i ≡ child_step n = ap step_of g in omega arith
+      low i (of_key n x m e g) = let k : step_of i ≡ key_step n = ap step_of g in omega arith
+      low i (of_right p f g) = let k : step_of i ≡ child_step (count v) = ap step_of g in omega arith
+
+  -- no chain
+  pub step_no_chain : (n : ℕ) → ((x : Cell) → n < count v → cell v n ≡ Ok x → x.overflow ≡ None) → errands_from file r (overflow_step n) ≡ errands_from file r (suc (overflow_step n))
+  step_no_chain n none = no_item (overflow_step n) no_chain
+    where
+      no_chain : (i : Item Way Event) → IsItem i → step_of i ≡ overflow_step n → ⊥
+      no_chain i (of_overflow m x p l e f g) h = let k : m ≡ n = (let q : step_of i ≡ overflow_step m = ap step_of g in omega arith) in
+          let z = none x (omega arith) (ap (cell v) (sym k) ∙ e) in let y : Some p ≡ None = sym f ∙ z in cc
+      no_chain i (of_left m x p l e f g) h = let k : step_of i ≡ child_step m = ap step_of g in omega arith
+      no_chain i (of_key m x l e g) h = let k : step_of i ≡ key_step m = ap step_of g in omega arith
+      no_chain i (of_right p f g) h = let k : step_of i ≡ child_step (count v) = ap step_of g in omega arith
+
+  -- no key
+  pub step_no_key : (n : ℕ) (e : CellFault) → cell v n ≡ Err e → errands_from file r (key_step n) ≡ errands_from file r (suc (key_step n))
+  step_no_key n e bad = no_item (key_step n) no_key
+    where
+      no_key : (i : Item Way Event) → IsItem i → step_of i ≡ key_step n → ⊥
+      no_key i (of_overflow m x p l f g q) h = let k : step_of i ≡ overflow_step m = ap step_of q in omega arith
+      no_key i (of_left m x p l f g q) h = let k : step_of i ≡ child_step m = ap step_of q in omega arith
+      no_key i (of_key m x l f q) h = let k : m ≡ n = (let q : step_of i ≡ key_step m = ap step_of q in omega arith) in
+          let y : Ok x ≡ Err e = sym (ap (cell v) (sym k) ∙ f) ∙ bad in cc
+      no_key i (of_right p f q) h = let k : step_of i ≡ child_step (count v) = ap step_of q in omega arith
+
+-- frames
+
+module _ (file : List ℕ) (kind : TreeKind) where
+  pub left-push : (c : Reference) (fs : List Frame) (f : Frame) → left_over file kind c (fs ++ (f ∷ [])) ≡ errands_from file (top_visit file kind c fs) f.next ++ left_over file kind c fs
+  left-push c [] f = sym (append-nil (errands_from file c f.next))
+  left-push c (g ∷ fs) f =
+      ap (λ es. es ++ errands_from file c g.next) (left-push (child_at file kind c (g.next - 1)) fs f)
+      ∙ append_assoc (errands_from file (top_visit file kind (child_at file kind c (g.next - 1)) fs) f.next) (left_over file kind (child_at file kind c (g.next - 1)) fs) (errands_from file c g.next)
+
+  pub top-push : (c : Reference) (fs : List Frame) (f : Frame) → top_visit file kind c (fs ++ (f ∷ [])) ≡ child_at file kind (top_visit file kind c fs) (f.next - 1)
+  top-push c [] f = refl
+  top-push c (g ∷ fs) f = top-push (child_at file kind c (g.next - 1)) fs f
+
+  pub top_depth : (c : Reference) (fs : List Frame) → length (top_visit file kind c fs).address ≡ length c.address + length fs
+  top_depth c [] = omega arith
+  top_depth c (f ∷ fs) =
+      let r = top_depth (child_at file kind c (f.next - 1)) fs in
+      let k = length-append c.address ((f.next - 1) ∷ []) in
+      omega arith
+
+  pub top_kind : (c : Reference) (fs : List Frame) → tree_kind (role_of c) ≡ Some kind → tree_kind (role_of (top_visit file kind c fs)) ≡ Some kind
+  top_kind c [] e = e
+  top_kind c (f ∷ fs) e = top_kind (child_at file kind c (f.next - 1)) fs refl
+
+  module _ (U : List Reference) where
+    pub frames-push : (c : Reference) (fs : List Frame) (f : Frame) → AreFrames file U kind c fs → IsFrame file U (top_visit file kind c fs) f → AreFrames file U kind c (fs ++ (f ∷ []))
+    frames-push c [] f a e = (e, tt)
+    frames-push c (g ∷ fs) f a e = (a.0, frames-push (child_at file kind c (g.next - 1)) fs f a.1 e)
+
+    pub frames-front : (c : Reference) (fs : List Frame) (f : Frame) → AreFrames file U kind c (fs ++ (f ∷ [])) → AreFrames file U kind c fs × IsFrame file U (top_visit file kind c fs) f
+    frames-front c [] f a = (tt, a.0)
+    frames-front c (g ∷ fs) f a = let k = frames-front (child_at file kind c (g.next - 1)) fs f a.1 in ((a.0, k.0), k.1)
+
+  -- more visits keep the frames, where each stays the only one at its address
+  pub frames_more : (U V : List Reference) (c : Reference) (fs : List Frame) → ((r : Reference) → IsVisit U r → IsVisit (U ++ V) r) → AreFrames file U kind c fs → AreFrames file (U ++ V) kind c fs
+  frames_more U V c [] more a = tt
+  frames_more U V c (f ∷ fs) more a = (record { page = a.0.page; visit = more c a.0.visit; view = a.0.view; viewed = a.0.viewed; interior = a.0.interior; within = a.0.within }, frames_more U V (child_at file kind c (f.next - 1)) fs more a.1)
+
+-- A child of an undamaged page.
+module _ (file : List ℕ) (r : Reference) (kind : TreeKind) (v : View) (role : tree_kind (role_of r) ≡ Some kind) (viewed : tree_view file r ≡ Some v) where
+  cell_is : (n : ℕ) → cell_of_step (child_step n) ≡ n
+  cell_is n = omega arith
+
+  child_is : (n p : ℕ) → child_number v n ≡ Some p → go r (link r.page (child_step n) n (child kind) p) ≡ Go (child_at file kind r (child_step n))
+  child_is n p e =
+      let page : p ≡ child_page file r (cell_of_step (child_step n)) = sym (ap (λ i. child_page file r i) (cell_is n) ∙ ap (λ o. option_map_or (λ v. unwrap_or (child_number v n) 0) o 0) viewed ∙ ap (λ o. unwrap_or o 0) e) in
+      ap (λ q. Go (record { address = then_step r.address (child_step n); page = q; role = record { role = child kind; from = r.page; item = n } })) page
+      ∙ ap (λ i. Go (record { address = then_step r.address (child_step n); page = child_page file r (cell_of_step (child_step n)); role = record { role = child kind; from = r.page; item = i } })) (sym (cell_is n))
+
+  readable_left : (n p : ℕ) (c : Result Cell CellFault) → cell v n ≡ c → option_and_then (λ c. c.left) (result_ok c) ≡ Some p → (x : Cell) × (cell v n ≡ Ok x) × (x.left ≡ Some p)
+  readable_left n p (Ok x) f e = (x, f, e)
+  readable_left n p (Err b) f e = cc
+
+  -- a child that is there is the next errand
+  pub step_child : (n p : ℕ) → n ≤ count v → child_number v n ≡ Some p
+      → errands_from file r (child_step n) ≡ Go (child_at file kind r (child_step n)) ∷ errands_from file r (suc (child_step n))
+  step_child n p l e = elim (cases_Bool (n == count v)) [
+    | inl b ↦ (let m : n ≡ count v = eqb-true n (count v) b in
+        let f : right_child v ≡ Some p = sym (ap (λ b. cond b (right_child v) (option_and_then (λ c. c.left) (result_ok (cell v n)))) b) ∙ e in
+        subst (λ k. errands_from file r (child_step k) ≡ go r (link r.page (child_step k) k (child kind) p) ∷ errands_from file r (suc (child_step k))) (sym m) (step_right file r kind v role viewed p f)
+        ∙ ap (λ g. g ∷ errands_from file r (suc (child_step n))) (child_is n p e))
+    | inr b ↦ (let f : option_and_then (λ c. c.left) (result_ok (cell v n)) ≡ Some p = sym (ap (λ b. cond b (right_child v) (option_and_then (λ c. c.left) (result_ok (cell v n)))) b) ∙ e in
+        let x = readable_left n p (cell v n) refl f in
+        let k : n < count v = below n (count v) l b in
+        step_left file r kind v role viewed n x.0 p k x.1 x.2
+        ∙ ap (λ g. g ∷ errands_from file r (suc (child_step n))) (child_is n p e))
+  ]
+    where
+      below : (n m : ℕ) → n ≤ m → (n == m) ≡ false → n < m
+      below n m l b = grind (arith, nat_tests)
+
+  -- and none is skipped
+  pub step_no_child : (n : ℕ) → n ≤ count v → child_number v n ≡ None → errands_from file r (child_step n) ≡ errands_from file r (suc (child_step n))
+  step_no_child n l e = no_item file r kind v role viewed (child_step n) no_child
+    where
+      no_child : (i : Item Way Event) → IsItem file r kind v role viewed i → step_of i ≡ child_step n → ⊥
+      no_child i (of_overflow m x p k f g q) h = let j : step_of i ≡ overflow_step m = ap step_of q in omega arith
+      no_child i (of_left m x p k f g q) h =
+          let j : m ≡ n = (let w : step_of i ≡ child_step m = ap step_of q in omega arith) in
+          let b : (n == count v) ≡ false = apart n (count v) (omega arith) in
+          let d : option_and_then (λ c. c.left) (result_ok (cell v n)) ≡ None = sym (ap (λ b. cond b (right_child v) (option_and_then (λ c. c.left) (result_ok (cell v n)))) b) ∙ e in
+          let w : Some p ≡ None = sym g ∙ sym (ap (λ c. option_and_then (λ c. c.left) (result_ok c)) (ap (cell v) (sym j) ∙ f)) ∙ d in cc
+        where
+          apart : (n m : ℕ) → n < m → (n == m) ≡ false
+          apart n m l = grind (arith, nat_tests)
+      no_child i (of_key m x k f q) h = let j : step_of i ≡ key_step m = ap step_of q in omega arith
+      no_child i (of_right p g q) h =
+          let j : count v ≡ n = (let w : step_of i ≡ child_step (count v) = ap step_of q in omega arith) in
+          let b : (n == count v) ≡ true = same n (count v) (sym j) in
+          let w : Some p ≡ None = sym g ∙ sym (ap (λ b. cond b (right_child v) (option_and_then (λ c. c.left) (result_ok (cell v n)))) b) ∙ e in cc
+        where
+          same : (n m : ℕ) → n ≡ m → (n == m) ≡ true
+          same n m l = grind (arith, nat_tests)

@@ -1,0 +1,29 @@
+use Rattle.std.proofs.Common.{◌≡◌, ◌+◌, ◌≤◌, List}
+use Rattle.std.specs.Prelude.{IfSome, is_some}
+use Rattle.dbformat.specs.File.{geometry}
+use Rattle.dbformat.specs.Log.{HasLog}
+use Rattle.dbformat.specs.Reference.{Reference}
+use Rattle.dbwalk.specs.Chains.{IsChainOf, IsOnWay}
+use Rattle.dbwalk.specs.Entered.{IsNext}
+use Rattle.dbwalk.specs.Marking.{AreMarksOf, IsUse}
+use Rattle.dbwalk.specs.Packing.{named_page}
+use Rattle.dbwalk.specs.Reads.{Reads}
+use Rattle.dbwalk.proofs.chain.walk_chain.Given as goal
+
+abbrev pub decreases-loop-next : goal.decreases-loop-next
+decreases-loop-next g l = l.place.left
+
+abbrev pub invariant-loop-next : goal.invariant-loop-next
+invariant-loop-next g l = record {
+  told : (g.S.Source.held l.source).bytes ≡ (g.S.Source.held l.initial.source).bytes;
+  log : HasLog g.S.Source.step (Reads l.initial.bench.geometry.page_size l.initial.marks l.marks) (g.S.Source.held l.initial.source).trail (g.S.Source.held l.source).trail;
+  reads : (g.S.Source.held l.source).failures ≡ (g.S.Source.held l.initial.source).failures;
+  writes : g.K.Sink.failures l.sink ≡ g.K.Sink.failures l.initial.sink;
+  bench : l.bench ≡ record l.initial.bench { chain = l.bench.chain };
+  kept : is_some l.sieve ≡ is_some l.initial.sieve;
+  named : named_page l.place.step.mark ≤ 67108864;
+  used : IsUse l.place.step.mark;
+  counted : l.place.number + l.place.left ≤ 2147483647;
+  way : IfSome (g.S.Source.held l.initial.source).bytes (λ file. l.initial.bench.geometry ≡ geometry file → (W : List Reference) (c : Reference)
+      → IsChainOf l.chain c → IsNext W c → AreMarksOf file W l.initial.marks → IsOnWay g.K.Sink.takes file W c l.initial.sink l.chain l.place l.marks l.sink l.initial.sieve l.sieve);
+}

@@ -1,0 +1,58 @@
+use Rattle.std.proofs.Common.{◌≡◌, ◌+◌, ◌-◌, ◌<◌, inl, inr, ◌++◌, set, Err, refl, sym, ap, subst, ◌∙◌, arith}
+use Rattle.std.proofs.lemmas.Bool.{cases_Bool}
+use Rattle.std.proofs.lemmas.Result.{err_from_is_err_and}
+use Rattle.dbwalk.specs.FreeLeaves.{Leaves, leaves_from}
+use Rattle.dbwalk.specs.Left.{IsLeft}
+use Rattle.dbwalk.specs.Marking.{Keeps, unmarked_pages}
+use Rattle.dbwalk.specs.declared.mark.Mark.TheVariants.{FreeLeaf}
+use Rattle.dbwalk.proofs.Freelists.FreeLeaves.{leaf_of, leaves_more, next_of_left, leaf_entered, leaf_stopped}
+use Rattle.dbwalk.proofs.Marking.Readings.{keeps_same, keeps_then, keeps_put, put_count}
+use Rattle.dbwalk.proofs.freelist.walk_leaves.Goals as goal
+
+pub returns-clause-done : goal.returns-clause-done
+returns-clause-done g c = λ file W errands before U d tail p h.
+    let k = c.loop-index.invariant.left file W errands before U d tail p h in
+    let z : c.args.count - c.loop-index.index ≡ 0 = omega arith in
+    (k.0, subst (λ n. IsLeft g.K.Sink.takes file W errands before k.0 (leaves_from d c.args.bytes.now c.loop-index.index n ++ tail) c.loop-index.marks c.loop-index.sink) z k.1)
+
+pub returns-in_err-enter-clause-done : goal.returns-in_err-enter-clause-done
+returns-in_err-enter-clause-done g c = λ file W errands before U d tail p h.
+    let k = c.loop-index.invariant.left file W errands before U d tail p h in
+    let n : 0 < c.args.count - c.loop-index.index = omega arith in
+    let l = subst (λ es. IsLeft g.K.Sink.takes file W errands before k.0 (es ++ tail) c.loop-index.marks c.loop-index.sink) (leaves_more d c.args.bytes.now c.loop-index.index (c.args.count - c.loop-index.index) n) k.1 in
+    let q = err_from_is_err_and c.from_residual.result c.from_residual.ensures.1 in
+    let e = leaf_of d c.args.bytes.now c.loop-index.index in
+    let es = leaves_from d c.args.bytes.now (c.loop-index.index + 1) (c.args.count - c.loop-index.index - 1) ++ tail in
+    subst (λ r. Leaves g.K.Sink.takes g.K.Sink.drops file W errands before tail r c.enter.new.marks c.enter.new.sink) (sym (q.1 ∙ ap Err q.2))
+    (leaf_stopped g.K.Sink.takes g.K.Sink.drops file W errands before k.0 e es c.loop-index.marks c.enter.new.marks c.loop-index.sink c.enter.new.sink l c.in_err-enter.field-0.0
+    (c.in_err-enter.ensures.entered file k.0 e (record { page = sym c.u32_at.ensures; mark = refl; from = p; item = refl; deep = refl })
+    (next_of_left g.K.Sink.takes g.K.Sink.drops file W errands before k.0 e es c.loop-index.marks c.enter.new.marks c.loop-index.sink c.enter.new.sink l) l.marked))
+
+pub loop-index-preserved : goal.loop-index-preserved
+loop-index-preserved g c = record {
+  keeps = keeps_then c.args.marks.now c.loop-index.marks c.enter.new.marks c.loop-index.invariant.keeps
+      (elim (cases_Bool c.in_ok-enter.field-0) [
+        | inl e ↦ (let k = c.in_ok-enter.ensures.marked e in
+            subst (λ m. Keeps c.loop-index.marks m) (sym k.1) (keeps_put c.loop-index.marks c.u32_at.result _ k.0 refl))
+        | inr e ↦ subst (λ m. Keeps c.loop-index.marks m) (sym (c.in_ok-enter.ensures.unmarked e)) (keeps_same c.loop-index.marks)
+      ]);
+  fewer = elim (cases_Bool c.in_ok-enter.field-0) [
+    | inl e ↦ (let k = c.in_ok-enter.ensures.marked e in
+        let m : unmarked_pages (set c.loop-index.marks (c.u32_at.result - 1) FreeLeaf) + 1 ≡ unmarked_pages c.loop-index.marks = put_count c.loop-index.marks c.u32_at.result FreeLeaf k.0 refl in
+        let n : unmarked_pages c.enter.new.marks ≡ unmarked_pages (set c.loop-index.marks (c.u32_at.result - 1) FreeLeaf) = ap unmarked_pages k.1 in
+        omega (arith, c.loop-index.invariant.fewer))
+    | inr e ↦ (let n : unmarked_pages c.enter.new.marks ≡ unmarked_pages c.loop-index.marks = ap unmarked_pages (c.in_ok-enter.ensures.unmarked e) in omega (arith, c.loop-index.invariant.fewer))
+  ];
+  writes = c.in_ok-enter.ensures.writes ∙ c.loop-index.invariant.writes;
+  left = λ file W errands before U d tail p h.
+      let k = c.loop-index.invariant.left file W errands before U d tail p h in
+      let n : 0 < c.args.count - c.loop-index.index = omega arith in
+      let l = subst (λ es. IsLeft g.K.Sink.takes file W errands before k.0 (es ++ tail) c.loop-index.marks c.loop-index.sink) (leaves_more d c.args.bytes.now c.loop-index.index (c.args.count - c.loop-index.index) n) k.1 in
+      let e = leaf_of d c.args.bytes.now c.loop-index.index in
+      let es = leaves_from d c.args.bytes.now (c.loop-index.index + 1) (c.args.count - c.loop-index.index - 1) ++ tail in
+      let m : c.args.count - c.loop-index.index - 1 ≡ c.args.count - (c.loop-index.index + 1) = omega arith in
+      let r = leaf_entered g.K.Sink.takes g.K.Sink.drops file W errands before k.0 e es c.loop-index.marks c.enter.new.marks c.loop-index.sink c.enter.new.sink l c.in_ok-enter.field-0 refl
+      (c.in_ok-enter.ensures.entered file k.0 e (record { page = sym c.u32_at.ensures; mark = refl; from = p; item = refl; deep = refl })
+      (next_of_left g.K.Sink.takes g.K.Sink.drops file W errands before k.0 e es c.loop-index.marks c.enter.new.marks c.loop-index.sink c.enter.new.sink l) l.marked) in
+      (r.0, subst (λ n. IsLeft g.K.Sink.takes file W errands before r.0 (leaves_from d c.args.bytes.now (c.loop-index.index + 1) n ++ tail) c.enter.new.marks c.enter.new.sink) m r.1);
+}

@@ -1,0 +1,116 @@
+use Rattle.std.proofs.Common.{◌≡◌, ◌<◌, ◌≤◌, Ok, Err, refl, sym, ap, subst, ◌∙◌, arith}
+use Rattle.std.specs.Prelude.{slice_get, IfErr}
+use Rattle.std.proofs.lemmas.Result.{err_from_is_err_and}
+use Rattle.dbsurvey.specs.InOrder.{IsPast}
+use Rattle.dbformat.specs.Address.{then_step}
+use Rattle.dbformat.specs.Cell.{count}
+use Rattle.dbformat.specs.File.{page_bytes}
+use Rattle.dbformat.specs.Head.{undamaged}
+use Rattle.dbformat.proofs.Looping.{cells_apart}
+use Rattle.dbwalk.specs.Outcomes.{IsReadOrWrite}
+use Rattle.dbwalk.specs.Walking.{IsRunning}
+use Rattle.dbwalk.proofs.Leaves.LeafTurns.{view_back}
+use Rattle.dbwalk.proofs.Chaining.ChainTurns.{if_some_all, if_some_both, if_some_moved}
+use Rattle.dbwalk.proofs.Marking.Readings.{log_none, log_then}
+use Rattle.dbwalk.specs.CellTaken.{IsRowsDone}
+use Rattle.dbwalk.proofs.Leaves.LeafRows.{IsOnRows, rows_start, rows_more, rows_stop, rows_end, rows_turn, quiet_cell, leaf_errands_are}
+use Rattle.dbwalk.proofs.leaf.walk_leaf.Goals as goal
+
+pub loop-i-init : goal.loop-i-init
+loop-i-init g c = record {
+  shape = refl;
+  levels = refl;
+  start = refl;
+  kind = refl;
+  leaf = refl;
+  path = refl;
+  told = refl;
+  reads = refl;
+  writes = refl;
+  refusals = refl;
+  log = log_none g.S.Source.step c.args.bench.now.geometry.page_size c.args.marks.now c.args.marks.now (g.S.Source.held c.args.source.now).trail refl;
+  others = λ l. refl;
+  on = if_some_all _ (g.S.Source.held c.args.source.now).bytes (λ file e coded U d v at viewed leaf past m run held first given.
+      let t = c.args.tree.now in
+      rows_start g.K.Sink.takes g.K.Sink.drops g.T.Taker.takes g.T.Taker.refuses held file t.kind v U d c.args.sink.now first c.args.marks.now t.greatest t.leaf c.args.taker.now m
+      (subst (λ es. IsPast U es) (leaf_errands_are file d t.kind v at.kind_is viewed leaf) past) (cells_apart d t.kind v (count v))
+      (subst (λ k. IsRunning file k U (then_step d.address 0) t.greatest t.leaf) (sym at.start) run) at.visit (λ f. given (sym at.start ∙ f)));
+}
+
+pub loop-i-preserved : goal.loop-i-preserved
+loop-i-preserved g c =
+    let w = c.loop-i.invariant in
+    let n = c.in_ok-walk_leaf_cell.ensures in
+    record {
+      shape = n.bench.0 ∙ w.shape;
+      levels = n.bench.1 ∙ w.levels;
+      start = n.tree.0 ∙ w.start;
+      kind = n.tree.1 ∙ w.kind;
+      leaf = n.tree.2 ∙ w.leaf;
+      path = n.tree.3 ∙ w.path;
+      told = n.told ∙ w.told;
+      reads = n.reads ∙ w.reads;
+      writes = n.writes ∙ w.writes;
+      refusals = n.refusals ∙ w.refusals;
+      log = log_then g.S.Source.step c.args.bench.now.geometry.page_size c.loop-i.bench.geometry.page_size c.args.marks.now c.loop-i.marks c.walk_leaf_cell.new.marks
+          (g.S.Source.held c.args.source.now).trail (g.S.Source.held c.loop-i.source).trail (g.S.Source.held c.walk_leaf_cell.new.source).trail (ap (λ s. s.page_size) w.shape) w.log n.log;
+      others = λ l. (n.others (subst (λ k. 1 ≤ k) (sym w.start) l)).0 ∙ w.others l;
+      on = if_some_moved _ _ _ (g.S.Source.held c.args.source.now).bytes (g.S.Source.held c.loop-i.source).bytes w.told w.on n.done (λ file on done e coded U d v at viewed leaf past m run held first given.
+          let t = c.args.tree.now in
+          let there = ap (slice_get c.args.bench.now.levels) c.len-level.ensures.value ∙ at.bytes in
+          let seen = ap (λ s. undamaged t.kind c.args.page s.usable (page_bytes file c.args.page)) e ∙ view_back file t.kind t.start t.path.items U d c.args.bench.now.levels c.args.page v at viewed in
+          let cells = c.leaf_cells-cells.ensures.count_is (page_bytes file c.args.page) v there seen in
+          let low : c.loop-i.i < count v = omega arith in
+          let s = on e coded U d v at viewed leaf past m run held first given in
+          rows_more g.K.Sink.takes g.K.Sink.drops g.T.Taker.takes g.T.Taker.refuses held file t.kind v U d c.args.sink.now first c.loop-i.i low c.loop-i.marks c.loop-i.tree.greatest c.loop-i.tree.leaf c.loop-i.sink c.loop-i.taker s (quiet_cell d t.kind v c.loop-i.i)
+          c.walk_leaf_cell.new.sink c.walk_leaf_cell.new.marks c.walk_leaf_cell.new.tree.greatest c.walk_leaf_cell.new.tree.leaf c.walk_leaf_cell.new.taker
+          (rows_turn g.K.Sink.takes g.K.Sink.drops g.T.Taker.takes g.T.Taker.refuses held file t.kind c.loop-i.tree.kind t.start c.loop-i.tree.start t.path.items c.loop-i.tree.path.items c.args.bench.now.levels c.loop-i.bench.levels c.args.page v U d
+          w.kind w.start (ap (λ p. p.items) w.path) w.levels at c.args.sink.now first c.loop-i.i low c.loop-i.marks c.loop-i.tree.greatest c.loop-i.tree.leaf c.loop-i.sink c.loop-i.taker s
+          (Ok tt) c.walk_leaf_cell.new.marks c.walk_leaf_cell.new.tree.greatest c.walk_leaf_cell.new.tree.leaf c.walk_leaf_cell.new.sink c.walk_leaf_cell.new.taker
+          (λ at' past' m' run' given'. done (w.shape ∙ e) coded s.on.visited d v at' viewed leaf low past' m' run' held first given')));
+    }
+
+pub returns-in_err-walk_leaf_cell-clause-log : goal.returns-in_err-walk_leaf_cell-clause-log
+returns-in_err-walk_leaf_cell-clause-log g c = log_then g.S.Source.step c.args.bench.now.geometry.page_size c.loop-i.bench.geometry.page_size c.args.marks.now c.loop-i.marks c.walk_leaf_cell.new.marks
+    (g.S.Source.held c.args.source.now).trail (g.S.Source.held c.loop-i.source).trail (g.S.Source.held c.walk_leaf_cell.new.source).trail (ap (λ s. s.page_size) c.loop-i.invariant.shape) c.loop-i.invariant.log c.walk_leaf_cell.ensures.log
+
+pub returns-in_err-walk_leaf_cell-clause-others : goal.returns-in_err-walk_leaf_cell-clause-others
+returns-in_err-walk_leaf_cell-clause-others g c =
+    let q = err_from_is_err_and c.from_residual.result c.from_residual.ensures.1 in
+    λ l. let o = c.in_err-walk_leaf_cell.ensures.others (subst (λ k. 1 ≤ k) (sym c.loop-i.invariant.start) l) in (o.0 ∙ c.loop-i.invariant.others l, subst (λ r. IfErr r IsReadOrWrite) (sym (q.1 ∙ ap Err q.2)) o.1)
+
+pub returns-clause-others : goal.returns-clause-others
+returns-clause-others g c = λ l. (c.loop-i.invariant.others l, tt)
+
+pub returns-in_err-walk_leaf_cell-clause-done : goal.returns-in_err-walk_leaf_cell-clause-done
+returns-in_err-walk_leaf_cell-clause-done g c =
+    let w = c.loop-i.invariant in
+    if_some_moved _ _ _ (g.S.Source.held c.args.source.now).bytes (g.S.Source.held c.loop-i.source).bytes w.told w.on c.in_err-walk_leaf_cell.ensures.done (λ file on done e coded U d v at viewed leaf past m run held first given.
+    let t = c.args.tree.now in
+    let q = err_from_is_err_and c.from_residual.result c.from_residual.ensures.1 in
+    let there = ap (slice_get c.args.bench.now.levels) c.len-level.ensures.value ∙ at.bytes in
+    let seen = ap (λ s. undamaged t.kind c.args.page s.usable (page_bytes file c.args.page)) e ∙ view_back file t.kind t.start t.path.items U d c.args.bench.now.levels c.args.page v at viewed in
+    let cells = c.leaf_cells-cells.ensures.count_is (page_bytes file c.args.page) v there seen in
+    let low : c.loop-i.i < count v = omega arith in
+    let s = on e coded U d v at viewed leaf past m run held first given in
+    subst (λ r. IsRowsDone g.K.Sink.takes g.K.Sink.drops g.T.Taker.takes g.T.Taker.refuses file U d r c.walk_leaf_cell.new.marks c.walk_leaf_cell.new.tree.greatest c.walk_leaf_cell.new.tree.leaf c.args.sink.now c.walk_leaf_cell.new.sink first c.walk_leaf_cell.new.taker) (sym (q.1 ∙ ap Err q.2))
+    (rows_stop g.K.Sink.takes g.K.Sink.drops g.T.Taker.takes g.T.Taker.refuses held file t.kind v U d c.args.sink.now first c.loop-i.i low c.loop-i.marks c.loop-i.tree.greatest c.loop-i.tree.leaf c.loop-i.sink c.loop-i.taker s (quiet_cell d t.kind v c.loop-i.i)
+    c.walk_leaf_cell.new.sink c.walk_leaf_cell.new.marks c.in_err-walk_leaf_cell.field-0.0 c.walk_leaf_cell.new.tree.greatest c.walk_leaf_cell.new.tree.leaf c.walk_leaf_cell.new.taker
+    (rows_turn g.K.Sink.takes g.K.Sink.drops g.T.Taker.takes g.T.Taker.refuses held file t.kind c.loop-i.tree.kind t.start c.loop-i.tree.start t.path.items c.loop-i.tree.path.items c.args.bench.now.levels c.loop-i.bench.levels c.args.page v U d
+    w.kind w.start (ap (λ p. p.items) w.path) w.levels at c.args.sink.now first c.loop-i.i low c.loop-i.marks c.loop-i.tree.greatest c.loop-i.tree.leaf c.loop-i.sink c.loop-i.taker s
+    (Err c.in_err-walk_leaf_cell.field-0.0) c.walk_leaf_cell.new.marks c.walk_leaf_cell.new.tree.greatest c.walk_leaf_cell.new.tree.leaf c.walk_leaf_cell.new.sink c.walk_leaf_cell.new.taker
+    (λ at' past' m' run' given'. done (w.shape ∙ e) coded s.on.visited d v at' viewed leaf low past' m' run' held first given'))
+    (leaf_errands_are file d t.kind v at.kind_is viewed leaf)))
+
+pub returns-clause-done : goal.returns-clause-done
+returns-clause-done g c =
+    let w = c.loop-i.invariant in
+    if_some_both _ _ _ (g.S.Source.held c.args.source.now).bytes w.on w.on (λ file on again e coded U d v at viewed leaf past m run held first given.
+    let t = c.args.tree.now in
+    let there = ap (slice_get c.args.bench.now.levels) c.len-level.ensures.value ∙ at.bytes in
+    let seen = ap (λ s. undamaged t.kind c.args.page s.usable (page_bytes file c.args.page)) e ∙ view_back file t.kind t.start t.path.items U d c.args.bench.now.levels c.args.page v at viewed in
+    let cells = c.leaf_cells-cells.ensures.count_is (page_bytes file c.args.page) v there seen in
+    let end : c.loop-i.i ≡ count v = omega arith in
+    let s = subst (λ n. IsOnRows g.K.Sink.takes g.T.Taker.takes held file t.kind v U d c.args.sink.now n c.loop-i.marks c.loop-i.tree.greatest c.loop-i.tree.leaf c.loop-i.sink first c.loop-i.taker) end (on e coded U d v at viewed leaf past m run held first given) in
+    rows_end g.K.Sink.takes g.K.Sink.drops g.T.Taker.takes g.T.Taker.refuses held file t.kind v U d c.args.sink.now first t.start t.path.items c.args.bench.now.levels c.args.page at viewed
+    c.loop-i.marks c.loop-i.tree.greatest c.loop-i.tree.leaf c.loop-i.sink c.loop-i.taker s (leaf_errands_are file d t.kind v at.kind_is viewed leaf))

@@ -1,0 +1,23 @@
+use Rattle.std.proofs.Common.{◌≡◌, ◌≤◌, refl, sym, arith, ◌∙◌, ap}
+use Rattle.dbformat.specs.Cell.{Cell, count}
+use Rattle.dbwalk.specs.Steps.{no_chain}
+use Rattle.dbwalk.proofs.Trees.StepReads.{no_overflow, bad_cell}
+use Rattle.dbwalk.proofs.steps.chain_at.Goals as goal
+
+pub returns-then-i-cells-2 : goal.returns-then-i-cells-2
+returns-then-i-cells-2 c =
+    let n : c.args.cells ≡ count c.args.view.now = c.requires in
+    let l : c.args.i ≤ count c.args.view.now = omega arith in
+    no_chain c.args.i refl l (λ x m e. absurd (let f : ⊥ = omega arith in f))
+
+pub returns-in-None : goal.returns-in-None
+returns-in-None c =
+    let n : c.args.cells ≡ count c.args.view.now = c.requires in
+    let l : c.args.i ≤ count c.args.view.now = omega arith in
+    no_chain c.args.i refl l (no_overflow c.args.view.now c.args.i c.in-Ok.cell (sym c.cell.ensures ∙ c.in-Ok.is) (sym (ap (λ (x : Cell). x.overflow) c.cell-in-Ok.view_is) ∙ c.in-None.is))
+
+pub returns-in-Err : goal.returns-in-Err
+returns-in-Err c =
+    let n : c.args.cells ≡ count c.args.view.now = c.requires in
+    let l : c.args.i ≤ count c.args.view.now = omega arith in
+    no_chain c.args.i refl l (bad_cell c.args.view.now c.args.i c.in-Err.field-0 (sym c.cell.ensures ∙ c.in-Err.is))

@@ -1,0 +1,157 @@
+use Rattle.std.proofs.Common.{rules, ◌≡◌, ◌+◌, ◌/◌, ◌<◌, ◌≤◌, ◌++◌, [], ◌∷◌, length, Ok, Err, refl, sym, ap, subst, arith, ◌∙◌}
+use Rattle.std.specs.Prelude.{ℕ, IfErr}
+use Rattle.std.proofs.lemmas.Result.{err_from_is_err_and}
+use Rattle.dbwalk.proofs.Chaining.ChainTurns.{if_some_both}
+use Rattle.dbwalk.specs.Stack.{child_at, top_visit}
+use Rattle.dbformat.specs.Address.{schema_start}
+use Rattle.dbwalk.specs.Outcomes.{IsReadOrWrite}
+use Rattle.dbwalk.specs.WalkGiven.{IsGivenBefore, IsEntryDone, IsGivenWalk, IsTurnDone}
+use Rattle.dbwalk.specs.Walking.{IsOpen, AreOpen, cost}
+use Rattle.dbwalk.specs.declared.steps.Next.TheVariants.{Child}
+use Rattle.dbwalk.proofs.Trees.Frames.{open_kept, open_push, ends_on, ends_enter, path_last}
+use Rattle.dbwalk.proofs.Trees.TurnCalls.{child_asked}
+use Rattle.dbwalk.proofs.Rows.TurnRows.{before_child, past_child, in_child, stopped_child}
+use Rattle.dbwalk.proofs.Trees.TurnFrames.{at_step, step_on, as_deep, way_on}
+use Rattle.dbwalk.proofs.Trees.Turns.{next_here}
+use Rattle.dbwalk.proofs.tree_turn.enter_child.Goals as goal
+
+pub stepped-requires : goal.stepped-requires
+stepped-requires g c =
+    let s = at_step c.args.bench.now.geometry.usable c.args.tree.now.kind c.args.bench.now.levels c.args.frames.now.items c.args.frame (Child c.args.page) c.requires.«open» c.requires.child in
+    let m = s.most in
+    omega arith
+
+pub enter_page-requires : goal.enter_page-requires
+enter_page-requires g c =
+    let low : c.args.frame.page ≤ 67108864 = (at_step c.args.bench.now.geometry.usable c.args.tree.now.kind c.args.bench.now.levels c.args.frames.now.items c.args.frame (Child c.args.page) c.requires.«open» c.requires.child).low in
+    search rules
+
+pub returns-in_err-enter_page-clause-others : goal.returns-in_err-enter_page-clause-others
+returns-in_err-enter_page-clause-others g c =
+    let q = err_from_is_err_and c.from_residual.result c.from_residual.ensures.1 in
+    λ l. let o = c.in_err-enter_page.ensures.others l in (o.0, subst (λ r. IfErr r IsReadOrWrite) (sym (q.1 ∙ ap Err q.2)) o.1)
+
+pub returns-then-not-branch-clause-others : goal.returns-then-not-branch-clause-others
+returns-then-not-branch-clause-others g c = λ l. ((c.in_ok-enter_page.ensures.others l).0, tt)
+
+pub returns-clause-others : goal.returns-clause-others
+returns-clause-others g c = λ l. ((c.in_ok-enter_page.ensures.others l).0, tt)
+
+pub returns-in_err-enter_page-clause-walking : goal.returns-in_err-enter_page-clause-walking
+returns-in_err-enter_page-clause-walking g c = if_some_both _ _ _ (g.S.Source.held c.args.source.now).bytes c.in_err-enter_page.ensures.done c.in_err-enter_page.ensures.done (λ file h w e coded W d before candidate held first empty walk.
+    let t = c.args.tree.now in
+    let b = c.args.bench.now in
+    let fs = c.args.frames.now.items in
+    let f = c.args.frame in
+    let on = c.stepped.result in
+    let n = c.enter_page.new in
+    let q = err_from_is_err_and c.from_residual.result c.from_residual.ensures.1 in
+    let ways = c.push-2.ensures.items ∙ ap (λ l. l ++ (f.next / 3 ∷ [])) c.requires.path in
+    let child = next_here g.K.Sink.takes g.K.Sink.drops file t.kind t.start W d candidate before b.levels fs f c.args.marks.now t.greatest t.leaf c.args.sink.now walk.walking b.geometry.usable (ap (λ s. s.usable) e) (Child c.args.page) c.requires.child in
+    let entry = child_asked g.K.Sink.takes g.K.Sink.drops file t.kind t.start W d candidate before b.levels fs f c.args.marks.now t.greatest t.leaf c.args.sink.now walk.walking on c.stepped.ensures.page c.stepped.ensures.next c.args.page child
+    c.push-2.new.self.items ways (λ V r. (held : g.row.T.Denot → ℕ) (first : g.row.T.Denot) → (t.start ≡ schema_start → IsGivenBefore g.T.Taker.takes held file V r.address first c.args.taker.now)
+    → IsEntryDone g.K.Sink.takes g.K.Sink.drops g.T.Taker.takes g.T.Taker.refuses file V r (Err c.in_err-enter_page.field-0.0) n.bench.levels n.marks n.tree.greatest n.tree.leaf c.args.sink.now n.sink first n.taker)
+    (h e coded) held first (before_child g.K.Sink.takes g.K.Sink.drops g.T.Taker.takes g.T.Taker.refuses file t.kind t.start W d candidate before b.levels fs f c.args.marks.now t.greatest t.leaf c.args.sink.now first c.args.taker.now walk on c.stepped.ensures.page c.stepped.ensures.next c.args.page child held empty) in
+    subst (λ r. IsTurnDone g.K.Sink.takes g.K.Sink.drops g.T.Taker.takes g.T.Taker.refuses file t.kind W d r before c.push.new.self.items n.bench.levels n.marks n.tree.greatest n.tree.leaf n.sink first n.taker) (sym (q.1 ∙ ap Err q.2))
+    (stopped_child g.K.Sink.takes g.K.Sink.drops g.T.Taker.takes g.T.Taker.refuses file t.kind t.start W d candidate before b.levels fs f c.args.marks.now t.greatest t.leaf c.args.sink.now first c.args.taker.now walk on c.stepped.ensures.page c.stepped.ensures.next c.args.page child n.bench.levels n.marks n.tree.greatest n.tree.leaf n.sink n.taker c.in_err-enter_page.field-0.0 entry))
+
+pub returns-then-not-branch-clause-open : goal.returns-then-not-branch-clause-open
+returns-then-not-branch-clause-open g c =
+    let t = c.args.tree.now in
+    let b = c.args.bench.now in
+    let fs = c.args.frames.now.items in
+    let f = c.args.frame in
+    let on = c.stepped.result in
+    let n = c.enter_page.new in
+    let ways = c.push-2.ensures.items ∙ ap (λ l. l ++ (f.next / 3 ∷ [])) c.requires.path in
+    let s = at_step b.geometry.usable t.kind b.levels fs f (Child c.args.page) c.requires.«open» c.requires.child in
+    let deep = as_deep fs f on c.stepped.ensures.next c.push-2.new.self.items ways in
+    subst (λ l. AreOpen n.bench.geometry.usable n.tree.kind n.bench.levels 0 l) (sym c.push.ensures.items)
+    (open_kept b.geometry.usable t.kind b.levels n.bench.geometry.usable n.tree.kind n.bench.levels (ap (λ s. s.usable) c.enter_page.ensures.shape) c.enter_page.ensures.tree.1 0 (fs ++ (on ∷ []))
+    (λ m l. c.enter_page.ensures.levels m (omega arith))
+    (step_on b.geometry.usable t.kind b.levels fs f (Child c.args.page) on c.stepped.ensures.page c.stepped.ensures.next (λ x. cc) s))
+
+pub returns-then-not-branch-clause-ends : goal.returns-then-not-branch-clause-ends
+returns-then-not-branch-clause-ends g c =
+    let fs = c.args.frames.now.items in
+    let f = c.args.frame in
+    let s = at_step c.args.bench.now.geometry.usable c.args.tree.now.kind c.args.bench.now.levels fs f (Child c.args.page) c.requires.«open» c.requires.child in
+    subst (λ l. cost c.enter_page.new.marks l < cost c.args.marks.now (fs ++ (f ∷ []))) (sym c.push.ensures.items)
+    (ends_on c.args.marks.now c.enter_page.new.marks fs f c.stepped.result c.in_ok-enter_page.ensures.fewer.0 c.stepped.ensures.next s.most)
+
+pub returns-then-not-branch-clause-walking : goal.returns-then-not-branch-clause-walking
+returns-then-not-branch-clause-walking g c = if_some_both _ _ _ (g.S.Source.held c.args.source.now).bytes c.in_ok-enter_page.ensures.done c.in_ok-enter_page.ensures.done (λ file h w e coded W d before candidate held first empty walk.
+    let t = c.args.tree.now in
+    let b = c.args.bench.now in
+    let fs = c.args.frames.now.items in
+    let f = c.args.frame in
+    let on = c.stepped.result in
+    let n = c.enter_page.new in
+    let ways = c.push-2.ensures.items ∙ ap (λ l. l ++ (f.next / 3 ∷ [])) c.requires.path in
+    let deep = as_deep fs f on c.stepped.ensures.next c.push-2.new.self.items ways in
+    let child = next_here g.K.Sink.takes g.K.Sink.drops file t.kind t.start W d candidate before b.levels fs f c.args.marks.now t.greatest t.leaf c.args.sink.now walk.walking b.geometry.usable (ap (λ s. s.usable) e) (Child c.args.page) c.requires.child in
+    let asked = child_asked g.K.Sink.takes g.K.Sink.drops file t.kind t.start W d candidate before b.levels fs f c.args.marks.now t.greatest t.leaf c.args.sink.now walk.walking on c.stepped.ensures.page c.stepped.ensures.next c.args.page child
+    c.push-2.new.self.items ways (λ V r. (held : g.row.T.Denot → ℕ) (first : g.row.T.Denot) → (t.start ≡ schema_start → IsGivenBefore g.T.Taker.takes held file V r.address first c.args.taker.now)
+    → IsEntryDone g.K.Sink.takes g.K.Sink.drops g.T.Taker.takes g.T.Taker.refuses file V r (Ok c.in_ok-enter_page.field-0) n.bench.levels n.marks n.tree.greatest n.tree.leaf c.args.sink.now n.sink first n.taker)
+    (h e coded) held first (before_child g.K.Sink.takes g.K.Sink.drops g.T.Taker.takes g.T.Taker.refuses file t.kind t.start W d candidate before b.levels fs f c.args.marks.now t.greatest t.leaf c.args.sink.now first c.args.taker.now walk on c.stepped.ensures.page c.stepped.ensures.next c.args.page child held empty) in
+    let entry = subst (λ y. IsEntryDone g.K.Sink.takes g.K.Sink.drops g.T.Taker.takes g.T.Taker.refuses file walk.walking.U (child_at file t.kind (top_visit file t.kind d fs) f.next) (Ok y) n.bench.levels n.marks n.tree.greatest n.tree.leaf c.args.sink.now n.sink first n.taker) c.if-not-branch.true asked in
+    subst (λ l. IsGivenWalk g.K.Sink.takes g.T.Taker.takes file t.kind W d before l n.bench.levels n.marks n.tree.greatest n.tree.leaf n.sink first n.taker) (sym c.push.ensures.items)
+    (past_child g.K.Sink.takes g.K.Sink.drops g.T.Taker.takes g.T.Taker.refuses file t.kind t.start W d candidate before b.levels fs f c.args.marks.now t.greatest t.leaf c.args.sink.now first c.args.taker.now walk on c.stepped.ensures.page c.stepped.ensures.next c.args.page child
+    n.bench.levels n.marks n.tree.greatest n.tree.leaf n.sink n.taker (λ m l. c.enter_page.ensures.levels m (omega arith)) entry))
+
+pub returns-clause-open : goal.returns-clause-open
+returns-clause-open g c =
+    let t = c.args.tree.now in
+    let b = c.args.bench.now in
+    let fs = c.args.frames.now.items in
+    let f = c.args.frame in
+    let on = c.stepped.result in
+    let n = c.enter_page.new in
+    let ways = c.push-2.ensures.items ∙ ap (λ l. l ++ (f.next / 3 ∷ [])) c.requires.path in
+    let s = at_step b.geometry.usable t.kind b.levels fs f (Child c.args.page) c.requires.«open» c.requires.child in
+    let deep = as_deep fs f on c.stepped.ensures.next c.push-2.new.self.items ways in
+    let opened = (c.in_ok-enter_page.ensures.«open» (search rules)).1 in
+    subst (λ l. AreOpen n.bench.geometry.usable n.tree.kind n.bench.levels 0 l) (sym (c.push-3.ensures.items ∙ ap (λ l. l ++ (record { page = c.args.page; next = 0 } ∷ [])) c.push.ensures.items))
+    (open_push n.bench.geometry.usable n.tree.kind n.bench.levels 0 (fs ++ (on ∷ [])) (record { page = c.args.page; next = 0 })
+    (open_kept b.geometry.usable t.kind b.levels n.bench.geometry.usable n.tree.kind n.bench.levels (ap (λ s. s.usable) c.enter_page.ensures.shape) c.enter_page.ensures.tree.1 0 (fs ++ (on ∷ []))
+    (λ m l. c.enter_page.ensures.levels m (omega arith))
+    (step_on b.geometry.usable t.kind b.levels fs f (Child c.args.page) on c.stepped.ensures.page c.stepped.ensures.next (λ x. cc) s))
+    (subst (λ m. IsOpen n.bench.geometry.usable n.tree.kind n.bench.levels m (record { page = c.args.page; next = 0 })) (let z : length c.push-2.new.self.items ≡ 0 + length (fs ++ (on ∷ [])) = omega arith in z) opened))
+
+pub returns-clause-path : goal.returns-clause-path
+returns-clause-path g c =
+    let fs = c.args.frames.now.items in
+    let f = c.args.frame in
+    let on = c.stepped.result in
+    let ways = c.push-2.ensures.items ∙ ap (λ l. l ++ (f.next / 3 ∷ [])) c.requires.path in
+    path_last c.push-3.new.self.items (fs ++ (on ∷ [])) (record { page = c.args.page; next = 0 }) c.enter_page.new.tree.path.items
+    (c.push-3.ensures.items ∙ ap (λ l. l ++ (record { page = c.args.page; next = 0 } ∷ [])) c.push.ensures.items)
+    (ap (λ p. p.items) c.enter_page.ensures.tree.2 ∙ way_on fs f on c.stepped.ensures.next c.push-2.new.self.items ways)
+
+pub returns-clause-ends : goal.returns-clause-ends
+returns-clause-ends g c =
+    let fs = c.args.frames.now.items in
+    let f = c.args.frame in
+    let s = at_step c.args.bench.now.geometry.usable c.args.tree.now.kind c.args.bench.now.levels fs f (Child c.args.page) c.requires.«open» c.requires.child in
+    subst (λ l. cost c.enter_page.new.marks l < cost c.args.marks.now (fs ++ (f ∷ []))) (sym (c.push-3.ensures.items ∙ ap (λ l. l ++ (record { page = c.args.page; next = 0 } ∷ [])) c.push.ensures.items))
+    (ends_enter c.args.marks.now c.enter_page.new.marks fs f c.stepped.result (record { page = c.args.page; next = 0 }) (c.in_ok-enter_page.ensures.fewer.1 (search rules)) c.stepped.ensures.next s.most refl)
+
+pub returns-clause-walking : goal.returns-clause-walking
+returns-clause-walking g c = if_some_both _ _ _ (g.S.Source.held c.args.source.now).bytes c.in_ok-enter_page.ensures.done c.in_ok-enter_page.ensures.done (λ file h w e coded W d before candidate held first empty walk.
+    let t = c.args.tree.now in
+    let b = c.args.bench.now in
+    let fs = c.args.frames.now.items in
+    let f = c.args.frame in
+    let on = c.stepped.result in
+    let n = c.enter_page.new in
+    let ways = c.push-2.ensures.items ∙ ap (λ l. l ++ (f.next / 3 ∷ [])) c.requires.path in
+    let deep = as_deep fs f on c.stepped.ensures.next c.push-2.new.self.items ways in
+    let child = next_here g.K.Sink.takes g.K.Sink.drops file t.kind t.start W d candidate before b.levels fs f c.args.marks.now t.greatest t.leaf c.args.sink.now walk.walking b.geometry.usable (ap (λ s. s.usable) e) (Child c.args.page) c.requires.child in
+    let asked = child_asked g.K.Sink.takes g.K.Sink.drops file t.kind t.start W d candidate before b.levels fs f c.args.marks.now t.greatest t.leaf c.args.sink.now walk.walking on c.stepped.ensures.page c.stepped.ensures.next c.args.page child
+    c.push-2.new.self.items ways (λ V r. (held : g.row.T.Denot → ℕ) (first : g.row.T.Denot) → (t.start ≡ schema_start → IsGivenBefore g.T.Taker.takes held file V r.address first c.args.taker.now)
+    → IsEntryDone g.K.Sink.takes g.K.Sink.drops g.T.Taker.takes g.T.Taker.refuses file V r (Ok c.in_ok-enter_page.field-0) n.bench.levels n.marks n.tree.greatest n.tree.leaf c.args.sink.now n.sink first n.taker)
+    (h e coded) held first (before_child g.K.Sink.takes g.K.Sink.drops g.T.Taker.takes g.T.Taker.refuses file t.kind t.start W d candidate before b.levels fs f c.args.marks.now t.greatest t.leaf c.args.sink.now first c.args.taker.now walk on c.stepped.ensures.page c.stepped.ensures.next c.args.page child held empty) in
+    let entry = subst (λ y. IsEntryDone g.K.Sink.takes g.K.Sink.drops g.T.Taker.takes g.T.Taker.refuses file walk.walking.U (child_at file t.kind (top_visit file t.kind d fs) f.next) (Ok y) n.bench.levels n.marks n.tree.greatest n.tree.leaf c.args.sink.now n.sink first n.taker) c.if-not-branch.false asked in
+    subst (λ l. IsGivenWalk g.K.Sink.takes g.T.Taker.takes file t.kind W d before l n.bench.levels n.marks n.tree.greatest n.tree.leaf n.sink first n.taker) (sym (c.push-3.ensures.items ∙ ap (λ l. l ++ (record { page = c.args.page; next = 0 } ∷ [])) c.push.ensures.items))
+    (in_child g.K.Sink.takes g.K.Sink.drops g.T.Taker.takes g.T.Taker.refuses file t.kind t.start W d candidate before b.levels fs f c.args.marks.now t.greatest t.leaf c.args.sink.now first c.args.taker.now walk on c.stepped.ensures.page c.stepped.ensures.next c.args.page child
+    n.bench.levels n.marks n.tree.greatest n.tree.leaf n.sink n.taker (λ m l. c.enter_page.ensures.levels m (omega arith)) entry (record { page = c.args.page; next = 0 }) refl refl))

@@ -1,0 +1,51 @@
+-- Overflow chains as a program walks them.
+use Rattle.std.specs.Prelude.{◌≡◌, ℕ, List, [], ◌∷◌, ◌++◌, Option, Some, None, Result, Ok, Err}
+use Rattle.dbsurvey.specs.Story.{Go}
+use Rattle.dbformat.specs.Address.{start_of, then_step, child_path, chain_place}
+use Rattle.dbformat.specs.Reference.{first_overflow, later_overflow, Reference, bytes_left, role_of, from_of, item_of}
+use Rattle.dbbytes.specs.declared.sieve.RowSieve.{RowSieve}
+use Rattle.dbsource.specs.declared.error.RunError.{RunError}
+use Rattle.dbwalk.specs.declared.chain.Chain.{Chain}
+use Rattle.dbwalk.specs.declared.chain.Place.{Place}
+use Rattle.dbwalk.specs.declared.mark.Mark.{Mark}
+use Rattle.dbwalk.specs.Feeding.{FeedsPages, FeedsChain}
+use Rattle.dbwalk.specs.Finding.{Finding}
+use Rattle.dbwalk.specs.Entered.{IsStepOf}
+use Rattle.dbwalk.specs.Left.{IsLeft}
+use Rattle.dbwalk.specs.Done.{IsDone}
+
+-- a reference to the page of this number in a chain, by its address
+pub record IsOnChain (chain : Chain) (number : ℕ) (c : Reference) : Type 0 where
+  pub start : start_of c.address ≡ chain.start
+  pub path : child_path c.address ≡ chain.path.now
+  pub place : chain_place c.address ≡ Some (chain.cell, number)
+
+-- the reference of a cell to the first page of its chain
+pub record IsChainOf (chain : Chain) (c : Reference) : Type 0 where
+  pub page : c.page ≡ chain.first
+  pub role : role_of c ≡ first_overflow chain.left
+  pub from : from_of c ≡ chain.page
+  pub item : item_of c ≡ chain.cell
+  pub place : IsOnChain chain 0 c
+
+-- the reference of an overflow page to the next one, where so many bytes are left behind it
+abbrev pub next_of : Reference → ℕ → ℕ → Reference
+next_of c left page = record { address = then_step c.address 0; page = page; role = record { role = later_overflow left; from = c.page; item = 0 } }
+
+-- On the way along the chain below c: the reference at this place is left, and a sieve was fed the pages so far.
+pub record IsOnWay {S : Type 0} (takes : S → Finding → S → Type 0) (file : List ℕ) (W : List Reference) (c : Reference) (before : S) (chain : Chain) (place : Place) (marks : List Mark) (now : S) (old new : Option RowSieve) : Type 0 where
+  pub pages : List Reference
+  pub fed : FeedsPages file old pages new
+  pub visited : List Reference
+  pub since : visited ≡ W ++ pages
+  pub d : Reference
+  pub step : IsStepOf place.step d
+  pub left : bytes_left (role_of d) ≡ Some place.left
+  pub on : IsOnChain chain place.number d
+  pub rest : IsLeft takes file W (Go c ∷ []) before visited (Go d ∷ []) marks now
+
+-- after a turn: at the next place, or at the end, or stopped by an error
+abbrev pub Turns : {S : Type 0} → (S → Finding → S → Type 0) → (S → Finding → S → Type 0) → List ℕ → List Reference → Reference → S → Chain → Result (Option Place) RunError → List Mark → S → Option RowSieve → Option RowSieve → Type 0
+Turns takes drops file W c before chain (Ok (Some place)) marks now old new = IsOnWay takes file W c before chain place marks now old new
+Turns takes drops file W c before chain (Ok None) marks now old new = IsDone {A = Unit {0}} takes drops file W (Go c ∷ []) (Ok tt) marks before now × FeedsChain file W c old new
+Turns takes drops file W c before chain (Err e) marks now old new = IsDone {A = Unit {0}} takes drops file W (Go c ∷ []) (Err e) marks before now

@@ -1,0 +1,16 @@
+-- What a call has done below some errands, after the visits of W.
+use Rattle.std.specs.Prelude.{ℕ, List, ◌++◌, Result, OnOk}
+use Rattle.dbsurvey.specs.Story.{Errand}
+use Rattle.dbformat.specs.Reference.{Way, Reference}
+use Rattle.dbformat.specs.Story.{Event}
+use Rattle.dbsource.specs.declared.error.RunError.{RunError}
+use Rattle.dbwalk.specs.declared.mark.Mark.{Mark}
+use Rattle.dbwalk.specs.Marking.{AreMarksOf}
+use Rattle.dbwalk.specs.Finding.{Finding, told_below, visited_below}
+use Rattle.dbwalk.specs.Outcomes.{Tells}
+
+-- At Ok the marks are those of W and of all that is visited below the errands. The sink was told what is told below
+-- them, or after an error a beginning of it.
+pub record IsDone {S A : Type 0} (takes drops : S → Finding → S → Type 0) (file : List ℕ) (W : List Reference) (errands : List (Errand Way Event)) (r : Result A RunError) (marks : List Mark) (before after : S) : Type 0 where
+  pub marked : OnOk r (AreMarksOf file (W ++ visited_below file W errands) marks)
+  pub told : Tells takes drops r before (told_below file W errands) after

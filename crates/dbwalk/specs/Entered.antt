@@ -1,0 +1,33 @@
+-- What it leaves to enter a candidate: its page is marked, or the reason against it is told.
+use Rattle.std.specs.Prelude.{◌≡◌, ℕ, Bool, true, false, List, [], ◌∷◌, ◌++◌, Result, Ok, Err}
+use Rattle.dbsurvey.specs.Moves.{Moves}
+use Rattle.dbsurvey.specs.Traverse.{is_followed}
+use Rattle.dbformat.specs.Reference.{Reference, from_of, item_of}
+use Rattle.dbformat.specs.Survey.{rules_of, is_too_deep}
+use Rattle.dbsurvey.specs.Story.{Go}
+use Rattle.dbsurvey.specs.InOrder.{IsPast}
+use Rattle.dbformat.specs.Story.{Event, at_refused}
+use Rattle.dbsource.specs.declared.error.RunError.{RunError}
+use Rattle.dbwalk.specs.declared.mark.Mark.{Mark}
+use Rattle.dbwalk.specs.declared.entering.Step.{Step}
+use Rattle.dbwalk.specs.Marking.{visit_mark, AreMarksOf}
+use Rattle.dbwalk.specs.Finding.{Finding, told_at}
+use Rattle.dbwalk.specs.Outcomes.{StopsBy}
+
+-- all visits of W stand before a candidate
+abbrev pub IsNext : List Reference → Reference → Type 0
+IsNext W c = IsPast {E = Event} W (Go c ∷ [])
+
+-- a reference as a program has it
+pub record IsStepOf (step : Step) (c : Reference) : Type 0 where
+  pub page : c.page ≡ step.page
+  pub mark : visit_mark c ≡ step.mark
+  pub from : from_of c ≡ step.from
+  pub item : item_of c ≡ step.item
+  pub deep : is_too_deep c ≡ step.is_too_deep
+
+-- followed, and marked; or refused, which was told, or not told whole
+abbrev pub Enters : {S : Type 0} → (S → Finding → S → Type 0) → (S → Finding → S → Type 0) → List ℕ → List Reference → Reference → Result Bool RunError → List Mark → S → S → Type 0
+Enters takes drops file W c (Ok true) marks s t = (is_followed (rules_of file) W c ≡ true) × AreMarksOf file (W ++ (c ∷ [])) marks × (s ≡ t)
+Enters takes drops file W c (Ok false) marks s t = (is_followed (rules_of file) W c ≡ false) × AreMarksOf file W marks × Moves takes s (told_at file W (at_refused c)) t
+Enters takes drops file W c (Err e) marks s t = (is_followed (rules_of file) W c ≡ false) × AreMarksOf file W marks × StopsBy takes drops e s (told_at file W (at_refused c)) t

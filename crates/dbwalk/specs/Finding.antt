@@ -1,0 +1,31 @@
+-- What a walk tells: rows of the statistics and faults, in the order of their places.
+use Rattle.std.specs.Prelude.{List, ◌++◌, map, option_to_list}
+use Rattle.dbsurvey.specs.Story.{Errand, goes}
+use Rattle.dbsurvey.specs.Traverse.{part_of}
+use Rattle.dbsurvey.specs.InOrder.{read_below}
+use Rattle.dbformat.specs.File.{geometry}
+use Rattle.dbformat.specs.Reference.{Way, Reference}
+use Rattle.dbformat.specs.Survey.{rules_of}
+use Rattle.dbformat.specs.Story.{Event, own_visit, story_of}
+use Rattle.dbformat.specs.Rows.{StatRow}
+use Rattle.dbformat.specs.Report.{event_faults}
+use Rattle.dbformat.specs.Laws.{event_row}
+use Rattle.dbformat.specs.declared.Fault.{Fault}
+use Rattle.std.specs.Prelude.{ℕ}
+
+-- a row or a fault
+pub data Finding : Type 0 where
+  told_row : StatRow → Finding
+  told_fault : Fault → Finding
+
+-- what is told at an event, where the visits so far are those of U: its row, if it has one, and then its faults
+abbrev pub told_at : List ℕ → List Reference → Event → List Finding
+told_at file U event = map told_row (option_to_list (event_row file event)) ++ map told_fault (event_faults file U event)
+
+-- what is told below some errands, after the visits of W
+abbrev pub told_below : List ℕ → List Reference → List (Errand Way Event) → List Finding
+told_below file W errands = read_below (rules_of file) (story_of file) (geometry file).pages own_visit (told_at file) W errands
+
+-- what is visited below them
+abbrev pub visited_below : List ℕ → List Reference → List (Errand Way Event) → List Reference
+visited_below file W errands = part_of (rules_of file) (geometry file).pages W (goes errands)

@@ -1,0 +1,41 @@
+-- What is read off the leaf at a level.
+use Rattle.std.specs.Prelude.{true, [], ◌∷◌, None, ◌≡◌, ℕ, ◌<◌, ◌≤◌, IfSome, List, Option, Some, ℤ, slice_get, option_map, option_and_then}
+use Rattle.std.specs.Result.{result_ok}
+use Rattle.dbformat.specs.Head.{View, undamaged}
+use Rattle.dbformat.specs.Cell.{cell, count, overflow_size}
+use Rattle.dbsurvey.specs.Story.{Errand}
+use Rattle.dbformat.specs.Address.{overflow_step}
+use Rattle.dbformat.specs.Errands.{go}
+use Rattle.dbformat.specs.Faults.{fault}
+use Rattle.dbformat.specs.Reference.{Way, Reference, first_overflow, link}
+use Rattle.dbformat.specs.Story.{Event}
+use Rattle.dbformat.specs.Tests.{told_if}
+use Rattle.dbformat.specs.declared.Fault.{Fault}
+use Rattle.dbformat.specs.declared.FaultCode.TheVariants.{T06}
+use Rattle.dbwalk.specs.Running.{is_late, greater_key}
+use Rattle.dbformat.specs.declared.TreeKind.{TreeKind}
+
+-- the number of its cells
+pub record HasCells (usable : ℕ) (kind : TreeKind) (levels : List (List ℕ)) (level page n : ℕ) : Type 0 where
+  pub count_is : (bytes : List ℕ) (v : View) → slice_get levels level ≡ Some bytes → undamaged kind page usable bytes ≡ Some v → n ≡ count v
+
+-- the first overflow page of cell i, with the bytes that stand on overflow pages, and its key
+pub record HasCell (usable : ℕ) (kind : TreeKind) (levels : List (List ℕ)) (level page i : ℕ) (overflow : Option (ℕ × ℕ)) (key : Option ℤ) : Type 0 where
+  pub most : IfSome overflow (λ o. o.1 ≤ 2147483647)
+  pub chain : (bytes : List ℕ) (v : View) → slice_get levels level ≡ Some bytes → undamaged kind page usable bytes ≡ Some v → i < count v → overflow ≡ option_and_then (λ c. option_map (λ p. (p, overflow_size c)) c.overflow) (result_ok (cell v i))
+  pub key_is : (bytes : List ℕ) (v : View) → slice_get levels level ≡ Some bytes → undamaged kind page usable bytes ≡ Some v → i < count v → key ≡ option_and_then (λ c. c.key) (result_ok (cell v i))
+
+-- what a cell's first overflow page, with the bytes that stand on overflow pages, leads to
+abbrev pub overflow_errands : Reference → ℕ → Option (ℕ × ℕ) → List (Errand Way Event)
+overflow_errands c i None = []
+overflow_errands c i (Some o) = go c (link c.page (overflow_step i) i (first_overflow o.1) o.0) ∷ []
+
+-- the fault of a rowid behind keys of which this is the greatest
+abbrev pub late_faults : Option ℤ → ℕ → ℕ → Option ℤ → List Fault
+late_faults top page item None = []
+late_faults top page item (Some key) = told_if (is_late true top key) (fault T06 page item key)
+
+-- the greatest key after it
+abbrev pub top_after : Option ℤ → Option ℤ → Option ℤ
+top_after top None = top
+top_after top (Some key) = greater_key top key

@@ -1,0 +1,35 @@
+-- The row of a page of a tree, as a program comes by it.
+use Rattle.std.specs.Prelude.{ℕ, List, length, map, None, fold, max, sum_by, if◌then◌else◌}
+use Rattle.dbformat.specs.Head.{View, is_interior}
+use Rattle.dbformat.specs.Cell.{cells, count}
+use Rattle.dbformat.specs.Coverage.{unused}
+use Rattle.dbformat.specs.Rows.{StatRow}
+use Rattle.dbformat.specs.declared.PageType.TheVariants.{Internal, Leaf, Damaged}
+
+-- of an undamaged page
+abbrev pub view_row : ℕ → List ℕ → View → StatRow
+view_row start path v = record {
+  start = start;
+  path = path;
+  chain = None;
+  page = v.number;
+  pagetype = if is_interior v.kind then Internal else Leaf;
+  ncell = count v;
+  payload = sum_by (λ (i, c). length c.local) (cells v);
+  unused = unused v;
+  mx_payload = fold max 0 (map (λ (i, c). c.size) (cells v));
+}
+
+-- of a damaged one
+abbrev pub damaged_row : ℕ → List ℕ → ℕ → StatRow
+damaged_row start path page = record {
+  start = start;
+  path = path;
+  chain = None;
+  page = page;
+  pagetype = Damaged;
+  ncell = 0;
+  payload = 0;
+  unused = 0;
+  mx_payload = 0;
+}

@@ -1,0 +1,53 @@
+-- The trunks of the freelist as a program walks them.
+use Rattle.std.specs.Prelude.{◌≡◌, ℕ, List, [], ◌∷◌, map, Option, Some, None, Result, Ok, Err, false, ◌==◌, if◌then◌else◌}
+use Rattle.dbsurvey.specs.Story.{Go}
+use Rattle.dbformat.specs.Address.{freelist_start}
+use Rattle.dbformat.specs.Errands.{go}
+use Rattle.dbformat.specs.File.{page_bytes}
+use Rattle.dbformat.specs.Reference.{trunk, next_trunk, Reference, role_of, from_of, item_of}
+use Rattle.dbsource.specs.declared.error.RunError.{RunError}
+use Rattle.dbwalk.specs.declared.entering.Step.{Step}
+use Rattle.dbwalk.specs.declared.mark.Mark.{Mark}
+use Rattle.dbwalk.specs.declared.mark.Mark.TheVariants.{Trunk}
+use Rattle.dbwalk.specs.Finding.{Finding}
+use Rattle.dbwalk.specs.Entered.{IsStepOf}
+use Rattle.dbwalk.specs.Left.{IsLeft}
+use Rattle.dbwalk.specs.Done.{IsDone}
+
+-- the step to a trunk
+abbrev pub trunk_step : ℕ → ℕ → ℕ → Step
+trunk_step page from item = record { page = page; mark = Trunk; from = from; item = item; is_too_deep = false }
+
+-- the step to the next one, if there is one
+abbrev pub next_step : ℕ → ℕ → ℕ → Option Step
+next_step page from item = if page == 0 then None else Some (trunk_step page from item)
+
+-- the reference of the list of starts to the first trunk
+pub record IsFirstTrunk (first : ℕ) (c : Reference) : Type 0 where
+  pub page : c.page ≡ first
+  pub role : role_of c ≡ trunk
+  pub from : from_of c ≡ 0
+  pub item : item_of c ≡ freelist_start
+
+-- that reference
+abbrev pub freelist_reference : ℕ → Reference
+freelist_reference first = record { address = freelist_start ∷ []; page = first; role = record { role = trunk; from = 0; item = freelist_start } }
+
+-- On the way along the trunks from c on: this one is left.
+pub record IsOnTrunks {S : Type 0} (takes : S → Finding → S → Type 0) (file : List ℕ) (W : List Reference) (c : Reference) (before : S) (place : Step) (marks : List Mark) (now : S) : Type 0 where
+  pub visited : List Reference
+  pub d : Reference
+  pub step : IsStepOf place d
+  pub role : role_of d ≡ trunk
+  pub rest : IsLeft takes file W (Go c ∷ []) before visited (Go d ∷ []) marks now
+
+-- a trunk is open: the next one is left, from this item, or an error stopped it
+abbrev pub Opens : {S : Type 0} → (S → Finding → S → Type 0) → (S → Finding → S → Type 0) → List ℕ → List Reference → Reference → S → Reference → Result ℕ RunError → List Mark → S → Type 0
+Opens takes drops file W c before d (Ok item) marks now = (U : List Reference) × IsLeft takes file W (Go c ∷ []) before U (map (go d) (next_trunk d.page (page_bytes file d.page) item)) marks now
+Opens takes drops file W c before d (Err e) marks now = IsDone {A = Unit {0}} takes drops file W (Go c ∷ []) (Err e) marks before now
+
+-- after a turn: at the next trunk, or at the end, or stopped by an error
+abbrev pub TrunkTurns : {S : Type 0} → (S → Finding → S → Type 0) → (S → Finding → S → Type 0) → List ℕ → List Reference → Reference → S → Result (Option Step) RunError → List Mark → S → Type 0
+TrunkTurns takes drops file W c before (Ok (Some step)) marks now = IsOnTrunks takes file W c before step marks now
+TrunkTurns takes drops file W c before (Ok None) marks now = IsDone {A = Unit {0}} takes drops file W (Go c ∷ []) (Ok tt) marks before now
+TrunkTurns takes drops file W c before (Err e) marks now = IsDone {A = Unit {0}} takes drops file W (Go c ∷ []) (Err e) marks before now

@@ -1,0 +1,202 @@
+// The walk along an overflow chain (Database File Format, 1.7).
+ghost use Rattle.std.specs.Prelude.{◌≡◌, ℕ, ◌+◌, ◌-◌, ◌≤◌, ◌<◌, ◌&&◌, ◌==◌, ◌∷◌, List, [], length, map, min, not, nat_le, option_to_list, pos, Option, Some, IfSome, IfOk, IfErr, OnOk, is_some};
+ghost use Rattle.dbsurvey.specs.Story.{Go};
+ghost use Rattle.dbformat.specs.File.{geometry, page_bytes};
+ghost use Rattle.dbformat.specs.Log.{HasLog, page_range};
+ghost use Rattle.dbformat.specs.Payload.{overflow_next};
+ghost use Rattle.dbformat.specs.Reference.{Reference, role_of, bytes_left};
+ghost use Rattle.dbformat.specs.Schema.{held_bytes};
+ghost use Rattle.dbformat.specs.Story.{at_page};
+ghost use Rattle.dbbytes.specs.declared.sieve.RowSieve.{RowSieve};
+ghost use Rattle.dbsource.specs.Bench.{Pages};
+ghost use Rattle.dbwalk.specs.Chains.{IsOnChain, IsChainOf, IsOnWay, Turns};
+ghost use Rattle.dbwalk.specs.Done.{IsDone};
+ghost use Rattle.dbwalk.specs.Entered.{IsNext};
+ghost use Rattle.dbwalk.specs.Feeding.{Feeds, FeedsChain};
+ghost use Rattle.dbwalk.specs.Finding.{Finding, told_at, told_row, told_fault};
+ghost use Rattle.dbwalk.specs.Marking.{AreMarksOf, IsUse};
+ghost use Rattle.dbwalk.specs.Packing.{named_page};
+ghost use Rattle.dbwalk.specs.Outcomes.{Tells, IsReadOrWrite};
+ghost use Rattle.dbwalk.specs.Reads.{Reads};
+ghost use Rattle.dbsource.specs.Errors.{is_read_failed, is_write_failed};
+ghost use Rattle.dbsource.specs.Failures.{failures_after};
+ghost use Rattle.dbsource.specs.Errors.{is_read_failed, is_write_failed};
+
+use crate::entering::{Step, enter};
+use crate::overflow::{feed_page, last_fault, next_page, overflow_row, tell};
+use crate::{Mark, Marks, Sink};
+use dbbytes::RowSieve;
+use dbsource::{Bench, RunError, Source};
+use std::alloc::Allocator;
+
+// The level of a bench where pages of chains stand.
+const CHAIN: usize = 20;
+
+/// Where an overflow chain begins.
+#[derive(Clone, Copy, Debug, Drop, PartialEq, Eq)]
+pub struct Chain<'a> {
+    /// The start of the tree.
+    pub start: u32,
+    /// The children on the way to the page of the cell.
+    pub path: &'a [u32],
+    /// That page.
+    pub page: u32,
+    /// The cell.
+    pub cell: u32,
+    /// The first overflow page, as the cell names it.
+    pub first: u32,
+    /// The bytes of the payload that do not stand in the cell.
+    pub left: u32,
+}
+
+// A place on the way along a chain: the number of the next page, the bytes that are left, and the reference to it.
+#[derive(Clone, Copy, Debug, PartialEq, Eq)]
+struct Place {
+    number: u32,
+    left: u32,
+    step: Step,
+}
+
+// Reads a page of a chain, feeds its payload bytes to a sieve, tells its row and its fault, and answers the next page that it names.
+fn visit_overflow<S: Source, K: Sink, A: Allocator>(
+    source: &mut S,
+    bench: &mut Bench<A>,
+    chain: &Chain<'_>,
+    number: u32,
+    page: u32,
+    left: u32,
+    sieve: &mut Option<RowSieve>,
+    sink: &mut K,
+) -> Result<u32, RunError>
+    requires { 1 ≤ page }
+    ensures told { (S.held source.new).bytes ≡ (S.held source.old).bytes }
+    ensures trail { (S.held source.new).trail ≡ S.step (S.held source.old).trail (page_range bench.old.geometry.page_size page) }
+    ensures reads { (S.held source.new).failures ≡ failures_after is_read_failed result (S.held source.old).failures }
+    ensures writes { K.failures sink.new ≡ failures_after is_write_failed result (K.failures sink.old) }
+    ensures only { IfErr result IsReadOrWrite }
+    ensures bench { bench.new ≡ record bench.old { chain = bench.new.chain } }
+    ensures kept { is_some sieve.new ≡ is_some sieve.old }
+    ensures next { IfOk result (λ next. IfSome (S.held source.old).bytes (λ file. bench.old.geometry ≡ geometry file → next ≡ overflow_next (page_bytes file page))) }
+    ensures visited { IfSome (S.held source.old).bytes (λ file. bench.old.geometry ≡ geometry file → (U : List Reference) (c : Reference)
+        → c.page ≡ page → bytes_left (role_of c) ≡ Some left → IsOnChain chain.now number c
+        → Tells K.takes K.drops result sink.old (told_at file U (at_page c)) sink.new) }
+    ensures fed { IfOk result (λ _. IfSome (S.held source.old).bytes (λ file. bench.old.geometry ≡ geometry file → (c : Reference)
+        → c.page ≡ page → bytes_left (role_of c) ≡ Some left → Feeds sieve.old (held_bytes file c) sieve.new)) }
+{
+    bench.load(CHAIN, source, page)?;
+    let usable = bench.geometry().usable;
+    let next = next_page(bench.page(CHAIN));
+    feed_page(bench.page(CHAIN), usable, left, sieve);
+    let row = overflow_row(chain, number, page, usable, left);
+    tell(&row, last_fault(usable, left, page, next), sink)?;
+    Ok(next)
+}
+
+// Goes on by one page, if the next one may be followed.
+fn turn<S: Source, K: Sink, A: Allocator>(
+    source: &mut S,
+    bench: &mut Bench<A>,
+    marks: &mut Marks<A>,
+    chain: &Chain<'_>,
+    place: Place,
+    sieve: &mut Option<RowSieve>,
+    sink: &mut K,
+) -> Result<Option<Place>, RunError>
+    requires named { named_page place.step.mark ≤ 67108864 }
+    requires used { IsUse place.step.mark }
+    requires counted { place.number + place.left ≤ 2147483647 }
+    ensures told { (S.held source.new).bytes ≡ (S.held source.old).bytes }
+    ensures log { HasLog S.step (Reads bench.old.geometry.page_size marks.old marks.new) (S.held source.old).trail (S.held source.new).trail }
+    ensures reads { (S.held source.new).failures ≡ failures_after is_read_failed result (S.held source.old).failures }
+    ensures writes { K.failures sink.new ≡ failures_after is_write_failed result (K.failures sink.old) }
+    ensures only { IfErr result IsReadOrWrite }
+    ensures bench { bench.new ≡ record bench.old { chain = bench.new.chain } }
+    ensures kept { is_some sieve.new ≡ is_some sieve.old }
+    ensures named { IfOk result (λ o. IfSome o (λ next. named_page next.step.mark ≤ 67108864)) }
+    ensures used { IfOk result (λ o. IfSome o (λ next. IsUse next.step.mark)) }
+    ensures counted { IfOk result (λ o. IfSome o (λ next. next.number + next.left ≤ 2147483647)) }
+    ensures less { IfOk result (λ o. IfSome o (λ next. next.left < place.left)) }
+    ensures turned { IfSome (S.held source.old).bytes (λ file. bench.old.geometry ≡ geometry file → (W : List Reference) (c : Reference) (before : K) (first : Option RowSieve)
+        → IsOnWay K.takes file W c before chain.now place marks.old sink.old first sieve.old
+        → Turns K.takes K.drops file W c before chain.now result marks.new sink.new first sieve.new) }
+{
+    if !enter(marks, place.step, sink)? {
+        return Ok(None);
+    }
+    let page = place.step.page;
+    let room = bench.geometry().usable - 4;
+    let next = visit_overflow(
+        source,
+        bench,
+        chain,
+        place.number,
+        page,
+        place.left,
+        sieve,
+        sink,
+    )?;
+    if place.left <= room {
+        return Ok(None);
+    }
+    let step = Step {
+        page: next,
+        mark: Mark::LaterOverflow(page),
+        from: page,
+        item: 0,
+        is_too_deep: false,
+    };
+    Ok(Some(Place {
+        number: place.number + 1,
+        left: place.left - room,
+        step,
+    }))
+}
+
+/// Walks along the overflow chain of a cell: marks its pages and then reads them, each once, and tells their rows and
+/// faults. If there is a sieve, it is fed the payload bytes on them.
+///
+/// # Errors
+///
+/// [`RunError::ReadFailed`] exactly where the source failed, [`RunError::WriteFailed`] exactly where the sink failed. The
+/// sink was told a beginning then of what it is told else.
+pub fn walk_chain<S: Source, K: Sink, A: Allocator>(
+    source: &mut S,
+    bench: &mut Bench<A>,
+    marks: &mut Marks<A>,
+    chain: &Chain<'_>,
+    sieve: &mut Option<RowSieve>,
+    sink: &mut K,
+) -> Result<(), RunError>
+    requires page { chain.now.page ≤ 67108864 }
+    requires left { chain.now.left ≤ 2147483647 }
+    ensures told { (S.held source.new).bytes ≡ (S.held source.old).bytes }
+    ensures log { HasLog S.step (Reads bench.old.geometry.page_size marks.old marks.new) (S.held source.old).trail (S.held source.new).trail }
+    ensures reads { (S.held source.new).failures ≡ failures_after is_read_failed result (S.held source.old).failures }
+    ensures writes { K.failures sink.new ≡ failures_after is_write_failed result (K.failures sink.old) }
+    ensures only { IfErr result IsReadOrWrite }
+    ensures bench { bench.new ≡ record bench.old { chain = bench.new.chain } }
+    ensures kept { is_some sieve.new ≡ is_some sieve.old }
+    ensures done { IfSome (S.held source.old).bytes (λ file. bench.old.geometry ≡ geometry file → (W : List Reference) (c : Reference)
+        → IsChainOf chain.now c → IsNext W c → AreMarksOf file W marks.old
+        → IsDone K.takes K.drops file W (Go c ∷ []) result marks.new sink.old sink.new) }
+    ensures fed { IfSome (S.held source.old).bytes (λ file. bench.old.geometry ≡ geometry file → (W : List Reference) (c : Reference)
+        → IsChainOf chain.now c → IsNext W c → AreMarksOf file W marks.old
+        → OnOk result (FeedsChain file W c sieve.old sieve.new)) }
+{
+    let step = Step {
+        page: chain.first,
+        mark: Mark::FirstOverflow(chain.page),
+        from: chain.page,
+        item: chain.cell,
+        is_too_deep: false,
+    };
+    let mut place = Place {
+        number: 0,
+        left: chain.left,
+        step,
+    };
+    while let Some(next) = turn(source, bench, marks, chain, place, sieve, sink)? {
+        place = next;
+    }
+    Ok(())
+}

@@ -1,0 +1,190 @@
+// The walk along the freelist (Database File Format, 1.5).
+ghost use Rattle.std.specs.Prelude.{◌≡◌, ℕ, ◌+◌, ◌*◌, ◌≤◌, ◌<◌, List, [], ◌∷◌, ◌++◌, length, IfSome, IfOk, IfErr, true, pos};
+ghost use Rattle.dbsurvey.specs.Story.{Errand, Go};
+ghost use Rattle.dbsurvey.specs.Traverse.{is_followed};
+ghost use Rattle.dbformat.specs.Errands.{leaf_errands};
+ghost use Rattle.dbformat.specs.Faults.{fault};
+ghost use Rattle.dbformat.specs.File.{geometry, page_bytes};
+ghost use Rattle.dbformat.specs.Header.{usable_size};
+ghost use Rattle.dbformat.specs.Log.{HasLog};
+ghost use Rattle.dbformat.specs.Numbers.{u32_at};
+ghost use Rattle.dbformat.specs.Reference.{trunk, Way, Reference, role_of};
+ghost use Rattle.dbformat.specs.Survey.{rules_of};
+ghost use Rattle.dbformat.specs.declared.FaultCode.TheVariants as fault_code;
+ghost use Rattle.dbsource.specs.Bench.{Pages};
+ghost use Rattle.dbformat.specs.Story.{Event};
+ghost use Rattle.dbsource.specs.declared.error.RunError.TheVariants as run_error;
+ghost use Rattle.dbwalk.specs.Done.{IsDone};
+ghost use Rattle.dbwalk.specs.Entered.{IsNext};
+ghost use Rattle.dbwalk.specs.FreeLeaves.{Leaves};
+ghost use Rattle.dbwalk.specs.Left.{IsLeft};
+ghost use Rattle.dbwalk.specs.Marking.{AreMarksOf, Keeps, unmarked_pages};
+ghost use Rattle.dbwalk.specs.Outcomes.{IsReadOrWrite};
+ghost use Rattle.dbwalk.specs.Reads.{Reads};
+ghost use Rattle.dbwalk.specs.Trunks.{IsFirstTrunk, IsOnTrunks, Opens, TrunkTurns, next_step};
+ghost use Rattle.dbwalk.specs.declared.mark.Mark.{Mark};
+ghost use Rattle.dbwalk.specs.declared.mark.Mark.TheVariants as use_mark;
+ghost use Rattle.dbsource.specs.Errors.{is_read_failed, is_write_failed};
+ghost use Rattle.dbsource.specs.Failures.{failures_after};
+ghost use Rattle.dbsource.specs.Sources.{Asks};
+ghost use Rattle.dbsource.specs.Errors.{is_read_failed, is_write_failed};
+
+use crate::entering::{Step, enter};
+use crate::{Fault, Mark, Marks, Sink};
+use dbformat::{FaultCode, u32_at};
+use dbsource::{Bench, RunError, Source};
+use std::alloc::Allocator;
+
+// The level of a bench where trunks stand.
+const TRUNK: usize = 20;
+
+// The number of the freelist in the list of starts.
+const FREELIST_START: u32 = 65537;
+
+/// Enters the leaves of a trunk, one after another, by the bytes of its page.
+///
+/// # Errors
+///
+/// [`RunError::WriteFailed`] exactly where the sink failed.
+pub fn walk_leaves<K: Sink, A: Allocator>(
+    bytes: &[u8],
+    marks: &mut Marks<A>,
+    page: u32,
+    count: u32,
+    sink: &mut K,
+) -> Result<(), RunError>
+    requires within { 8 + 4 * count ≤ length bytes.now }
+    requires few { count ≤ 16384 }
+    ensures keeps { Keeps marks.old marks.new }
+    ensures fewer { unmarked_pages marks.new ≤ unmarked_pages marks.old }
+    ensures writes { K.failures sink.new ≡ failures_after is_write_failed result (K.failures sink.old) }
+    ensures only { IfErr result (λ e. e ≡ run_error.WriteFailed) }
+    ensures done { (file : List ℕ) (W : List Reference) (errands : List (Errand Way Event)) (before : K) (U : List Reference) (d : Reference) (tail : List (Errand Way Event))
+        → d.page ≡ page → IsLeft K.takes file W errands before U (leaf_errands d bytes.now count ++ tail) marks.old sink.old
+        → Leaves K.takes K.drops file W errands before tail result marks.new sink.new }
+{
+    for index in 0..count {
+        let step = Step {
+            page: u32_at(bytes, 8 + 4 * index),
+            mark: Mark::FreeLeaf,
+            from: page,
+            item: index,
+            is_too_deep: false,
+        };
+        enter(marks, step, sink)?;
+    }
+    Ok(())
+}
+
+// Enters the leaves of a trunk, or tells that they are too many, and answers the item of the next trunk.
+fn open_trunk<K: Sink, A: Allocator>(
+    bytes: &[u8],
+    usable: u32,
+    marks: &mut Marks<A>,
+    page: u32,
+    sink: &mut K,
+) -> Result<u32, RunError>
+    requires usable { (480 ≤ usable) × (usable ≤ 65536) × (usable ≤ length bytes.now) }
+    ensures keeps { Keeps marks.old marks.new }
+    ensures fewer { unmarked_pages marks.new ≤ unmarked_pages marks.old }
+    ensures writes { K.failures sink.new ≡ failures_after is_write_failed result (K.failures sink.old) }
+    ensures only { IfErr result (λ e. e ≡ run_error.WriteFailed) }
+    ensures opened { (file : List ℕ) (W : List Reference) (c : Reference) (before : K) (U : List Reference) (d : Reference) (old : List Mark)
+        → d.page ≡ page → role_of d ≡ trunk → bytes.now ≡ page_bytes file page → usable ≡ usable_size file → is_followed (rules_of file) U d ≡ true
+        → AreMarksOf file (U ++ d ∷ []) marks.old → IsLeft K.takes file W (Go c ∷ []) before U (Go d ∷ []) old sink.old
+        → Opens K.takes K.drops file W c before d result marks.new sink.new }
+{
+    let count = u32_at(bytes, 4);
+    if count <= usable / 4 - 2 {
+        walk_leaves(bytes, marks, page, count, sink)?;
+        Ok(count)
+    } else {
+        let fault = Fault::new(FaultCode::L01, page, 0, count);
+        sink.fault(&fault)?;
+        Ok(0)
+    }
+}
+
+// The next trunk, if there is one.
+fn next_trunk(bytes: &[u8], page: u32, item: u32) -> Option<Step>
+    requires { 4 ≤ length bytes.now }
+    ensures { result ≡ next_step (u32_at 0 bytes.now) page item }
+{
+    let next = u32_at(bytes, 0);
+    if next == 0 {
+        return None;
+    }
+    Some(Step {
+        page: next,
+        mark: Mark::Trunk,
+        from: page,
+        item,
+        is_too_deep: false,
+    })
+}
+
+// Goes on by one trunk, if the next one may be followed.
+fn turn<S: Source, K: Sink, A: Allocator>(
+    source: &mut S,
+    bench: &mut Bench<A>,
+    marks: &mut Marks<A>,
+    step: Step,
+    sink: &mut K,
+) -> Result<Option<Step>, RunError>
+    requires { step.mark ≡ use_mark.Trunk }
+    ensures told { (S.held source.new).bytes ≡ (S.held source.old).bytes }
+    ensures log { HasLog S.step (Reads bench.old.geometry.page_size marks.old marks.new) (S.held source.old).trail (S.held source.new).trail }
+    ensures reads { (S.held source.new).failures ≡ failures_after is_read_failed result (S.held source.old).failures }
+    ensures writes { K.failures sink.new ≡ failures_after is_write_failed result (K.failures sink.old) }
+    ensures only { IfErr result IsReadOrWrite }
+    ensures bench { bench.new ≡ record bench.old { chain = bench.new.chain } }
+    ensures trunk { IfOk result (λ o. IfSome o (λ next. next.mark ≡ use_mark.Trunk)) }
+    ensures less { IfOk result (λ o. IfSome o (λ next. unmarked_pages marks.new < unmarked_pages marks.old)) }
+    ensures turned { IfSome (S.held source.old).bytes (λ file. bench.old.geometry ≡ geometry file → (W : List Reference) (c : Reference) (before : K)
+        → IsOnTrunks K.takes file W c before step marks.old sink.old
+        → TrunkTurns K.takes K.drops file W c before result marks.new sink.new) }
+{
+    if !enter(marks, step, sink)? {
+        return Ok(None);
+    }
+    bench.load(TRUNK, source, step.page)?;
+    let usable = bench.geometry().usable;
+    let bytes = bench.page(TRUNK);
+    let item = open_trunk(bytes, usable, marks, step.page, sink)?;
+    Ok(next_trunk(bytes, step.page, item))
+}
+
+/// Walks along the freelist from its first trunk: marks each trunk and then reads it, and marks its leaves, none of which
+/// is read. Tells the faults on the way.
+///
+/// # Errors
+///
+/// [`RunError::ReadFailed`] exactly where the source failed, [`RunError::WriteFailed`] exactly where the sink failed. The
+/// sink was told a beginning then of what it is told else.
+pub fn walk_freelist<S: Source, K: Sink, A: Allocator>(
+    source: &mut S,
+    bench: &mut Bench<A>,
+    marks: &mut Marks<A>,
+    first: u32,
+    sink: &mut K,
+) -> Result<(), RunError>
+    ensures asks { Asks S.step (Reads bench.old.geometry.page_size marks.old marks.new) is_read_failed result (S.held source.old) (S.held source.new) }
+    ensures writes { K.failures sink.new ≡ failures_after is_write_failed result (K.failures sink.old) }
+    ensures only { IfErr result IsReadOrWrite }
+    ensures bench { bench.new ≡ record bench.old { chain = bench.new.chain } }
+    ensures done { IfSome (S.held source.old).bytes (λ file. bench.old.geometry ≡ geometry file → (W : List Reference) (c : Reference)
+        → IsFirstTrunk first c → IsNext W c → AreMarksOf file W marks.old
+        → IsDone K.takes K.drops file W (Go c ∷ []) result marks.new sink.old sink.new) }
+{
+    let mut step = Step {
+        page: first,
+        mark: Mark::Trunk,
+        from: 0,
+        item: FREELIST_START,
+        is_too_deep: false,
+    };
+    while let Some(next) = turn(source, bench, marks, step, sink)? {
+        step = next;
+    }
+    Ok(())
+}

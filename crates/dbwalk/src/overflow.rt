@@ -1,0 +1,101 @@
+// An overflow page: what it holds, and what is told of it (Database File Format, 1.7).
+ghost use Rattle.std.specs.Prelude.{◌≡◌, ℕ, ◌-◌, ◌≤◌, ◌&&◌, ◌==◌, ◌∷◌, length, map, not, nat_le, option_to_list, pos, Some, IfErr, is_some};
+ghost use Rattle.dbformat.specs.Faults.{fault};
+ghost use Rattle.dbformat.specs.Payload.{overflow_bytes, overflow_len, overflow_next};
+ghost use Rattle.dbformat.specs.Tests.{told_if};
+ghost use Rattle.dbformat.specs.declared.FaultCode.TheVariants as fault_code;
+ghost use Rattle.dbformat.specs.declared.PageType.TheVariants as page_type;
+ghost use Rattle.dbsource.specs.declared.error.RunError.TheVariants as run_error;
+ghost use Rattle.dbwalk.specs.Feeding.{Feeds};
+ghost use Rattle.dbwalk.specs.Finding.{told_row, told_fault};
+ghost use Rattle.dbwalk.specs.Outcomes.{Tells};
+ghost use Rattle.dbwalk.specs.Rows.{row_of};
+ghost use Rattle.dbsource.specs.Errors.{is_write_failed};
+ghost use Rattle.dbsource.specs.Failures.{failures_after};
+ghost use Rattle.dbsource.specs.Errors.{is_write_failed};
+
+use crate::chain::Chain;
+use crate::{Fault, PageType, Row, Sink};
+use dbbytes::RowSieve;
+use dbformat::{FaultCode, u32_at};
+use dbsource::RunError;
+
+// The number at the start of an overflow page.
+pub(crate) fn next_page(bytes: &[u8]) -> u32
+    requires { 4 ≤ length bytes.now }
+    ensures { result ≡ overflow_next bytes.now }
+{
+    u32_at(bytes, 0)
+}
+
+// The row of an overflow page.
+pub(crate) fn overflow_row<'a>(
+    chain: &Chain<'a>,
+    number: u32,
+    page: u32,
+    usable: u32,
+    left: u32,
+) -> Row<'a>
+    requires { 4 ≤ usable }
+    ensures start { result.start ≡ chain.now.start }
+    ensures path { result.path.now ≡ chain.now.path.now }
+    ensures chain { result.chain ≡ Some (chain.now.cell, number) }
+    ensures page { (result.page ≡ page) × (result.pagetype ≡ page_type.Overflow) × (result.ncell ≡ 0) × (result.mx_payload ≡ 0) }
+    ensures payload { result.payload ≡ overflow_len usable left }
+    ensures unused { result.unused ≡ usable - 4 - overflow_len usable left }
+{
+    let room = usable - 4;
+    let payload = left.min(room);
+    Row {
+        start: chain.start,
+        path: chain.path,
+        chain: Some((chain.cell, number)),
+        page,
+        pagetype: PageType::Overflow,
+        ncell: 0,
+        payload: u64::from(payload),
+        unused: u64::from(room - payload),
+        mx_payload: 0,
+    }
+}
+
+// The fault of the last page of a chain that names a next one.
+pub(crate) fn last_fault(usable: u32, left: u32, page: u32, next: u32) -> Option<Fault>
+    requires { 4 ≤ usable }
+    ensures { option_to_list result ≡ told_if (nat_le left (usable - 4) && not (next == 0)) (fault fault_code.O01 page 0 (pos next)) }
+{
+    if left <= usable - 4 && next != 0 {
+        Some(Fault::new(FaultCode::O01, page, 0, next))
+    } else {
+        None
+    }
+}
+
+// Tells a row, and then a fault, if there is one.
+pub(crate) fn tell<K: Sink>(
+    row: &Row<'_>,
+    fault: Option<Fault>,
+    sink: &mut K,
+) -> Result<(), RunError>
+    ensures only { IfErr result (λ e. e ≡ run_error.WriteFailed) }
+    ensures writes { K.failures sink.new ≡ failures_after is_write_failed result (K.failures sink.old) }
+    ensures told { Tells K.takes K.drops result sink.old (told_row (row_of row.now) ∷ map told_fault (option_to_list fault)) sink.new }
+{
+    sink.row(row)?;
+    if let Some(fault) = fault {
+        sink.fault(&fault)?;
+    }
+    Ok(())
+}
+
+// Hands the payload bytes on an overflow page to a sieve, if there is one.
+pub(crate) fn feed_page(bytes: &[u8], usable: u32, left: u32, sieve: &mut Option<RowSieve>)
+    requires { (4 ≤ usable) × (usable ≤ length bytes.now) }
+    ensures fed { Feeds sieve.old (overflow_bytes usable left bytes.now) sieve.new }
+    ensures kept { is_some sieve.new ≡ is_some sieve.old }
+{
+    if let Some(sieve) = sieve {
+        let len = left.min(usable - 4) as usize;
+        sieve.feed(&bytes[4..4 + len]);
+    }
+}

@@ -1,0 +1,129 @@
+// A cell of a leaf of the schema's tree: its overflow chain, its row, and its key (Database File Format, 1.6 and 2.6).
+ghost use Rattle.std.specs.Prelude.{◌≡◌, ℕ, ◌+◌, ◌-◌, ◌*◌, ◌<◌, ◌≤◌, [], ◌∷◌, false, List, length, Some, IfErr, IfSome, OnOk, is_some};
+ghost use Rattle.dbsurvey.specs.InOrder.{IsPast};
+ghost use Rattle.dbformat.specs.Address.{then_step, schema_start};
+ghost use Rattle.dbformat.specs.Cell.{count};
+ghost use Rattle.dbformat.specs.Errands.{cell_errands};
+ghost use Rattle.dbformat.specs.File.{geometry as shape_of};
+ghost use Rattle.dbformat.specs.Head.{View, is_interior};
+ghost use Rattle.dbformat.specs.Header.{encoding as encoding_of};
+ghost use Rattle.dbformat.specs.Log.{HasLog};
+ghost use Rattle.dbformat.specs.Reference.{Reference, tree_view};
+ghost use Rattle.dbwalk.specs.Running.{IsLatest};
+ghost use Rattle.dbwalk.specs.LeafCells.{overflow_errands};
+ghost use Rattle.dbwalk.specs.Walking.{IsLeafAt, IsRunning};
+ghost use Rattle.dbwalk.specs.Done.{IsDone};
+ghost use Rattle.dbwalk.specs.Marking.{AreMarksOf};
+ghost use Rattle.dbwalk.specs.Outcomes.{IsReadOrWrite, IsReadWriteOrMemory};
+ghost use Rattle.dbwalk.specs.Reads.{Reads};
+ghost use Rattle.dbwalk.specs.RootRoom.{HasRootRoom};
+ghost use Rattle.dbwalk.specs.CellTaken.{IsGiven, IsLeafCellDone, IsRowDone};
+ghost use Rattle.dbwalk.specs.Sieving.{FeedsPayload};
+ghost use Rattle.dbwalk.specs.Taking.{IsTaking};
+ghost use Rattle.dbsource.specs.Errors.{is_out_of_memory, is_read_failed, is_write_failed};
+ghost use Rattle.dbsource.specs.Failures.{failures_after};
+
+use crate::cell::{tell_rowid, walk_cell, walk_overflow};
+use crate::cells::leaf_cell;
+use crate::schema_row::{RowPlace, tell_row};
+use crate::sieve::row_sieve;
+use crate::state::Tree;
+use crate::{Marks, Sink, Taker};
+use dbformat::Encoding;
+use dbsource::{Bench, RunError, Source};
+use std::alloc::Allocator;
+
+/// Walks over cell `i` of the leaf at the level of the tree's path, where this is the tree of the schema: its overflow
+/// chain; the row that its payload spells, which goes to the taker; and its key. A cell that cannot be read has nothing.
+///
+/// # Errors
+///
+/// [`RunError::ReadFailed`] exactly where the source failed, [`RunError::WriteFailed`] exactly where the sink failed,
+/// [`RunError::OutOfMemory`] exactly where the taker was refused memory.
+pub fn walk_schema_cell<A: Allocator, S: Source, K: Sink, T: Taker>(
+    source: &mut S,
+    bench: &mut Bench<A>,
+    marks: &mut Marks<A>,
+    tree: &mut Tree,
+    page: u32,
+    i: u32,
+    encoding: Encoding,
+    taker: &mut T,
+    sink: &mut K,
+) -> Result<(), RunError>
+    requires level { length tree.old.path.items < 20 }
+    requires page { page ≤ 67108864 }
+    requires start { tree.old.start ≡ schema_start }
+    ensures bench { (bench.new.geometry ≡ bench.old.geometry) × (bench.new.levels ≡ bench.old.levels) }
+    ensures tree { (tree.new.start ≡ tree.old.start) × (tree.new.kind ≡ tree.old.kind) × (tree.new.leaf ≡ tree.old.leaf) × (tree.new.path ≡ tree.old.path) }
+    ensures told { (S.held source.new).bytes ≡ (S.held source.old).bytes }
+    ensures reads { (S.held source.new).failures ≡ failures_after is_read_failed result (S.held source.old).failures }
+    ensures writes { K.failures sink.new ≡ failures_after is_write_failed result (K.failures sink.old) }
+    ensures refusals { T.refusals taker.new ≡ failures_after is_out_of_memory result (T.refusals taker.old) }
+    ensures log { HasLog S.step (Reads bench.old.geometry.page_size marks.old marks.new) (S.held source.old).trail (S.held source.new).trail }
+    ensures only { IfErr result IsReadWriteOrMemory }
+    ensures done { IfSome (S.held source.old).bytes (λ file. bench.old.geometry ≡ shape_of file → encoding ≡ encoding_of file → (U : List Reference) (c : Reference) (v : View) → IsLeafAt file tree.old.kind tree.old.start tree.old.path.items U c bench.old.levels page → tree_view file c ≡ Some v → is_interior v.kind ≡ false → i < count v
+        → IsLatest U c → IsPast U (cell_errands c tree.old.kind v i) → AreMarksOf file U marks.old → IsRunning file tree.old.start U (then_step c.address (3 * i)) tree.old.greatest tree.old.leaf
+        → (held : T → ℕ) (first : T) → HasRootRoom T.takes held → held first ≡ 0 → IsTaking T.takes file U (then_step c.address (3 * i)) first taker.old
+        → IsRowDone K.takes K.drops T.takes T.refuses file tree.old.kind v i U c result marks.new tree.new.greatest tree.new.leaf sink.old sink.new first taker.new) }
+{
+    let level = tree.path.len();
+    let cell = leaf_cell(bench, tree.kind, level, page, i);
+    let mut sieve = row_sieve(bench, tree.kind, level, page, i, encoding);
+    walk_overflow(
+        source,
+        bench,
+        marks,
+        tree,
+        page,
+        i,
+        cell.overflow,
+        &mut sieve,
+        sink,
+    )?;
+    let place = RowPlace::new(page, i, cell.key);
+    tell_row(&sieve, place, taker, sink)?;
+    tell_rowid(tree, page, i, cell.key, sink)?;
+    Ok(())
+}
+
+/// Walks over cell `i` of the leaf at the level of the tree's path: its overflow chain; in the tree of the schema its row,
+/// which goes to the taker; and its key.
+///
+/// # Errors
+///
+/// [`RunError::ReadFailed`] exactly where the source failed, [`RunError::WriteFailed`] exactly where the sink failed,
+/// [`RunError::OutOfMemory`] exactly where the taker was refused memory.
+pub fn walk_leaf_cell<A: Allocator, S: Source, K: Sink, T: Taker>(
+    source: &mut S,
+    bench: &mut Bench<A>,
+    marks: &mut Marks<A>,
+    tree: &mut Tree,
+    page: u32,
+    i: u32,
+    encoding: Encoding,
+    taker: &mut T,
+    sink: &mut K,
+) -> Result<(), RunError>
+    requires level { length tree.old.path.items < 20 }
+    requires page { page ≤ 67108864 }
+    ensures bench { (bench.new.geometry ≡ bench.old.geometry) × (bench.new.levels ≡ bench.old.levels) }
+    ensures tree { (tree.new.start ≡ tree.old.start) × (tree.new.kind ≡ tree.old.kind) × (tree.new.leaf ≡ tree.old.leaf) × (tree.new.path ≡ tree.old.path) }
+    ensures told { (S.held source.new).bytes ≡ (S.held source.old).bytes }
+    ensures reads { (S.held source.new).failures ≡ failures_after is_read_failed result (S.held source.old).failures }
+    ensures writes { K.failures sink.new ≡ failures_after is_write_failed result (K.failures sink.old) }
+    ensures refusals { T.refusals taker.new ≡ failures_after is_out_of_memory result (T.refusals taker.old) }
+    ensures log { HasLog S.step (Reads bench.old.geometry.page_size marks.old marks.new) (S.held source.old).trail (S.held source.new).trail }
+    ensures only { IfErr result IsReadWriteOrMemory }
+    ensures others { 1 ≤ tree.old.start → (taker.new ≡ taker.old) × IfErr result IsReadOrWrite }
+    ensures done { IfSome (S.held source.old).bytes (λ file. bench.old.geometry ≡ shape_of file → encoding ≡ encoding_of file → (U : List Reference) (c : Reference) (v : View) → IsLeafAt file tree.old.kind tree.old.start tree.old.path.items U c bench.old.levels page → tree_view file c ≡ Some v → is_interior v.kind ≡ false → i < count v
+        → IsPast U (cell_errands c tree.old.kind v i) → AreMarksOf file U marks.old → IsRunning file tree.old.start U (then_step c.address (3 * i)) tree.old.greatest tree.old.leaf
+        → (held : T → ℕ) (first : T) → (tree.old.start ≡ schema_start → IsGiven T.takes held file U c (then_step c.address (3 * i)) first taker.old)
+        → IsLeafCellDone K.takes K.drops T.takes T.refuses file tree.old.kind v i U c result marks.new tree.new.greatest tree.new.leaf sink.old sink.new first taker.new) }
+{
+    if tree.start == 0 {
+        walk_schema_cell(source, bench, marks, tree, page, i, encoding, taker, sink)
+    } else {
+        walk_cell(source, bench, marks, tree, page, i, sink)
+    }
+}

@@ -1,0 +1,132 @@
+// A row of the schema: who takes it, and what is told of it (Database File Format, 2.6).
+ghost use Rattle.std.specs.Prelude.{◌≡◌, ℕ, List, None, Ok, IfErr};
+ghost use Rattle.dbformat.specs.Faults.{fault};
+ghost use Rattle.dbformat.specs.SchemaRow.{schema_row};
+ghost use Rattle.dbformat.specs.Tests.{told_if};
+ghost use Rattle.dbformat.specs.declared.Encoding.{Encoding};
+ghost use Rattle.dbbytes.specs.Row.{seen};
+ghost use Rattle.dbwalk.specs.Outcomes.{IsWriteOrMemory};
+ghost use Rattle.dbwalk.specs.Telling.{IsTold, findings};
+ghost use Rattle.dbwalk.specs.Rows.{schema_row_of};
+ghost use Rattle.dbwalk.specs.RowTold.{place_of, fault_of, taken_faults, TellsRow};
+ghost use Rattle.dbwalk.specs.Sieving.{HasFed};
+ghost use Rattle.dbsource.specs.Errors.{is_out_of_memory, is_write_failed};
+ghost use Rattle.dbsource.specs.Failures.{failures_after};
+
+use crate::{Sink, Taken, Taker};
+use dbbytes::{RowSieve, SchemaRow};
+use dbformat::{Fault, FaultCode, RowFault};
+use dbsource::{RunError, WriteFailed};
+
+/// Where a row of the schema stands: its page, the number of its cell, and its rowid.
+#[derive(Clone, Copy, Debug, Drop, PartialEq, Eq)]
+pub struct RowPlace {
+    pub page: u32,
+    pub item: u32,
+    pub rowid: i64,
+}
+
+impl RowPlace {
+    /// The place of the row of cell `item` of a page, whose key is the rowid; 0 where it has none.
+    pub fn new(page: u32, item: u32, key: Option<i64>) -> RowPlace
+        ensures { result ≡ place_of page item key }
+    {
+        RowPlace {
+            page,
+            item,
+            rowid: key.unwrap_or(0),
+        }
+    }
+
+    // A fault of the row.
+    fn fault(self, code: FaultCode, value: i64) -> Fault
+        ensures { result ≡ fault code self.page self.item value }
+    {
+        Fault {
+            code,
+            page: self.page,
+            item: self.item,
+            value,
+        }
+    }
+
+    // The fault of a row that cannot be read, or whose root page is wrong.
+    fn row_fault(self, fault: RowFault) -> Fault
+        ensures { result ≡ fault_of self fault }
+    {
+        match fault {
+            RowFault::Malformed => self.fault(FaultCode::S01, self.rowid),
+            RowFault::Root(value) => self.fault(FaultCode::S03, value),
+        }
+    }
+}
+
+// Tells a fault, where it is one.
+fn tell_if<K: Sink>(is_fault: bool, fault: &Fault, sink: &mut K) -> Result<(), WriteFailed>
+    ensures { IsTold K.takes K.drops K.failures result sink.old (findings (told_if is_fault fault.now)) sink.new }
+{
+    if is_fault { sink.fault(fault) } else { Ok(()) }
+}
+
+// Tells what is wrong with a row that was taken.
+fn tell_taken<K: Sink>(
+    row: &SchemaRow<'_>,
+    taken: Taken,
+    place: RowPlace,
+    sink: &mut K,
+) -> Result<(), WriteFailed>
+    ensures { IsTold K.takes K.drops K.failures result sink.old (findings (taken_faults place (schema_row_of row.now) taken)) sink.new }
+{
+    let nameless = place.fault(FaultCode::S02, place.rowid);
+    tell_if(row.name.is_none(), &nameless, sink)?;
+    let left_out = place.fault(FaultCode::S04, i64::from(row.root));
+    tell_if(taken == Taken::Full, &left_out, sink)
+}
+
+// Hands a row to the taker, and then tells what is wrong with it; of one that cannot be read the fault alone is told.
+fn take_row<K: Sink, T: Taker>(
+    row: Result<SchemaRow<'_>, RowFault>,
+    place: RowPlace,
+    taker: &mut T,
+    sink: &mut K,
+) -> Result<(), RunError>
+    ensures writes { K.failures sink.new ≡ failures_after is_write_failed result (K.failures sink.old) }
+    ensures refusals { T.refusals taker.new ≡ failures_after is_out_of_memory result (T.refusals taker.old) }
+    ensures only { IfErr result IsWriteOrMemory }
+    ensures told { TellsRow K.takes K.drops T.takes T.refuses place (seen row.entry) result sink.old sink.new taker.old taker.new }
+{
+    match row {
+        Err(fault) => sink.fault(&place.row_fault(fault))?,
+        Ok(row) => {
+            let taken = taker.take(&row)?;
+            tell_taken(&row, taken, place, sink)?;
+        }
+    }
+    Ok(())
+}
+
+/// Hands the row that a sieve has taken to the taker, and then tells what is wrong with it. Where there is no sieve,
+/// nothing is done.
+///
+/// # Errors
+///
+/// [`RunError::OutOfMemory`] exactly where the taker was refused memory: nothing was told then. [`RunError::WriteFailed`]
+/// exactly where the sink failed.
+pub fn tell_row<K: Sink, T: Taker>(
+    sieve: &Option<RowSieve>,
+    place: RowPlace,
+    taker: &mut T,
+    sink: &mut K,
+) -> Result<(), RunError>
+    ensures writes { K.failures sink.new ≡ failures_after is_write_failed result (K.failures sink.old) }
+    ensures refusals { T.refusals taker.new ≡ failures_after is_out_of_memory result (T.refusals taker.old) }
+    ensures only { IfErr result IsWriteOrMemory }
+    ensures none { sieve.now ≡ None → (result ≡ Ok tt) × (sink.new ≡ sink.old) × (taker.new ≡ taker.old) }
+    ensures told { (size : ℕ) (e : Encoding) (bytes : List ℕ) → HasFed sieve.now size e bytes
+        → TellsRow K.takes K.drops T.takes T.refuses place (schema_row bytes size e) result sink.old sink.new taker.old taker.new }
+{
+    match sieve {
+        None => Ok(()),
+        Some(sieve) => take_row(sieve.finish(), place, taker, sink),
+    }
+}

@@ -1,0 +1,97 @@
+// What the walk over one tree keeps beside marks, buffers and frames.
+ghost use Rattle.std.specs.Prelude.{◌≡◌, ℕ, [], length, Some, None, ◌==◌, not, ◌≤◌};
+ghost use Rattle.dbformat.specs.declared.FaultCode.TheVariants.{T05, T06};
+ghost use Rattle.dbformat.specs.Tests.{told_if};
+ghost use Rattle.dbformat.specs.Faults.{fault};
+ghost use Rattle.std.specs.Prelude.{pos};
+ghost use Rattle.std.specs.Option.{option_map_or};
+ghost use Rattle.dbwalk.specs.Running.{is_late, greater_key};
+ghost use Rattle.dbwalk.specs.Telling.{IsTold, findings};
+
+use crate::Sink;
+use arrayvec::ArrayVec;
+use dbformat::{Fault, FaultCode, TreeKind};
+use dbsource::WriteFailed;
+
+/// The number of the tree's start, its kind, the greatest key so far, the depth of its first leaf, and the numbers of the
+/// children on the way to the page at which the walk is.
+#[derive(Drop)]
+pub struct Tree {
+    pub start: u32,
+    pub kind: TreeKind,
+    pub greatest: Option<i64>,
+    pub leaf: Option<u32>,
+    pub path: ArrayVec<u32, 20>,
+}
+
+impl Tree {
+    /// A tree of which nothing was visited.
+    pub fn new(start: u32, kind: TreeKind) -> Tree
+        ensures names { (result.start ≡ start) × (result.kind ≡ kind) }
+        ensures nothing { (result.greatest ≡ None) × (result.leaf ≡ None) × (result.path.items ≡ []) }
+    {
+        Tree {
+            start,
+            kind,
+            greatest: None,
+            leaf: None,
+            path: ArrayVec::new(),
+        }
+    }
+
+    /// Tells that a key is out of order, where it is, and keeps it if it is the greatest.
+    pub fn tell_key<K: Sink>(
+        &mut self,
+        page: u32,
+        item: u32,
+        key: i64,
+        is_rowid: bool,
+        sink: &mut K,
+    ) -> Result<(), WriteFailed>
+        ensures told { IsTold K.takes K.drops K.failures result sink.old (findings (told_if (is_late is_rowid self.old.greatest key) (fault T06 page item key))) sink.new }
+        ensures greatest { self.new.greatest ≡ greater_key self.old.greatest key }
+        ensures others { (self.new.start ≡ self.old.start) × (self.new.kind ≡ self.old.kind) × (self.new.leaf ≡ self.old.leaf) × (self.new.path ≡ self.old.path) }
+    {
+        let is_late = match self.greatest {
+            None => false,
+            Some(top) => { if is_rowid { key <= top } else { key < top } }
+        };
+        self.greatest = match self.greatest {
+            None => Some(key),
+            Some(top) => Some(if top < key { key } else { top }),
+        };
+        if !is_late {
+            return Ok(());
+        }
+        sink.fault(&Fault {
+            code: FaultCode::T06,
+            page,
+            item,
+            value: key,
+        })
+    }
+
+    /// Tells that a leaf has another depth than the first leaf of the tree, where it has.
+    pub fn tell_depth<K: Sink>(
+        &mut self,
+        page: u32,
+        depth: u32,
+        sink: &mut K,
+    ) -> Result<(), WriteFailed>
+        ensures told { IsTold K.takes K.drops K.failures result sink.old (findings (told_if (not (depth == option_map_or (λ n. n) self.old.leaf depth)) (fault T05 page 0 (pos depth)))) sink.new }
+        ensures leaf { self.new.leaf ≡ Some (option_map_or (λ n. n) self.old.leaf depth) }
+        ensures others { (self.new.start ≡ self.old.start) × (self.new.kind ≡ self.old.kind) × (self.new.greatest ≡ self.old.greatest) × (self.new.path ≡ self.old.path) }
+    {
+        let first = self.leaf.unwrap_or(depth);
+        self.leaf = Some(first);
+        if depth == first {
+            return Ok(());
+        }
+        sink.fault(&Fault {
+            code: FaultCode::T05,
+            page,
+            item: 0,
+            value: i64::from(depth),
+        })
+    }
+}

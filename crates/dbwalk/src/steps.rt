@@ -1,0 +1,101 @@
+// The steps of an interior page: at each cell its overflow chain, its left child and its key, and behind the cells the
+// right child.
+ghost use Rattle.std.specs.Prelude.{◌≡◌, ◌+◌, ◌*◌, ◌<◌, ◌≤◌};
+ghost use Rattle.dbformat.specs.Address.{overflow_step, child_step, key_step};
+ghost use Rattle.dbformat.specs.Cell.{count};
+ghost use Rattle.dbwalk.specs.Steps.{HasNext, IsNextStep};
+
+use crate::cells::overflow_size;
+use crate::frame::Frame;
+use crate::page::undamaged;
+use dbformat::TreeKind;
+use dbpage::PageView;
+use dbsource::Bench;
+use std::alloc::Allocator;
+
+/// What an interior page has at a step.
+#[derive(Clone, Copy, Debug, PartialEq, Eq)]
+pub enum Next {
+    /// The step is behind the last one.
+    Behind,
+    /// Nothing stands there.
+    Nothing,
+    /// The key of a cell.
+    Key(i64),
+    /// The first page of the overflow chain of a cell, and how many bytes stand on overflow pages.
+    Chain { first: u32, left: u32 },
+    /// The page of a child.
+    Child(u32),
+}
+
+/// What the page at a level has at the step of its frame; a damaged page has nothing more.
+pub fn step_of<A: Allocator>(bench: &Bench<A>, kind: TreeKind, level: usize, frame: Frame) -> Next
+    requires { level < 20 }
+    ensures { HasNext bench.now.geometry.usable kind bench.now.levels level frame.page frame.next result }
+{
+    let usable = bench.geometry().usable;
+    let Ok(view) = undamaged(bench.page(level), frame.page, usable, kind) else {
+        return Next::Behind;
+    };
+    let cells = view.cells();
+    let i = frame.next / 3;
+    match frame.next % 3 {
+        0 => chain_at(&view, cells, i),
+        1 => child_at(&view, cells, i),
+        _ => key_at(&view, cells, i),
+    }
+}
+
+// The overflow chain of cell `i`.
+fn chain_at(view: &PageView<'_>, cells: u32, i: u32) -> Next
+    requires { cells ≡ count view.now }
+    ensures { IsNextStep view.now (overflow_step i) result }
+{
+    if i > cells {
+        return Next::Behind;
+    }
+    if i == cells {
+        return Next::Nothing;
+    }
+    match view.cell(i) {
+        Ok(cell) => match cell.overflow {
+            Some(first) => Next::Chain {
+                first,
+                left: overflow_size(cell.size, cell.local),
+            },
+            None => Next::Nothing,
+        },
+        Err(_) => Next::Nothing,
+    }
+}
+
+// Child `i`.
+fn child_at(view: &PageView<'_>, cells: u32, i: u32) -> Next
+    requires { cells ≡ count view.now }
+    ensures { IsNextStep view.now (child_step i) result }
+{
+    if i > cells {
+        return Next::Behind;
+    }
+    match view.child(i) {
+        Some(page) => Next::Child(page),
+        None => Next::Nothing,
+    }
+}
+
+// The key of cell `i`.
+fn key_at(view: &PageView<'_>, cells: u32, i: u32) -> Next
+    requires { cells ≡ count view.now }
+    ensures { IsNextStep view.now (key_step i) result }
+{
+    if i >= cells {
+        return Next::Behind;
+    }
+    match view.cell(i) {
+        Ok(cell) => match cell.key {
+            Some(key) => Next::Key(key),
+            None => Next::Nothing,
+        },
+        Err(_) => Next::Nothing,
+    }
+}

@@ -1,0 +1,40 @@
+// Who takes the rows of the schema.
+ghost use Rattle.std.specs.Prelude.{◌≡◌, ℕ, MatchResult};
+ghost use Rattle.dbwalk.specs.Rows.{schema_row_of};
+ghost use Rattle.dbsource.specs.Failures.{failures_after, is_any};
+
+use dbbytes::SchemaRow;
+use std::alloc::AllocError;
+
+/// What became of a row of the schema.
+#[derive(Clone, Copy, Debug, PartialEq, Eq)]
+pub enum Taken {
+    /// Its root page was taken.
+    Taken,
+    /// It has no root page.
+    NoRoot,
+    /// It has a root page, for which there is no room.
+    Full,
+}
+
+/// What takes the rows of the schema, one after another.
+pub trait Taker {
+    ghost use Rattle.dbformat.specs.SchemaRow.{SchemaRow};
+    ghost use Rattle.dbwalk.specs.declared.taker.Taken.{Taken};
+
+    // What a row, with this answer, makes of it.
+    ghost takes: { Self → SchemaRow → Taken → Self → Type 0 };
+    // What a row for which memory was refused makes of it.
+    ghost refuses: { Self → SchemaRow → Self → Type 0 };
+    // How many calls were refused memory, in 64 bits.
+    ghost refusals: { Self → ℕ };
+
+    /// Takes a row.
+    ///
+    /// # Errors
+    ///
+    /// [`AllocError`] where memory was refused; one refusal is counted then.
+    fn take(&mut self, row: &SchemaRow<'_>) -> Result<Taken, AllocError>
+        ensures row { MatchResult result (λ answer. takes self.old (schema_row_of row.now) answer self.new) (λ _. refuses self.old (schema_row_of row.now) self.new) }
+        ensures count { refusals self.new ≡ failures_after is_any result (refusals self.old) };
+}

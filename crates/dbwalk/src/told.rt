@@ -1,0 +1,97 @@
+// What is told of one page of a tree: its row, and its faults.
+ghost use Rattle.std.specs.Prelude.{◌≡◌, ◌≤◌, ◌∷◌, [], length};
+ghost use Rattle.dbformat.specs.Head.{is_interior};
+ghost use Rattle.dbformat.specs.PageFaults.{inner_faults};
+ghost use Rattle.dbwalk.specs.PageRows.{view_row, damaged_row};
+ghost use Rattle.dbwalk.specs.Telling.{IsTold, findings};
+ghost use Rattle.dbwalk.specs.Finding.{told_row, told_fault};
+
+use crate::page::tell_inner;
+use crate::payload::payload_sums;
+use crate::{Row, Sink};
+use dbformat::{Fault, PageKind, PageType};
+use dbpage::PageView;
+use dbsource::WriteFailed;
+
+/// A page of a tree: the number of the tree's start, the children on the way to the page, and its number.
+#[derive(Clone, Copy, Debug, Drop)]
+pub struct PagePlace<'a> {
+    pub start: u32,
+    pub path: &'a [u32],
+    pub page: u32,
+}
+
+/// Whether pages of this kind have children.
+#[inline(always)]
+pub fn is_interior(kind: PageKind) -> bool
+    ensures { result ≡ is_interior kind }
+{
+    match kind {
+        PageKind::InteriorIndex | PageKind::InteriorTable => true,
+        PageKind::LeafIndex | PageKind::LeafTable => false,
+    }
+}
+
+/// Tells the row of an undamaged page, and then the faults within it. `uses` is room to work in, a byte for each usable
+/// byte of the page.
+///
+/// # Errors
+///
+/// [`WriteFailed`] where the sink failed: it was told a beginning of this.
+pub fn tell_undamaged<K: Sink>(
+    view: &PageView<'_>,
+    place: &PagePlace<'_>,
+    is_child: bool,
+    uses: &mut [u8],
+    sink: &mut K,
+) -> Result<(), WriteFailed>
+    requires number { place.now.page ≡ view.now.number }
+    requires most { view.now.usable ≤ 65536 }
+    requires room { view.now.usable ≤ length uses.old }
+    ensures { IsTold K.takes K.drops K.failures result sink.old (told_row (view_row place.now.start place.now.path.now view.now) ∷ findings (inner_faults view.now is_child)) sink.new }
+{
+    let (payload, mx_payload) = payload_sums(view);
+    let pagetype = if is_interior(view.kind()) {
+        PageType::Internal
+    } else {
+        PageType::Leaf
+    };
+    sink.row(&Row {
+        start: place.start,
+        path: place.path,
+        chain: None,
+        page: place.page,
+        pagetype,
+        ncell: view.cells(),
+        payload,
+        unused: u64::from(view.unused()),
+        mx_payload,
+    })?;
+    tell_inner(view, place.page, is_child, uses, sink)
+}
+
+/// Tells the row of a damaged page, and then its one fault.
+///
+/// # Errors
+///
+/// [`WriteFailed`] where the sink failed: it was told a beginning of this.
+pub fn tell_damaged<K: Sink>(
+    place: &PagePlace<'_>,
+    damage: &Fault,
+    sink: &mut K,
+) -> Result<(), WriteFailed>
+    ensures { IsTold K.takes K.drops K.failures result sink.old (told_row (damaged_row place.now.start place.now.path.now place.now.page) ∷ findings (damage.now ∷ [])) sink.new }
+{
+    sink.row(&Row {
+        start: place.start,
+        path: place.path,
+        chain: None,
+        page: place.page,
+        pagetype: PageType::Damaged,
+        ncell: 0,
+        payload: 0,
+        unused: 0,
+        mx_payload: 0,
+    })?;
+    sink.fault(damage)
+}

@@ -1,0 +1,140 @@
+// The walk over one tree (Database File Format, 1.6).
+ghost use Rattle.std.specs.Prelude.{◌≡◌, ℕ, ◌≤◌, ◌++◌, [], ◌∷◌, ◌↔◌, List, None, true, IfErr, IfSome, OnOk};
+ghost use Rattle.dbsurvey.specs.Moves.{Moves};
+ghost use Rattle.dbsurvey.specs.Story.{Go};
+ghost use Rattle.dbsurvey.specs.Traverse.{is_followed};
+ghost use Rattle.dbformat.specs.Address.{schema_start};
+ghost use Rattle.dbformat.specs.File.{geometry as shape_of, page_bytes};
+ghost use Rattle.dbformat.specs.Header.{encoding as encoding_of};
+ghost use Rattle.dbformat.specs.Log.{HasLog};
+ghost use Rattle.dbformat.specs.Reference.{Reference};
+ghost use Rattle.dbformat.specs.Survey.{rules_of};
+ghost use Rattle.dbsource.specs.Errors.{is_out_of_memory, is_read_failed, is_write_failed};
+ghost use Rattle.dbsource.specs.Failures.{failures_after};
+ghost use Rattle.dbsource.specs.Sources.{Asks};
+ghost use Rattle.dbwalk.specs.Done.{IsDone};
+ghost use Rattle.dbwalk.specs.Finding.{visited_below};
+ghost use Rattle.dbwalk.specs.Found.{StandsAt};
+ghost use Rattle.dbwalk.specs.Marking.{AreMarksOf};
+ghost use Rattle.dbwalk.specs.Outcomes.{IsReadOrWrite, IsReadWriteOrMemory};
+ghost use Rattle.dbwalk.specs.Reads.{Reads};
+ghost use Rattle.dbwalk.specs.RootRoom.{StartsEmpty};
+ghost use Rattle.dbwalk.specs.Roots.{IsRootAfter};
+ghost use Rattle.dbwalk.specs.Running.{AreOfEarlierStarts};
+ghost use Rattle.dbwalk.specs.Taking.{gives, readable_rows};
+ghost use Rattle.dbwalk.specs.WalkGiven.{IsTreeDone};
+ghost use Rattle.dbwalk.specs.Walking.{IsCandidate};
+ghost use Rattle.dbwalk.specs.declared.root.RootKind.TheVariants as root_kind;
+
+use crate::entering::enter;
+use crate::frame::Frame;
+use crate::page_entry::{tree_step, visit_page};
+use crate::root::{Root, root_kind};
+use crate::state::Tree;
+use crate::tree_turn::turn;
+use crate::{Marks, Sink, Taker};
+use arrayvec::ArrayVec;
+use dbformat::Encoding;
+use dbsource::{Bench, RunError, Source};
+use std::alloc::Allocator;
+
+// Walks over the pages of a tree of which nothing was visited, and whose root was marked, and read at level 0.
+fn walk_pages<A: Allocator, S: Source, K: Sink, T: Taker>(
+    source: &mut S,
+    bench: &mut Bench<A>,
+    marks: &mut Marks<A>,
+    tree: &mut Tree,
+    page: u32,
+    encoding: Encoding,
+    taker: &mut T,
+    sink: &mut K,
+) -> Result<(), RunError>
+    requires page { page ≤ 67108864 }
+    requires fresh { (tree.old.greatest ≡ None) × (tree.old.leaf ≡ None) × (tree.old.path.items ≡ []) }
+    ensures shape { bench.new.geometry ≡ bench.old.geometry }
+    ensures told { (S.held source.new).bytes ≡ (S.held source.old).bytes }
+    ensures reads { (S.held source.new).failures ≡ failures_after is_read_failed result (S.held source.old).failures }
+    ensures writes { K.failures sink.new ≡ failures_after is_write_failed result (K.failures sink.old) }
+    ensures refusals { T.refusals taker.new ≡ failures_after is_out_of_memory result (T.refusals taker.old) }
+    ensures log { HasLog S.step (Reads bench.old.geometry.page_size marks.old marks.new) (S.held source.old).trail (S.held source.new).trail }
+    ensures only { IfErr result IsReadWriteOrMemory }
+    ensures others { 1 ≤ tree.old.start → (taker.new ≡ taker.old) × IfErr result IsReadOrWrite }
+    ensures done { IfSome (S.held source.old).bytes (λ file. bench.old.geometry ≡ shape_of file → encoding ≡ encoding_of file
+        → (W : List Reference) (c : Reference) → IsCandidate tree.old.kind tree.old.start [] page 0 tree.old.start c
+        → StandsAt bench.old.levels 0 (page_bytes file page) → is_followed (rules_of file) W c ≡ true
+        → AreOfEarlierStarts tree.old.start W → AreMarksOf file (W ++ (c ∷ [])) marks.old
+        → (held : T → ℕ) → (tree.old.start ≡ schema_start → StartsEmpty T.takes held taker.old)
+        → IsTreeDone K.takes K.drops T.takes T.refuses file W c result marks.new sink.old sink.new taker.old taker.new) }
+{
+    if !visit_page(source, bench, marks, tree, page, encoding, taker, sink)? {
+        return Ok(());
+    }
+    let mut frames: ArrayVec<Frame, 20> = ArrayVec::new();
+    frames.push(Frame { page, next: 0 });
+    while let Some(frame) = frames.pop() {
+        turn(
+            source,
+            bench,
+            marks,
+            tree,
+            &mut frames,
+            frame,
+            encoding,
+            taker,
+            sink,
+        )?;
+    }
+    Ok(())
+}
+
+/// Walks over the tree of a root, and marks and tells all that is below it. Each page is marked, and then read, once; a
+/// root that may not be followed is told. The rows of the schema go to the taker.
+///
+/// # Errors
+///
+/// [`RunError::ReadFailed`] exactly where the source failed, [`RunError::WriteFailed`] exactly where the sink failed,
+/// [`RunError::OutOfMemory`] exactly where the taker was refused memory. The sink was told a beginning then, and which pages
+/// are marked is open.
+pub fn walk_tree<A: Allocator, S: Source, K: Sink, T: Taker>(
+    source: &mut S,
+    bench: &mut Bench<A>,
+    marks: &mut Marks<A>,
+    root: Root,
+    taker: &mut T,
+    sink: &mut K,
+) -> Result<(), RunError>
+    requires schema { (root.kind ≡ root_kind.Schema) ↔ (root.start ≡ schema_start) }
+    ensures shape { bench.new.geometry ≡ bench.old.geometry }
+    ensures asks { Asks S.step (Reads bench.old.geometry.page_size marks.old marks.new) is_read_failed result (S.held source.old) (S.held source.new) }
+    ensures writes { K.failures sink.new ≡ failures_after is_write_failed result (K.failures sink.old) }
+    ensures refusals { T.refusals taker.new ≡ failures_after is_out_of_memory result (T.refusals taker.old) }
+    ensures only { IfErr result IsReadWriteOrMemory }
+    // Only the schema's tree calls the taker.
+    ensures others { 1 ≤ root.start → (taker.new ≡ taker.old) × IfErr result IsReadOrWrite }
+    ensures done { IfSome (S.held source.old).bytes (λ file. bench.old.geometry ≡ shape_of file → root.encoding ≡ encoding_of file
+        → (W : List Reference) (c : Reference) → IsRootAfter file root W c marks.old
+        → (held : T → ℕ) → (root.kind ≡ root_kind.Schema → StartsEmpty T.takes held taker.old)
+        → IsDone K.takes K.drops file W (Go c ∷ []) result marks.new sink.old sink.new) }
+    // The taker was given the rows of the schema that can be read, in their order.
+    ensures rows { IfSome (S.held source.old).bytes (λ file. bench.old.geometry ≡ shape_of file → root.encoding ≡ encoding_of file
+        → (W : List Reference) (c : Reference) → IsRootAfter file root W c marks.old
+        → (held : T → ℕ) → StartsEmpty T.takes held taker.old → root.kind ≡ root_kind.Schema
+        → OnOk result (Moves (gives T.takes) taker.old (readable_rows file (W ++ visited_below file W (Go c ∷ []))) taker.new)) }
+{
+    let step = tree_step(0, root.page, 0, root.start);
+    if !enter(marks, step, sink)? {
+        return Ok(());
+    }
+    bench.load(0, source, root.page)?;
+    let mut tree = Tree::new(root.start, root_kind(bench, root));
+    walk_pages(
+        source,
+        bench,
+        marks,
+        &mut tree,
+        root.page,
+        root.encoding,
+        taker,
+        sink,
+    )
+}

@@ -1,0 +1,75 @@
+// What is told of a page of a tree that was read.
+ghost use Rattle.std.specs.Prelude.{◌≡◌, ℕ, ◌+◌, ◌<◌, ◌≤◌, ◌++◌, [], ◌∷◌, List, length, IfOk, OnOk, MatchResult};
+ghost use Rattle.dbformat.specs.File.{geometry as shape_of, page_bytes};
+ghost use Rattle.dbformat.specs.Reference.{Reference};
+ghost use Rattle.dbformat.specs.Story.{at_page};
+ghost use Rattle.dbwalk.specs.Running.{first_leaf};
+ghost use Rattle.dbwalk.specs.Found.{IsFound, StandsAt};
+ghost use Rattle.dbwalk.specs.Telling.{IsTold};
+ghost use Rattle.dbwalk.specs.Walking.{IsCandidate};
+ghost use Rattle.dbwalk.specs.Finding.{told_at};
+ghost use Rattle.dbsource.specs.Failures.{failures_after, is_any};
+
+use crate::Sink;
+use crate::page::undamaged;
+use crate::state::Tree;
+use crate::told::{PagePlace, is_interior, tell_damaged, tell_undamaged};
+use dbsource::{Bench, WriteFailed};
+use std::alloc::Allocator;
+
+/// What a page of a tree was found to be.
+#[derive(Clone, Copy, Debug, PartialEq, Eq)]
+pub enum PageFound {
+    Damaged,
+    Interior,
+    Leaf,
+}
+
+/// Tells the row of a page that was read at the level of the tree's path, and its faults, and of a leaf that its depth is
+/// another one.
+///
+/// # Errors
+///
+/// [`WriteFailed`] where the sink failed.
+pub fn tell_page<A: Allocator, K: Sink>(
+    bench: &mut Bench<A>,
+    tree: &mut Tree,
+    page: u32,
+    sink: &mut K,
+) -> Result<PageFound, WriteFailed>
+    requires level { length tree.old.path.items < 20 }
+    requires page { page ≤ 67108864 }
+    ensures bench { (bench.new.geometry ≡ bench.old.geometry) × (bench.new.levels ≡ bench.old.levels) }
+    ensures tree { (tree.new.start ≡ tree.old.start) × (tree.new.kind ≡ tree.old.kind) × (tree.new.greatest ≡ tree.old.greatest) × (tree.new.path ≡ tree.old.path) }
+    ensures open { IfOk result (λ found. IsFound bench.new.geometry.usable tree.new.kind bench.new.levels (length tree.old.path.items) page found) }
+    ensures writes { K.failures sink.new ≡ failures_after is_any result (K.failures sink.old) }
+    // Where the bytes at the level are those of the page.
+    ensures told { (file : List ℕ) (W : List Reference) (c : Reference) (from item : ℕ) → bench.old.geometry ≡ shape_of file → IsCandidate tree.old.kind tree.old.start tree.old.path.items page from item c
+        → StandsAt bench.old.levels (length tree.old.path.items) (page_bytes file page) → first_leaf file tree.old.start W ≡ tree.old.leaf
+        → IsTold K.takes K.drops K.failures result sink.old (told_at file (W ++ (c ∷ [])) (at_page c)) sink.new × OnOk result (first_leaf file tree.old.start (W ++ (c ∷ [])) ≡ tree.new.leaf) }
+{
+    let level = tree.path.len();
+    let usable = bench.geometry().usable;
+    let depth = level as u32 + 1;
+    let place = PagePlace {
+        start: tree.start,
+        path: tree.path.as_slice(),
+        page,
+    };
+    let (bytes, uses) = bench.uses(level);
+    let is_interior = match undamaged(bytes, page, usable, tree.kind) {
+        Ok(view) => {
+            tell_undamaged(&view, &place, depth > 1, uses, sink)?;
+            is_interior(view.kind())
+        }
+        Err(damage) => {
+            tell_damaged(&place, &damage, sink)?;
+            return Ok(PageFound::Damaged);
+        }
+    };
+    if is_interior {
+        return Ok(PageFound::Interior);
+    }
+    tree.tell_depth(page, depth, sink)?;
+    Ok(PageFound::Leaf)
+}
