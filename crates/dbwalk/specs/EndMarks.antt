@@ -55,13 +55,6 @@ abbrev pub is_root_mark : Mark → Bool
 is_root_mark Root = true
 is_root_mark _ = false
 
--- whether it is in use, and no root
-abbrev pub is_other_mark : Mark → Bool
-is_other_mark Root = false
-is_other_mark Fixed = false
-is_other_mark Unmarked = false
-is_other_mark _ = true
-
 -- the pages with a root's mark
 abbrev pub root_pages : List Mark → List ℕ
 root_pages marks = filter (λ p. option_map_or is_root_mark (page_mark marks p) false) (range_with_len 1 (length marks))

@@ -131,14 +131,6 @@ pub record IsLeafAt (file : List ℕ) (kind : TreeKind) (k : ℕ) (children : Li
   pub chain : chain_place c.address ≡ None
   pub bytes : slice_get levels (length children) ≡ Some (page_bytes file p)
 
--- the reference to the first page of a chain, of so many bytes, from a cell
-pub record IsChainStart (k : ℕ) (children : List ℕ) (from cell first left : ℕ) (c : Reference) : Type 0 where
-  pub page : c.page ≡ first
-  pub way : c.role ≡ record { role = first_overflow left; from = from; item = cell }
-  pub start : start_of c.address ≡ k
-  pub path : child_path c.address ≡ children
-  pub chain : chain_place c.address ≡ Some (cell, 0)
-
 -- What cell i of a leaf leaves: what the leaf leads to there is done, and the walk has come to the next cell; or a
 -- beginning was told.
 pub record IsCellDone {S : Type 0} (takes drops : S → Finding → S → Type 0) (file : List ℕ) (kind : TreeKind) (v : View) (i : ℕ) (U : List Reference) (c : Reference) (r : Result (Unit {0}) RunError) (marks : List Mark) (greatest : Option ℤ) (leaf : Option ℕ) (before after : S) : Type 0 where

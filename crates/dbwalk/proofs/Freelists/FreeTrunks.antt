@@ -163,10 +163,3 @@ trunks_start takes file W c first marks s h next m = record {
   role = h.role;
   rest = left_start takes file W (Go c ∷ []) s marks m next ((λ e i. absurd i), tt);
 }
-
--- it is what the list of starts names, where there is a freelist
-pub freelist_named : (file : List ℕ) → (first_trunk file == 0) ≡ false → named_at [] (freelist_starts file) ≡ freelist_reference (first_trunk file) ∷ []
-freelist_named file e = ap (λ b. named_at [] (cond b [] (start freelist_start trunk (first_trunk file) ∷ []))) e
-
-pub freelist_is_first : (first : ℕ) → IsFirstTrunk first (freelist_reference first)
-freelist_is_first first = record { page = refl; role = refl; from = refl; item = refl }

@@ -59,14 +59,6 @@ held_more roots root = by_root (root == 0)
     by_root true = let z : roots ≡ roots + 0 = omega arith in ap held_of z
     by_root false = ap (λ r. cond r (held_of roots + 1) (held_of roots)) (has_room roots) ∙ elim (cases_Bool (nat_le last_root_start roots)) [ inl e ↦ full e | inr e ↦ room e ]
 
--- how many of one row have a root
-pub roots_of : (c : SchemaCell) (r : SchemaRow) → c.row ≡ Ok r → length (rooted_rows (c ∷ [])) ≡ cond (r.root == 0) 0 1
-roots_of c r e = ap (λ row. length (cons_option (rooted row) [])) e ∙ by_root (r.root == 0)
-  where
-    by_root : (b : Bool) → length (cons_option (cond b None (Some r)) []) ≡ cond b 0 1
-    by_root true = refl
-    by_root false = refl
-
 -- What a taker answers to the row of a cell is what is told of it: S04 where it answers Full.
 module _ {T : Type 0} (takes : T → SchemaRow → Taken → T → Type 0) (held : T → ℕ) (room : HasRootRoom takes held) (s t : T) (row : SchemaRow) (a : Taken) (taken : takes s row a t) (roots : ℕ) (at : held s ≡ held_of roots) where
   pub answer_full : is_full a ≡ (not (row.root == 0) && nat_le last_root_start roots)

@@ -31,8 +31,3 @@ module _ (file : List ℕ) (U V : List Reference) (p q : Address) where
 
   pub rows_more : (c : SchemaCell) → cells_before file V q ≡ cells_before file U p ++ c ∷ [] → rows_before file V q ≡ rows_before file U p ++ filter_map (λ c. result_ok c.row) (c ∷ [])
   rows_more c e = ap (filter_map (λ c. result_ok c.row)) e ∙ filter_map-append (λ c. result_ok c.row) (cells_before file U p) (c ∷ [])
-
--- By the count of root pages so far the faults of a row are known: from the 65537th root page on the list is full.
-pub row_told : (file : List ℕ) (W : List Reference) (d : SchemaCell) (n : ℕ) → earlier_roots file W d.place ≡ n → row_faults file W d ≡ row_faults_if (nat_le last_root_start n) d
-unfolding row_faults
-row_told file W d n e = ap (λ n. row_faults_if (nat_le last_root_start n) d) e

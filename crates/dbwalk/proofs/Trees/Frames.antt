@@ -89,13 +89,3 @@ path_last items fs f path e p gs g h = p ∙ ap path_of (last_same fs gs f g (sy
 take_front : (xs : List ℕ) (x : ℕ) → take (length xs) (xs ++ (x ∷ [])) ≡ xs
 take_front [] x = refl
 take_front (y ∷ xs) x = ap (λ l. y ∷ l) (take_front xs x)
-
--- a way without its last step
-pub popped : (xs : List ℕ) (x : ℕ) (old new : List ℕ) → old ≡ xs ++ (x ∷ []) → new ≡ take (length old - 1) old → new ≡ xs
-popped xs x old new e h =
-    let n = length-append xs (x ∷ []) in
-    let m : length (xs ++ (x ∷ [])) - 1 ≡ length xs = omega arith in
-    h ∙ ap (λ l. take (length l - 1) l) e ∙ ap (λ n. take n (xs ++ (x ∷ []))) m ∙ take_front xs x
-
-pub path_end : (fs : List Frame) (old new : List ℕ) → old ≡ path_of fs → new ≡ take (length old - 1) old → (gs : List Frame) (g : Frame) → fs ≡ gs ++ (g ∷ []) → new ≡ path_of gs
-path_end fs old new e h gs g is = popped (path_of gs) (cell_of_step (g.next - 1)) old new (e ∙ ap path_of is ∙ path_push gs g) h
