@@ -1,5 +1,5 @@
 // The walk along an overflow chain (Database File Format, 1.7).
-ghost use Rattle.std.specs.Prelude.{◌≡◌, ℕ, ◌+◌, ◌-◌, ◌≤◌, ◌<◌, ◌&&◌, ◌==◌, ◌∷◌, List, [], length, map, min, not, nat_le, option_to_list, pos, Option, Some, IfSome, IfOk, IfErr, OnOk, is_some};
+ghost use Rattle.std.specs.Prelude.{◌≡◌, ◌+◌, ◌≤◌, ◌<◌, ◌∷◌, List, [], Option, Some, IfSome, IfOk, IfErr, OnOk, is_some};
 ghost use Rattle.dbsurvey.specs.Story.{Go};
 ghost use Rattle.dbformat.specs.File.{geometry, page_bytes};
 ghost use Rattle.dbformat.specs.Log.{HasLog, page_range};
@@ -13,14 +13,13 @@ ghost use Rattle.dbwalk.specs.Chains.{IsOnChain, IsChainOf, IsOnWay, Turns};
 ghost use Rattle.dbwalk.specs.Done.{IsDone};
 ghost use Rattle.dbwalk.specs.Entered.{IsNext};
 ghost use Rattle.dbwalk.specs.Feeding.{Feeds, FeedsChain};
-ghost use Rattle.dbwalk.specs.Finding.{Finding, told_at, told_row, told_fault};
+ghost use Rattle.dbwalk.specs.Finding.{told_at};
 ghost use Rattle.dbwalk.specs.Marking.{AreMarksOf, IsUse};
 ghost use Rattle.dbwalk.specs.Packing.{named_page};
 ghost use Rattle.dbwalk.specs.Outcomes.{Tells, IsReadOrWrite};
 ghost use Rattle.dbwalk.specs.Reads.{Reads};
 ghost use Rattle.dbsource.specs.Errors.{is_read_failed, is_write_failed};
 ghost use Rattle.dbsource.specs.Failures.{failures_after};
-ghost use Rattle.dbsource.specs.Errors.{is_read_failed, is_write_failed};
 
 use crate::entering::{Step, enter};
 use crate::overflow::{feed_page, last_fault, next_page, overflow_row, tell};
@@ -29,8 +28,8 @@ use dbbytes::RowSieve;
 use dbsource::{Bench, RunError, Source};
 use std::alloc::Allocator;
 
-// The level of a bench where pages of chains stand.
-const CHAIN: usize = 20;
+// The level of a bench where pages of chains and trunks stand.
+pub(crate) const CHAIN: usize = 20;
 
 /// Where an overflow chain begins.
 #[derive(Clone, Copy, Debug, Drop, PartialEq, Eq)]

@@ -29,14 +29,12 @@ ghost use Rattle.dbsource.specs.Failures.{failures_after};
 ghost use Rattle.dbsource.specs.Sources.{Asks};
 ghost use Rattle.dbsource.specs.Errors.{is_read_failed, is_write_failed};
 
+use crate::chain::CHAIN;
 use crate::entering::{Step, enter};
 use crate::{Fault, Mark, Marks, Sink};
 use dbformat::{FaultCode, u32_at};
 use dbsource::{Bench, RunError, Source};
 use std::alloc::Allocator;
-
-// The level of a bench where trunks stand.
-const TRUNK: usize = 20;
 
 // The number of the freelist in the list of starts.
 const FREELIST_START: u32 = 65537;
@@ -147,9 +145,9 @@ fn turn<S: Source, K: Sink, A: Allocator>(
     if !enter(marks, step, sink)? {
         return Ok(None);
     }
-    bench.load(TRUNK, source, step.page)?;
+    bench.load(CHAIN, source, step.page)?;
     let usable = bench.geometry().usable;
-    let bytes = bench.page(TRUNK);
+    let bytes = bench.page(CHAIN);
     let item = open_trunk(bytes, usable, marks, step.page, sink)?;
     Ok(next_trunk(bytes, step.page, item))
 }

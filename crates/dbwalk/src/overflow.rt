@@ -12,7 +12,6 @@ ghost use Rattle.dbwalk.specs.Outcomes.{Tells};
 ghost use Rattle.dbwalk.specs.Rows.{row_of};
 ghost use Rattle.dbsource.specs.Errors.{is_write_failed};
 ghost use Rattle.dbsource.specs.Failures.{failures_after};
-ghost use Rattle.dbsource.specs.Errors.{is_write_failed};
 
 use crate::chain::Chain;
 use crate::{Fault, PageType, Row, Sink};
