@@ -5,3 +5,4 @@ pub mod Readings
 pub mod Unfixed
 pub mod EndMarking
 pub mod EndRoots
+pub mod LateRoots

@@ -1,5 +1,7 @@
 -- Rows of the schema, and who takes them.
 pub mod RootTakings
+pub mod RowCuts
+pub mod RowsAhead
 pub mod Takings
 pub mod Sieves
 pub mod RowChains

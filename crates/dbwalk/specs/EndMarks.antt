@@ -1,5 +1,5 @@
 -- What the marks say at the end of a run, of all pages.
-use Rattle.std.specs.Prelude.{◌≡◌, ℕ, Bool, true, false, not, List, [], ◌∷◌, length, filter, fold, max, count_by, Option, Some, None, pos}
+use Rattle.std.specs.Prelude.{◌≡◌, ℕ, Bool, true, false, not, ◌&&◌, List, [], ◌∷◌, length, filter, find, fold, max, count_by, Option, Some, None, pos, nat_lt, ◌==◌}
 use Rattle.std.specs.List.{range_with_len}
 use Rattle.std.specs.Option.{option_map_or}
 use Rattle.dbsurvey.specs.Address.{IsIn}
@@ -9,11 +9,11 @@ use Rattle.dbformat.specs.Tests.{told_if}
 use Rattle.dbformat.specs.File.{geometry, MapEntry, map_entry}
 use Rattle.dbformat.specs.FixedPages.{is_page, is_fixed}
 use Rattle.dbformat.specs.Reference.{Reference}
-use Rattle.dbformat.specs.EndFaults.{is_same_entry, use_fault, free_pages, greatest_root_reached}
+use Rattle.dbformat.specs.EndFaults.{is_same_entry, use_fault, late_root_fault, free_pages, greatest_root_reached}
 use Rattle.dbformat.specs.Survey.{Survey}
 use Rattle.dbformat.specs.declared.Geometry.{Geometry}
 use Rattle.dbformat.specs.declared.Fault.{Fault}
-use Rattle.dbformat.specs.declared.FaultCode.TheVariants.{N01, M01}
+use Rattle.dbformat.specs.declared.FaultCode.TheVariants.{N01, M01, M02}
 use Rattle.dbwalk.specs.declared.mark.Mark.{Mark}
 use Rattle.dbwalk.specs.declared.mark.Mark.TheVariants.{Unmarked, Fixed, Root, Trunk, FreeLeaf, FirstOverflow, LaterOverflow, Child}
 use Rattle.dbwalk.specs.Marking.{mark_of, marks_of, page_mark}
@@ -55,17 +55,43 @@ abbrev pub is_root_mark : Mark → Bool
 is_root_mark Root = true
 is_root_mark _ = false
 
--- the pages with a root's mark
-abbrev pub root_pages : List Mark → List ℕ
-root_pages marks = filter (λ p. option_map_or is_root_mark (page_mark marks p) false) (range_with_len 1 (length marks))
+-- whether it is in use, and no root
+abbrev pub is_other_mark : Mark → Bool
+is_other_mark Unmarked = false
+is_other_mark Fixed = false
+is_other_mark Root = false
+is_other_mark _ = true
 
--- the greatest of them, or 1
+-- whether p is a page whose mark passes a test
+abbrev pub is_marked : (Mark → Bool) → List Mark → ℕ → Bool
+is_marked test marks p = option_map_or test (page_mark marks p) false
+
+-- the pages with such a mark, by number
+abbrev pub marked_pages : (Mark → Bool) → List Mark → List ℕ
+marked_pages test marks = filter (is_marked test marks) (range_with_len 1 (length marks))
+
+-- the greatest page with a root's mark, or 1
 abbrev pub greatest_root_marked : List Mark → ℕ
-greatest_root_marked marks = fold max 1 (root_pages marks)
+greatest_root_marked marks = fold max 1 (marked_pages is_root_mark marks)
 
--- what marks say at the end is what the visits say: of each page, of the count of the freelist, and of the greatest root
+-- the first page in use that is no root
+abbrev pub least_other_marked : List Mark → Option ℕ
+least_other_marked marks = find (is_marked is_other_mark marks) (range_with_len 1 (length marks))
+
+-- that page p is the root of a row of the schema and comes after that page, in a file with a pointer map
+abbrev pub late_fault : Bool → ℕ → Mark → Option ℕ → List Fault
+late_fault has_map p mark None = []
+late_fault has_map p mark (Some least) = told_if (has_map && (is_root_mark mark && not (p == 1)) && nat_lt least p) (fault M02 p 0 (pos least))
+
+-- what the visits of V say at the end is what their marks say: of the use of each page, of its place among the roots, of
+-- the count of the freelist, and of the greatest root
+pub record IsToldByMarks (file : List ℕ) (V : List Reference) : Type 0 where
+  pub uses : (p : ℕ) → use_fault file V p ≡ mark_fault p (map_entry file p) (mark_of (geometry file) V p)
+  pub late : (p : ℕ) → late_root_fault file V p
+      ≡ late_fault (geometry file).has_map p (mark_of (geometry file) V p) (least_other_marked (marks_of (geometry file) V))
+  pub free : free_pages V ≡ count_by is_free_mark (marks_of (geometry file) V)
+  pub greatest : greatest_root_reached V ≡ greatest_root_marked (marks_of (geometry file) V)
+
+-- so it is of each survey
 abbrev pub MarksTellTheEnd : List ℕ → Type 0
-MarksTellTheEnd file = (V : List Reference) → Survey file V
-    → ((p : ℕ) → use_fault file V p ≡ mark_fault p (map_entry file p) (mark_of (geometry file) V p))
-    × (free_pages V ≡ count_by is_free_mark (marks_of (geometry file) V))
-    × (greatest_root_reached V ≡ greatest_root_marked (marks_of (geometry file) V))
+MarksTellTheEnd file = (V : List Reference) → Survey file V → IsToldByMarks file V

@@ -1,5 +1,6 @@
 -- What is read off the leaf at a level.
-use Rattle.std.specs.Prelude.{true, [], ◌∷◌, None, ◌≡◌, ℕ, ◌<◌, ◌≤◌, IfSome, List, Option, Some, ℤ, slice_get, option_map, option_and_then}
+use Rattle.std.specs.Option.{option_map_or}
+use Rattle.std.specs.Prelude.{Bool, ◌==◌, not, pos, true, [], ◌∷◌, None, ◌≡◌, ℕ, ◌<◌, ◌≤◌, IfSome, List, Option, Some, ℤ, slice_get, option_map, option_and_then}
 use Rattle.std.specs.Result.{result_ok}
 use Rattle.dbformat.specs.Head.{View, undamaged}
 use Rattle.dbformat.specs.Cell.{cell, count, overflow_size}
@@ -11,7 +12,7 @@ use Rattle.dbformat.specs.Reference.{Way, Reference, first_overflow, link}
 use Rattle.dbformat.specs.Story.{Event}
 use Rattle.dbformat.specs.Tests.{told_if}
 use Rattle.dbformat.specs.declared.Fault.{Fault}
-use Rattle.dbformat.specs.declared.FaultCode.TheVariants.{T06}
+use Rattle.dbformat.specs.declared.FaultCode.TheVariants.{T05, T06}
 use Rattle.dbwalk.specs.Running.{is_late, greater_key}
 use Rattle.dbformat.specs.declared.TreeKind.{TreeKind}
 
@@ -30,10 +31,22 @@ abbrev pub overflow_errands : Reference → ℕ → Option (ℕ × ℕ) → List
 overflow_errands c i None = []
 overflow_errands c i (Some o) = go c (link c.page (overflow_step i) i (first_overflow o.1) o.0) ∷ []
 
--- the fault of a rowid behind keys of which this is the greatest
+-- the fault of a key, or of a rowid, behind keys of which this is the greatest
+abbrev pub order_faults : Bool → Option ℤ → ℕ → ℕ → ℤ → List Fault
+order_faults is_rowid top page item key = told_if (is_late is_rowid top key) (fault T06 page item key)
+
+-- that of the rowid of a cell, if it has one
 abbrev pub late_faults : Option ℤ → ℕ → ℕ → Option ℤ → List Fault
 late_faults top page item None = []
-late_faults top page item (Some key) = told_if (is_late true top key) (fault T06 page item key)
+late_faults top page item (Some key) = order_faults true top page item key
+
+-- the depth of the first leaf, once one of this depth was come to
+abbrev pub first_depth : Option ℕ → ℕ → ℕ
+first_depth leaf depth = option_map_or (λ n. n) leaf depth
+
+-- the fault of a leaf whose depth is another one
+abbrev pub depth_faults : Option ℕ → ℕ → ℕ → List Fault
+depth_faults leaf page depth = told_if (not (depth == first_depth leaf depth)) (fault T05 page 0 (pos depth))
 
 -- the greatest key after it
 abbrev pub top_after : Option ℤ → Option ℤ → Option ℤ

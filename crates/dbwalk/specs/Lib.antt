@@ -21,7 +21,9 @@ pub mod RowTold
 pub mod Rows
 pub mod Running
 pub mod Sieving
+pub mod Sinks
 pub mod Stack
+pub mod Standing
 pub mod Steps
 pub mod Taking
 pub mod Telling

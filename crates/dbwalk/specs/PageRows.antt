@@ -1,10 +1,14 @@
 -- The row of a page of a tree, as a program comes by it.
-use Rattle.std.specs.Prelude.{ℕ, List, length, map, None, fold, max, sum_by, if◌then◌else◌}
+use Rattle.std.specs.Prelude.{ℕ, Bool, List, [], ◌∷◌, length, map, None, fold, max, sum_by, if◌then◌else◌}
 use Rattle.dbformat.specs.Head.{View, is_interior}
 use Rattle.dbformat.specs.Cell.{cells, count}
 use Rattle.dbformat.specs.Coverage.{unused}
+use Rattle.dbformat.specs.PageFaults.{inner_faults}
 use Rattle.dbformat.specs.Rows.{StatRow}
+use Rattle.dbformat.specs.declared.Fault.{Fault}
 use Rattle.dbformat.specs.declared.PageType.TheVariants.{Internal, Leaf, Damaged}
+use Rattle.dbwalk.specs.Finding.{Finding, told_row}
+use Rattle.dbwalk.specs.Telling.{findings}
 
 -- of an undamaged page
 abbrev pub view_row : ℕ → List ℕ → View → StatRow
@@ -33,3 +37,11 @@ damaged_row start path page = record {
   unused = 0;
   mx_payload = 0;
 }
+
+-- what is told of an undamaged page: its row, and then the faults within it
+abbrev pub undamaged_findings : ℕ → List ℕ → View → Bool → List Finding
+undamaged_findings start path v is_child = told_row (view_row start path v) ∷ findings (inner_faults v is_child)
+
+-- and of a damaged one: its row, and its one fault
+abbrev pub damaged_findings : ℕ → List ℕ → ℕ → Fault → List Finding
+damaged_findings start path page damage = told_row (damaged_row start path page) ∷ findings (damage ∷ [])

@@ -8,7 +8,7 @@ use Rattle.dbformat.specs.Address.{start_of, depth}
 use Rattle.dbformat.specs.Reference.{Reference, role_of, tree_kind}
 use Rattle.dbformat.specs.KeyFaults.{Key, keys}
 use Rattle.dbformat.specs.PageFaults.{is_leaf_of}
-use Rattle.dbformat.specs.Schema.{SchemaCell, schema}
+use Rattle.dbformat.specs.Schema.{SchemaCell, rows_at, schema}
 use Rattle.dbformat.specs.SchemaRow.{SchemaRow}
 
 -- the address is below a start before this one
@@ -29,12 +29,17 @@ pub record IsVisit (W : List Reference) (r : Reference) : Type 0 where
   pub there : IsIn r W
   pub only : (u : Reference) → IsIn u W → u.address ≡ r.address → u ≡ r
 
+-- each row of the schema on the pages that were visited stands before the place
+abbrev pub AreRowsBefore : List ℕ → List Reference → Address → Type 0
+AreRowsBefore file W p = (V : List Reference) (u : Reference) (d : SchemaCell) → IsIn u W → IsIn d (rows_at file V u) → IsBefore d.place p
+
 -- the last visit of a page of a tree: behind it stand pages of overflow chains alone
-pub record IsLatest (W : List Reference) (r : Reference) : Type 0 where
+pub record IsLatest (file : List ℕ) (W : List Reference) (r : Reference) : Type 0 where
   pub earlier : List Reference
   pub later : List Reference
   pub whole : W ≡ earlier ++ (r ∷ later)
   pub before : AreBefore earlier r.address
+  pub rows : AreRowsBefore file earlier r.address
   pub chains : (u : Reference) → IsIn u later → tree_kind (role_of u) ≡ None
 
 -- a key of the tree of the place that stands before it

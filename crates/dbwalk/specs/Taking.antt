@@ -2,7 +2,7 @@
 use Rattle.std.specs.Prelude.{ℕ, List, Result, Ok, Err, filter_map}
 use Rattle.std.specs.Result.{result_ok}
 use Rattle.dbsurvey.specs.Address.{Address}
-use Rattle.dbsurvey.specs.Moves.{Moves}
+use Rattle.dbsurvey.specs.Moves.{Moves, Stops, MovesBySome}
 use Rattle.dbformat.specs.Reference.{Reference}
 use Rattle.dbformat.specs.Schema.{schema}
 use Rattle.dbformat.specs.SchemaRow.{SchemaRow}
@@ -23,13 +23,17 @@ IsTaking takes file U p first t = Moves (gives takes) first (rows_before file U 
 abbrev pub readable_rows : List ℕ → List Reference → List SchemaRow
 readable_rows file V = filter_map (λ c. result_ok c.row) (schema file V)
 
--- What an error leaves of it: it was given the rows that stand before some place; and one row more, where it was refused
--- memory for that one.
-abbrev pub LeavesTaker : {T : Type 0} → (T → SchemaRow → Taken → T → Type 0) → (T → SchemaRow → T → Type 0) → List ℕ → RunError → T → T → Type 0
-LeavesTaker {T} takes refuses file OutOfMemory first t = (U : List Reference) × (p : Address) × (row : SchemaRow) × (s : T) × IsTaking takes file U p first s × refuses s row t
-LeavesTaker takes refuses file e first t = (U : List Reference) × (p : Address) × IsTaking takes file U p first t
+-- After an error, as StopsBy has it of a sink: the rows moved a taker up to one for which memory was refused, where it was;
+-- or else up to some point.
+abbrev pub StopsGiving : {T : Type 0} → (T → SchemaRow → Taken → T → Type 0) → (T → SchemaRow → T → Type 0) → RunError → T → List SchemaRow → T → Type 0
+StopsGiving takes refuses OutOfMemory s rows t = Stops (gives takes) refuses s rows t
+StopsGiving takes refuses e s rows t = MovesBySome (gives takes) s rows t
 
--- what a call leaves of it
-abbrev pub Gives : {A T : Type 0} → (T → SchemaRow → Taken → T → Type 0) → (T → SchemaRow → T → Type 0) → List ℕ → Result A RunError → List Reference → Address → T → T → Type 0
-Gives takes refuses file (Ok a) U p first t = IsTaking takes file U p first t
-Gives takes refuses file (Err e) U p first t = LeavesTaker takes refuses file e first t
+-- and as Tells: at Ok it was given all of them, and after an error a beginning
+abbrev pub Gives : {A T : Type 0} → (T → SchemaRow → Taken → T → Type 0) → (T → SchemaRow → T → Type 0) → Result A RunError → T → List SchemaRow → T → Type 0
+Gives takes refuses (Ok a) s rows t = Moves (gives takes) s rows t
+Gives takes refuses (Err e) s rows t = StopsGiving takes refuses e s rows t
+
+-- so for the rows that stand before a place
+abbrev pub GivesBefore : {A T : Type 0} → (T → SchemaRow → Taken → T → Type 0) → (T → SchemaRow → T → Type 0) → List ℕ → Result A RunError → List Reference → Address → T → T → Type 0
+GivesBefore takes refuses file r U p first t = Gives takes refuses r first (rows_before file U p) t

@@ -8,7 +8,7 @@ use Rattle.dbformat.specs.Head.{View, undamaged, is_interior}
 use Rattle.dbformat.specs.Cell.{count}
 use Rattle.dbformat.specs.File.{page_bytes}
 use Rattle.dbformat.specs.Address.{start_of, then_step, cell_of_step, child_path, chain_place}
-use Rattle.dbformat.specs.Reference.{Role, root, child, first_overflow, Reference, role_of, tree_kind}
+use Rattle.dbformat.specs.Reference.{Role, root, child, Reference, role_of, tree_kind}
 use Rattle.dbformat.specs.Survey.{rules_of}
 use Rattle.dbformat.specs.Story.{at_page, story_of}
 use Rattle.dbformat.specs.Errands.{cell_errands}

@@ -1,23 +1,18 @@
 // A cell of a leaf: its overflow chain, and its key.
-ghost use Rattle.std.specs.Prelude.{◌≡◌, ℕ, ◌+◌, ◌-◌, ◌*◌, ◌<◌, ◌≤◌, [], ◌∷◌, false, List, length, Some, IfErr, IfSome, OnOk, is_some};
-ghost use Rattle.dbsurvey.specs.InOrder.{IsPast};
-ghost use Rattle.dbformat.specs.Address.{then_step};
-ghost use Rattle.dbformat.specs.Cell.{count};
-ghost use Rattle.dbformat.specs.Errands.{cell_errands};
+ghost use Rattle.std.specs.Prelude.{◌≡◌, ◌-◌, ◌<◌, ◌≤◌, length, Some, IfErr, IfSome, OnOk, is_some};
 ghost use Rattle.dbformat.specs.File.{geometry as shape_of};
-ghost use Rattle.dbformat.specs.Head.{View, is_interior};
 ghost use Rattle.dbformat.specs.Log.{HasLog};
-ghost use Rattle.dbformat.specs.Reference.{Reference, tree_view};
 ghost use Rattle.dbwalk.specs.LeafCells.{overflow_errands, late_faults, top_after};
 ghost use Rattle.dbwalk.specs.Sieving.{FeedsPayload};
+ghost use Rattle.dbwalk.specs.Standing.{AtOverflow, AtCell, IsSameButGreatest};
 ghost use Rattle.dbwalk.specs.Telling.{IsTold, findings};
-ghost use Rattle.dbwalk.specs.Walking.{IsCellDone, IsLeafAt, IsRunning};
+ghost use Rattle.dbwalk.specs.Walking.{IsCellDone};
 ghost use Rattle.dbwalk.specs.Done.{IsDone};
-ghost use Rattle.dbwalk.specs.Marking.{AreMarksOf};
 ghost use Rattle.dbwalk.specs.Outcomes.{IsReadOrWrite};
 ghost use Rattle.dbwalk.specs.Reads.{Reads};
 ghost use Rattle.dbsource.specs.Errors.{is_read_failed, is_write_failed};
 ghost use Rattle.dbsource.specs.Failures.{failures_after};
+ghost use Rattle.dbwalk.specs.Sinks.{after_writes};
 
 use crate::cells::leaf_cell;
 use crate::chain::{Chain, walk_chain};
@@ -49,16 +44,16 @@ pub fn walk_overflow<A: Allocator, S: Source, K: Sink>(
     ensures bench { (bench.new.geometry ≡ bench.old.geometry) × (bench.new.levels ≡ bench.old.levels) }
     ensures told { (S.held source.new).bytes ≡ (S.held source.old).bytes }
     ensures reads { (S.held source.new).failures ≡ failures_after is_read_failed result (S.held source.old).failures }
-    ensures writes { K.failures sink.new ≡ failures_after is_write_failed result (K.failures sink.old) }
+    ensures writes { K.held sink.new ≡ after_writes is_write_failed result (K.held sink.old) }
     ensures log { HasLog S.step (Reads bench.old.geometry.page_size marks.old marks.new) (S.held source.old).trail (S.held source.new).trail }
     ensures only { IfErr result IsReadOrWrite }
     ensures kept { is_some sieve.new ≡ is_some sieve.old }
-    ensures done { IfSome (S.held source.old).bytes (λ file. bench.old.geometry ≡ shape_of file → (U : List Reference) (c : Reference) → IsLeafAt file tree.now.kind tree.now.start tree.now.path.items U c bench.old.levels page
-        → IsPast U (overflow_errands c i overflow) → AreMarksOf file U marks.old
-        → IsDone K.takes K.drops file U (overflow_errands c i overflow) result marks.new sink.old sink.new) }
-    ensures fed { IfSome (S.held source.old).bytes (λ file. bench.old.geometry ≡ shape_of file → (U : List Reference) (c : Reference) → IsLeafAt file tree.now.kind tree.now.start tree.now.path.items U c bench.old.levels page
-        → IsPast U (overflow_errands c i overflow) → AreMarksOf file U marks.old
-        → OnOk result (FeedsPayload file U c i overflow sieve.old sieve.new)) }
+    ensures done { IfSome (S.held source.old).bytes (λ file. bench.old.geometry ≡ shape_of file
+        → AtOverflow file tree.now bench.old.levels page i overflow marks.old (λ U c.
+        IsDone K.takes K.drops file U (overflow_errands c i overflow) result marks.new sink.old sink.new)) }
+    ensures fed { IfSome (S.held source.old).bytes (λ file. bench.old.geometry ≡ shape_of file
+        → AtOverflow file tree.now bench.old.levels page i overflow marks.old (λ U c.
+        OnOk result (FeedsPayload file U c i overflow sieve.old sieve.new))) }
 {
     match overflow {
         None => Ok(()),
@@ -84,9 +79,9 @@ pub fn tell_rowid<K: Sink>(
     key: Option<i64>,
     sink: &mut K,
 ) -> Result<(), WriteFailed>
-    ensures told { IsTold K.takes K.drops K.failures result sink.old (findings (late_faults tree.old.greatest page i key)) sink.new }
+    ensures told { IsTold K.takes K.drops K.held result sink.old (findings (late_faults tree.old.greatest page i key)) sink.new }
     ensures greatest { tree.new.greatest ≡ top_after tree.old.greatest key }
-    ensures others { (tree.new.start ≡ tree.old.start) × (tree.new.kind ≡ tree.old.kind) × (tree.new.leaf ≡ tree.old.leaf) × (tree.new.path ≡ tree.old.path) }
+    ensures others { IsSameButGreatest tree.old tree.new }
 {
     match key {
         None => Ok(()),
@@ -113,15 +108,15 @@ pub fn walk_cell<A: Allocator, S: Source, K: Sink>(
     requires page { page ≤ 67108864 }
     requires start { 1 ≤ tree.old.start }
     ensures bench { (bench.new.geometry ≡ bench.old.geometry) × (bench.new.levels ≡ bench.old.levels) }
-    ensures tree { (tree.new.start ≡ tree.old.start) × (tree.new.kind ≡ tree.old.kind) × (tree.new.leaf ≡ tree.old.leaf) × (tree.new.path ≡ tree.old.path) }
+    ensures tree { IsSameButGreatest tree.old tree.new }
     ensures told { (S.held source.new).bytes ≡ (S.held source.old).bytes }
     ensures reads { (S.held source.new).failures ≡ failures_after is_read_failed result (S.held source.old).failures }
-    ensures writes { K.failures sink.new ≡ failures_after is_write_failed result (K.failures sink.old) }
+    ensures writes { K.held sink.new ≡ after_writes is_write_failed result (K.held sink.old) }
     ensures log { HasLog S.step (Reads bench.old.geometry.page_size marks.old marks.new) (S.held source.old).trail (S.held source.new).trail }
     ensures only { IfErr result IsReadOrWrite }
-    ensures done { IfSome (S.held source.old).bytes (λ file. bench.old.geometry ≡ shape_of file → (U : List Reference) (c : Reference) (v : View) → IsLeafAt file tree.old.kind tree.old.start tree.old.path.items U c bench.old.levels page → tree_view file c ≡ Some v → is_interior v.kind ≡ false → i < count v
-        → IsPast U (cell_errands c tree.old.kind v i) → AreMarksOf file U marks.old → IsRunning file tree.old.start U (then_step c.address (3 * i)) tree.old.greatest tree.old.leaf
-        → IsCellDone K.takes K.drops file tree.old.kind v i U c result marks.new tree.new.greatest tree.new.leaf sink.old sink.new) }
+    ensures done { IfSome (S.held source.old).bytes (λ file. bench.old.geometry ≡ shape_of file
+        → AtCell file tree.old bench.old.levels page i marks.old (λ U c v.
+        IsCellDone K.takes K.drops file tree.old.kind v i U c result marks.new tree.new.greatest tree.new.leaf sink.old sink.new)) }
 {
     let cell = leaf_cell(bench, tree.kind, tree.path.len(), page, i);
     walk_overflow(

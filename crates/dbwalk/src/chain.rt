@@ -20,6 +20,7 @@ ghost use Rattle.dbwalk.specs.Outcomes.{Tells, IsReadOrWrite};
 ghost use Rattle.dbwalk.specs.Reads.{Reads};
 ghost use Rattle.dbsource.specs.Errors.{is_read_failed, is_write_failed};
 ghost use Rattle.dbsource.specs.Failures.{failures_after};
+ghost use Rattle.dbwalk.specs.Sinks.{after_writes};
 
 use crate::entering::{Step, enter};
 use crate::overflow::{feed_page, last_fault, next_page, overflow_row, tell};
@@ -71,11 +72,12 @@ fn visit_overflow<S: Source, K: Sink, A: Allocator>(
     ensures told { (S.held source.new).bytes ≡ (S.held source.old).bytes }
     ensures trail { (S.held source.new).trail ≡ S.step (S.held source.old).trail (page_range bench.old.geometry.page_size page) }
     ensures reads { (S.held source.new).failures ≡ failures_after is_read_failed result (S.held source.old).failures }
-    ensures writes { K.failures sink.new ≡ failures_after is_write_failed result (K.failures sink.old) }
+    ensures writes { K.held sink.new ≡ after_writes is_write_failed result (K.held sink.old) }
     ensures only { IfErr result IsReadOrWrite }
     ensures bench { bench.new ≡ record bench.old { chain = bench.new.chain } }
     ensures kept { is_some sieve.new ≡ is_some sieve.old }
-    ensures next { IfOk result (λ next. IfSome (S.held source.old).bytes (λ file. bench.old.geometry ≡ geometry file → next ≡ overflow_next (page_bytes file page))) }
+    ensures next { IfOk result (λ next. IfSome (S.held source.old).bytes (λ file. bench.old.geometry ≡ geometry file
+        → next ≡ overflow_next (page_bytes file page))) }
     ensures visited { IfSome (S.held source.old).bytes (λ file. bench.old.geometry ≡ geometry file → (U : List Reference) (c : Reference)
         → c.page ≡ page → bytes_left (role_of c) ≡ Some left → IsOnChain chain.now number c
         → Tells K.takes K.drops result sink.old (told_at file U (at_page c)) sink.new) }
@@ -107,7 +109,7 @@ fn turn<S: Source, K: Sink, A: Allocator>(
     ensures told { (S.held source.new).bytes ≡ (S.held source.old).bytes }
     ensures log { HasLog S.step (Reads bench.old.geometry.page_size marks.old marks.new) (S.held source.old).trail (S.held source.new).trail }
     ensures reads { (S.held source.new).failures ≡ failures_after is_read_failed result (S.held source.old).failures }
-    ensures writes { K.failures sink.new ≡ failures_after is_write_failed result (K.failures sink.old) }
+    ensures writes { K.held sink.new ≡ after_writes is_write_failed result (K.held sink.old) }
     ensures only { IfErr result IsReadOrWrite }
     ensures bench { bench.new ≡ record bench.old { chain = bench.new.chain } }
     ensures kept { is_some sieve.new ≡ is_some sieve.old }
@@ -115,7 +117,8 @@ fn turn<S: Source, K: Sink, A: Allocator>(
     ensures used { IfOk result (λ o. IfSome o (λ next. IsUse next.step.mark)) }
     ensures counted { IfOk result (λ o. IfSome o (λ next. next.number + next.left ≤ 2147483647)) }
     ensures less { IfOk result (λ o. IfSome o (λ next. next.left < place.left)) }
-    ensures turned { IfSome (S.held source.old).bytes (λ file. bench.old.geometry ≡ geometry file → (W : List Reference) (c : Reference) (before : K) (first : Option RowSieve)
+    ensures turned { IfSome (S.held source.old).bytes (λ file. bench.old.geometry ≡ geometry file
+        → (W : List Reference) (c : Reference) (before : K) (first : Option RowSieve)
         → IsOnWay K.takes file W c before chain.now place marks.old sink.old first sieve.old
         → Turns K.takes K.drops file W c before chain.now result marks.new sink.new first sieve.new) }
 {
@@ -171,7 +174,7 @@ pub fn walk_chain<S: Source, K: Sink, A: Allocator>(
     ensures told { (S.held source.new).bytes ≡ (S.held source.old).bytes }
     ensures log { HasLog S.step (Reads bench.old.geometry.page_size marks.old marks.new) (S.held source.old).trail (S.held source.new).trail }
     ensures reads { (S.held source.new).failures ≡ failures_after is_read_failed result (S.held source.old).failures }
-    ensures writes { K.failures sink.new ≡ failures_after is_write_failed result (K.failures sink.old) }
+    ensures writes { K.held sink.new ≡ after_writes is_write_failed result (K.held sink.old) }
     ensures only { IfErr result IsReadOrWrite }
     ensures bench { bench.new ≡ record bench.old { chain = bench.new.chain } }
     ensures kept { is_some sieve.new ≡ is_some sieve.old }

@@ -7,8 +7,7 @@ ghost use Rattle.dbwalk.specs.Marking.{AreMarksOf, page_mark, visit_mark};
 ghost use Rattle.dbwalk.specs.Entered.{IsNext, IsStepOf, Enters};
 ghost use Rattle.dbwalk.specs.Packing.{named_page};
 ghost use Rattle.dbsource.specs.Errors.{is_write_failed};
-ghost use Rattle.dbsource.specs.Failures.{failures_after};
-ghost use Rattle.dbsource.specs.Errors.{is_write_failed};
+ghost use Rattle.dbwalk.specs.Sinks.{after_writes};
 
 use crate::{Fault, Mark, Marks, Sink};
 use dbformat::FaultCode;
@@ -41,12 +40,13 @@ pub fn enter<K: Sink, A: Allocator>(
     sink: &mut K,
 ) -> Result<bool, RunError>
     requires { named_page step.mark ≤ 67108864 }
-    ensures marked { IfOk result (λ yes. IsTrue yes → (page_mark marks.old step.page ≡ Some use_mark.Unmarked) × (marks.new ≡ slice_set marks.old (step.page - 1) step.mark)) }
+    ensures marked { IfOk result (λ yes. IsTrue yes → (page_mark marks.old step.page ≡ Some use_mark.Unmarked)
+        × (marks.new ≡ slice_set marks.old (step.page - 1) step.mark)) }
     ensures page { IfOk result (λ yes. IsTrue yes → (1 ≤ step.page) × (step.page ≤ 67108864)) }
     ensures shallow { IfOk result (λ yes. IsTrue yes → step.is_too_deep ≡ false) }
     ensures unmarked { IfOk result (λ yes. yes ≡ false → marks.new ≡ marks.old) }
     ensures after_error { IfErr result (λ e. (e ≡ run_error.WriteFailed) × (marks.new ≡ marks.old)) }
-    ensures writes { K.failures sink.new ≡ failures_after is_write_failed result (K.failures sink.old) }
+    ensures writes { K.held sink.new ≡ after_writes is_write_failed result (K.held sink.old) }
     ensures entered { (file : List ℕ) (W : List Reference) (c : Reference) → IsStepOf step c → IsNext W c → AreMarksOf file W marks.old
         → Enters K.takes K.drops file W c result marks.new sink.old sink.new }
 {

@@ -1,21 +1,16 @@
 // The cells of a leaf (Database File Format, 1.6).
-ghost use Rattle.std.specs.Prelude.{◌≡◌, ℕ, ◌<◌, ◌≤◌, false, List, length, Some, IfErr, IfSome};
-ghost use Rattle.dbsurvey.specs.InOrder.{IsPast};
-ghost use Rattle.dbsurvey.specs.Story.{errands_of};
+ghost use Rattle.std.specs.Prelude.{◌≡◌, ℕ, ◌<◌, ◌≤◌, length, IfErr, IfSome};
 ghost use Rattle.dbformat.specs.Address.{then_step, schema_start};
 ghost use Rattle.dbformat.specs.File.{geometry as shape_of};
-ghost use Rattle.dbformat.specs.Head.{View, is_interior};
 ghost use Rattle.dbformat.specs.Header.{encoding as encoding_of};
 ghost use Rattle.dbformat.specs.Log.{HasLog};
-ghost use Rattle.dbformat.specs.Reference.{Reference, tree_view};
-ghost use Rattle.dbformat.specs.Story.{story_of};
-ghost use Rattle.dbwalk.specs.Walking.{IsLeafAt, IsRunning};
-ghost use Rattle.dbwalk.specs.Marking.{AreMarksOf};
 ghost use Rattle.dbwalk.specs.Outcomes.{IsReadOrWrite, IsReadWriteOrMemory};
 ghost use Rattle.dbwalk.specs.Reads.{Reads};
 ghost use Rattle.dbwalk.specs.CellTaken.{IsGiven, IsRowsDone};
 ghost use Rattle.dbsource.specs.Errors.{is_out_of_memory, is_read_failed, is_write_failed};
 ghost use Rattle.dbsource.specs.Failures.{failures_after};
+ghost use Rattle.dbwalk.specs.Standing.{AtLeaf, IsSameButGreatest};
+ghost use Rattle.dbwalk.specs.Sinks.{after_writes};
 
 use crate::cells::leaf_cells;
 use crate::schema_cell::walk_leaf_cell;
@@ -45,18 +40,18 @@ pub fn walk_leaf<A: Allocator, S: Source, K: Sink, T: Taker>(
     requires level { length tree.old.path.items < 20 }
     requires page { page ≤ 67108864 }
     ensures bench { (bench.new.geometry ≡ bench.old.geometry) × (bench.new.levels ≡ bench.old.levels) }
-    ensures tree { (tree.new.start ≡ tree.old.start) × (tree.new.kind ≡ tree.old.kind) × (tree.new.leaf ≡ tree.old.leaf) × (tree.new.path ≡ tree.old.path) }
+    ensures tree { IsSameButGreatest tree.old tree.new }
     ensures told { (S.held source.new).bytes ≡ (S.held source.old).bytes }
     ensures reads { (S.held source.new).failures ≡ failures_after is_read_failed result (S.held source.old).failures }
-    ensures writes { K.failures sink.new ≡ failures_after is_write_failed result (K.failures sink.old) }
+    ensures writes { K.held sink.new ≡ after_writes is_write_failed result (K.held sink.old) }
     ensures refusals { T.refusals taker.new ≡ failures_after is_out_of_memory result (T.refusals taker.old) }
     ensures log { HasLog S.step (Reads bench.old.geometry.page_size marks.old marks.new) (S.held source.old).trail (S.held source.new).trail }
     ensures only { IfErr result IsReadWriteOrMemory }
     ensures others { 1 ≤ tree.old.start → (taker.new ≡ taker.old) × IfErr result IsReadOrWrite }
-    ensures done { IfSome (S.held source.old).bytes (λ file. bench.old.geometry ≡ shape_of file → encoding ≡ encoding_of file → (U : List Reference) (c : Reference) (v : View) → IsLeafAt file tree.old.kind tree.old.start tree.old.path.items U c bench.old.levels page → tree_view file c ≡ Some v → is_interior v.kind ≡ false
-        → IsPast U (errands_of (story_of file) c) → AreMarksOf file U marks.old → IsRunning file tree.old.start U (then_step c.address 0) tree.old.greatest tree.old.leaf
-        → (held : T → ℕ) (first : T) → (tree.old.start ≡ schema_start → IsGiven T.takes held file U c (then_step c.address 0) first taker.old)
-        → IsRowsDone K.takes K.drops T.takes T.refuses file U c result marks.new tree.new.greatest tree.new.leaf sink.old sink.new first taker.new) }
+    ensures done { IfSome (S.held source.old).bytes (λ file. bench.old.geometry ≡ shape_of file → encoding ≡ encoding_of file
+        → AtLeaf file tree.old bench.old.levels page marks.old (λ U c.
+        (held : T → ℕ) (first : T) → (tree.old.start ≡ schema_start → IsGiven T.takes held file U c (then_step c.address 0) first taker.old)
+        → IsRowsDone K.takes K.drops T.takes T.refuses file U c result marks.new tree.new.greatest tree.new.leaf sink.old sink.new first taker.new)) }
 {
     let level = tree.path.len();
     let cells = leaf_cells(bench, tree.kind, level, page);

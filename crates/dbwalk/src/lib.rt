@@ -15,11 +15,14 @@
 //! faults; or at an error, a beginning of them. Two such parts that follow one another are one, so that the contract of a
 //! tree is made from those of its pages, theirs from those of their cells, and theirs from those of their chains.
 //!
-//! **Where a walk stands** (specs/Walking, Running, Stack). The state of a tree is its path of steps, the greatest key and the
-//! depth of the first leaf: what the report's rules on keys and depth ask of all earlier pages of the tree. Pages on the path
-//! stay in the bench, a level each, and at most 20 are held; behind a chain the path is taken up where it was left.
+//! **Where a walk stands** (specs/Walking, Running and Stack; Standing has it for clauses). The state of a tree is its path of
+//! steps, the greatest key and the depth of the first leaf: what the report's rules on keys and depth ask of all earlier pages
+//! of the tree. Pages on the path stay in the bench, a level each, and at most 20 are held; behind a chain the path is taken up
+//! where it was left.
 //!
-//! **Rows of the schema** (specs/Taking and RootRoom) go to the taker where they stand; what it answers decides S04.
+//! **Rows of the schema** (specs/Taking and RootRoom) go to the taker where they stand; what it answers decides S04. As the sink
+//! is told a beginning at an error, the taker was given one then: the rows before a place to which a walk has come are a
+//! beginning of all rows.
 //!
 //! At the end the marks alone tell which pages nothing refers to: [`marks_tell_the_end`].
 #![tactic(auto)]

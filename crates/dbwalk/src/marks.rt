@@ -171,7 +171,7 @@ impl Marks {
     }
 }
 
-/// Marks alone tell what is told at the end of a run: of each page its fault, the count of the freelist and the greatest
+/// Marks alone tell what is told at the end of a run: of each page its faults, the count of the freelist and the greatest
 /// root.
 pub fn marks_tell_the_end()
     ensures { (file : List ℕ) → MarksTellTheEnd file }

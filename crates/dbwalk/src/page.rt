@@ -79,7 +79,7 @@ pub fn tell_inner<K: Sink>(
 ) -> Result<(), WriteFailed>
     requires number { number ≡ view.now.number }
     requires room { view.now.usable ≤ length uses.old }
-    ensures { IsTold K.takes K.drops K.failures result sink.old (findings (inner_faults view.now is_child)) sink.new }
+    ensures { IsTold K.takes K.drops K.held result sink.old (findings (inner_faults view.now is_child)) sink.new }
 {
     tell_fragments(view, number, sink)?;
     let are_cells_good = tell_cells(view, number, sink)?;
@@ -101,7 +101,7 @@ fn tell_fragments<K: Sink>(
     sink: &mut K,
 ) -> Result<(), WriteFailed>
     requires { number ≡ view.now.number }
-    ensures { IsTold K.takes K.drops K.failures result sink.old (findings (fragment_fault view.now)) sink.new }
+    ensures { IsTold K.takes K.drops K.held result sink.old (findings (fragment_fault view.now)) sink.new }
 {
     let fragments = view.fragments();
     if fragments <= 60 {
@@ -113,7 +113,7 @@ fn tell_fragments<K: Sink>(
 // Tells of each cell that is not readable; true where none is.
 fn tell_cells<K: Sink>(view: &PageView<'_>, number: u32, sink: &mut K) -> Result<bool, WriteFailed>
     requires { number ≡ view.now.number }
-    ensures told { IsTold K.takes K.drops K.failures result sink.old (findings (cell_faults view.now)) sink.new }
+    ensures told { IsTold K.takes K.drops K.held result sink.old (findings (cell_faults view.now)) sink.new }
     ensures good { IfOk result (λ good. good ≡ (length (cell_faults view.now) == 0)) }
 {
     let mut good = true;
@@ -132,7 +132,7 @@ fn tell_cell<K: Sink>(
 ) -> Result<bool, WriteFailed>
     requires number { number ≡ view.now.number }
     requires cell { i < count view.now }
-    ensures told { IsTold K.takes K.drops K.failures result sink.old (findings (cell_fault view.now i)) sink.new }
+    ensures told { IsTold K.takes K.drops K.held result sink.old (findings (cell_fault view.now i)) sink.new }
     ensures good { IfOk result (λ good. good ≡ (length (cell_fault view.now i) == 0)) }
 {
     let code = match view.cell(i) {
@@ -151,7 +151,7 @@ fn tell_freeblock<K: Sink>(
     sink: &mut K,
 ) -> Result<bool, WriteFailed>
     requires { number ≡ view.now.number }
-    ensures told { IsTold K.takes K.drops K.failures result sink.old (findings (freeblock_fault view.now)) sink.new }
+    ensures told { IsTold K.takes K.drops K.held result sink.old (findings (freeblock_fault view.now)) sink.new }
     ensures good { IfOk result (λ good. good ≡ (length (freeblock_fault view.now) == 0)) }
 {
     match view.freeblocks().bad() {
@@ -174,7 +174,7 @@ fn tell_coverage<K: Sink>(
 ) -> Result<(), WriteFailed>
     requires number { number ≡ view.now.number }
     requires room { view.now.usable ≤ length uses.old }
-    ensures { IsTold K.takes K.drops K.failures result sink.old (findings (coverage_fault view.now is_good)) sink.new }
+    ensures { IsTold K.takes K.drops K.held result sink.old (findings (coverage_fault view.now is_good)) sink.new }
 {
     match uncounted_coverage(view, uses) {
         Coverage::Overlap(item) => sink.fault(&Fault::new(
@@ -200,7 +200,7 @@ fn tell_empty<K: Sink>(
     sink: &mut K,
 ) -> Result<(), WriteFailed>
     requires { number ≡ view.now.number }
-    ensures { IsTold K.takes K.drops K.failures result sink.old (findings (empty_fault view.now is_child)) sink.new }
+    ensures { IsTold K.takes K.drops K.held result sink.old (findings (empty_fault view.now is_child)) sink.new }
 {
     if !is_child || view.cells() > 0 {
         return Ok(());

@@ -1,24 +1,22 @@
 // How a page of a tree is entered.
-ghost use Rattle.std.specs.Prelude.{◌≡◌, ℕ, ◌+◌, ◌*◌, ◌<◌, ◌≤◌, ◌++◌, [], ◌∷◌, List, length, true, false, IfOk, IfErr, IfSome, IsTrue, slice_get};
+ghost use Rattle.std.specs.Prelude.{◌≡◌, ℕ, ◌<◌, ◌≤◌, List, length, true, false, IfOk, IfErr, IfSome, IsTrue, slice_get};
 ghost use Rattle.dbformat.specs.Address.{schema_start};
-ghost use Rattle.dbformat.specs.File.{geometry as shape_of, page_bytes};
+ghost use Rattle.dbformat.specs.File.{geometry as shape_of};
 ghost use Rattle.dbformat.specs.Header.{encoding as encoding_of};
 ghost use Rattle.dbformat.specs.Log.{HasLog};
 ghost use Rattle.dbformat.specs.Reference.{Reference};
-ghost use Rattle.dbformat.specs.Survey.{rules_of};
-ghost use Rattle.dbsurvey.specs.Traverse.{is_followed};
 ghost use Rattle.dbformat.specs.declared.TreeKind.{TreeKind};
-ghost use Rattle.dbwalk.specs.Running.{AreOfEarlierStarts};
-ghost use Rattle.dbwalk.specs.Found.{StandsAt};
 ghost use Rattle.dbwalk.specs.WalkGiven.{IsEntryDone, IsGivenBefore};
-ghost use Rattle.dbwalk.specs.Walking.{IsCandidate, IsOpen, IsRunning};
-ghost use Rattle.dbwalk.specs.Entered.{IsNext, IsStepOf};
-ghost use Rattle.dbwalk.specs.Marking.{AreMarksOf, IsUse, unmarked_pages};
+ghost use Rattle.dbwalk.specs.Walking.{IsCandidate, IsOpen};
+ghost use Rattle.dbwalk.specs.Entered.{IsStepOf};
+ghost use Rattle.dbwalk.specs.Marking.{IsUse, unmarked_pages};
 ghost use Rattle.dbwalk.specs.Outcomes.{IsReadOrWrite, IsReadWriteOrMemory};
 ghost use Rattle.dbwalk.specs.Packing.{named_page};
 ghost use Rattle.dbwalk.specs.Reads.{Reads};
 ghost use Rattle.dbsource.specs.Errors.{is_out_of_memory, is_read_failed, is_write_failed};
 ghost use Rattle.dbsource.specs.Failures.{failures_after};
+ghost use Rattle.dbwalk.specs.Standing.{AtPage, AtReference};
+ghost use Rattle.dbwalk.specs.Sinks.{after_writes};
 
 use crate::entering::{Step, enter};
 use crate::leaf::walk_leaf;
@@ -36,7 +34,8 @@ pub fn tree_step(level: usize, page: u32, from: u32, item: u32) -> Step
     ensures used { IsUse result.mark }
     ensures named { named_page result.mark ≤ 67108864 }
     ensures shallow { result.is_too_deep ≡ false → level < 20 }
-    ensures step { (kind : TreeKind) (k : ℕ) (children : List ℕ) (c : Reference) → length children ≡ level → IsCandidate kind k children page from item c → IsStepOf result c }
+    ensures step { (kind : TreeKind) (k : ℕ) (children : List ℕ) (c : Reference) → length children ≡ level
+        → IsCandidate kind k children page from item c → IsStepOf result c }
 {
     let mark = if level == 0 {
         Mark::Root
@@ -75,17 +74,18 @@ pub fn visit_page<A: Allocator, S: Source, K: Sink, T: Taker>(
     ensures tree { (tree.new.start ≡ tree.old.start) × (tree.new.kind ≡ tree.old.kind) × (tree.new.path ≡ tree.old.path) }
     ensures told { (S.held source.new).bytes ≡ (S.held source.old).bytes }
     ensures reads { (S.held source.new).failures ≡ failures_after is_read_failed result (S.held source.old).failures }
-    ensures writes { K.failures sink.new ≡ failures_after is_write_failed result (K.failures sink.old) }
+    ensures writes { K.held sink.new ≡ after_writes is_write_failed result (K.held sink.old) }
     ensures refusals { T.refusals taker.new ≡ failures_after is_out_of_memory result (T.refusals taker.old) }
     ensures log { HasLog S.step (Reads bench.old.geometry.page_size marks.old marks.new) (S.held source.old).trail (S.held source.new).trail }
     ensures only { IfErr result IsReadWriteOrMemory }
     ensures others { 1 ≤ tree.old.start → (taker.new ≡ taker.old) × IfErr result IsReadOrWrite }
-    ensures open { IfOk result (λ yes. IsTrue yes → IsOpen bench.new.geometry.usable tree.new.kind bench.new.levels (length tree.old.path.items) (record { page = page; next = 0 })) }
-    ensures done { IfSome (S.held source.old).bytes (λ file. bench.old.geometry ≡ shape_of file → encoding ≡ encoding_of file → (W : List Reference) (c : Reference) (from item : ℕ) → IsCandidate tree.old.kind tree.old.start tree.old.path.items page from item c
-        → StandsAt bench.old.levels (length tree.old.path.items) (page_bytes file page) → IsNext W c → is_followed (rules_of file) W c ≡ true → (tree.old.path.items ≡ [] → AreOfEarlierStarts tree.old.start W)
-        → AreMarksOf file (W ++ (c ∷ [])) marks.old → IsRunning file tree.old.start W c.address tree.old.greatest tree.old.leaf
-        → (held : T → ℕ) (first : T) → (tree.old.start ≡ schema_start → IsGivenBefore T.takes held file W c.address first taker.old)
-        → IsEntryDone K.takes K.drops T.takes T.refuses file W c result bench.new.levels marks.new tree.new.greatest tree.new.leaf sink.old sink.new first taker.new) }
+    ensures open { IfOk result (λ yes. IsTrue yes
+        → IsOpen bench.new.geometry.usable tree.new.kind bench.new.levels (length tree.old.path.items) (record { page = page; next = 0 })) }
+    ensures done { IfSome (S.held source.old).bytes (λ file. bench.old.geometry ≡ shape_of file → encoding ≡ encoding_of file
+        → AtPage file tree.old bench.old.levels page marks.old (λ W c.
+        (held : T → ℕ) (first : T) → (tree.old.start ≡ schema_start → IsGivenBefore T.takes held file W c.address first taker.old)
+        → IsEntryDone K.takes K.drops T.takes T.refuses file W c
+        result bench.new.levels marks.new tree.new.greatest tree.new.leaf sink.old sink.new first taker.new)) }
 {
     match tell_page(bench, tree, page, sink)? {
         PageFound::Interior => Ok(true),
@@ -123,17 +123,20 @@ pub fn enter_page<A: Allocator, S: Source, K: Sink, T: Taker>(
     ensures tree { (tree.new.start ≡ tree.old.start) × (tree.new.kind ≡ tree.old.kind) × (tree.new.path ≡ tree.old.path) }
     ensures told { (S.held source.new).bytes ≡ (S.held source.old).bytes }
     ensures reads { (S.held source.new).failures ≡ failures_after is_read_failed result (S.held source.old).failures }
-    ensures writes { K.failures sink.new ≡ failures_after is_write_failed result (K.failures sink.old) }
+    ensures writes { K.held sink.new ≡ after_writes is_write_failed result (K.held sink.old) }
     ensures refusals { T.refusals taker.new ≡ failures_after is_out_of_memory result (T.refusals taker.old) }
     ensures log { HasLog S.step (Reads bench.old.geometry.page_size marks.old marks.new) (S.held source.old).trail (S.held source.new).trail }
     ensures only { IfErr result IsReadWriteOrMemory }
     ensures others { 1 ≤ tree.old.start → (taker.new ≡ taker.old) × IfErr result IsReadOrWrite }
-    ensures open { IfOk result (λ yes. IsTrue yes → (length tree.old.path.items < 20) × IsOpen bench.new.geometry.usable tree.new.kind bench.new.levels (length tree.old.path.items) (record { page = page; next = 0 })) }
-    ensures fewer { IfOk result (λ yes. unmarked_pages marks.new ≤ unmarked_pages marks.old × (IsTrue yes → unmarked_pages marks.new < unmarked_pages marks.old)) }
-    ensures done { IfSome (S.held source.old).bytes (λ file. bench.old.geometry ≡ shape_of file → encoding ≡ encoding_of file → (W : List Reference) (c : Reference) → IsCandidate tree.old.kind tree.old.start tree.old.path.items page from item c
-        → IsNext W c → (tree.old.path.items ≡ [] → AreOfEarlierStarts tree.old.start W) → AreMarksOf file W marks.old → IsRunning file tree.old.start W c.address tree.old.greatest tree.old.leaf
-        → (held : T → ℕ) (first : T) → (tree.old.start ≡ schema_start → IsGivenBefore T.takes held file W c.address first taker.old)
-        → IsEntryDone K.takes K.drops T.takes T.refuses file W c result bench.new.levels marks.new tree.new.greatest tree.new.leaf sink.old sink.new first taker.new) }
+    ensures open { IfOk result (λ yes. IsTrue yes → (length tree.old.path.items < 20)
+        × IsOpen bench.new.geometry.usable tree.new.kind bench.new.levels (length tree.old.path.items) (record { page = page; next = 0 })) }
+    ensures fewer { IfOk result (λ yes. unmarked_pages marks.new ≤ unmarked_pages marks.old
+        × (IsTrue yes → unmarked_pages marks.new < unmarked_pages marks.old)) }
+    ensures done { IfSome (S.held source.old).bytes (λ file. bench.old.geometry ≡ shape_of file → encoding ≡ encoding_of file
+        → AtReference file tree.old page from item marks.old (λ W c.
+        (held : T → ℕ) (first : T) → (tree.old.start ≡ schema_start → IsGivenBefore T.takes held file W c.address first taker.old)
+        → IsEntryDone K.takes K.drops T.takes T.refuses file W c
+        result bench.new.levels marks.new tree.new.greatest tree.new.leaf sink.old sink.new first taker.new)) }
 {
     let level = tree.path.len();
     let step = tree_step(level, page, from, item);

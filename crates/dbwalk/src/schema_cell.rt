@@ -1,27 +1,16 @@
 // A cell of a leaf of the schema's tree: its overflow chain, its row, and its key (Database File Format, 1.6 and 2.6).
-ghost use Rattle.std.specs.Prelude.{◌≡◌, ℕ, ◌+◌, ◌-◌, ◌*◌, ◌<◌, ◌≤◌, [], ◌∷◌, false, List, length, Some, IfErr, IfSome, OnOk, is_some};
-ghost use Rattle.dbsurvey.specs.InOrder.{IsPast};
+ghost use Rattle.std.specs.Prelude.{◌≡◌, ℕ, ◌-◌, ◌*◌, ◌<◌, ◌≤◌, length, IfErr, IfSome};
 ghost use Rattle.dbformat.specs.Address.{then_step, schema_start};
-ghost use Rattle.dbformat.specs.Cell.{count};
-ghost use Rattle.dbformat.specs.Errands.{cell_errands};
 ghost use Rattle.dbformat.specs.File.{geometry as shape_of};
-ghost use Rattle.dbformat.specs.Head.{View, is_interior};
 ghost use Rattle.dbformat.specs.Header.{encoding as encoding_of};
 ghost use Rattle.dbformat.specs.Log.{HasLog};
-ghost use Rattle.dbformat.specs.Reference.{Reference, tree_view};
-ghost use Rattle.dbwalk.specs.Running.{IsLatest};
-ghost use Rattle.dbwalk.specs.LeafCells.{overflow_errands};
-ghost use Rattle.dbwalk.specs.Walking.{IsLeafAt, IsRunning};
-ghost use Rattle.dbwalk.specs.Done.{IsDone};
-ghost use Rattle.dbwalk.specs.Marking.{AreMarksOf};
 ghost use Rattle.dbwalk.specs.Outcomes.{IsReadOrWrite, IsReadWriteOrMemory};
 ghost use Rattle.dbwalk.specs.Reads.{Reads};
-ghost use Rattle.dbwalk.specs.RootRoom.{HasRootRoom};
 ghost use Rattle.dbwalk.specs.CellTaken.{IsGiven, IsLeafCellDone, IsRowDone};
-ghost use Rattle.dbwalk.specs.Sieving.{FeedsPayload};
-ghost use Rattle.dbwalk.specs.Taking.{IsTaking};
 ghost use Rattle.dbsource.specs.Errors.{is_out_of_memory, is_read_failed, is_write_failed};
 ghost use Rattle.dbsource.specs.Failures.{failures_after};
+ghost use Rattle.dbwalk.specs.Standing.{AtCell, IsSameButGreatest};
+ghost use Rattle.dbwalk.specs.Sinks.{after_writes};
 
 use crate::cell::{tell_rowid, walk_cell, walk_overflow};
 use crate::cells::leaf_cell;
@@ -55,17 +44,18 @@ pub fn walk_schema_cell<A: Allocator, S: Source, K: Sink, T: Taker>(
     requires page { page ≤ 67108864 }
     requires start { tree.old.start ≡ schema_start }
     ensures bench { (bench.new.geometry ≡ bench.old.geometry) × (bench.new.levels ≡ bench.old.levels) }
-    ensures tree { (tree.new.start ≡ tree.old.start) × (tree.new.kind ≡ tree.old.kind) × (tree.new.leaf ≡ tree.old.leaf) × (tree.new.path ≡ tree.old.path) }
+    ensures tree { IsSameButGreatest tree.old tree.new }
     ensures told { (S.held source.new).bytes ≡ (S.held source.old).bytes }
     ensures reads { (S.held source.new).failures ≡ failures_after is_read_failed result (S.held source.old).failures }
-    ensures writes { K.failures sink.new ≡ failures_after is_write_failed result (K.failures sink.old) }
+    ensures writes { K.held sink.new ≡ after_writes is_write_failed result (K.held sink.old) }
     ensures refusals { T.refusals taker.new ≡ failures_after is_out_of_memory result (T.refusals taker.old) }
     ensures log { HasLog S.step (Reads bench.old.geometry.page_size marks.old marks.new) (S.held source.old).trail (S.held source.new).trail }
     ensures only { IfErr result IsReadWriteOrMemory }
-    ensures done { IfSome (S.held source.old).bytes (λ file. bench.old.geometry ≡ shape_of file → encoding ≡ encoding_of file → (U : List Reference) (c : Reference) (v : View) → IsLeafAt file tree.old.kind tree.old.start tree.old.path.items U c bench.old.levels page → tree_view file c ≡ Some v → is_interior v.kind ≡ false → i < count v
-        → IsLatest U c → IsPast U (cell_errands c tree.old.kind v i) → AreMarksOf file U marks.old → IsRunning file tree.old.start U (then_step c.address (3 * i)) tree.old.greatest tree.old.leaf
-        → (held : T → ℕ) (first : T) → HasRootRoom T.takes held → held first ≡ 0 → IsTaking T.takes file U (then_step c.address (3 * i)) first taker.old
-        → IsRowDone K.takes K.drops T.takes T.refuses file tree.old.kind v i U c result marks.new tree.new.greatest tree.new.leaf sink.old sink.new first taker.new) }
+    ensures done { IfSome (S.held source.old).bytes (λ file. bench.old.geometry ≡ shape_of file → encoding ≡ encoding_of file
+        → AtCell file tree.old bench.old.levels page i marks.old (λ U c v.
+        (held : T → ℕ) (first : T) → IsGiven T.takes held file U c (then_step c.address (3 * i)) first taker.old
+        → IsRowDone K.takes K.drops T.takes T.refuses file tree.old.kind v i U c
+        result marks.new tree.new.greatest tree.new.leaf sink.old sink.new first taker.new)) }
 {
     let level = tree.path.len();
     let cell = leaf_cell(bench, tree.kind, level, page, i);
@@ -108,18 +98,19 @@ pub fn walk_leaf_cell<A: Allocator, S: Source, K: Sink, T: Taker>(
     requires level { length tree.old.path.items < 20 }
     requires page { page ≤ 67108864 }
     ensures bench { (bench.new.geometry ≡ bench.old.geometry) × (bench.new.levels ≡ bench.old.levels) }
-    ensures tree { (tree.new.start ≡ tree.old.start) × (tree.new.kind ≡ tree.old.kind) × (tree.new.leaf ≡ tree.old.leaf) × (tree.new.path ≡ tree.old.path) }
+    ensures tree { IsSameButGreatest tree.old tree.new }
     ensures told { (S.held source.new).bytes ≡ (S.held source.old).bytes }
     ensures reads { (S.held source.new).failures ≡ failures_after is_read_failed result (S.held source.old).failures }
-    ensures writes { K.failures sink.new ≡ failures_after is_write_failed result (K.failures sink.old) }
+    ensures writes { K.held sink.new ≡ after_writes is_write_failed result (K.held sink.old) }
     ensures refusals { T.refusals taker.new ≡ failures_after is_out_of_memory result (T.refusals taker.old) }
     ensures log { HasLog S.step (Reads bench.old.geometry.page_size marks.old marks.new) (S.held source.old).trail (S.held source.new).trail }
     ensures only { IfErr result IsReadWriteOrMemory }
     ensures others { 1 ≤ tree.old.start → (taker.new ≡ taker.old) × IfErr result IsReadOrWrite }
-    ensures done { IfSome (S.held source.old).bytes (λ file. bench.old.geometry ≡ shape_of file → encoding ≡ encoding_of file → (U : List Reference) (c : Reference) (v : View) → IsLeafAt file tree.old.kind tree.old.start tree.old.path.items U c bench.old.levels page → tree_view file c ≡ Some v → is_interior v.kind ≡ false → i < count v
-        → IsPast U (cell_errands c tree.old.kind v i) → AreMarksOf file U marks.old → IsRunning file tree.old.start U (then_step c.address (3 * i)) tree.old.greatest tree.old.leaf
-        → (held : T → ℕ) (first : T) → (tree.old.start ≡ schema_start → IsGiven T.takes held file U c (then_step c.address (3 * i)) first taker.old)
-        → IsLeafCellDone K.takes K.drops T.takes T.refuses file tree.old.kind v i U c result marks.new tree.new.greatest tree.new.leaf sink.old sink.new first taker.new) }
+    ensures done { IfSome (S.held source.old).bytes (λ file. bench.old.geometry ≡ shape_of file → encoding ≡ encoding_of file
+        → AtCell file tree.old bench.old.levels page i marks.old (λ U c v.
+        (held : T → ℕ) (first : T) → (tree.old.start ≡ schema_start → IsGiven T.takes held file U c (then_step c.address (3 * i)) first taker.old)
+        → IsLeafCellDone K.takes K.drops T.takes T.refuses file tree.old.kind v i U c
+        result marks.new tree.new.greatest tree.new.leaf sink.old sink.new first taker.new)) }
 {
     if tree.start == 0 {
         walk_schema_cell(source, bench, marks, tree, page, i, encoding, taker, sink)

@@ -12,6 +12,7 @@ ghost use Rattle.dbwalk.specs.RowTold.{place_of, fault_of, taken_faults, TellsRo
 ghost use Rattle.dbwalk.specs.Sieving.{HasFed};
 ghost use Rattle.dbsource.specs.Errors.{is_out_of_memory, is_write_failed};
 ghost use Rattle.dbsource.specs.Failures.{failures_after};
+ghost use Rattle.dbwalk.specs.Sinks.{after_writes};
 
 use crate::{Sink, Taken, Taker};
 use dbbytes::{RowSieve, SchemaRow};
@@ -63,7 +64,7 @@ impl RowPlace {
 
 // Tells a fault, where it is one.
 fn tell_if<K: Sink>(is_fault: bool, fault: &Fault, sink: &mut K) -> Result<(), WriteFailed>
-    ensures { IsTold K.takes K.drops K.failures result sink.old (findings (told_if is_fault fault.now)) sink.new }
+    ensures { IsTold K.takes K.drops K.held result sink.old (findings (told_if is_fault fault.now)) sink.new }
 {
     if is_fault { sink.fault(fault) } else { Ok(()) }
 }
@@ -75,7 +76,7 @@ fn tell_taken<K: Sink>(
     place: RowPlace,
     sink: &mut K,
 ) -> Result<(), WriteFailed>
-    ensures { IsTold K.takes K.drops K.failures result sink.old (findings (taken_faults place (schema_row_of row.now) taken)) sink.new }
+    ensures { IsTold K.takes K.drops K.held result sink.old (findings (taken_faults place (schema_row_of row.now) taken)) sink.new }
 {
     let nameless = place.fault(FaultCode::S02, place.rowid);
     tell_if(row.name.is_none(), &nameless, sink)?;
@@ -90,7 +91,7 @@ fn take_row<K: Sink, T: Taker>(
     taker: &mut T,
     sink: &mut K,
 ) -> Result<(), RunError>
-    ensures writes { K.failures sink.new ≡ failures_after is_write_failed result (K.failures sink.old) }
+    ensures writes { K.held sink.new ≡ after_writes is_write_failed result (K.held sink.old) }
     ensures refusals { T.refusals taker.new ≡ failures_after is_out_of_memory result (T.refusals taker.old) }
     ensures only { IfErr result IsWriteOrMemory }
     ensures told { TellsRow K.takes K.drops T.takes T.refuses place (seen row.entry) result sink.old sink.new taker.old taker.new }
@@ -118,7 +119,7 @@ pub fn tell_row<K: Sink, T: Taker>(
     taker: &mut T,
     sink: &mut K,
 ) -> Result<(), RunError>
-    ensures writes { K.failures sink.new ≡ failures_after is_write_failed result (K.failures sink.old) }
+    ensures writes { K.held sink.new ≡ after_writes is_write_failed result (K.held sink.old) }
     ensures refusals { T.refusals taker.new ≡ failures_after is_out_of_memory result (T.refusals taker.old) }
     ensures only { IfErr result IsWriteOrMemory }
     ensures none { sieve.now ≡ None → (result ≡ Ok tt) × (sink.new ≡ sink.old) × (taker.new ≡ taker.old) }

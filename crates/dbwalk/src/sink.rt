@@ -1,8 +1,9 @@
 // Who is told of rows and faults.
-ghost use Rattle.std.specs.Prelude.{◌≡◌, ℕ, MatchResult};
+ghost use Rattle.std.specs.Prelude.{◌≡◌, MatchResult};
 ghost use Rattle.dbwalk.specs.Finding.{Finding, told_row, told_fault};
 ghost use Rattle.dbwalk.specs.Rows.{row_of};
-ghost use Rattle.dbsource.specs.Failures.{failures_after, is_any};
+ghost use Rattle.dbwalk.specs.Sinks.{after_writes};
+ghost use Rattle.dbsource.specs.Failures.{is_any};
 
 use crate::{Fault, PageType};
 use dbsource::WriteFailed;
@@ -33,13 +34,14 @@ pub struct Row<'a> {
 /// What rows and faults are told to, one after another.
 pub trait Sink {
     ghost use Rattle.dbwalk.specs.Finding.{Finding};
+    ghost use Rattle.dbwalk.specs.Sinks.{SinkState};
 
     // What an item that is taken makes of it.
     ghost takes: { Self → Finding → Self → Type 0 };
     // What an item that is not taken, or not whole, makes of it.
     ghost drops: { Self → Finding → Self → Type 0 };
-    // How many calls failed, in 64 bits.
-    ghost failures: { Self → ℕ };
+    // What it is lent, and how many calls failed, in 64 bits.
+    ghost held: { Self → SinkState };
 
     /// Takes a fault.
     ///
@@ -48,7 +50,7 @@ pub trait Sink {
     /// [`WriteFailed`] where it was not taken whole; one failure is counted then.
     fn fault(&mut self, fault: &Fault) -> Result<(), WriteFailed>
         ensures item { MatchResult result (λ _. takes self.old (told_fault fault.now) self.new) (λ _. drops self.old (told_fault fault.now) self.new) }
-        ensures count { failures self.new ≡ failures_after is_any result (failures self.old) };
+        ensures count { held self.new ≡ after_writes is_any result (held self.old) };
 
     /// Takes a row.
     ///
@@ -57,5 +59,5 @@ pub trait Sink {
     /// [`WriteFailed`] where it was not taken whole; one failure is counted then.
     fn row(&mut self, row: &Row<'_>) -> Result<(), WriteFailed>
         ensures item { MatchResult result (λ _. takes self.old (told_row (row_of row.now)) self.new) (λ _. drops self.old (told_row (row_of row.now)) self.new) }
-        ensures count { failures self.new ≡ failures_after is_any result (failures self.old) };
+        ensures count { held self.new ≡ after_writes is_any result (held self.old) };
 }

@@ -1,12 +1,9 @@
 // What the walk over one tree keeps beside marks, buffers and frames.
-ghost use Rattle.std.specs.Prelude.{◌≡◌, ℕ, [], length, Some, None, ◌==◌, not, ◌≤◌};
-ghost use Rattle.dbformat.specs.declared.FaultCode.TheVariants.{T05, T06};
-ghost use Rattle.dbformat.specs.Tests.{told_if};
-ghost use Rattle.dbformat.specs.Faults.{fault};
-ghost use Rattle.std.specs.Prelude.{pos};
-ghost use Rattle.std.specs.Option.{option_map_or};
-ghost use Rattle.dbwalk.specs.Running.{is_late, greater_key};
+ghost use Rattle.std.specs.Prelude.{◌≡◌, [], Some, None};
+ghost use Rattle.dbwalk.specs.Running.{greater_key};
+ghost use Rattle.dbwalk.specs.Standing.{IsSameButGreatest, IsSameButLeaf};
 ghost use Rattle.dbwalk.specs.Telling.{IsTold, findings};
+ghost use Rattle.dbwalk.specs.LeafCells.{depth_faults, first_depth, order_faults};
 
 use crate::Sink;
 use arrayvec::ArrayVec;
@@ -48,9 +45,9 @@ impl Tree {
         is_rowid: bool,
         sink: &mut K,
     ) -> Result<(), WriteFailed>
-        ensures told { IsTold K.takes K.drops K.failures result sink.old (findings (told_if (is_late is_rowid self.old.greatest key) (fault T06 page item key))) sink.new }
+        ensures told { IsTold K.takes K.drops K.held result sink.old (findings (order_faults is_rowid self.old.greatest page item key)) sink.new }
         ensures greatest { self.new.greatest ≡ greater_key self.old.greatest key }
-        ensures others { (self.new.start ≡ self.old.start) × (self.new.kind ≡ self.old.kind) × (self.new.leaf ≡ self.old.leaf) × (self.new.path ≡ self.old.path) }
+        ensures others { IsSameButGreatest self.old self.new }
     {
         let is_late = match self.greatest {
             None => false,
@@ -78,9 +75,9 @@ impl Tree {
         depth: u32,
         sink: &mut K,
     ) -> Result<(), WriteFailed>
-        ensures told { IsTold K.takes K.drops K.failures result sink.old (findings (told_if (not (depth == option_map_or (λ n. n) self.old.leaf depth)) (fault T05 page 0 (pos depth)))) sink.new }
-        ensures leaf { self.new.leaf ≡ Some (option_map_or (λ n. n) self.old.leaf depth) }
-        ensures others { (self.new.start ≡ self.old.start) × (self.new.kind ≡ self.old.kind) × (self.new.greatest ≡ self.old.greatest) × (self.new.path ≡ self.old.path) }
+        ensures told { IsTold K.takes K.drops K.held result sink.old (findings (depth_faults self.old.leaf page depth)) sink.new }
+        ensures leaf { self.new.leaf ≡ Some (first_depth self.old.leaf depth) }
+        ensures others { IsSameButLeaf self.old self.new }
     {
         let first = self.leaf.unwrap_or(depth);
         self.leaf = Some(first);

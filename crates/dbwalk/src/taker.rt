@@ -35,6 +35,7 @@ pub trait Taker {
     ///
     /// [`AllocError`] where memory was refused; one refusal is counted then.
     fn take(&mut self, row: &SchemaRow<'_>) -> Result<Taken, AllocError>
-        ensures row { MatchResult result (λ answer. takes self.old (schema_row_of row.now) answer self.new) (λ _. refuses self.old (schema_row_of row.now) self.new) }
+        ensures row { MatchResult result (λ answer. takes self.old (schema_row_of row.now) answer self.new)
+            (λ _. refuses self.old (schema_row_of row.now) self.new) }
         ensures count { refusals self.new ≡ failures_after is_any result (refusals self.old) };
 }

@@ -1,10 +1,8 @@
 // What is told of one page of a tree: its row, and its faults.
-ghost use Rattle.std.specs.Prelude.{◌≡◌, ◌≤◌, ◌∷◌, [], length};
+ghost use Rattle.std.specs.Prelude.{◌≡◌, ◌≤◌, length};
 ghost use Rattle.dbformat.specs.Head.{is_interior};
-ghost use Rattle.dbformat.specs.PageFaults.{inner_faults};
-ghost use Rattle.dbwalk.specs.PageRows.{view_row, damaged_row};
-ghost use Rattle.dbwalk.specs.Telling.{IsTold, findings};
-ghost use Rattle.dbwalk.specs.Finding.{told_row, told_fault};
+ghost use Rattle.dbwalk.specs.PageRows.{undamaged_findings, damaged_findings};
+ghost use Rattle.dbwalk.specs.Telling.{IsTold};
 
 use crate::page::tell_inner;
 use crate::payload::payload_sums;
@@ -48,7 +46,7 @@ pub fn tell_undamaged<K: Sink>(
     requires number { place.now.page ≡ view.now.number }
     requires most { view.now.usable ≤ 65536 }
     requires room { view.now.usable ≤ length uses.old }
-    ensures { IsTold K.takes K.drops K.failures result sink.old (told_row (view_row place.now.start place.now.path.now view.now) ∷ findings (inner_faults view.now is_child)) sink.new }
+    ensures { IsTold K.takes K.drops K.held result sink.old (undamaged_findings place.now.start place.now.path.now view.now is_child) sink.new }
 {
     let (payload, mx_payload) = payload_sums(view);
     let pagetype = if is_interior(view.kind()) {
@@ -80,7 +78,7 @@ pub fn tell_damaged<K: Sink>(
     damage: &Fault,
     sink: &mut K,
 ) -> Result<(), WriteFailed>
-    ensures { IsTold K.takes K.drops K.failures result sink.old (told_row (damaged_row place.now.start place.now.path.now place.now.page) ∷ findings (damage.now ∷ [])) sink.new }
+    ensures { IsTold K.takes K.drops K.held result sink.old (damaged_findings place.now.start place.now.path.now place.now.page damage.now) sink.new }
 {
     sink.row(&Row {
         start: place.start,

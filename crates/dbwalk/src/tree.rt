@@ -1,6 +1,5 @@
 // The walk over one tree (Database File Format, 1.6).
-ghost use Rattle.std.specs.Prelude.{◌≡◌, ℕ, ◌≤◌, ◌++◌, [], ◌∷◌, ◌↔◌, List, None, true, IfErr, IfSome, OnOk};
-ghost use Rattle.dbsurvey.specs.Moves.{Moves};
+ghost use Rattle.std.specs.Prelude.{◌≡◌, ℕ, ◌≤◌, ◌++◌, [], ◌∷◌, ◌↔◌, List, None, true, IfErr, IfSome};
 ghost use Rattle.dbsurvey.specs.Story.{Go};
 ghost use Rattle.dbsurvey.specs.Traverse.{is_followed};
 ghost use Rattle.dbformat.specs.Address.{schema_start};
@@ -21,10 +20,11 @@ ghost use Rattle.dbwalk.specs.Reads.{Reads};
 ghost use Rattle.dbwalk.specs.RootRoom.{StartsEmpty};
 ghost use Rattle.dbwalk.specs.Roots.{IsRootAfter};
 ghost use Rattle.dbwalk.specs.Running.{AreOfEarlierStarts};
-ghost use Rattle.dbwalk.specs.Taking.{gives, readable_rows};
+ghost use Rattle.dbwalk.specs.Taking.{Gives, readable_rows};
 ghost use Rattle.dbwalk.specs.WalkGiven.{IsTreeDone};
 ghost use Rattle.dbwalk.specs.Walking.{IsCandidate};
 ghost use Rattle.dbwalk.specs.declared.root.RootKind.TheVariants as root_kind;
+ghost use Rattle.dbwalk.specs.Sinks.{after_writes};
 
 use crate::entering::enter;
 use crate::frame::Frame;
@@ -54,7 +54,7 @@ fn walk_pages<A: Allocator, S: Source, K: Sink, T: Taker>(
     ensures shape { bench.new.geometry ≡ bench.old.geometry }
     ensures told { (S.held source.new).bytes ≡ (S.held source.old).bytes }
     ensures reads { (S.held source.new).failures ≡ failures_after is_read_failed result (S.held source.old).failures }
-    ensures writes { K.failures sink.new ≡ failures_after is_write_failed result (K.failures sink.old) }
+    ensures writes { K.held sink.new ≡ after_writes is_write_failed result (K.held sink.old) }
     ensures refusals { T.refusals taker.new ≡ failures_after is_out_of_memory result (T.refusals taker.old) }
     ensures log { HasLog S.step (Reads bench.old.geometry.page_size marks.old marks.new) (S.held source.old).trail (S.held source.new).trail }
     ensures only { IfErr result IsReadWriteOrMemory }
@@ -93,8 +93,8 @@ fn walk_pages<A: Allocator, S: Source, K: Sink, T: Taker>(
 /// # Errors
 ///
 /// [`RunError::ReadFailed`] exactly where the source failed, [`RunError::WriteFailed`] exactly where the sink failed,
-/// [`RunError::OutOfMemory`] exactly where the taker was refused memory. The sink was told a beginning then, and which pages
-/// are marked is open.
+/// [`RunError::OutOfMemory`] exactly where the taker was refused memory. The sink was told a beginning then, and the taker
+/// was given one; which pages are marked is open.
 pub fn walk_tree<A: Allocator, S: Source, K: Sink, T: Taker>(
     source: &mut S,
     bench: &mut Bench<A>,
@@ -106,7 +106,7 @@ pub fn walk_tree<A: Allocator, S: Source, K: Sink, T: Taker>(
     requires schema { (root.kind ≡ root_kind.Schema) ↔ (root.start ≡ schema_start) }
     ensures shape { bench.new.geometry ≡ bench.old.geometry }
     ensures asks { Asks S.step (Reads bench.old.geometry.page_size marks.old marks.new) is_read_failed result (S.held source.old) (S.held source.new) }
-    ensures writes { K.failures sink.new ≡ failures_after is_write_failed result (K.failures sink.old) }
+    ensures writes { K.held sink.new ≡ after_writes is_write_failed result (K.held sink.old) }
     ensures refusals { T.refusals taker.new ≡ failures_after is_out_of_memory result (T.refusals taker.old) }
     ensures only { IfErr result IsReadWriteOrMemory }
     // Only the schema's tree calls the taker.
@@ -115,11 +115,12 @@ pub fn walk_tree<A: Allocator, S: Source, K: Sink, T: Taker>(
         → (W : List Reference) (c : Reference) → IsRootAfter file root W c marks.old
         → (held : T → ℕ) → (root.kind ≡ root_kind.Schema → StartsEmpty T.takes held taker.old)
         → IsDone K.takes K.drops file W (Go c ∷ []) result marks.new sink.old sink.new) }
-    // The taker was given the rows of the schema that can be read, in their order.
+    // The taker was given the rows of the schema that can be read, in their order; after an error a beginning of them, up to
+    // one for which it was refused memory, where it was.
     ensures rows { IfSome (S.held source.old).bytes (λ file. bench.old.geometry ≡ shape_of file → root.encoding ≡ encoding_of file
         → (W : List Reference) (c : Reference) → IsRootAfter file root W c marks.old
         → (held : T → ℕ) → StartsEmpty T.takes held taker.old → root.kind ≡ root_kind.Schema
-        → OnOk result (Moves (gives T.takes) taker.old (readable_rows file (W ++ visited_below file W (Go c ∷ []))) taker.new)) }
+        → Gives T.takes T.refuses result taker.old (readable_rows file (W ++ visited_below file W (Go c ∷ []))) taker.new) }
 {
     let step = tree_step(0, root.page, 0, root.start);
     if !enter(marks, step, sink)? {

@@ -1,21 +1,20 @@
 // One turn of the walk over a tree: a step of the last frame.
 ghost use Rattle.arrayvec.specs.ArrayVec.{array_vec_len};
-ghost use Rattle.std.specs.Prelude.{◌≡◌, ℕ, ◌≤◌, ◌<◌, ◌++◌, [], ◌∷◌, List, length, OnOk, IfErr, IfSome};
-ghost use Rattle.dbformat.specs.Address.{schema_start};
+ghost use Rattle.std.specs.Prelude.{◌≡◌, ◌≤◌, ◌<◌, ◌++◌, [], ◌∷◌, List, OnOk, IfErr, IfSome};
 ghost use Rattle.dbformat.specs.File.{geometry as shape_of};
 ghost use Rattle.dbformat.specs.Header.{encoding as encoding_of};
 ghost use Rattle.dbformat.specs.Log.{HasLog};
-ghost use Rattle.dbformat.specs.Reference.{Reference};
 ghost use Rattle.dbwalk.specs.Steps.{HasNext};
-ghost use Rattle.dbwalk.specs.RootRoom.{StartsEmpty};
-ghost use Rattle.dbwalk.specs.WalkGiven.{IsGivenWalk, IsTurnDone};
-ghost use Rattle.dbwalk.specs.Walking.{IsCandidate, AreOpen, path_of, cost};
+ghost use Rattle.dbwalk.specs.WalkGiven.{IsTurnDone};
+ghost use Rattle.dbwalk.specs.Walking.{AreOpen, path_of, cost};
 ghost use Rattle.dbwalk.specs.declared.frame.Frame.{Frame};
 ghost use Rattle.dbwalk.specs.declared.steps.Next.TheVariants as next_step;
 ghost use Rattle.dbwalk.specs.Outcomes.{IsReadOrWrite, IsReadWriteOrMemory};
 ghost use Rattle.dbwalk.specs.Reads.{Reads};
 ghost use Rattle.dbsource.specs.Errors.{is_out_of_memory, is_read_failed, is_write_failed};
 ghost use Rattle.dbsource.specs.Failures.{failures_after};
+ghost use Rattle.dbwalk.specs.Standing.{AtStep};
+ghost use Rattle.dbwalk.specs.Sinks.{after_writes};
 
 use crate::chain::{Chain, walk_chain};
 use crate::frame::Frame;
@@ -54,15 +53,15 @@ fn enter_child<A: Allocator, S: Source, K: Sink, T: Taker>(
     ensures ends { OnOk result (cost marks.new frames.new.items < cost marks.old (frames.old.items ++ (frame ∷ []))) }
     ensures told { (S.held source.new).bytes ≡ (S.held source.old).bytes }
     ensures reads { (S.held source.new).failures ≡ failures_after is_read_failed result (S.held source.old).failures }
-    ensures writes { K.failures sink.new ≡ failures_after is_write_failed result (K.failures sink.old) }
+    ensures writes { K.held sink.new ≡ after_writes is_write_failed result (K.held sink.old) }
     ensures refusals { T.refusals taker.new ≡ failures_after is_out_of_memory result (T.refusals taker.old) }
     ensures log { HasLog S.step (Reads bench.old.geometry.page_size marks.old marks.new) (S.held source.old).trail (S.held source.new).trail }
     ensures only { IfErr result IsReadWriteOrMemory }
     ensures others { 1 ≤ tree.old.start → (taker.new ≡ taker.old) × IfErr result IsReadOrWrite }
-    ensures walking { IfSome (S.held source.old).bytes (λ file. bench.old.geometry ≡ shape_of file → encoding ≡ encoding_of file → (W : List Reference) (c : Reference) (before : K) → IsCandidate tree.old.kind tree.old.start [] c.page 0 tree.old.start c
-        → (held : T → ℕ) (first : T) → (tree.old.start ≡ schema_start → StartsEmpty T.takes held first)
-        → IsGivenWalk K.takes T.takes file tree.old.kind W c before (frames.old.items ++ (frame ∷ [])) bench.old.levels marks.old tree.old.greatest tree.old.leaf sink.old first taker.old
-        → IsTurnDone K.takes K.drops T.takes T.refuses file tree.old.kind W c result before frames.new.items bench.new.levels marks.new tree.new.greatest tree.new.leaf sink.new first taker.new) }
+    ensures walking { IfSome (S.held source.old).bytes (λ file. bench.old.geometry ≡ shape_of file → encoding ≡ encoding_of file
+        → AtStep K.takes T.takes file tree.old (frames.old.items ++ (frame ∷ [])) bench.old.levels marks.old sink.old taker.old (λ W c before first.
+        IsTurnDone K.takes K.drops T.takes T.refuses file tree.old.kind W c result before
+        frames.new.items bench.new.levels marks.new tree.new.greatest tree.new.leaf sink.new first taker.new)) }
 {
     let cell = frame.next / 3;
     frames.push(frame.stepped());
@@ -105,15 +104,15 @@ pub fn turn<A: Allocator, S: Source, K: Sink, T: Taker>(
     ensures ends { OnOk result (cost marks.new frames.new.items < cost marks.old (frames.old.items ++ (frame ∷ []))) }
     ensures told { (S.held source.new).bytes ≡ (S.held source.old).bytes }
     ensures reads { (S.held source.new).failures ≡ failures_after is_read_failed result (S.held source.old).failures }
-    ensures writes { K.failures sink.new ≡ failures_after is_write_failed result (K.failures sink.old) }
+    ensures writes { K.held sink.new ≡ after_writes is_write_failed result (K.held sink.old) }
     ensures refusals { T.refusals taker.new ≡ failures_after is_out_of_memory result (T.refusals taker.old) }
     ensures log { HasLog S.step (Reads bench.old.geometry.page_size marks.old marks.new) (S.held source.old).trail (S.held source.new).trail }
     ensures only { IfErr result IsReadWriteOrMemory }
     ensures others { 1 ≤ tree.old.start → (taker.new ≡ taker.old) × IfErr result IsReadOrWrite }
-    ensures walking { IfSome (S.held source.old).bytes (λ file. bench.old.geometry ≡ shape_of file → encoding ≡ encoding_of file → (W : List Reference) (c : Reference) (before : K) → IsCandidate tree.old.kind tree.old.start [] c.page 0 tree.old.start c
-        → (held : T → ℕ) (first : T) → (tree.old.start ≡ schema_start → StartsEmpty T.takes held first)
-        → IsGivenWalk K.takes T.takes file tree.old.kind W c before (frames.old.items ++ (frame ∷ [])) bench.old.levels marks.old tree.old.greatest tree.old.leaf sink.old first taker.old
-        → IsTurnDone K.takes K.drops T.takes T.refuses file tree.old.kind W c result before frames.new.items bench.new.levels marks.new tree.new.greatest tree.new.leaf sink.new first taker.new) }
+    ensures walking { IfSome (S.held source.old).bytes (λ file. bench.old.geometry ≡ shape_of file → encoding ≡ encoding_of file
+        → AtStep K.takes T.takes file tree.old (frames.old.items ++ (frame ∷ [])) bench.old.levels marks.old sink.old taker.old (λ W c before first.
+        IsTurnDone K.takes K.drops T.takes T.refuses file tree.old.kind W c result before
+        frames.new.items bench.new.levels marks.new tree.new.greatest tree.new.leaf sink.new first taker.new)) }
 {
     match step_of(bench, tree.kind, frames.len(), frame) {
         Next::Behind => {

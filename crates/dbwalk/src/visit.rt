@@ -1,14 +1,13 @@
 // What is told of a page of a tree that was read.
-ghost use Rattle.std.specs.Prelude.{◌≡◌, ℕ, ◌+◌, ◌<◌, ◌≤◌, ◌++◌, [], ◌∷◌, List, length, IfOk, OnOk, MatchResult};
-ghost use Rattle.dbformat.specs.File.{geometry as shape_of, page_bytes};
-ghost use Rattle.dbformat.specs.Reference.{Reference};
+ghost use Rattle.std.specs.Prelude.{◌≡◌, ◌+◌, ◌<◌, ◌≤◌, ◌++◌, [], ◌∷◌, length, IfOk, OnOk};
 ghost use Rattle.dbformat.specs.Story.{at_page};
 ghost use Rattle.dbwalk.specs.Running.{first_leaf};
-ghost use Rattle.dbwalk.specs.Found.{IsFound, StandsAt};
+ghost use Rattle.dbwalk.specs.Found.{IsFound};
 ghost use Rattle.dbwalk.specs.Telling.{IsTold};
-ghost use Rattle.dbwalk.specs.Walking.{IsCandidate};
 ghost use Rattle.dbwalk.specs.Finding.{told_at};
-ghost use Rattle.dbsource.specs.Failures.{failures_after, is_any};
+ghost use Rattle.dbsource.specs.Failures.{is_any};
+ghost use Rattle.dbwalk.specs.Standing.{AtRead, IsSameButLeaf};
+ghost use Rattle.dbwalk.specs.Sinks.{after_writes};
 
 use crate::Sink;
 use crate::page::undamaged;
@@ -40,13 +39,13 @@ pub fn tell_page<A: Allocator, K: Sink>(
     requires level { length tree.old.path.items < 20 }
     requires page { page ≤ 67108864 }
     ensures bench { (bench.new.geometry ≡ bench.old.geometry) × (bench.new.levels ≡ bench.old.levels) }
-    ensures tree { (tree.new.start ≡ tree.old.start) × (tree.new.kind ≡ tree.old.kind) × (tree.new.greatest ≡ tree.old.greatest) × (tree.new.path ≡ tree.old.path) }
+    ensures tree { IsSameButLeaf tree.old tree.new }
     ensures open { IfOk result (λ found. IsFound bench.new.geometry.usable tree.new.kind bench.new.levels (length tree.old.path.items) page found) }
-    ensures writes { K.failures sink.new ≡ failures_after is_any result (K.failures sink.old) }
+    ensures writes { K.held sink.new ≡ after_writes is_any result (K.held sink.old) }
     // Where the bytes at the level are those of the page.
-    ensures told { (file : List ℕ) (W : List Reference) (c : Reference) (from item : ℕ) → bench.old.geometry ≡ shape_of file → IsCandidate tree.old.kind tree.old.start tree.old.path.items page from item c
-        → StandsAt bench.old.levels (length tree.old.path.items) (page_bytes file page) → first_leaf file tree.old.start W ≡ tree.old.leaf
-        → IsTold K.takes K.drops K.failures result sink.old (told_at file (W ++ (c ∷ [])) (at_page c)) sink.new × OnOk result (first_leaf file tree.old.start (W ++ (c ∷ [])) ≡ tree.new.leaf) }
+    ensures told { AtRead bench.old.geometry tree.old bench.old.levels page (λ file W c.
+        IsTold K.takes K.drops K.held result sink.old (told_at file (W ++ (c ∷ [])) (at_page c)) sink.new
+        × OnOk result (first_leaf file tree.old.start (W ++ (c ∷ [])) ≡ tree.new.leaf)) }
 {
     let level = tree.path.len();
     let usable = bench.geometry().usable;

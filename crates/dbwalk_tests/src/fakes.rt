@@ -49,13 +49,13 @@ impl Told {
 }
 
 impl Sink for Told {
-    ghost use Rattle.std.specs.Prelude.{⊤};
+    ghost use Rattle.std.specs.Prelude.{[], ⊤};
 
     ghost takes = { λ _ _ _. ⊤ };
 
     ghost drops = { λ _ _ _. ⊤ };
 
-    ghost failures = { λ s. s.failures };
+    ghost held = { λ s. record { lent = []; failures = s.failures } };
 
     fn fault(&mut self, fault: &Fault) -> Result<(), WriteFailed> {
         let takes = self.is_to_take();

@@ -8,15 +8,13 @@ use Rattle.dbsurvey.specs.Address.{IsIn}
 use Rattle.dbsurvey.specs.Moves.{Moves}
 use Rattle.dbsurvey.specs.Story.{Errand, Told, Go, Tell, errands_of}
 use Rattle.dbsurvey.specs.InOrder.{AreQuiet}
-use Rattle.dbsurvey.specs.Survey.{named_at}
 use Rattle.dbsurvey.specs.Traverse.{is_followed}
 use Rattle.dbsurvey.proofs.Order.{IsIn-cases}
 use Rattle.dbformat.specs.Address.{then_step, freelist_start}
 use Rattle.dbformat.specs.Errands.{go, leaf_errand, leaf_errands}
 use Rattle.dbformat.specs.Faults.{fault}
 use Rattle.dbformat.specs.File.{page_bytes}
-use Rattle.dbformat.specs.Header.{usable_size, first_trunk}
-use Rattle.dbformat.specs.Schema.{start, freelist_starts}
+use Rattle.dbformat.specs.Header.{usable_size}
 use Rattle.dbformat.specs.Numbers.{u32_at}
 use Rattle.dbformat.specs.PageFaults.{trunk_fault, role_faults, page_faults}
 use Rattle.dbformat.specs.Reference.{Role, trunk, Way, Reference, role_of, link, next_trunk, leaf_count, most_leaves}
@@ -34,7 +32,7 @@ use Rattle.dbwalk.specs.Finding.{Finding, told_row, told_fault, told_at, told_be
 use Rattle.dbwalk.specs.Left.{IsLeft}
 use Rattle.dbwalk.specs.Marking.{role_mark, AreMarksOf}
 use Rattle.dbwalk.specs.Outcomes.{StopsBy}
-use Rattle.dbwalk.specs.Trunks.{IsFirstTrunk, freelist_reference, IsOnTrunks, TrunkTurns, trunk_step, next_step}
+use Rattle.dbwalk.specs.Trunks.{IsFirstTrunk, IsOnTrunks, TrunkTurns, trunk_step, next_step}
 use Rattle.dbwalk.proofs.Telling.Belows.{told_refused, told_visit}
 use Rattle.dbwalk.proofs.Telling.Lefts.{left_start, left_refused, left_visit, left_none, left_stop}
 use Rattle.dbformat.specs.Survey.{is_too_deep}

@@ -5,9 +5,10 @@ use Rattle.std.specs.Option.{option_map_or}
 use Rattle.std.specs.Result.{result_ok}
 use Rattle.std.proofs.lemmas.List.{length-append}
 use Rattle.std.proofs.lemmas.Bool.Decides.{nat_tests}
-use Rattle.dbsurvey.specs.Address.{Address, IsBefore}
+use Rattle.dbsurvey.specs.Address.{Address, IsBefore, IsLeftOf}
 use Rattle.dbsurvey.specs.InOrder.{AreQuiet, IsPast}
-use Rattle.dbsurvey.specs.Story.{errands_of, AreErrandsApart}
+use Rattle.dbsurvey.specs.Story.{errands_of, errand_key, AreErrandsApart}
+use Rattle.dbsurvey.proofs.Order.{EachPair-right}
 use Rattle.dbformat.specs.Address.{start_of, then_step, child_step, key_step, is_child_step, cell_of_step, chain_on, chain_place, schema_start}
 use Rattle.dbformat.specs.Cell.{Cell, cell, count}
 use Rattle.dbformat.specs.Errands.{go, errands_in, cell_errands, errands_before}
@@ -18,20 +19,22 @@ use Rattle.dbformat.specs.Story.{own_visit, story_of}
 use Rattle.dbformat.specs.declared.TreeKind.{TreeKind}
 use Rattle.dbformat.proofs.Looping.{by_cell, all_quiet}
 use Rattle.dbsource.specs.declared.error.RunError.{RunError}
-use Rattle.dbwalk.specs.Running.{IsVisit}
+use Rattle.dbwalk.specs.Running.{IsVisit, rows_before}
 use Rattle.dbwalk.proofs.Running.Places.{before_next, before_later}
 use Rattle.dbwalk.proofs.Running.RunningKeys.{greatest_same, keys_at_return}
 use Rattle.dbwalk.specs.Walking.{IsRunning, IsLeafAt, place_behind}
-use Rattle.dbwalk.proofs.Leaves.LeafWays.{errands_rest, IsOnLeaf, leaf_start, past_cell, leaf_more, leaf_stop, leaf_end}
+use Rattle.dbwalk.proofs.Leaves.LeafWays.{errands_rest, IsOnLeaf, leaf_start, at_cell, past_cell, leaf_more, leaf_stop, leaf_end}
 use Rattle.dbwalk.specs.Done.{IsDone}
 use Rattle.dbwalk.specs.Finding.{Finding, visited_below}
 use Rattle.dbwalk.specs.Marking.{AreMarksOf}
 use Rattle.dbwalk.specs.declared.mark.Mark.{Mark}
 use Rattle.dbwalk.specs.declared.taker.Taken.{Taken}
-use Rattle.dbwalk.proofs.Telling.Belows.{visited_none}
+use Rattle.dbwalk.proofs.Telling.Belows.{visited_none, visited_join}
 use Rattle.dbwalk.specs.CellTaken.{IsGiven, IsLeafCellDone, IsRowsDone}
-use Rattle.dbwalk.specs.Taking.{IsTaking}
-use Rattle.dbwalk.proofs.Rows.Takings.{taking_return}
+use Rattle.dbwalk.specs.Taking.{IsTaking, StopsGiving}
+use Rattle.dbwalk.proofs.Rows.RowCuts.{cut_latest, rows_beyond}
+use Rattle.dbwalk.proofs.Rows.RowsAhead.{visits_from, cells_from_step}
+use Rattle.dbwalk.proofs.Rows.Takings.{taking_return, giving_more}
 
 -- the place behind a page
 
@@ -44,6 +47,12 @@ pub last_step : (a : Address) → 0 < length a → (b : Address) × (m : ℕ) ×
 last_step [] h = absurd (omega arith)
 last_step (x ∷ []) h = ([], x, refl)
 last_step (x ∷ y ∷ a) h = let k = last_step (y ∷ a) (omega arith) in (x ∷ k.0, k.1, ap (λ b. x ∷ b) k.2)
+
+pub behind_step : (a : Address) (s : ℕ) → 0 < length a → IsBefore (then_step a s) (place_behind a)
+behind_step a s h =
+    let k = last_step a h in
+    subst (λ a. IsBefore (then_step a s) (place_behind a)) (sym k.2) (subst (λ b. IsBefore (then_step (k.0 ++ k.1 ∷ []) s) b) (sym (behind_is k.0 k.1))
+    (subst (λ b. IsBefore b (then_step k.0 (suc k.1))) (sym (append_assoc k.0 (k.1 ∷ []) (s ∷ []))) (before_next k.0 k.1 (suc k.1) (s ∷ []) (omega arith))))
 
 no_key_child : (m j : ℕ) → is_child_step m ≡ true → m ≡ key_step j → ⊥
 no_key_child m j h e = let r : m % 3 ≡ 1 = grind (arith, nat_tests) in let f : (3 * j + 2) % 3 ≡ 2 = omega arith in let g : m % 3 ≡ (3 * j + 2) % 3 = ap (λ n. n % 3) e in omega arith
@@ -89,14 +98,24 @@ module _ {S T : Type 0} (takes drops : S → Finding → S → Type 0) (keeps : 
     }
 
     -- an error at a cell
-    pub rows_stop : (s' : S) (marks' : List Mark) (e : RunError) (new : Option ℤ) (deep : Option ℕ) (t' : T) → IsLeafCellDone takes drops keeps refuses file kind v i w.on.visited c (Err e) marks' new deep s s' first t' → errands_of (story_of file) c ≡ errands_before c kind v (count v)
+    pub rows_stop : (s' : S) (marks' : List Mark) (e : RunError) (new : Option ℤ) (deep : Option ℕ) (t' : T) → 0 < length c.address → IsLeafCellDone takes drops keeps refuses file kind v i w.on.visited c (Err e) marks' new deep s s' first t' → errands_of (story_of file) c ≡ errands_before c kind v (count v)
         → IsRowsDone takes drops keeps refuses file U c (Err e) marks' new deep before s' first t'
-    rows_stop s' marks' e new deep t' done all = record {
+    rows_stop s' marks' e new deep t' long done all = record {
       cells = record {
         done = subst (λ es. IsDone {A = Unit {0}} takes drops file U es (Err e) marks' before s') (sym all) (leaf_stop takes drops file kind v U c before i low marks greatest leaf s w.on quiet s' marks' e new deep done.cell);
         running = tt;
       };
-      given = λ f. (done.row f).given;
+      given = λ f.
+          let r = done.row f in
+          let es = cell_errands c kind v i in
+          let fs = errands_rest c kind v (i + 1) (count v - (i + 1)) in
+          let V = w.on.visited ++ visited_below file w.on.visited es in
+          let left = at_cell takes drops file kind v U c before i low marks greatest leaf s w.on quiet in
+          let q = then_step c.address (3 * (i + 1)) in
+          let ahead = visits_from file V fs q (EachPair-right (λ e f. IsLeftOf (errand_key e) (errand_key f)) es fs left.apart) (cells_from_step c kind v (i + 1) (count v - (i + 1))) in
+          let more = rows_beyond file V (visited_below file V fs) q (cut_latest file V c (3 * (i + 1)) r.latest) ahead (place_behind c.address) (behind_step c.address (3 * (i + 1)) long) in
+          subst (λ V. StopsGiving keeps refuses e first (rows_before file V (place_behind c.address)) t') (sym (visited_join file w.on.visited es fs) ∙ left.visits ∙ ap (λ es. U ++ visited_below file U es) (sym all))
+          (giving_more keeps refuses e first t' (rows_before file V q) (rows_before file (V ++ visited_below file V fs) (place_behind c.address)) more r.given);
     }
 
   -- behind the last cell

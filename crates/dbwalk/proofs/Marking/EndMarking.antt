@@ -1,27 +1,24 @@
 -- The faults at the end, by marks alone.
-use Rattle.std.proofs.Common.{◌≡◌, ℕ, zero, suc, ◌+◌, ◌-◌, ◌≤◌, ◌<◌, Bool, true, false, cond, not, ◌&&◌, inl, inr, List, [], ◌∷◌, ◌++◌, map, set, get_or, length, Option, Some, None, refl, sym, ap, subst, ◌∙◌, arith, append_assoc}
+use Rattle.std.proofs.Common.{◌≡◌, ℕ, zero, suc, ◌+◌, ◌-◌, ◌≤◌, ◌<◌, Bool, true, false, cond, not, inl, List, [], ◌∷◌, ◌++◌, map, set, get_or, length, Option, Some, None, refl, sym, ap, subst, ◌∙◌, arith, append_assoc}
 use Rattle.std.specs.Prelude.{count_by, sum_by, pos, ◌==◌}
 use Rattle.std.specs.List.{range_with_len}
 use Rattle.std.proofs.lemmas.List.{append-nil}
 use Rattle.std.proofs.lemmas.List.FromFn.{get_or-map-range_with_len, length-map-range_with_len}
 use Rattle.std.specs.Option.{option_map_or}
-use Rattle.std.proofs.lemmas.Bool.{eqb-true, and_parts}
+use Rattle.std.proofs.lemmas.Bool.{eqb-true}
 use Rattle.std.proofs.lemmas.Bool.Decides.{nat_tests}
 use Rattle.std.proofs.lemmas.List.Sums.{sum_by-set, sum_by-cons}
 use Rattle.dbsurvey.specs.Address.{IsIn}
+use Rattle.dbsurvey.proofs.Lists.{find-some}
 use Rattle.dbsurvey.proofs.Order.{IsIn-right, EachPair-across}
 use Rattle.dbformat.specs.File.{geometry, MapEntry, map_entry}
-use Rattle.dbformat.specs.FixedPages.{is_page, is_fixed}
+use Rattle.dbformat.specs.FixedPages.{is_fixed}
 use Rattle.dbformat.specs.Reference.{Role, root, child, first_overflow, later_overflow, trunk, free_leaf, Reference, role_of, from_of, is_on_freelist, entry_of}
 use Rattle.dbformat.specs.EndFaults.{visit_of, use_fault, entry_fault, free_pages}
 use Rattle.dbformat.specs.Tests.{told_if}
 use Rattle.dbformat.specs.Faults.{fault}
-use Rattle.dbsurvey.specs.Survey.{named_at}
-use Rattle.dbsurvey.proofs.Composing.{survey_is_part}
-use Rattle.dbsurvey.proofs.Deciding.{each_page_once}
-use Rattle.dbsurvey.proofs.Ordering.{not_true}
-use Rattle.dbformat.specs.Schema.{starts}
-use Rattle.dbformat.specs.Survey.{Survey, rules_of, is_too_deep}
+use Rattle.dbformat.specs.Survey.{Survey}
+use Rattle.dbformat.proofs.Visited.{allowed, each_once}
 use Rattle.dbformat.specs.declared.Geometry.{Geometry}
 use Rattle.dbformat.specs.declared.Fault.{Fault}
 use Rattle.dbformat.specs.declared.FaultCode.TheVariants.{N01}
@@ -31,13 +28,9 @@ use Rattle.dbwalk.specs.Marking.{role_mark, visit_mark, mark_of, marks_of}
 use Rattle.dbwalk.specs.EndMarks.{AreVisits, other_entry, mark_fault, is_free_mark}
 use Rattle.dbwalk.proofs.Marking.Markings.{marks_of-visit}
 
+-- a visit that is found is one of the list, and of that page
 pub found_in : (V : List Reference) (p : ℕ) (r : Reference) → visit_of V p ≡ Some r → IsIn r V × (r.page ≡ p)
-found_in [] p r h = cc
-found_in (u ∷ V) p r h = by_case (u.page == p) refl (found_in V p r) h
-  where
-    by_case : (b : Bool) → (u.page == p) ≡ b → (visit_of V p ≡ Some r → IsIn r V × (r.page ≡ p)) → cond b (Some u) (visit_of V p) ≡ Some r → IsIn r (u ∷ V) × (r.page ≡ p)
-    by_case true e f h = let k : u ≡ r = cc in (inl (sym k), ap (λ r. r.page) (sym k) ∙ eqb-true u.page p e)
-    by_case false e f h = let k = f h in (inr k.0, k.1)
+found_in V p r h = let k = find-some (λ u. u.page == p) V r h in (k.0, eqb-true r.page p k.1)
 
 abbrev use_by : List ℕ → ℕ → Bool → Option Reference → List Fault
 use_by file p b None = told_if (not b) (fault N01 p 0 (pos 0))
@@ -150,12 +143,4 @@ free_pages-by_marks g V h = sum_marks g (λ m. cond (is_free_mark m) 1 0) V refl
 
 -- the visits of a survey are such visits
 pub survey_visits : (file : List ℕ) (V : List Reference) → Survey file V → AreVisits (geometry file) V
-unfolding rules_of
-survey_visits file V s = record {
-  allowed = λ r i.
-      let k = ((s.exact r).0 i).1 in
-      let a = and_parts (is_page (geometry file) r.page) (not (is_fixed (geometry file) r.page) && not (is_too_deep r)) k in
-      let b = and_parts (not (is_fixed (geometry file) r.page)) (not (is_too_deep r)) a.1 in
-      (a.0, not_true (is_fixed (geometry file) r.page) b.0);
-  once = each_page_once (rules_of file) [] (named_at [] (starts file V)) V (survey_is_part (rules_of file) (starts file V) V s);
-}
+survey_visits file V s = record { allowed = allowed file V s; once = each_once file V s }

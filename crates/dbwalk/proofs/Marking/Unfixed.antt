@@ -71,7 +71,7 @@ fixed_lock g p page free e = at_lock (p == lock_page g.page_size) (g.has_map && 
     at_lock false c e f = cc
 
 -- a page without a mark is one that may be read
-readable : (g : Geometry) (marks : List Mark) (p : ℕ) → AreMarksFor g marks → is_unmarked marks p ≡ true → IsReadable g p
+pub readable : (g : Geometry) (marks : List Mark) (p : ℕ) → AreMarksFor g marks → is_unmarked marks p ≡ true → IsReadable g p
 readable g marks p h u =
     let k = unmarked_unfixed g marks p h u in
     record { from_one = low k.0; within = high k.0; unlocked = fixed_lock g p k.0 k.1 }

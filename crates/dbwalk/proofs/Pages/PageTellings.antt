@@ -6,34 +6,34 @@ use Rattle.std.proofs.lemmas.List.{append-nil, map-append}
 use Rattle.std.proofs.lemmas.Grind.{flat_map-append}
 use Rattle.std.proofs.lemmas.Bool.Decides.{nat_tests}
 use Rattle.dbsurvey.proofs.Moving.{Moves-append, stops_first, stops_after}
-use Rattle.dbsource.specs.Failures.{one_more}
 use Rattle.dbformat.specs.declared.Fault.{Fault}
+use Rattle.dbwalk.specs.Sinks.{SinkState, failed}
 use Rattle.dbwalk.specs.Finding.{Finding, told_fault}
 use Rattle.dbwalk.specs.Telling.{IsTold, findings}
 
 -- some items, and then others
-pub told_then : {S I A B E : Type 0} {takes drops : S → I → S → Type 0} {failures : S → ℕ} {a : A} (r0 : Result A E) (r : Result B E) {s m t : S} (L M : List I) → r0 ≡ Ok a → IsTold takes drops failures r0 s L m → IsTold takes drops failures r m M t → IsTold takes drops failures r s (L ++ M) t
+pub told_then : {S I A B E : Type 0} {takes drops : S → I → S → Type 0} {held : S → SinkState} {a : A} (r0 : Result A E) (r : Result B E) {s m t : S} (L M : List I) → r0 ≡ Ok a → IsTold takes drops held r0 s L m → IsTold takes drops held r m M t → IsTold takes drops held r s (L ++ M) t
 told_then (Ok b) (Ok c) {s} {m} {t} L M e h k = record { items = Moves-append _ s m t L M h.items k.items; count = k.count ∙ h.count }
-told_then {failures = failures} (Ok b) (Err c) {s} {m} {t} L M e h k = record { items = stops_after _ _ s m t L M h.items k.items; count = subst (λ n. failures t ≡ one_more n) h.count k.count }
+told_then {held = held} (Ok b) (Err c) {s} {m} {t} L M e h k = record { items = stops_after _ _ s m t L M h.items k.items; count = subst (λ n. held t ≡ failed n) h.count k.count }
 told_then (Err b) r L M e h k = cc
 
 -- an error in the first of two lists
-pub told_stop : {S I A B E F : Type 0} {takes drops : S → I → S → Type 0} {failures : S → ℕ} {e : E} {f : F} (r0 : Result A E) (r : Result B F) {s t : S} (L M : List I) → r0 ≡ Err e → r ≡ Err f → IsTold takes drops failures r0 s L t → IsTold takes drops failures r s (L ++ M) t
+pub told_stop : {S I A B E F : Type 0} {takes drops : S → I → S → Type 0} {held : S → SinkState} {e : E} {f : F} (r0 : Result A E) (r : Result B F) {s t : S} (L M : List I) → r0 ≡ Err e → r ≡ Err f → IsTold takes drops held r0 s L t → IsTold takes drops held r s (L ++ M) t
 told_stop (Ok b) r L M e f h = cc
 told_stop (Err b) (Ok c) L M e f h = cc
 told_stop (Err b) (Err c) {s} {t} L M e f h = record { items = stops_first _ _ s t L M h.items; count = h.count }
 
 -- the answer does not matter beyond Ok
-pub told_ok : {S I A B E : Type 0} {takes drops : S → I → S → Type 0} {failures : S → ℕ} {a : A} (b : B) (r0 : Result A E) {s t : S} {L : List I} → r0 ≡ Ok a → IsTold takes drops failures r0 s L t → IsTold {E = E} takes drops failures (Ok b) s L t
+pub told_ok : {S I A B E : Type 0} {takes drops : S → I → S → Type 0} {held : S → SinkState} {a : A} (b : B) (r0 : Result A E) {s t : S} {L : List I} → r0 ≡ Ok a → IsTold takes drops held r0 s L t → IsTold {E = E} takes drops held (Ok b) s L t
 told_ok b (Ok a) e h = record { items = h.items; count = h.count }
 told_ok b (Err a) e h = cc
 
 -- the same of faults
-pub faults_then : {S A B E : Type 0} {takes drops : S → Finding → S → Type 0} {failures : S → ℕ} {a : A} (r0 : Result A E) (r : Result B E) {s m t : S} (L M : List Fault) → r0 ≡ Ok a → IsTold takes drops failures r0 s (findings L) m → IsTold takes drops failures r m (findings M) t → IsTold takes drops failures r s (findings (L ++ M)) t
-faults_then {takes = takes} {drops = drops} {failures = failures} r0 r {s} {m} {t} L M e h k = subst (λ l. IsTold takes drops failures r s l t) (sym (map-append told_fault L M)) (told_then r0 r (findings L) (findings M) e h k)
+pub faults_then : {S A B E : Type 0} {takes drops : S → Finding → S → Type 0} {held : S → SinkState} {a : A} (r0 : Result A E) (r : Result B E) {s m t : S} (L M : List Fault) → r0 ≡ Ok a → IsTold takes drops held r0 s (findings L) m → IsTold takes drops held r m (findings M) t → IsTold takes drops held r s (findings (L ++ M)) t
+faults_then {takes = takes} {drops = drops} {held = held} r0 r {s} {m} {t} L M e h k = subst (λ l. IsTold takes drops held r s l t) (sym (map-append told_fault L M)) (told_then r0 r (findings L) (findings M) e h k)
 
-pub faults_stop : {S A B E F : Type 0} {takes drops : S → Finding → S → Type 0} {failures : S → ℕ} {e : E} {f : F} (r0 : Result A E) (r : Result B F) {s t : S} (L rest fs : List Fault) → L ++ rest ≡ fs → r0 ≡ Err e → r ≡ Err f → IsTold takes drops failures r0 s (findings L) t → IsTold takes drops failures r s (findings fs) t
-faults_stop {takes = takes} {drops = drops} {failures = failures} r0 r {s} {t} L rest fs whole e f h = subst (λ l. IsTold takes drops failures r s l t) (sym (map-append told_fault L rest) ∙ ap findings whole) (told_stop r0 r (findings L) (findings rest) e f h)
+pub faults_stop : {S A B E F : Type 0} {takes drops : S → Finding → S → Type 0} {held : S → SinkState} {e : E} {f : F} (r0 : Result A E) (r : Result B F) {s t : S} (L rest fs : List Fault) → L ++ rest ≡ fs → r0 ≡ Err e → r ≡ Err f → IsTold takes drops held r0 s (findings L) t → IsTold takes drops held r s (findings fs) t
+faults_stop {takes = takes} {drops = drops} {held = held} r0 r {s} {t} L rest fs whole e f h = subst (λ l. IsTold takes drops held r s l t) (sym (map-append told_fault L rest) ∙ ap findings whole) (told_stop r0 r (findings L) (findings rest) e f h)
 
 -- one element more of a range
 range-more : (a n : ℕ) → range_with_len a (suc n) ≡ range_with_len a n ++ (a + n) ∷ []

@@ -1,11 +1,12 @@
 -- What the taker was given, where a reference to a page of the schema's tree is looked at.
 use Rattle.std.proofs.Common.{◌≡◌, ℕ, suc, inl, inr, List, [], ◌∷◌, ◌++◌, None, sym, ap, subst, arith, ◌∙◌}
-use Rattle.dbsurvey.specs.Address.{IsIn, Address}
+use Rattle.dbsurvey.specs.Address.{IsIn, Address, IsBefore}
 use Rattle.dbformat.specs.Address.{start_of, then_step, key_step, chain_place, schema_start}
 use Rattle.dbformat.specs.Reference.{Reference, tree_view}
 use Rattle.dbformat.specs.SchemaRow.{SchemaRow}
 use Rattle.dbformat.specs.declared.TreeKind.{TreeKind}
-use Rattle.dbwalk.specs.Running.{AreBefore}
+use Rattle.dbwalk.specs.Running.{AreBefore, AreRowsBefore}
+use Rattle.dbwalk.proofs.Running.Places.{before_next}
 use Rattle.dbwalk.proofs.Running.RunningCells.{IsFrom}
 use Rattle.dbwalk.specs.Walking.{IsCandidate, place_behind}
 use Rattle.dbwalk.specs.RootRoom.{HasRootRoom}
@@ -35,6 +36,10 @@ module _ {T : Type 0} (keeps : T → SchemaRow → Taken → T → Type 0) (file
   back : then_step a (suc m) ≡ place_behind c.address
   back = sym (ap place_behind place ∙ behind_is a m)
 
+  -- what is below it stands before the place behind it
+  pub behind_it : IsBefore c.address (place_behind c.address)
+  behind_it = subst (λ b. IsBefore c.address b) back (subst (λ b. IsBefore b (then_step a (suc m))) (sym place) (before_next a m (suc m) [] (omega arith)))
+
   here : IsTaking keeps file W (then_step a m) first t
   here = subst (λ q. IsTaking keeps file W q first t) place taking
 
@@ -63,5 +68,5 @@ module _ {T : Type 0} (keeps : T → SchemaRow → Taken → T → Type 0) (file
       one u (inr n) = absurd n
 
   -- and this is a leaf
-  pub given_leaf : (held : T → ℕ) → HasRootRoom keeps held → held first ≡ 0 → IsGiven keeps held file (W ++ c ∷ []) c (then_step c.address 0) first t
-  given_leaf held room none = record { room = room; none = none; taking = given_visited; latest = latest_new W c before }
+  pub given_leaf : (held : T → ℕ) → HasRootRoom keeps held → held first ≡ 0 → AreRowsBefore file W c.address → IsGiven keeps held file (W ++ c ∷ []) c (then_step c.address 0) first t
+  given_leaf held room none rows = record { room = room; none = none; taking = given_visited; latest = latest_new file W c before rows }

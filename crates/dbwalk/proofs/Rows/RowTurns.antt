@@ -1,13 +1,14 @@
 -- One cell of a leaf of the schema: its overflow chain, its row, and its key.
 use Rattle.std.proofs.Common.{◌≡◌, ℕ, suc, ◌+◌, ◌*◌, ◌<◌, true, false, cond, not, ◌&&◌, inl, inr, List, [], ◌∷◌, ◌++◌, Option, Some, None, Result, Ok, Err, ℤ, refl, sym, ap, subst, arith, ◌∙◌, append-nil}
-use Rattle.std.specs.Prelude.{nat_le, option_and_then, is_some, ◌==◌}
+use Rattle.std.specs.Prelude.{nat_le, option_and_then, is_some, ◌==◌, filter_map}
+use Rattle.std.specs.List.{cons_option}
 use Rattle.std.specs.Result.{result_ok}
 use Rattle.std.proofs.lemmas.Bool.Decides.{nat_tests}
 use Rattle.std.proofs.lemmas.List.{map-append}
 use Rattle.dbsurvey.specs.Address.{IsIn, Address}
 use Rattle.dbsurvey.specs.Moves.{Moves, Stops}
 use Rattle.dbsurvey.specs.Story.{Errand}
-use Rattle.dbsurvey.proofs.Moving.{Moves-append, some_none}
+use Rattle.dbsurvey.proofs.Moving.{Moves-append, some_none, stops_after, stops_here}
 use Rattle.dbsurvey.proofs.Order.{IsBefore-beginning}
 use Rattle.dbformat.specs.Address.{start_of, then_step, overflow_step, child_step, key_step, schema_start, last_root_start}
 use Rattle.dbformat.specs.Cell.{Cell, cell, count}
@@ -17,6 +18,7 @@ use Rattle.dbformat.specs.KeyFaults.{earlier_roots, row_faults, row_faults_if}
 use Rattle.dbformat.specs.Reference.{Way, Reference, role_of, tree_kind, tree_view}
 use Rattle.dbformat.specs.Schema.{SchemaCell, schema_cell, payload}
 use Rattle.dbformat.specs.SchemaRow.{SchemaRow, schema_row}
+use Rattle.dbformat.specs.Errands.{cell_errands}
 use Rattle.dbformat.specs.Story.{Event}
 use Rattle.dbformat.specs.declared.CellFault.{CellFault}
 use Rattle.dbformat.specs.declared.Encoding.{Encoding}
@@ -27,8 +29,9 @@ use Rattle.dbformat.specs.declared.TreeKind.{TreeKind}
 use Rattle.dbbytes.specs.declared.sieve.RowSieve.{RowSieve}
 use Rattle.dbsource.specs.declared.error.RunError.{RunError}
 use Rattle.dbsource.specs.declared.error.RunError.TheVariants.{WriteFailed, OutOfMemory}
-use Rattle.dbwalk.specs.Running.{AreBefore, IsVisit, IsLatest, cells_before}
-use Rattle.dbwalk.proofs.Running.RunningCells.{IsFrom}
+use Rattle.dbwalk.specs.Running.{AreBefore, IsVisit, IsLatest, cells_before, rows_before}
+use Rattle.dbwalk.proofs.Running.RunningCells.{IsFrom, cells_at_bad_cell}
+use Rattle.dbwalk.proofs.Running.RunningRows.{rows_same, rows_more}
 use Rattle.dbwalk.proofs.Running.RunningKeys.{child_no_key, overflow_no_key, no_chain_view}
 use Rattle.dbwalk.specs.LeafCells.{overflow_errands, late_faults, top_after}
 use Rattle.dbwalk.specs.Telling.{findings}
@@ -48,10 +51,10 @@ use Rattle.dbwalk.proofs.Telling.Tellings.{stops_by_first, stops_by_after}
 use Rattle.dbwalk.specs.CellTaken.{IsRowDone}
 use Rattle.dbwalk.specs.RowTold.{place_of, fault_of, taken_faults, TellsRow}
 use Rattle.dbwalk.specs.Sieving.{HasFed, HoldsCell, FeedsPayload}
-use Rattle.dbwalk.specs.Taking.{IsTaking, LeavesTaker}
+use Rattle.dbwalk.specs.Taking.{gives, IsTaking, StopsGiving}
 use Rattle.dbwalk.specs.declared.schema_row.RowPlace.{RowPlace}
 use Rattle.dbwalk.proofs.Rows.RowChains.{first_of}
-use Rattle.dbwalk.proofs.Rows.Takings.{cells_at_row, latest_more, taking_step, taking_chain, taking_more, taking_fault, taking_bad_cell, held_taking}
+use Rattle.dbwalk.proofs.Rows.Takings.{cells_at_row, latest_more, taking_step, taking_chain, taking_more, taking_fault, taking_bad_cell, held_taking, giving_all, giving_some}
 
 -- what begins with a place stands at it or behind it
 pub from_begin : (place a b : Address) → a ≡ place ++ b → IsFrom place a
@@ -70,7 +73,7 @@ fault_told file V d f e = ap (λ r. row_faults_if (nat_le last_root_start (earli
 module _ (file : List ℕ) (kind : TreeKind) (k : ℕ) (children : List ℕ) (levels : List (List ℕ)) (p : ℕ) (U : List Reference) (c : Reference) (at : IsLeafAt file kind k children U c levels p) (v : View) (viewed : tree_view file c ≡ Some v) (leaf : is_interior v.kind ≡ false)
     (i : ℕ) (low : i < count v) (greatest : Option ℤ) (deep : Option ℕ) (run : IsRunning file k U (then_step c.address (3 * i)) greatest deep)
     (overflow : Option (ℕ × ℕ)) (overflow_is : overflow ≡ read_overflow (result_ok (cell v i))) (key : Option ℤ) (key_is : key ≡ option_and_then (λ c. c.key) (result_ok (cell v i)))
-    (start : k ≡ schema_start) (latest : IsLatest U c) where
+    (start : k ≡ schema_start) (latest : IsLatest file U c) where
   abbrev E : List (Errand Way Event)
   E = overflow_errands c i overflow
 
@@ -102,8 +105,8 @@ module _ (file : List ℕ) (kind : TreeKind) (k : ℕ) (children : List ℕ) (le
       let b = below_begins file U (first_of c i o.0 o.1) t j in
       (from_begin (then_step c.address (overflow_step i)) t.address b.0 b.1, no_tree (role_of t) (chain_visits file U (first_of c i o.0 o.1) tt t j))
 
-  latest_after : IsLatest after c
-  latest_after = latest_more U (visited_below file U E) c latest (λ t j. (chain_pages overflow t j).1)
+  latest_after : IsLatest file after c
+  latest_after = latest_more file U (visited_below file U E) c latest (λ t j. (chain_pages overflow t j).1)
 
   -- the faults of the row, if there is one
   rows_told : (x : Cell) → rows_of file after c v i (Some x) ≡ row_faults file after (row x)
@@ -156,6 +159,26 @@ module _ (file : List ℕ) (kind : TreeKind) (k : ℕ) (children : List ℕ) (le
       cells_next : (x : Cell) → cell v i ≡ Ok x → cells_before file after next ≡ cells_before file after here ++ row x ∷ []
       cells_next x read = cells_at_row file after c kind v i x latest_after its_visit at_key.before at.kind_is viewed leaf its_start low read
 
+      -- the rows before the next cell are those before its key's place, and its own
+      next_rows : (q : Result Cell CellFault) → cell v i ≡ q → (more : List SchemaRow) × (rows_before file after next ≡ rows_before file after here ++ more)
+      next_rows (Err f) read = ([], rows_same file after after here next (cells_at_bad_cell file after c v i f at_key.before its_visit viewed read) ∙ sym (append-nil (rows_before file after here)))
+      next_rows (Ok x) read = (filter_map (λ c. result_ok c.row) (row x ∷ []), rows_more file after after here next (row x) (cells_next x read))
+
+      -- an error leaves a beginning of them
+      abbrev Stopped : RunError → T → Type 0
+      Stopped e t' = StopsGiving keeps refuses e first (rows_before file after next) t'
+
+      all_visits : U ++ visited_below file U (cell_errands c kind v i) ≡ after
+      all_visits = visits file kind k children levels p U c at v viewed leaf i low greatest deep run overflow overflow_is key key_is
+
+      at_next : (e : RunError) (t' : T) → Stopped e t' → StopsGiving keeps refuses e first (rows_before file (U ++ visited_below file U (cell_errands c kind v i)) (then_step c.address (3 * (i + 1)))) t'
+      at_next e t' h =
+          let n : suc (key_step i) ≡ 3 * (i + 1) = omega arith in
+          subst (λ V. StopsGiving keeps refuses e first (rows_before file V (then_step c.address (3 * (i + 1)))) t') (sym all_visits) (subst (λ n. StopsGiving keeps refuses e first (rows_before file after (then_step c.address n)) t') n h)
+
+      latest_next : IsLatest file (U ++ visited_below file U (cell_errands c kind v i)) c
+      latest_next = subst (λ V. IsLatest file V c) (sym all_visits) latest_after
+
       -- all of it was told
       row_done : (q : Result Cell CellFault) → cell v i ≡ q → (m s' : S) (t' : T) → Outcome (result_ok q) (Ok tt) m s' t'
           → (rows : List Fault) × (rows_of file after c v i (result_ok q) ≡ rows) × Moves takes m (findings rows) s' × IsTaking keeps file after next first t'
@@ -173,7 +196,7 @@ module _ (file : List ℕ) (kind : TreeKind) (k : ℕ) (children : List ℕ) (le
 
       -- it was not
       row_stopped : (q : Result Cell CellFault) → cell v i ≡ q → (e : RunError) (m s' : S) (t' : T) → Outcome (result_ok q) (Err e) m s' t'
-          → (rows : List Fault) × (rows_of file after c v i (result_ok q) ≡ rows) × StopsBy takes drops e m (findings rows) s' × LeavesTaker keeps refuses file e first t'
+          → (rows : List Fault) × (rows_of file after c v i (result_ok q) ≡ rows) × StopsBy takes drops e m (findings rows) s' × Stopped e t'
       row_stopped (Err f) read e m s' t' h = let g = h.0 in cc
       row_stopped (Ok x) read e m s' t' h = by_row (row x).row refl h
         where
@@ -184,24 +207,26 @@ module _ (file : List ℕ) (kind : TreeKind) (k : ℕ) (children : List ℕ) (le
           same_error d g = cc
 
           by_row : (r : Result SchemaRow RowFault) → (row x).row ≡ r → TellsRow {A = Unit {0}} takes drops keeps refuses place r (Err e) m s' t t'
-              → (rows : List Fault) × (rows_of file after c v i (Some x) ≡ rows) × StopsBy takes drops e m (findings rows) s' × LeavesTaker keeps refuses file e first t'
+              → (rows : List Fault) × (rows_of file after c v i (Some x) ≡ rows) × StopsBy takes drops e m (findings rows) s' × Stopped e t'
           by_row (Err f) g h = (
             fault_of place f ∷ [],
             fault_rows x f key_there g,
             subst (λ d. StopsBy takes drops d m (findings (fault_of place f ∷ [])) s') (sym h.1.0) h.1.1,
-            subst (λ d. LeavesTaker keeps refuses file d first t') (sym h.1.0) (after, next, subst (λ t'. IsTaking keeps file after next first t') (sym h.0) (taking_fault keeps file first t after after here next (row x) f (cells_next x read) g taking_here)),
+            giving_all keeps refuses e first t' (rows_before file after next) (inr h.1.0) (subst (λ t'. IsTaking keeps file after next first t') (sym h.0) (taking_fault keeps file first t after after here next (row x) f (cells_next x read) g taking_here)),
           )
           by_row (Ok r) g (inl h) = (
             taken_faults place r h.0,
             taken_rows x r h.0 t' key_there g h.1,
             subst (λ d. StopsBy takes drops d m (findings (taken_faults place r h.0)) s') (sym h.2.0) h.2.1,
-            subst (λ d. LeavesTaker keeps refuses file d first t') (sym h.2.0) (after, next, taking_more keeps file first t after after here next (row x) r h.0 t' (cells_next x read) g h.1 taking_here),
+            giving_all keeps refuses e first t' (rows_before file after next) (inr h.2.0) (taking_more keeps file first t after after here next (row x) r h.0 t' (cells_next x read) g h.1 taking_here),
           )
           by_row (Ok r) g (inr h) = (
             row_faults file after (row x),
             rows_told x,
             subst (λ d. StopsBy takes drops d m (findings (row_faults file after (row x))) s') (sym (same_error OutOfMemory h.0)) (subst (λ s'. StopsBy takes drops OutOfMemory m (findings (row_faults file after (row x))) s') (sym h.2) (some_none takes m (findings (row_faults file after (row x))))),
-            subst (λ d. LeavesTaker keeps refuses file d first t') (sym (same_error OutOfMemory h.0)) (after, here, r, t, taking_here, h.1),
+            subst (λ d. Stopped d t') (sym (same_error OutOfMemory h.0))
+                (subst (λ L. Stops (gives keeps) refuses first L t') (sym (rows_more file after after here next (row x) (cells_next x read) ∙ ap (λ q. rows_before file after here ++ cons_option (result_ok q) []) g))
+                (stops_after (gives keeps) refuses first t t' (rows_before file after here) (r ∷ []) taking_here (stops_here (gives keeps) refuses t t' r [] h.1))),
           )
 
       abbrev late : List Finding
@@ -218,11 +243,8 @@ module _ (file : List ℕ) (kind : TreeKind) (k : ℕ) (children : List ℕ) (le
         pub row_chain_stops : (e : RunError) (top : Option ℤ) (depth : Option ℕ) → IsReadOrWrite e → IsDone {A = Unit {0}} takes drops file U E (Err e) marks s s' → Done (Err e) top depth t
         row_chain_stops e top depth only done = record {
           cell = stop_chain file kind k children levels p U c at v viewed leaf i low greatest deep run overflow overflow_is key key_is (rows_of file after c v i (result_ok (cell v i))) refl takes drops s s' marks e top depth done;
-          given = elim only [
-            | inl f ↦ subst (λ d. LeavesTaker keeps refuses file d first t) (sym f) (U, then_step c.address (3 * i), taking)
-            | inr f ↦ subst (λ d. LeavesTaker keeps refuses file d first t) (sym f) (U, then_step c.address (3 * i), taking)
-          ];
-          latest = tt;
+          given = at_next e t (giving_some keeps refuses e first t (rows_before file after here) (rows_before file after next) (next_rows (cell v i) refl) only taking_here);
+          latest = latest_next;
         }
 
         -- the row could not be taken, or not all was told of it
@@ -232,8 +254,8 @@ module _ (file : List ℕ) (kind : TreeKind) (k : ℕ) (children : List ℕ) (le
             record {
               cell = stop_key file kind k children levels p U c at v viewed leaf i low greatest deep run overflow overflow_is key key_is q.0 q.1 takes drops s s' marks a m e top depth done
                   (subst (λ L. StopsBy takes drops e m L s') (both q.0) (stops_by_first takes drops e m s' (findings q.0) late q.2));
-              given = q.3;
-              latest = tt;
+              given = at_next e t' q.3;
+              latest = latest_next;
             }
 
         -- the fault of the key could not be told
@@ -243,8 +265,8 @@ module _ (file : List ℕ) (kind : TreeKind) (k : ℕ) (children : List ℕ) (le
             record {
               cell = stop_key file kind k children levels p U c at v viewed leaf i low greatest deep run overflow overflow_is key key_is q.0 q.1 takes drops s s' marks a m WriteFailed top depth done
                   (subst (λ L. StopsBy takes drops WriteFailed m L s') (both q.0) (stops_by_after takes drops WriteFailed m n s' (findings q.0) late q.2 stop));
-              given = (after, next, q.3);
-              latest = tt;
+              given = at_next WriteFailed t' (giving_all keeps refuses WriteFailed first t' (rows_before file after next) (inr refl) q.3);
+              latest = latest_next;
             }
 
         -- all was told
@@ -252,10 +274,9 @@ module _ (file : List ℕ) (kind : TreeKind) (k : ℕ) (children : List ℕ) (le
         row_ends a m n t' done h moves =
             let q = row_done (cell v i) refl m n t' h in
             let e : suc (key_step i) ≡ 3 * (i + 1) = omega arith in
-            let all = visits file kind k children levels p U c at v viewed leaf i low greatest deep run overflow overflow_is key key_is in
             record {
               cell = cell_done file kind k children levels p U c at v viewed leaf i low greatest deep run overflow overflow_is key key_is q.0 q.1 takes drops s s' marks a m done
                   (subst (λ L. Moves takes m L s') (both q.0) (Moves-append takes m n s' (findings q.0) late q.2 moves));
-              given = subst (λ V. IsTaking keeps file V (then_step c.address (3 * (i + 1))) first t') (sym all) (subst (λ n. IsTaking keeps file after (then_step c.address n) first t') e q.3);
-              latest = subst (λ V. IsLatest V c) (sym all) latest_after;
+              given = subst (λ V. IsTaking keeps file V (then_step c.address (3 * (i + 1))) first t') (sym all_visits) (subst (λ n. IsTaking keeps file after (then_step c.address n) first t') e q.3);
+              latest = latest_next;
             }

@@ -5,37 +5,37 @@ use Rattle.std.specs.Result.{result_ok}
 use Rattle.std.specs.List.{cons_option}
 use Rattle.dbsurvey.specs.Address.{IsIn, Address, IsBefore}
 use Rattle.dbsurvey.specs.Moves.{Moves}
-use Rattle.dbsurvey.proofs.Moving.{Moves-append, Moves-one}
+use Rattle.dbsurvey.proofs.Moving.{Moves-append, Moves-one, some_none, some_all, some_first, stops_first}
 use Rattle.dbsurvey.proofs.Order.{IsIn-right, IsIn-cases, IsBefore-irreflexive}
 use Rattle.dbformat.specs.Address.{start_of, then_step, key_step, schema_start}
 use Rattle.dbformat.specs.Cell.{Cell, cell, count}
 use Rattle.dbformat.specs.Head.{View, is_interior}
 use Rattle.dbformat.specs.KeyFaults.{earlier_roots}
 use Rattle.dbformat.specs.Reference.{Reference, role_of, tree_kind, tree_view}
-use Rattle.dbformat.specs.Schema.{SchemaCell, schema_cell, schema, rooted, rooted_rows}
+use Rattle.dbformat.specs.Schema.{SchemaCell, schema_cell, rooted, rooted_rows}
 use Rattle.dbformat.specs.SchemaRow.{SchemaRow}
 use Rattle.dbformat.specs.declared.CellFault.{CellFault}
 use Rattle.dbformat.specs.declared.RowFault.{RowFault}
 use Rattle.dbformat.specs.declared.TreeKind.{TreeKind}
-use Rattle.dbwalk.specs.Running.{AreBefore, IsVisit, IsLatest, cells_before, rows_before}
+use Rattle.dbsource.specs.declared.error.RunError.{RunError}
+use Rattle.dbsource.specs.declared.error.RunError.TheVariants.{NotYet, Refused, ReadFailed, WriteFailed, OutOfMemory}
+use Rattle.dbwalk.specs.Outcomes.{IsReadOrWrite}
+use Rattle.dbwalk.specs.Running.{AreBefore, AreRowsBefore, IsVisit, IsLatest, cells_before, rows_before}
 use Rattle.dbwalk.proofs.Running.RunningKeys.{no_chain_view}
 use Rattle.dbwalk.proofs.Running.CellRows.{cells_at_cell}
-use Rattle.dbwalk.proofs.Running.RunningCells.{IsFrom, cells_at_start, cells_at_visits, cells_at_bad_cell, cells_at_step, cells_at_interior, cells_at_child, cells_at_return, cells_at_chain, cells_at_end}
+use Rattle.dbwalk.proofs.Running.RunningCells.{IsFrom, cells_at_start, cells_at_visits, cells_at_bad_cell, cells_at_step, cells_at_interior, cells_at_child, cells_at_return, cells_at_chain}
 use Rattle.dbwalk.proofs.Running.RunningRows.{rows_same, rows_more}
-use Rattle.dbsurvey.specs.Story.{Go}
-use Rattle.dbwalk.proofs.Trees.Walkings.{below_begins}
-use Rattle.dbwalk.specs.Finding.{visited_below}
 use Rattle.dbwalk.specs.RootRoom.{held_of, HasRootRoom}
 use Rattle.dbwalk.specs.declared.taker.Taken.{Taken}
 use Rattle.dbwalk.proofs.Rows.RootTakings.{held_next}
-use Rattle.dbwalk.specs.Taking.{gives, IsTaking}
+use Rattle.dbwalk.specs.Taking.{gives, IsTaking, StopsGiving}
 
 -- the row of a cell of the leaf that was visited last
 
 not_both : (d : Reference) (kind : TreeKind) → tree_kind (role_of d) ≡ None → tree_kind (role_of d) ≡ Some kind → ⊥
 not_both d kind e f = let g : None ≡ Some kind = sym e ∙ f in cc
 
-pub cells_at_row : (file : List ℕ) (W : List Reference) (c : Reference) (kind : TreeKind) (v : View) (i : ℕ) (x : Cell) → IsLatest W c → IsVisit W c → AreBefore W (then_step c.address (key_step i)) → tree_kind (role_of c) ≡ Some kind
+pub cells_at_row : (file : List ℕ) (W : List Reference) (c : Reference) (kind : TreeKind) (v : View) (i : ℕ) (x : Cell) → IsLatest file W c → IsVisit W c → AreBefore W (then_step c.address (key_step i)) → tree_kind (role_of c) ≡ Some kind
     → tree_view file c ≡ Some v → is_interior v.kind ≡ false → start_of c.address ≡ schema_start → i < count v → cell v i ≡ Ok x
     → cells_before file W (then_step c.address (suc (key_step i))) ≡ cells_before file W (then_step c.address (key_step i)) ++ schema_cell file W c (i, x) ∷ []
 cells_at_row file W c kind v i x latest visit before tree viewed leaf start low read =
@@ -49,17 +49,18 @@ cells_at_row file W c kind v i x latest visit before tree viewed leaf start low 
         not_both u kind (latest.chains u j) (ap (λ r. tree_kind (role_of r)) (visit.only u there e) ∙ tree)
 
 -- it stays the last one, where chains are visited
-pub latest_more : (U T : List Reference) (c : Reference) → IsLatest U c → ((t : Reference) → IsIn t T → tree_kind (role_of t) ≡ None) → IsLatest (U ++ T) c
-latest_more U T c h chains = record {
+pub latest_more : (file : List ℕ) (U T : List Reference) (c : Reference) → IsLatest file U c → ((t : Reference) → IsIn t T → tree_kind (role_of t) ≡ None) → IsLatest file (U ++ T) c
+latest_more file U T c h chains = record {
   earlier = h.earlier;
   later = h.later ++ T;
   whole = ap (λ V. V ++ T) h.whole ∙ append_assoc h.earlier (c ∷ h.later) T;
   before = h.before;
+  rows = h.rows;
   chains = λ u j. elim (IsIn-cases u h.later T j) [ inl k ↦ h.chains u k | inr k ↦ chains u k ];
 }
 
-pub latest_new : (W : List Reference) (c : Reference) → AreBefore W c.address → IsLatest (W ++ c ∷ []) c
-latest_new W c before = record { earlier = W; later = []; whole = refl; before = before; chains = λ u j. absurd j }
+pub latest_new : (file : List ℕ) (W : List Reference) (c : Reference) → AreBefore W c.address → AreRowsBefore file W c.address → IsLatest file (W ++ c ∷ []) c
+latest_new file W c before rows = record { earlier = W; later = []; whole = refl; before = before; rows = rows; chains = λ u j. absurd j }
 
 module _ {T : Type 0} (takes : T → SchemaRow → Taken → T → Type 0) (file : List ℕ) (first t : T) where
   -- at the schema's start nothing was given
@@ -108,10 +109,6 @@ module _ {T : Type 0} (takes : T → SchemaRow → Taken → T → Type 0) (file
         → IsTaking takes file W (then_step d.address s) first t → IsTaking takes file W (then_step a (suc m)) first t
     taking_return d v a m s e none before at viewed past h = taking_same W W (then_step d.address s) (then_step a (suc m)) (cells_at_return file W d v a m s e none before at viewed past) h
 
-    -- behind the schema's tree all rows were given that can be read
-    pub taking_end : ((u : Reference) → IsIn u W → (b : Address) × (u.address ≡ schema_start ∷ b)) → IsTaking takes file W (suc schema_start ∷ []) first t → Moves (gives takes) first (filter_map (λ c. result_ok c.row) (schema file W)) t
-    taking_end below h = subst (λ L. Moves (gives takes) first (filter_map (λ (c : SchemaCell). result_ok c.row) L) t) (cells_at_end file W below) h
-
   -- pages without a view are visited below a step at which no row stands
   pub taking_chain : (U W : List Reference) (a : Address) (s : ℕ) → ((j : ℕ) → s ≡ key_step j → ⊥) → AreBefore U (then_step a s) → ((u : Reference) → IsIn u W → IsFrom (then_step a s) u.address × (tree_view file u ≡ None))
       → IsTaking takes file U (then_step a s) first t → IsTaking takes file (U ++ W) (then_step a (suc s)) first t
@@ -136,7 +133,29 @@ module _ {T : Type 0} (takes : T → SchemaRow → Taken → T → Type 0) (held
   pub held_taking : (file : List ℕ) (U : List Reference) (p : Address) (first t : T) → held first ≡ 0 → IsTaking takes file U p first t → held t ≡ held_of (earlier_roots file U p)
   held_taking file U p first t none h = held_cells (cells_before file U p) first t 0 none h ∙ ap held_of (let z : 0 + earlier_roots file U p ≡ earlier_roots file U p = omega arith in z)
 
--- All that is visited of the schema's tree begins with its start, so behind it all rows were given that can be read.
-pub all_given : {T : Type 0} (takes : T → SchemaRow → Taken → T → Type 0) (file : List ℕ) (c : Reference) (first t : T) → c.address ≡ schema_start ∷ []
-    → IsTaking takes file (visited_below file [] (Go c ∷ [])) (suc schema_start ∷ []) first t → Moves (gives takes) first (filter_map (λ c. result_ok c.row) (schema file (visited_below file [] (Go c ∷ [])))) t
-all_given takes file c first t at h = taking_end takes file first t (visited_below file [] (Go c ∷ [])) (λ u j. let b = below_begins file [] c u j in (b.0, b.1 ∙ ap (λ a. a ++ b.0) at)) h
+-- What an error leaves of a taker.
+module _ {T : Type 0} (takes : T → SchemaRow → Taken → T → Type 0) (refuses : T → SchemaRow → T → Type 0) where
+  -- in the first of two lists of rows
+  pub giving_first : (e : RunError) (s t : T) (L M : List SchemaRow) → StopsGiving takes refuses e s L t → StopsGiving takes refuses e s (L ++ M) t
+  giving_first NotYet s t L M h = some_first (gives takes) s t L M h
+  giving_first (Refused r) s t L M h = some_first (gives takes) s t L M h
+  giving_first ReadFailed s t L M h = some_first (gives takes) s t L M h
+  giving_first WriteFailed s t L M h = some_first (gives takes) s t L M h
+  giving_first OutOfMemory s t L M h = stops_first (gives takes) refuses s t L M h
+
+  -- one of reading or writing, where all rows were given
+  pub giving_all : (e : RunError) (s t : T) (L : List SchemaRow) → IsReadOrWrite e → Moves (gives takes) s L t → StopsGiving takes refuses e s L t
+  giving_all e s t L (inl f) h = subst (λ d. StopsGiving takes refuses d s L t) (sym f) (some_all (gives takes) s t L h)
+  giving_all e s t L (inr f) h = subst (λ d. StopsGiving takes refuses d s L t) (sym f) (some_all (gives takes) s t L h)
+
+  -- or none yet
+  pub giving_none : (e : RunError) (s : T) (L : List SchemaRow) → IsReadOrWrite e → StopsGiving takes refuses e s L s
+  giving_none e s L (inl f) = subst (λ d. StopsGiving takes refuses d s L s) (sym f) (some_none (gives takes) s L)
+  giving_none e s L (inr f) = subst (λ d. StopsGiving takes refuses d s L s) (sym f) (some_none (gives takes) s L)
+
+  -- or more were to follow
+  pub giving_some : (e : RunError) (s t : T) (L : List SchemaRow) (K : List SchemaRow) → (more : List SchemaRow) × (K ≡ L ++ more) → IsReadOrWrite e → Moves (gives takes) s L t → StopsGiving takes refuses e s K t
+  giving_some e s t L K more only h = subst (λ K. StopsGiving takes refuses e s K t) (sym more.1) (giving_first e s t L more.0 (giving_all e s t L only h))
+
+  pub giving_more : (e : RunError) (s t : T) (L : List SchemaRow) (K : List SchemaRow) → (more : List SchemaRow) × (K ≡ L ++ more) → StopsGiving takes refuses e s L t → StopsGiving takes refuses e s K t
+  giving_more e s t L K more h = subst (λ K. StopsGiving takes refuses e s K t) (sym more.1) (giving_first e s t L more.0 h)

@@ -47,7 +47,7 @@ row_place file V r c h = by_start (start_of r.address == schema_start) (tree_vie
 abbrev pub IsFrom : Address → Address → Type 0
 IsFrom place a = (place ≡ a) ⊎ IsBefore place a
 
-from_longer : (place a : Address) (s : ℕ) → IsFrom place a → IsBefore place (a ++ s ∷ [])
+pub from_longer : (place a : Address) (s : ℕ) → IsFrom place a → IsBefore place (a ++ s ∷ [])
 from_longer place a s (inl e) = subst (λ p. IsBefore p (a ++ s ∷ [])) (sym e) (IsBefore-beginning a s [])
 from_longer place a s (inr l) = IsBefore-trans place a (a ++ s ∷ []) l (IsBefore-beginning a s [])
 
@@ -55,7 +55,7 @@ pub filter_out : {X : Type 0} (p : X → Bool) (xs : List X) → ((x : X) → Is
 filter_out p [] h = refl
 filter_out p (x ∷ xs) h = ap (λ b. cond b (x ∷ filter p xs) (filter p xs)) (h x (inl refl)) ∙ filter_out p xs (λ y i. h y (inr i))
 
-filter_whole : {X : Type 0} (p : X → Bool) (xs : List X) → ((x : X) → IsIn x xs → p x ≡ true) → filter p xs ≡ xs
+pub filter_whole : {X : Type 0} (p : X → Bool) (xs : List X) → ((x : X) → IsIn x xs → p x ≡ true) → filter p xs ≡ xs
 filter_whole p [] h = refl
 filter_whole p (x ∷ xs) h = ap (λ b. cond b (x ∷ filter p xs) (filter p xs)) (h x (inl refl)) ∙ ap (λ l. x ∷ l) (filter_whole p xs (λ y i. h y (inr i)))
 

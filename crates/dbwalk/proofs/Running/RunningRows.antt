@@ -1,13 +1,12 @@
 -- The rows of the schema with a root page, as a walk comes by them: what it knows of their count, and of those that can
 -- be read.
 use Rattle.std.proofs.Common.{◌≡◌, ℕ, ◌+◌, List, [], ◌∷◌, ◌++◌, length, ap, ◌∙◌}
-use Rattle.std.specs.Prelude.{nat_le, filter_map}
+use Rattle.std.specs.Prelude.{filter_map}
 use Rattle.std.specs.Result.{result_ok}
 use Rattle.std.proofs.lemmas.List.{length-append}
 use Rattle.std.proofs.lemmas.List.Elements.{filter_map-append}
 use Rattle.dbsurvey.specs.Address.{Address}
-use Rattle.dbformat.specs.Address.{last_root_start}
-use Rattle.dbformat.specs.KeyFaults.{earlier_roots, row_faults, row_faults_if}
+use Rattle.dbformat.specs.KeyFaults.{earlier_roots}
 use Rattle.dbformat.specs.Reference.{Reference}
 use Rattle.dbformat.specs.Schema.{SchemaCell, rooted, rooted_rows}
 use Rattle.dbwalk.specs.Running.{cells_before, rows_before}

@@ -1,7 +1,7 @@
 -- Frames, on any source: what stands at their levels, what they may still take, and the way to the page behind them.
 use Rattle.std.proofs.Common.{◌≡◌, ℕ, suc, ◌+◌, ◌-◌, ◌*◌, ◌<◌, ◌≤◌, List, [], ◌∷◌, ◌++◌, length, take, Result, Ok, Err, refl, sym, ap, subst, arith, ◌∙◌}
 use Rattle.std.specs.Prelude.{slice_get, OnOk}
-use Rattle.std.proofs.lemmas.List.{map-append, length-append, length-map}
+use Rattle.std.proofs.lemmas.List.{map-append, length-map}
 use Rattle.dbformat.specs.Address.{cell_of_step}
 use Rattle.dbformat.specs.Cell.{count}
 use Rattle.dbformat.specs.Head.{undamaged}

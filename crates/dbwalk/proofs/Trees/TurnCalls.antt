@@ -132,7 +132,7 @@ module _ {S : Type 0} (takes drops : S → Finding → S → Type 0) (file : Lis
     abbrev pub d : Reference
     d = child_at file kind top f.next
 
-    child_errand : errands_from file top f.next ≡ Go d ∷ errands_from file top (suc f.next)
+    pub child_errand : errands_from file top f.next ≡ Go d ∷ errands_from file top (suc f.next)
     child_errand = subst (λ s. errands_from file top s ≡ Go (child_at file kind top s) ∷ errands_from file top (suc s)) (sym h.step) (step_child file top kind v role viewed h.n number h.low h.number)
 
     number_is : d.page ≡ number

@@ -1,4 +1,4 @@
-use Rattle.std.proofs.Common.{◌≡◌, ◌<◌, ◌≤◌, Ok, Err, refl, sym, ap, subst, ◌∙◌, arith}
+use Rattle.std.proofs.Common.{◌≡◌, ◌<◌, ◌≤◌, length, Ok, Err, refl, sym, ap, subst, ◌∙◌, arith}
 use Rattle.std.specs.Prelude.{slice_get, IfErr}
 use Rattle.std.proofs.lemmas.Result.{err_from_is_err_and}
 use Rattle.dbsurvey.specs.InOrder.{IsPast}
@@ -92,10 +92,11 @@ returns-in_err-walk_leaf_cell-clause-done g c =
     let seen = ap (λ s. undamaged t.kind c.args.page s.usable (page_bytes file c.args.page)) e ∙ view_back file t.kind t.start t.path.items U d c.args.bench.now.levels c.args.page v at viewed in
     let cells = c.leaf_cells-cells.ensures.count_is (page_bytes file c.args.page) v there seen in
     let low : c.loop-i.i < count v = omega arith in
+    let long : 0 < length d.address = (let k = at.depth in omega arith) in
     let s = on e coded U d v at viewed leaf past m run held first given in
     subst (λ r. IsRowsDone g.K.Sink.takes g.K.Sink.drops g.T.Taker.takes g.T.Taker.refuses file U d r c.walk_leaf_cell.new.marks c.walk_leaf_cell.new.tree.greatest c.walk_leaf_cell.new.tree.leaf c.args.sink.now c.walk_leaf_cell.new.sink first c.walk_leaf_cell.new.taker) (sym (q.1 ∙ ap Err q.2))
     (rows_stop g.K.Sink.takes g.K.Sink.drops g.T.Taker.takes g.T.Taker.refuses held file t.kind v U d c.args.sink.now first c.loop-i.i low c.loop-i.marks c.loop-i.tree.greatest c.loop-i.tree.leaf c.loop-i.sink c.loop-i.taker s (quiet_cell d t.kind v c.loop-i.i)
-    c.walk_leaf_cell.new.sink c.walk_leaf_cell.new.marks c.in_err-walk_leaf_cell.field-0.0 c.walk_leaf_cell.new.tree.greatest c.walk_leaf_cell.new.tree.leaf c.walk_leaf_cell.new.taker
+    c.walk_leaf_cell.new.sink c.walk_leaf_cell.new.marks c.in_err-walk_leaf_cell.field-0.0 c.walk_leaf_cell.new.tree.greatest c.walk_leaf_cell.new.tree.leaf c.walk_leaf_cell.new.taker long
     (rows_turn g.K.Sink.takes g.K.Sink.drops g.T.Taker.takes g.T.Taker.refuses held file t.kind c.loop-i.tree.kind t.start c.loop-i.tree.start t.path.items c.loop-i.tree.path.items c.args.bench.now.levels c.loop-i.bench.levels c.args.page v U d
     w.kind w.start (ap (λ p. p.items) w.path) w.levels at c.args.sink.now first c.loop-i.i low c.loop-i.marks c.loop-i.tree.greatest c.loop-i.tree.leaf c.loop-i.sink c.loop-i.taker s
     (Err c.in_err-walk_leaf_cell.field-0.0) c.walk_leaf_cell.new.marks c.walk_leaf_cell.new.tree.greatest c.walk_leaf_cell.new.tree.leaf c.walk_leaf_cell.new.sink c.walk_leaf_cell.new.taker

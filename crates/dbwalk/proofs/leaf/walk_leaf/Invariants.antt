@@ -26,7 +26,7 @@ invariant-loop-i g l = record {
   path : l.tree.path ≡ l.initial.tree.path;
   told : (g.S.Source.held l.source).bytes ≡ (g.S.Source.held l.initial.source).bytes;
   reads : (g.S.Source.held l.source).failures ≡ (g.S.Source.held l.initial.source).failures;
-  writes : g.K.Sink.failures l.sink ≡ g.K.Sink.failures l.initial.sink;
+  writes : g.K.Sink.held l.sink ≡ g.K.Sink.held l.initial.sink;
   refusals : g.T.Taker.refusals l.taker ≡ g.T.Taker.refusals l.initial.taker;
   log : HasLog g.S.Source.step (Reads l.initial.bench.geometry.page_size l.initial.marks l.marks) (g.S.Source.held l.initial.source).trail (g.S.Source.held l.source).trail;
   others : 1 ≤ l.initial.tree.start → l.taker ≡ l.initial.taker;

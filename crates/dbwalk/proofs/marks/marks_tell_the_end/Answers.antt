@@ -1,4 +1,4 @@
-use Rattle.dbwalk.proofs.Marking.EndRoots as roots
+use Rattle.dbwalk.proofs.Marking.LateRoots as roots
 use Rattle.dbwalk.proofs.marks.marks_tell_the_end.Goals as goal
 
 pub returns : goal.returns

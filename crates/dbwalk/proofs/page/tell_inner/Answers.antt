@@ -53,7 +53,7 @@ returns g c =
     let y = c.in_ok-are_freeblocks_good.are_freeblocks_good in
     let good : (x && y) ≡ (length (cell_faults v ++ freeblock_fault v) == 0) = ap (λ a. a && y) c.in_ok-are_cells_good.ensures.good ∙ ap (λ b. (length (cell_faults v) == 0) && b) c.in_ok-are_freeblocks_good.ensures.good ∙ sym (none_more (cell_faults v) (freeblock_fault v)) in
     let e = empty_fault v c.args.is_child in
-    subst (λ b. IsTold g.K.Sink.takes g.K.Sink.drops g.K.Sink.failures c.tell_empty.result c.args.sink.now (findings (fragment_fault v ++ cell_faults v ++ freeblock_fault v ++ coverage_fault v b ++ e)) c.tell_empty.new.sink) good
+    subst (λ b. IsTold g.K.Sink.takes g.K.Sink.drops g.K.Sink.held c.tell_empty.result c.args.sink.now (findings (fragment_fault v ++ cell_faults v ++ freeblock_fault v ++ coverage_fault v b ++ e)) c.tell_empty.new.sink) good
     (faults_then c.tell_coverage.result c.tell_empty.result (fragment_fault v ++ cell_faults v ++ freeblock_fault v ++ coverage_fault v (x && y)) e c.in_ok-tell_coverage.was
     (faults_then c.tell_freeblock.result c.tell_coverage.result (fragment_fault v ++ cell_faults v ++ freeblock_fault v) (coverage_fault v (x && y)) c.in_ok-are_freeblocks_good.was
     (faults_then c.tell_cells.result c.tell_freeblock.result (fragment_fault v ++ cell_faults v) (freeblock_fault v) c.in_ok-are_cells_good.was

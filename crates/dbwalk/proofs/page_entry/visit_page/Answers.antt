@@ -11,7 +11,7 @@ use Rattle.dbwalk.specs.Outcomes.{IsReadOrWrite}
 use Rattle.dbwalk.specs.WalkGiven.{IsEntryDone}
 use Rattle.dbwalk.proofs.Trees.Arrivals.{visit_stop, leaf_passed, leaf_stopped}
 use Rattle.dbwalk.proofs.Pages.PageArrivals.{found_interior, found_damaged, found_damage, found_leaf}
-use Rattle.dbwalk.proofs.Rows.EntryRows.{entry_interior, entry_leaf, entry_stopped, entry_damaged, entry_passed}
+use Rattle.dbwalk.proofs.Rows.EntryRows.{entry_interior, entry_leaf, entry_stopped, entry_damaged, entry_passed, entry_stopped_below}
 use Rattle.dbwalk.proofs.page_entry.visit_page.Goals as goal
 
 pub returns-in_err-tell_page-clause-others : goal.returns-in_err-tell_page-clause-others
@@ -90,7 +90,7 @@ returns-in_err-walk_leaf-in-Leaf-clause-done g c = if_some_both _ _ _ (g.S.Sourc
     subst (λ r. IsEntryDone g.K.Sink.takes g.K.Sink.drops g.T.Taker.takes g.T.Taker.refuses file W d r c.walk_leaf.new.bench.levels c.walk_leaf.new.marks c.walk_leaf.new.tree.greatest c.walk_leaf.new.tree.leaf c.args.sink.now c.walk_leaf.new.sink first c.walk_leaf.new.taker) (sym (q.1 ∙ ap Err q.2)) (record {
       entered = leaf_stopped g.K.Sink.takes g.K.Sink.drops file W t.kind t.start t.path.items c.args.page from item d candidate next t.greatest t.leaf run c.args.sink.now followed early
           c.args.marks.now c.tell_page.new.sink m told.0.items n.leaf told.1 c.in_err-walk_leaf-in-Leaf.field-0.0 c.walk_leaf.new.marks c.walk_leaf.new.tree.greatest c.walk_leaf.new.tree.leaf c.walk_leaf.new.sink rows.cells;
-      given = rows.given;
+      given = λ z. entry_stopped_below g.T.Taker.takes g.T.Taker.refuses held file t.kind t.start t.path.items c.args.page from item d candidate W t.greatest t.leaf run first c.args.taker.now given z followed c.in_err-walk_leaf-in-Leaf.field-0.0 c.walk_leaf.new.taker (rows.given z);
     }))
 
 pub returns-in_ok-walk_leaf-in-Leaf-clause-done : goal.returns-in_ok-walk_leaf-in-Leaf-clause-done

@@ -13,7 +13,7 @@ use Rattle.dbwalk.proofs.Rows.RowTurns.{outcome, row_chain_stops, row_stops, row
 use Rattle.dbwalk.proofs.schema_cell.walk_schema_cell.Goals as goal
 
 pub returns-in_err-walk_overflow-clause-done : goal.returns-in_err-walk_overflow-clause-done
-returns-in_err-walk_overflow-clause-done g c = if_some_both _ _ _ (g.S.Source.held c.args.source.now).bytes c.in_err-walk_overflow.ensures.done c.in_err-walk_overflow.ensures.done (λ file h w e coded U d v at viewed leaf low latest past m run held first room none taking.
+returns-in_err-walk_overflow-clause-done g c = if_some_both _ _ _ (g.S.Source.held c.args.source.now).bytes c.in_err-walk_overflow.ensures.done c.in_err-walk_overflow.ensures.done (λ file h w e coded U d v at viewed leaf low past m run held first given.
     let t = c.args.tree.now in
     let there = ap (slice_get c.args.bench.now.levels) c.len-level.ensures.value ∙ at.bytes in
     let seen = ap (λ s. undamaged t.kind c.args.page s.usable (page_bytes file c.args.page)) e ∙ view_back file t.kind t.start t.path.items U d c.args.bench.now.levels c.args.page v at viewed in
@@ -23,12 +23,12 @@ returns-in_err-walk_overflow-clause-done g c = if_some_both _ _ _ (g.S.Source.he
     let q = err_from_is_err_and c.from_residual.result c.from_residual.ensures.1 in
     subst (λ r. IsRowDone g.K.Sink.takes g.K.Sink.drops g.T.Taker.takes g.T.Taker.refuses file t.kind v c.args.i U d r c.walk_overflow.new.marks t.greatest t.leaf c.args.sink.now c.walk_overflow.new.sink first c.args.taker.now) (sym (q.1 ∙ ap Err q.2))
     (row_chain_stops file t.kind t.start t.path.items c.args.bench.now.levels c.args.page U d at v viewed leaf c.args.i low t.greatest t.leaf run
-    c.leaf_cell-cell.result.overflow chain c.leaf_cell-cell.result.key key c.requires.start latest g.T.Taker.takes g.T.Taker.refuses held room first c.args.taker.now none taking
+    c.leaf_cell-cell.result.overflow chain c.leaf_cell-cell.result.key key c.requires.start given.latest g.T.Taker.takes g.T.Taker.refuses held given.room first c.args.taker.now given.none given.taking
     g.K.Sink.takes g.K.Sink.drops (place_of c.args.page c.args.i c.leaf_cell-cell.result.key) refl c.args.sink.now c.walk_overflow.new.sink c.walk_overflow.new.marks
     c.in_err-walk_overflow.field-0.0 t.greatest t.leaf c.in_err-walk_overflow.ensures.only (h e U d at before m)))
 
 pub returns-in_err-tell_row-clause-done : goal.returns-in_err-tell_row-clause-done
-returns-in_err-tell_row-clause-done g c = if_some_both _ _ _ (g.S.Source.held c.args.source.now).bytes c.in_ok-walk_overflow.ensures.done c.in_ok-walk_overflow.ensures.fed (λ file h w e coded U d v at viewed leaf low latest past m run held first room none taking.
+returns-in_err-tell_row-clause-done g c = if_some_both _ _ _ (g.S.Source.held c.args.source.now).bytes c.in_ok-walk_overflow.ensures.done c.in_ok-walk_overflow.ensures.fed (λ file h w e coded U d v at viewed leaf low past m run held first given.
     let t = c.args.tree.now in
     let there = ap (slice_get c.args.bench.now.levels) c.len-level.ensures.value ∙ at.bytes in
     let seen = ap (λ s. undamaged t.kind c.args.page s.usable (page_bytes file c.args.page)) e ∙ view_back file t.kind t.start t.path.items U d c.args.bench.now.levels c.args.page v at viewed in
@@ -39,15 +39,15 @@ returns-in_err-tell_row-clause-done g c = if_some_both _ _ _ (g.S.Source.held c.
     let q = err_from_is_err_and c.from_residual-in_err-tell_row.result c.from_residual-in_err-tell_row.ensures.1 in
     subst (λ r. IsRowDone g.K.Sink.takes g.K.Sink.drops g.T.Taker.takes g.T.Taker.refuses file t.kind v c.args.i U d r c.walk_overflow.new.marks t.greatest t.leaf c.args.sink.now c.tell_row.new.sink first c.tell_row.new.taker) (sym (q.1 ∙ ap Err q.2))
     (row_stops file t.kind t.start t.path.items c.args.bench.now.levels c.args.page U d at v viewed leaf c.args.i low t.greatest t.leaf run
-    c.leaf_cell-cell.result.overflow chain c.leaf_cell-cell.result.key key c.requires.start latest g.T.Taker.takes g.T.Taker.refuses held room first c.args.taker.now none taking
+    c.leaf_cell-cell.result.overflow chain c.leaf_cell-cell.result.key key c.requires.start given.latest g.T.Taker.takes g.T.Taker.refuses held given.room first c.args.taker.now given.none given.taking
     g.K.Sink.takes g.K.Sink.drops c.new-place.result c.new-place.ensures c.args.sink.now c.tell_row.new.sink c.walk_overflow.new.marks
     _ c.walk_overflow.new.sink c.in_err-tell_row.field-0.0 t.greatest t.leaf c.tell_row.new.taker (h e U d at before m)
     (outcome file t.kind t.start t.path.items c.args.bench.now.levels c.args.page U d at v viewed leaf c.args.i low t.greatest t.leaf run
-    c.leaf_cell-cell.result.overflow chain c.leaf_cell-cell.result.key key c.requires.start latest g.T.Taker.takes g.T.Taker.refuses held room first c.args.taker.now none taking
+    c.leaf_cell-cell.result.overflow chain c.leaf_cell-cell.result.key key c.requires.start given.latest g.T.Taker.takes g.T.Taker.refuses held given.room first c.args.taker.now given.none given.taking
     g.K.Sink.takes g.K.Sink.drops c.new-place.result c.new-place.ensures c.args.encoding coded c.row_sieve-sieve.result c.walk_overflow.new.sieve (Err c.in_err-tell_row.field-0.0) c.walk_overflow.new.sink c.tell_row.new.sink c.tell_row.new.taker (result_ok (cell v c.args.i)) holds (w e U d at before m) c.walk_overflow.ensures.kept c.in_err-tell_row.ensures.none c.in_err-tell_row.ensures.told)))
 
 pub returns-in_err-tell_rowid-clause-done : goal.returns-in_err-tell_rowid-clause-done
-returns-in_err-tell_rowid-clause-done g c = if_some_both _ _ _ (g.S.Source.held c.args.source.now).bytes c.in_ok-walk_overflow.ensures.done c.in_ok-walk_overflow.ensures.fed (λ file h w e coded U d v at viewed leaf low latest past m run held first room none taking.
+returns-in_err-tell_rowid-clause-done g c = if_some_both _ _ _ (g.S.Source.held c.args.source.now).bytes c.in_ok-walk_overflow.ensures.done c.in_ok-walk_overflow.ensures.fed (λ file h w e coded U d v at viewed leaf low past m run held first given.
     let t = c.args.tree.now in
     let there = ap (slice_get c.args.bench.now.levels) c.len-level.ensures.value ∙ at.bytes in
     let seen = ap (λ s. undamaged t.kind c.args.page s.usable (page_bytes file c.args.page)) e ∙ view_back file t.kind t.start t.path.items U d c.args.bench.now.levels c.args.page v at viewed in
@@ -58,15 +58,15 @@ returns-in_err-tell_rowid-clause-done g c = if_some_both _ _ _ (g.S.Source.held 
     let q = err_from_is_err_and c.from_residual-in_err-tell_rowid.result c.from_residual-in_err-tell_rowid.ensures.1 in
     subst (λ r. IsRowDone g.K.Sink.takes g.K.Sink.drops g.T.Taker.takes g.T.Taker.refuses file t.kind v c.args.i U d r c.walk_overflow.new.marks c.tell_rowid.new.tree.greatest c.tell_rowid.new.tree.leaf c.args.sink.now c.tell_rowid.new.sink first c.tell_row.new.taker) (sym (q.1 ∙ ap Err q.2))
     (row_key_stops file t.kind t.start t.path.items c.args.bench.now.levels c.args.page U d at v viewed leaf c.args.i low t.greatest t.leaf run
-    c.leaf_cell-cell.result.overflow chain c.leaf_cell-cell.result.key key c.requires.start latest g.T.Taker.takes g.T.Taker.refuses held room first c.args.taker.now none taking
+    c.leaf_cell-cell.result.overflow chain c.leaf_cell-cell.result.key key c.requires.start given.latest g.T.Taker.takes g.T.Taker.refuses held given.room first c.args.taker.now given.none given.taking
     g.K.Sink.takes g.K.Sink.drops c.new-place.result c.new-place.ensures c.args.sink.now c.tell_rowid.new.sink c.walk_overflow.new.marks
     _ c.walk_overflow.new.sink c.tell_row.new.sink c.tell_rowid.new.tree.greatest c.tell_rowid.new.tree.leaf c.tell_row.new.taker (h e U d at before m)
     (outcome file t.kind t.start t.path.items c.args.bench.now.levels c.args.page U d at v viewed leaf c.args.i low t.greatest t.leaf run
-    c.leaf_cell-cell.result.overflow chain c.leaf_cell-cell.result.key key c.requires.start latest g.T.Taker.takes g.T.Taker.refuses held room first c.args.taker.now none taking
+    c.leaf_cell-cell.result.overflow chain c.leaf_cell-cell.result.key key c.requires.start given.latest g.T.Taker.takes g.T.Taker.refuses held given.room first c.args.taker.now given.none given.taking
     g.K.Sink.takes g.K.Sink.drops c.new-place.result c.new-place.ensures c.args.encoding coded c.row_sieve-sieve.result c.walk_overflow.new.sieve (Ok tt) c.walk_overflow.new.sink c.tell_row.new.sink c.tell_row.new.taker (result_ok (cell v c.args.i)) holds (w e U d at before m) c.walk_overflow.ensures.kept c.in_ok-tell_row.ensures.none c.in_ok-tell_row.ensures.told) c.in_err-tell_rowid.ensures.told.items))
 
 pub returns-clause-done : goal.returns-clause-done
-returns-clause-done g c = if_some_both _ _ _ (g.S.Source.held c.args.source.now).bytes c.in_ok-walk_overflow.ensures.done c.in_ok-walk_overflow.ensures.fed (λ file h w e coded U d v at viewed leaf low latest past m run held first room none taking.
+returns-clause-done g c = if_some_both _ _ _ (g.S.Source.held c.args.source.now).bytes c.in_ok-walk_overflow.ensures.done c.in_ok-walk_overflow.ensures.fed (λ file h w e coded U d v at viewed leaf low past m run held first given.
     let t = c.args.tree.now in
     let there = ap (slice_get c.args.bench.now.levels) c.len-level.ensures.value ∙ at.bytes in
     let seen = ap (λ s. undamaged t.kind c.args.page s.usable (page_bytes file c.args.page)) e ∙ view_back file t.kind t.start t.path.items U d c.args.bench.now.levels c.args.page v at viewed in
@@ -77,9 +77,9 @@ returns-clause-done g c = if_some_both _ _ _ (g.S.Source.held c.args.source.now)
     subst (λ l. IsRowDone g.K.Sink.takes g.K.Sink.drops g.T.Taker.takes g.T.Taker.refuses file t.kind v c.args.i U d (Ok tt) c.walk_overflow.new.marks c.tell_rowid.new.tree.greatest l c.args.sink.now c.tell_rowid.new.sink first c.tell_row.new.taker) (sym c.tell_rowid.ensures.others.2)
     (subst (λ n. IsRowDone g.K.Sink.takes g.K.Sink.drops g.T.Taker.takes g.T.Taker.refuses file t.kind v c.args.i U d (Ok tt) c.walk_overflow.new.marks n t.leaf c.args.sink.now c.tell_rowid.new.sink first c.tell_row.new.taker) (sym c.tell_rowid.ensures.greatest)
     (row_ends file t.kind t.start t.path.items c.args.bench.now.levels c.args.page U d at v viewed leaf c.args.i low t.greatest t.leaf run
-    c.leaf_cell-cell.result.overflow chain c.leaf_cell-cell.result.key key c.requires.start latest g.T.Taker.takes g.T.Taker.refuses held room first c.args.taker.now none taking
+    c.leaf_cell-cell.result.overflow chain c.leaf_cell-cell.result.key key c.requires.start given.latest g.T.Taker.takes g.T.Taker.refuses held given.room first c.args.taker.now given.none given.taking
     g.K.Sink.takes g.K.Sink.drops c.new-place.result c.new-place.ensures c.args.sink.now c.tell_rowid.new.sink c.walk_overflow.new.marks
     _ c.walk_overflow.new.sink c.tell_row.new.sink c.tell_row.new.taker (h e U d at before m)
     (outcome file t.kind t.start t.path.items c.args.bench.now.levels c.args.page U d at v viewed leaf c.args.i low t.greatest t.leaf run
-    c.leaf_cell-cell.result.overflow chain c.leaf_cell-cell.result.key key c.requires.start latest g.T.Taker.takes g.T.Taker.refuses held room first c.args.taker.now none taking
+    c.leaf_cell-cell.result.overflow chain c.leaf_cell-cell.result.key key c.requires.start given.latest g.T.Taker.takes g.T.Taker.refuses held given.room first c.args.taker.now given.none given.taking
     g.K.Sink.takes g.K.Sink.drops c.new-place.result c.new-place.ensures c.args.encoding coded c.row_sieve-sieve.result c.walk_overflow.new.sieve (Ok tt) c.walk_overflow.new.sink c.tell_row.new.sink c.tell_row.new.taker (result_ok (cell v c.args.i)) holds (w e U d at before m) c.walk_overflow.ensures.kept c.in_ok-tell_row.ensures.none c.in_ok-tell_row.ensures.told) c.in_ok-tell_rowid.ensures.told.items)))

@@ -8,7 +8,7 @@ use Rattle.dbwalk.specs.Walking.{IsOpen, AreOpen, path_of, cost}
 use Rattle.dbwalk.specs.WalkGiven.{IsEntryDone, IsGivenWalk, IsTreeDone}
 use Rattle.dbwalk.proofs.Chaining.ChainTurns.{if_some_both, if_some_moved}
 use Rattle.dbwalk.proofs.Marking.Readings.{log_then}
-use Rattle.dbwalk.proofs.Rows.TreeRows.{root_given, rows_walked, walk_started, walk_ended}
+use Rattle.dbwalk.proofs.Rows.TreeRows.{root_given, rows_walked, rows_stopped, walk_started, walk_ended}
 use Rattle.dbwalk.proofs.Trees.Frames.{path_last}
 use Rattle.dbwalk.proofs.Trees.TreeLoop.{candidate_as, root_next, root_ready, none_left, passed_root, stopped_root}
 use Rattle.dbwalk.proofs.tree.walk_pages.Goals as goal
@@ -33,7 +33,7 @@ returns-in_err-visit_page-clause-done g c = if_some_both _ _ _ (g.S.Source.held 
     let entry = h e coded W d 0 t.start ready.0 (subst (λ l. StandsAt c.args.bench.now.levels (length l) (page_bytes file c.args.page)) (sym c.requires.fresh.2) there) (root_next file t.kind t.start c.args.page 0 t.start W d candidate early) followed (λ z. early) m ready.1 held c.args.taker.now given in
     subst (λ r. IsTreeDone g.K.Sink.takes g.K.Sink.drops g.T.Taker.takes g.T.Taker.refuses file W d r n.marks c.args.sink.now n.sink c.args.taker.now n.taker) (sym (q.1 ∙ ap Err q.2)) (record {
       done = stopped_root g.K.Sink.takes g.K.Sink.drops file t.kind W d c.args.sink.now n.bench.levels n.marks n.tree.greatest n.tree.leaf n.sink c.in_err-visit_page.field-0.0 entry.entered;
-      given = entry.given;
+      given = λ z. rows_stopped g.T.Taker.takes file t.kind t.start c.args.page 0 t.start W d candidate early c.args.taker.now g.T.Taker.refuses c.in_err-visit_page.field-0.0 n.taker z (entry.given z);
     }))
 
 pub returns-then-not-branch-clause-others : goal.returns-then-not-branch-clause-others

@@ -28,7 +28,7 @@ invariant-loop-frame g l = record {
   told : (g.S.Source.held l.source).bytes ≡ (g.S.Source.held l.fn.source).bytes;
   log : HasLog g.S.Source.step (Reads l.fn.bench.geometry.page_size l.fn.marks l.marks) (g.S.Source.held l.fn.source).trail (g.S.Source.held l.source).trail;
   reads : (g.S.Source.held l.source).failures ≡ (g.S.Source.held l.fn.source).failures;
-  writes : g.K.Sink.failures l.sink ≡ g.K.Sink.failures l.fn.sink;
+  writes : g.K.Sink.held l.sink ≡ g.K.Sink.held l.fn.sink;
   refusals : g.T.Taker.refusals l.taker ≡ g.T.Taker.refusals l.fn.taker;
   others : 1 ≤ l.fn.tree.start → l.taker ≡ l.fn.taker;
   walking : IfSome (g.S.Source.held l.fn.source).bytes (λ file. l.fn.bench.geometry ≡ geometry file → l.fn.encoding ≡ encoding file → (W : List Reference) (c : Reference)

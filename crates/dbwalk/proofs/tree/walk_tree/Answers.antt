@@ -1,7 +1,6 @@
 use Rattle.std.proofs.Common.{rules, ◌≡◌, ◌-◌, ◌*◌, ◌<◌, ◌≤◌, [], ◌∷◌, ◌++◌, None, Ok, Err, inl, inr, refl, sym, ap, subst, arith, ◌∙◌}
-use Rattle.std.specs.Prelude.{IfErr, OnOk}
+use Rattle.std.specs.Prelude.{IfErr}
 use Rattle.std.proofs.lemmas.Result.{err_from_is_err_and}
-use Rattle.dbsurvey.specs.Moves.{Moves}
 use Rattle.dbsurvey.specs.Story.{Go}
 use Rattle.dbformat.specs.File.{page_bytes}
 use Rattle.dbformat.specs.Log.{page_range}
@@ -17,13 +16,14 @@ use Rattle.dbwalk.specs.Found.{StandsAt}
 use Rattle.dbwalk.specs.Outcomes.{IsReadOrWrite}
 use Rattle.dbwalk.specs.Roots.{kind_of, kind_in}
 use Rattle.dbwalk.specs.Running.{AreOfEarlierStarts}
-use Rattle.dbwalk.specs.Taking.{gives, readable_rows}
+use Rattle.dbwalk.specs.Taking.{Gives, readable_rows}
 use Rattle.dbwalk.proofs.Chaining.ChainTurns.{if_some_all, if_some_moved}
 use Rattle.dbwalk.proofs.Chaining.Overflows.{page_read}
 use Rattle.dbwalk.proofs.Marking.Readings.{log_none, log_page, log_then}
 use Rattle.dbwalk.proofs.Pages.Levels.{geometry_kept, read_there}
 use Rattle.dbwalk.proofs.Rows.EntryRows.{entry_refused}
-use Rattle.dbwalk.proofs.Rows.TreeRows.{root_given, rows_walked, tree_rows}
+use Rattle.dbwalk.proofs.Rows.TreeRows.{root_given, rows_walked}
+use Rattle.dbwalk.proofs.Rows.Takings.{giving_none}
 use Rattle.dbwalk.proofs.Trees.Arrivals.{refused_passed, refused_stop, unread_stop}
 use Rattle.dbwalk.proofs.Trees.TreeLoop.{candidate_as, root_next, root_running, passed_root, stopped_root}
 use Rattle.dbwalk.proofs.tree.walk_tree.Goals as goal
@@ -56,7 +56,8 @@ returns-in_err-enter-clause-done g c = if_some_all _ (g.S.Source.held c.args.sou
 pub returns-in_err-enter-clause-rows : goal.returns-in_err-enter-clause-rows
 returns-in_err-enter-clause-rows g c = if_some_all _ (g.S.Source.held c.args.source.now).bytes (λ file e coded W d at held empty schema.
     let q = err_from_is_err_and c.from_residual.result c.from_residual.ensures.1 in
-    subst (λ r. OnOk r (Moves (gives g.T.Taker.takes) c.args.taker.now (readable_rows file (W ++ visited_below file W (Go d ∷ []))) c.args.taker.now)) (sym (q.1 ∙ ap Err q.2)) tt)
+    subst (λ r. Gives {A = Unit {0}} g.T.Taker.takes g.T.Taker.refuses r c.args.taker.now (readable_rows file (W ++ visited_below file W (Go d ∷ []))) c.args.taker.now) (sym (q.1 ∙ ap Err q.2))
+    (giving_none g.T.Taker.takes g.T.Taker.refuses c.in_err-enter.field-0.0 c.args.taker.now (readable_rows file (W ++ visited_below file W (Go d ∷ []))) (inr c.in_err-enter.ensures.after_error.0)))
 
 pub returns-then-not-branch-clause-asks : goal.returns-then-not-branch-clause-asks
 returns-then-not-branch-clause-asks g c = record {
@@ -119,7 +120,8 @@ returns-in_err-load-clause-done g c = if_some_all _ (g.S.Source.held c.args.sour
 pub returns-in_err-load-clause-rows : goal.returns-in_err-load-clause-rows
 returns-in_err-load-clause-rows g c = if_some_all _ (g.S.Source.held c.args.source.now).bytes (λ file e coded W d at held empty schema.
     let q = err_from_is_err_and c.from_residual-in_err-load.result c.from_residual-in_err-load.ensures.1 in
-    subst (λ r. OnOk r (Moves (gives g.T.Taker.takes) c.args.taker.now (readable_rows file (W ++ visited_below file W (Go d ∷ []))) c.args.taker.now)) (sym (q.1 ∙ ap Err q.2)) tt)
+    subst (λ r. Gives {A = Unit {0}} g.T.Taker.takes g.T.Taker.refuses r c.args.taker.now (readable_rows file (W ++ visited_below file W (Go d ∷ []))) c.args.taker.now) (sym (q.1 ∙ ap Err q.2))
+    (giving_none g.T.Taker.takes g.T.Taker.refuses ReadFailed c.args.taker.now (readable_rows file (W ++ visited_below file W (Go d ∷ []))) (inl refl)))
 
 pub returns-clause-asks : goal.returns-clause-asks
 returns-clause-asks g c =
@@ -180,4 +182,4 @@ returns-clause-rows g c =
     let tree = done (geometry_kept c.args.bench.now c.load.new.self 0 low change.bytes change.only ∙ e) coded W d
     (candidate_as (kind_in file root) t.kind root.start t.start [] [] root.page root.page 0 root.start t.start d kinds starts refl refl starts at.candidate)
     there n.0 (subst (λ k. AreOfEarlierStarts k W) (sym starts) at.early) n.1 held (λ z. empty) in
-    tree_rows g.T.Taker.takes g.T.Taker.refuses file W d c.args.taker.now c.walk_pages.new.taker c.walk_pages.result (tree.given (at.candidate.start ∙ c.requires.schema.0 schema)))
+    tree.given (at.candidate.start ∙ c.requires.schema.0 schema))

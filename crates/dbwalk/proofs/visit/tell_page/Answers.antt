@@ -12,7 +12,7 @@ returns-in_err-tell_undamaged-in-Ok-clause-told g c = λ file W d from item shap
     let level = c.len-level.ensures.value in
     let u = ap (λ s. s.usable) (c.geometry-usable.ensures.value ∙ shape) in
     let b = there c.uses-uses.result.0.now (ap (slice_get c.args.bench.now.levels) (sym level) ∙ c.uses-uses.ensures.page) in
-    exit_stop _ _ g.K.Sink.takes g.K.Sink.drops g.K.Sink.failures file W t.kind t.start t.path.items c.args.page from item d candidate
+    exit_stop _ _ g.K.Sink.takes g.K.Sink.drops g.K.Sink.held file W t.kind t.start t.path.items c.args.page from item d candidate
     c.geometry-usable.result.usable u c.uses-uses.result.0.now b t.leaf first c.as_slice.result.now c.as_slice.ensures.value (c.len-level.result + 1) (ap (λ n. n + 1) level) c.args.sink.now
     c.in-Ok.view c.in-Ok.ensures.view c.in-Ok.ensures.of.0 c.in-Ok.ensures.faults c.tell_undamaged.result c.tell_undamaged.new.sink c.tell_undamaged.ensures
     _ c.from_residual.result c.in_err-tell_undamaged-in-Ok.was q.1
@@ -24,7 +24,7 @@ returns-in_err-tell_damaged-in-Err-clause-told g c = λ file W d from item shape
     let level = c.len-level.ensures.value in
     let u = ap (λ s. s.usable) (c.geometry-usable.ensures.value ∙ shape) in
     let b = there c.uses-uses.result.0.now (ap (slice_get c.args.bench.now.levels) (sym level) ∙ c.uses-uses.ensures.page) in
-    exit_damaged_stop _ _ g.K.Sink.takes g.K.Sink.drops g.K.Sink.failures file W t.kind t.start t.path.items c.args.page from item d candidate
+    exit_damaged_stop _ _ g.K.Sink.takes g.K.Sink.drops g.K.Sink.held file W t.kind t.start t.path.items c.args.page from item d candidate
     c.geometry-usable.result.usable u c.uses-uses.result.0.now b t.leaf first c.as_slice.result.now c.as_slice.ensures.value (c.len-level.result + 1) (ap (λ n. n + 1) level) c.args.sink.now
     c.in-Err.damage c.in-Err.ensures.view c.in-Err.ensures.faults c.tell_damaged.result c.tell_damaged.new.sink c.tell_damaged.ensures
     _ c.from_residual-in_err-tell_damaged-in-Err.result c.in_err-tell_damaged-in-Err.was q.1
@@ -35,7 +35,7 @@ returns-in-Err-clause-told g c = λ file W d from item shape candidate there fir
     let level = c.len-level.ensures.value in
     let u = ap (λ s. s.usable) (c.geometry-usable.ensures.value ∙ shape) in
     let b = there c.uses-uses.result.0.now (ap (slice_get c.args.bench.now.levels) (sym level) ∙ c.uses-uses.ensures.page) in
-    exit_damaged _ _ g.K.Sink.takes g.K.Sink.drops g.K.Sink.failures file W t.kind t.start t.path.items c.args.page from item d candidate
+    exit_damaged _ _ g.K.Sink.takes g.K.Sink.drops g.K.Sink.held file W t.kind t.start t.path.items c.args.page from item d candidate
     c.geometry-usable.result.usable u c.uses-uses.result.0.now b t.leaf first c.as_slice.result.now c.as_slice.ensures.value (c.len-level.result + 1) (ap (λ n. n + 1) level) c.args.sink.now
     c.in-Err.damage c.in-Err.ensures.view c.in-Err.ensures.faults c.tell_damaged.result c.tell_damaged.new.sink c.tell_damaged.ensures
     Damaged c.in_ok-tell_damaged-in-Err.was
@@ -46,7 +46,7 @@ returns-then-is_interior-clause-told g c = λ file W d from item shape candidate
     let level = c.len-level.ensures.value in
     let u = ap (λ s. s.usable) (c.geometry-usable.ensures.value ∙ shape) in
     let b = there c.uses-uses.result.0.now (ap (slice_get c.args.bench.now.levels) (sym level) ∙ c.uses-uses.ensures.page) in
-    exit_interior _ _ g.K.Sink.takes g.K.Sink.drops g.K.Sink.failures file W t.kind t.start t.path.items c.args.page from item d candidate
+    exit_interior _ _ g.K.Sink.takes g.K.Sink.drops g.K.Sink.held file W t.kind t.start t.path.items c.args.page from item d candidate
     c.geometry-usable.result.usable u c.uses-uses.result.0.now b t.leaf first c.as_slice.result.now c.as_slice.ensures.value (c.len-level.result + 1) (ap (λ n. n + 1) level) c.args.sink.now
     c.in-Ok.view c.in-Ok.ensures.view c.in-Ok.ensures.of.0 c.in-Ok.ensures.faults c.tell_undamaged.result c.tell_undamaged.new.sink c.tell_undamaged.ensures
     Interior c.in_ok-tell_undamaged-in-Ok.was (search rules)
@@ -58,7 +58,7 @@ returns-in_err-tell_depth-clause-told g c = λ file W d from item shape candidat
     let level = c.len-level.ensures.value in
     let u = ap (λ s. s.usable) (c.geometry-usable.ensures.value ∙ shape) in
     let b = there c.uses-uses.result.0.now (ap (slice_get c.args.bench.now.levels) (sym level) ∙ c.uses-uses.ensures.page) in
-    exit_leaf_stop _ _ g.K.Sink.takes g.K.Sink.drops g.K.Sink.failures file W t.kind t.start t.path.items c.args.page from item d candidate
+    exit_leaf_stop _ _ g.K.Sink.takes g.K.Sink.drops g.K.Sink.held file W t.kind t.start t.path.items c.args.page from item d candidate
     c.geometry-usable.result.usable u c.uses-uses.result.0.now b t.leaf first c.as_slice.result.now c.as_slice.ensures.value (c.len-level.result + 1) (ap (λ n. n + 1) level) c.args.sink.now
     c.in-Ok.view c.in-Ok.ensures.view c.in-Ok.ensures.of.0 c.in-Ok.ensures.faults c.tell_undamaged.result c.tell_undamaged.new.sink c.tell_undamaged.ensures
     c.in_ok-tell_undamaged-in-Ok.was (search rules) c.tell_depth.result c.tell_depth.new.sink c.tell_depth.ensures.told
@@ -70,7 +70,7 @@ returns-clause-told g c = λ file W d from item shape candidate there first.
     let level = c.len-level.ensures.value in
     let u = ap (λ s. s.usable) (c.geometry-usable.ensures.value ∙ shape) in
     let b = there c.uses-uses.result.0.now (ap (slice_get c.args.bench.now.levels) (sym level) ∙ c.uses-uses.ensures.page) in
-    exit_leaf _ _ g.K.Sink.takes g.K.Sink.drops g.K.Sink.failures file W t.kind t.start t.path.items c.args.page from item d candidate
+    exit_leaf _ _ g.K.Sink.takes g.K.Sink.drops g.K.Sink.held file W t.kind t.start t.path.items c.args.page from item d candidate
     c.geometry-usable.result.usable u c.uses-uses.result.0.now b t.leaf first c.as_slice.result.now c.as_slice.ensures.value (c.len-level.result + 1) (ap (λ n. n + 1) level) c.args.sink.now
     c.in-Ok.view c.in-Ok.ensures.view c.in-Ok.ensures.of.0 c.in-Ok.ensures.faults c.tell_undamaged.result c.tell_undamaged.new.sink c.tell_undamaged.ensures
     c.in_ok-tell_undamaged-in-Ok.was (search rules) c.tell_depth.result c.tell_depth.new.sink c.tell_depth.ensures.told
