@@ -38,7 +38,7 @@ fn put_first<O: Out>(out: &mut O, limit: u32, faults: &[Option<Fault>]) -> Resul
 }
 
 // Puts the line that counts the faults that are not shown, if there are any.
-fn put_rest<O: Out>(out: &mut O, count: u64) -> Result<(), WriteFailed>
+pub(crate) fn put_rest<O: Out>(out: &mut O, count: u64) -> Result<(), WriteFailed>
     ensures { Puts result (O.held out.old) (O.held out.new) (more_text count) }
 {
     if count == 0 {

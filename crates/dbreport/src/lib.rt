@@ -8,11 +8,20 @@
 #![tactic(auto)]
 
 mod check;
+mod check_sink;
 mod code_text;
+mod counts;
+mod end_faults;
+mod end_pass;
 mod header_faults;
 mod lines;
+mod map_entry;
 mod plain;
+mod roots;
 mod runs;
+mod schema_watch;
+mod tell;
+mod walks;
 
 pub use dbformat::{Command, Verdict};
 pub use runs::run;

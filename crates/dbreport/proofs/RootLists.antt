@@ -1,0 +1,48 @@
+-- The rows of a list of roots, as its fields hold them, where a row is added.
+use Rattle.std.proofs.Common.{◌≡◌, ℕ, ◌-◌, ◌≤◌, List, [], ◌∷◌, ◌++◌, length, take, drop, map, Option, Some, None, refl, ap, ap₂, ◌∙◌, arith, length-drop}
+use Rattle.std.specs.List.{All}
+use Rattle.std.proofs.lemmas.List.Elements.{All-head, All-tail, All-cons, All-nil, All-append}
+use Rattle.std.proofs.lemmas.List.{take-append-le, drop-append-le, map-append}
+use Rattle.dbformat.specs.SchemaRow.{SchemaRow}
+use Rattle.dbreport.specs.declared.roots.Span.{Span}
+use Rattle.dbreport.specs.declared.roots.Entry.{Entry}
+use Rattle.dbreport.specs.Roots.{Listed, name_in, entry_row, kept_row, IsWithin, Grows}
+
+-- a name stays where more bytes come behind it
+name_kept : (names more : List ℕ) (span : Option Span) → IsWithin (length names) span → name_in (names ++ more) span ≡ name_in names span
+name_kept names more None h = refl
+name_kept names more (Some s) h =
+    let d : drop s.start (names ++ more) ≡ drop s.start names ++ more = drop-append-le s.start names more (omega arith) in
+    let n : length (drop s.start names) ≡ length names - s.start = length-drop s.start names in
+    let k : s.len ≤ length (drop s.start names) = omega arith in
+    ap Some (ap (take s.len) d ∙ take-append-le s.len (drop s.start names) more k)
+
+pub rows_kept : (names more : List ℕ) (es : List Entry) → All (λ e. IsWithin (length names) e.name) es → map (entry_row (names ++ more)) es ≡ map (entry_row names) es
+rows_kept names more [] h = refl
+rows_kept names more (e ∷ es) h =
+    let one : entry_row (names ++ more) e ≡ entry_row names e = ap (λ n. record { kind = e.kind; root = e.page; name = n }) (name_kept names more e.name (All-head (λ e. IsWithin (length names) e.name) e es h)) in
+    ap₂ (λ x xs. x ∷ xs) one (rows_kept names more es (All-tail (λ e. IsWithin (length names) e.name) e es h))
+
+within_more : (n m : ℕ) (span : Option Span) → n ≤ m → IsWithin n span → IsWithin m span
+within_more n m None l h = tt
+within_more n m (Some s) l h = (omega arith, h.1)
+
+-- all names stay within, where there are more bytes
+pub names_more : (n m : ℕ) (es : List Entry) → n ≤ m → All (λ e. IsWithin n e.name) es → All (λ e. IsWithin m e.name) es
+names_more n m [] l h = All-nil (λ e. IsWithin m e.name)
+names_more n m (e ∷ es) l h = All-cons (λ e. IsWithin m e.name) e es
+    (within_more n m e.name l (All-head (λ e. IsWithin n e.name) e es h))
+    (names_more n m es l (All-tail (λ e. IsWithin n e.name) e es h))
+
+pub names_one : (n m : ℕ) (es : List Entry) (e : Entry) → n ≤ m → All (λ e. IsWithin n e.name) es → IsWithin m e.name → All (λ e. IsWithin m e.name) (es ++ e ∷ [])
+names_one n m es e l h k = All-append (λ e. IsWithin m e.name) es (e ∷ []) (names_more n m es l h) (All-cons (λ e. IsWithin m e.name) e [] k (All-nil (λ e. IsWithin m e.name)))
+
+-- the rows with one more
+pub row_added : (names news : List ℕ) (es fs : List Entry) (e : Entry) (row : SchemaRow) (rows : List SchemaRow) (n : ℕ) → Grows names news
+    → All (λ e. IsWithin (length names) e.name) es → fs ≡ es ++ e ∷ [] → entry_row news e ≡ kept_row row → map (entry_row names) es ≡ rows
+    → ◌≡◌ {A = Listed} (record { rows = map (entry_row news) fs; refusals = n }) (record { rows = rows ++ kept_row row ∷ []; refusals = n })
+row_added names news es fs e row rows n g w f k r =
+    let first : map (entry_row news) es ≡ rows = ap (λ b. map (entry_row b) es) g.is ∙ rows_kept names g.added es w ∙ r in
+    let all : map (entry_row news) fs ≡ rows ++ kept_row row ∷ [] =
+    ap (map (entry_row news)) f ∙ map-append (entry_row news) es (e ∷ []) ∙ ap₂ (λ x y. x ++ y ∷ []) first k in
+    ap (λ x. record { rows = x; refusals = n }) all

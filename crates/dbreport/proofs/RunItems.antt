@@ -1,0 +1,93 @@
+-- What a run comes by in the walks from all starts: the survey, and its faults.
+use Rattle.std.proofs.Common.{◌≡◌, ℕ, List, [], ◌∷◌, ◌++◌, map, length, Bool, Result, Ok, Err, refl, sym, ap, ap₂, subst, ◌∙◌}
+use Rattle.std.specs.Prelude.{filter_map, option_to_list}
+use Rattle.std.proofs.lemmas.List.{append-nil}
+use Rattle.std.proofs.lemmas.List.Elements.{filter_map-append}
+use Rattle.dbsurvey.specs.Address.{IsIn}
+use Rattle.dbsurvey.specs.From.{under}
+use Rattle.dbsurvey.specs.InOrder.{read_back}
+use Rattle.dbsurvey.specs.Story.{Told, Errand, Go, Follow, errands_at, goes, AreErrandsApart, telling_of}
+use Rattle.dbsurvey.specs.Survey.{Link, named_at}
+use Rattle.dbsurvey.specs.Traverse.{part_of}
+use Rattle.dbsurvey.proofs.Tellings.{errands_at-apart}
+use Rattle.dbformat.specs.Address.{schema_start}
+use Rattle.dbformat.specs.EndFaults.{end_faults, has_rows}
+use Rattle.dbformat.specs.File.{geometry}
+use Rattle.dbformat.specs.HeaderFaults.{header_faults}
+use Rattle.dbformat.specs.Laws.{event_row, schema_part}
+use Rattle.dbformat.specs.Reference.{Way, Reference}
+use Rattle.dbformat.specs.Report.{event_faults, faults_below, faults}
+use Rattle.dbformat.specs.Rows.{StatRow}
+use Rattle.dbformat.specs.Schema.{schema, schema_link, later_starts, starts}
+use Rattle.dbformat.specs.Story.{Event, own_visit, story_of, start_errands}
+use Rattle.dbformat.specs.Survey.{Survey, rules_of}
+use Rattle.dbformat.specs.declared.Fault.{Fault}
+use Rattle.dbformat.proofs.LookBack.{looks_back, by_starts}
+use Rattle.dbformat.proofs.Rising.{starts_rise, follows_pairs}
+use Rattle.dbformat.proofs.SchemaStart.{schema_below}
+use Rattle.dbformat.proofs.Visited.{has_address}
+use Rattle.dbsource.specs.declared.error.RunError.{RunError}
+use Rattle.dbwalk.specs.Done.{IsDone}
+use Rattle.dbwalk.specs.Left.{IsLeft}
+use Rattle.dbwalk.specs.Marking.{AreMarksOf}
+use Rattle.dbwalk.specs.Outcomes.{Tells}
+use Rattle.dbwalk.specs.declared.mark.Mark.{Mark}
+use Rattle.dbwalk.proofs.Telling.Lefts.{left_start, left_call, left_stop}
+use Rattle.dbreport.proofs.Starts.{quiet_go}
+use Rattle.dbwalk.specs.Finding.{Finding, told_row, told_fault, told_at, told_below, visited_below}
+use Rattle.dbwalk.proofs.Telling.Belows.{visited_join, told_join}
+use Rattle.dbreport.specs.Starts.{AreBelowStarts, AreWalked, schema_reference, later_errands}
+
+-- starts rest on the schema alone
+later_same : (file : List ℕ) (U V : List Reference) → schema file U ≡ schema file V → later_starts file U ≡ later_starts file V
+unfolding later_starts
+later_same file U V e = rw e refl
+
+pub starts_are : (file : List ℕ) (V : List Reference) → Survey file V → start_errands file V ≡ Go schema_reference ∷ later_errands file V
+starts_are file V s = ap (λ ls. Go schema_reference ∷ errands_at [] (map Follow ls)) (later_same file (under schema_start V) V (sym (schema_below file V s)))
+
+pub starts_apart : (file : List ℕ) (V : List Reference) → AreErrandsApart (start_errands file V)
+starts_apart file V = errands_at-apart [] (map Follow (starts file V)) (follows_pairs (starts file V) (starts_rise file (under schema_start V)))
+
+goes_named : (a : List ℕ) (ls : List (Link Way)) → goes (errands_at {E = Event} a (map Follow ls)) ≡ named_at a ls
+goes_named a [] = refl
+goes_named a (l ∷ ls) = ap (λ cs. record { address = a ++ (l.step ∷ []); page = l.page; role = l.role } ∷ cs) (goes_named a ls)
+
+-- the pages that are visited from the starts are those of the survey
+pub all_visited : (file : List ℕ) (V : List Reference) → Survey file V → visited_below file [] (start_errands file V) ≡ V
+all_visited file V s =
+    let P = schema_part file in
+    let by = by_starts file V s in
+    let later : later_starts file V ≡ later_starts file P = later_same file V P by.1 in
+    ap (visited_below file []) (starts_are file V s)
+    ∙ visited_join file [] (Go schema_reference ∷ []) (later_errands file V)
+    ∙ ap (λ cs. P ++ part_of (rules_of file) (geometry file).pages P cs) (goes_named [] (later_starts file V) ∙ ap (named_at []) later)
+    ∙ sym by.0
+
+pub survey_below_starts : (file : List ℕ) (V : List Reference) → Survey file V → AreBelowStarts ([] ++ visited_below file [] (start_errands file V))
+survey_below_starts file V s u i = has_address file V s u (subst (λ W. IsIn u W) (all_visited file V s) i)
+
+module _ {S : Type 0} (takes drops : S → Finding → S → Type 0) (file : List ℕ) (V : List Reference) (s : Survey file V) (before : S) where
+  module _ (marks : List Mark) (fresh : AreMarksOf file [] marks) where
+    -- at the start all is left
+    pub starts_left : IsLeft takes file [] (start_errands file V) before [] ((Go schema_reference ∷ []) ++ later_errands file V) marks before
+    starts_left = subst (λ es. IsLeft takes file [] (start_errands file V) before [] es marks before) (starts_are file V s)
+        (left_start takes file [] (start_errands file V) before marks fresh (λ u e i. absurd i) (starts_apart file V))
+
+    module _ (marks' : List Mark) (t : S) where
+      -- an error in the schema's tree
+      pub schema_stopped : (e : RunError) → IsDone {A = Unit {0}} takes drops file [] (Go schema_reference ∷ []) (Err e) marks' before t → Tells {A = Unit {0}} takes drops (Err e) before (told_below file [] (start_errands file V)) t
+      schema_stopped e d = (left_stop takes file [] (start_errands file V) before [] marks before {A = Unit {0}} drops t marks' e ((Go schema_reference ∷ []) ++ later_errands file V) (told_below file [] (Go schema_reference ∷ []))
+          (told_below file ([] ++ visited_below file [] (Go schema_reference ∷ [])) (later_errands file V)) starts_left
+          (sym (told_join file [] (Go schema_reference ∷ []) (later_errands file V) (quiet_go schema_reference))) d.told).told
+
+      -- the schema's tree is done, and the later starts are left
+      pub schema_walked : {A : Type 0} (a : A) → IsDone takes drops file [] (Go schema_reference ∷ []) (Ok a) marks' before t
+          → IsLeft takes file [] (start_errands file V) before ([] ++ visited_below file [] (Go schema_reference ∷ [])) (later_errands file V) marks' t
+      schema_walked a d = left_call takes file [] (start_errands file V) before [] marks before drops t marks' a (Go schema_reference ∷ []) (later_errands file V) starts_left (quiet_go schema_reference) d
+
+  -- the later starts are done, or an error stopped them
+  pub later_walked : (marks' : List Mark) (t : S) (r : Result (Unit {0}) RunError) (any : Bool) → any ≡ has_rows file V → IsDone takes drops file [] (start_errands file V) r marks' before t
+      → AreWalked takes drops file V r marks' any before t
+  later_walked marks' t (Ok u) any e d = record { marked = subst (λ W. AreMarksOf file W marks') (all_visited file V s) d.marked; told = d.told; has_rows = e }
+  later_walked marks' t (Err x) any e d = record { marked = tt; told = d.told; has_rows = tt }

@@ -1,0 +1,82 @@
+use Rattle.std.proofs.Common.{◌≡◌, true, false, Some, refl, sym, ap, ◌∙◌, subst, inl, inr}
+use Rattle.std.specs.Prelude.{option_map}
+use Rattle.std.proofs.lemmas.Bool.{both_ways}
+use Rattle.std.proofs.lemmas.Result.{err_from_is_err_and}
+use Rattle.dbsurvey.specs.Moves.{Moves}
+use Rattle.dbformat.specs.File.{geometry}
+use Rattle.dbformat.specs.FixedPages.{fixed_use, is_fixed}
+use Rattle.dbformat.specs.Log.{page_range}
+use Rattle.dbformat.specs.declared.Fixed.TheVariants.{Map}
+use Rattle.dbformat.specs.declared.Geometry.{Geometry}
+use Rattle.dbsource.specs.Bench.{Pages}
+use Rattle.dbsource.proofs.Logs.{asks_one}
+use Rattle.dbsource.proofs.Told.{if_told, told_all}
+use Rattle.dbwalk.specs.EndMarks.{mark_fault, late_fault}
+use Rattle.dbwalk.specs.Outcomes.{Tells}
+use Rattle.dbreport.specs.EndPass.{is_fixed_mark}
+use Rattle.dbreport.specs.MapReads.{entry_value, HasMapFor, IsMapInUse}
+use Rattle.dbreport.proofs.EndItems.{fixed_items, other_items}
+use Rattle.dbreport.proofs.MapLogs.{asks_nothing}
+use Rattle.dbreport.proofs.MapPlaces.{next_read, next_kept, page_read, not_map, on_ok, not_in_use}
+use Rattle.dbreport.proofs.end_pass.end_page.Goals as goal
+
+pub returns-in_err-load-clause-asks : goal.returns-in_err-load-clause-asks
+returns-in_err-load-clause-asks g c =
+    let q = err_from_is_err_and c.from_residual.result c.from_residual.ensures.1 in
+    let used = subst (λ (g : Geometry). IsMapInUse g c.args.page) c.geometry.ensures.value (c.is_map_in_use.ensures.0 c.if-is_map_in_use.true) in
+    rw q.1 (rw q.2 (asks_one g.S.Source.step _ _ _ _ _ _ (page_range c.args.bench.now.geometry.page_size c.args.page) refl refl refl
+    c.in_err-load.ensures.told c.in_err-load.ensures.trail c.in_err-load.ensures.count (inr (refl, used))))
+
+pub returns-in_ok-load-clause-asks : goal.returns-in_ok-load-clause-asks
+returns-in_ok-load-clause-asks g c =
+    let used = subst (λ (g : Geometry). IsMapInUse g c.args.page) c.geometry.ensures.value (c.is_map_in_use.ensures.0 c.if-is_map_in_use.true) in
+    asks_one g.S.Source.step _ _ _ _ _ _ (page_range c.args.bench.now.geometry.page_size c.args.page) refl refl refl
+    c.in_ok-load.ensures.told c.in_ok-load.ensures.trail c.in_ok-load.ensures.count (inr (refl, used))
+
+pub returns-in_ok-load-clause-done : goal.returns-in_ok-load-clause-done
+returns-in_ok-load-clause-done g c =
+    let used = c.is_map_in_use.ensures.0 c.if-is_map_in_use.true in
+    let level = c.in_ok-load.ensures.level in
+    if_told (g.S.Source.held c.args.source.now).bytes
+    (λ file bytes mark m e ok same chain.
+    let k : mark ≡ c.get-mark.result = let q = c.get-mark.ensures in cc in
+    let fixed : is_fixed_mark mark ≡ true = ap is_fixed_mark k ∙ sym c.is_fixed.ensures ∙ c.if-is_fixed.true in
+    let map : fixed_use (geometry file) c.args.page ≡ Some Map = ap (λ (g : Geometry). fixed_use g c.args.page) (sym (c.geometry.ensures.value ∙ e)) ∙ used.0 in
+    let read : c.load.new.self.chain ≡ level.bytes = ap (λ (b : Pages). b.chain) level.only in (
+      subst (λ l. Moves g.K.Sink.takes c.args.sink.now l c.args.sink.now) (sym (fixed_items file c.args.least_other c.args.page mark fixed)) refl,
+      next_read file c.load.new.self.chain c.args.page map (read ∙ page_read file level.bytes c.args.bench.now.geometry.page_size c.args.page level.size bytes (ap (λ (g : Geometry). g.page_size) (sym e))),
+    ))
+    level.holds
+
+pub returns-else-is_map_in_use-clause-asks : goal.returns-else-is_map_in_use-clause-asks
+returns-else-is_map_in_use-clause-asks g c = asks_nothing g.S.Source.step _ _ _ tt (inl refl)
+
+pub returns-else-is_map_in_use-clause-done : goal.returns-else-is_map_in_use-clause-done
+returns-else-is_map_in_use-clause-done g c =
+    told_all (g.S.Source.held c.args.source.now).bytes
+    (λ file mark m e ok same chain.
+    let k : mark ≡ c.get-mark.result = let q = c.get-mark.ensures in cc in
+    let fixed : is_fixed_mark mark ≡ true = ap is_fixed_mark k ∙ sym c.is_fixed.ensures ∙ c.if-is_fixed.true in
+    let shape = c.geometry.ensures.value ∙ e in
+    let last = not_in_use (geometry file) c.args.page (λ u. both_ways c.is_map_in_use.result c.if-is_map_in_use.false (c.is_map_in_use.ensures.1 (subst (λ (g : Geometry). IsMapInUse g c.args.page) (sym shape) u))) in (
+      subst (λ l. Moves g.K.Sink.takes c.args.sink.now l c.args.sink.now) (sym (fixed_items file c.args.least_other c.args.page mark fixed)) refl,
+      next_kept file c.args.bench.now.chain c.args.page ok c.requires.page.0 last chain,
+    ))
+
+pub returns-clause-asks : goal.returns-clause-asks
+returns-clause-asks g c = asks_nothing g.S.Source.step _ c.tell_all.result _ c.tell_all.ensures.only (inl refl)
+
+pub returns-clause-done : goal.returns-clause-done
+returns-clause-done g c =
+    told_all (g.S.Source.held c.args.source.now).bytes
+    (λ file mark m e ok same chain.
+    let k : mark ≡ c.get-mark.result = let q = c.get-mark.ensures in cc in
+    let free : is_fixed (geometry file) c.args.page ≡ false = sym same ∙ ap is_fixed_mark k ∙ sym c.is_fixed.ensures ∙ c.if-is_fixed.false in
+    let entry = c.entry_of-entry.ensures file e (subst (λ g. HasMapFor file g c.args.page c.args.bench.now.chain) (sym e) chain) in
+    let items = other_items file c.args.least_other c.args.page mark c.use_fault.result c.late_fault.result (option_map entry_value c.entry_of-entry.result) c.geometry-has_map.result.has_map entry
+    (ap (λ (g : Geometry). g.has_map) (c.geometry-has_map.ensures.value ∙ e))
+    (c.use_fault.ensures ∙ ap (λ m. mark_fault c.args.page (option_map entry_value c.entry_of-entry.result) m) (sym k))
+    (c.late_fault.ensures ∙ ap (λ m. late_fault c.geometry-has_map.result.has_map c.args.page m c.args.least_other) (sym k)) in (
+      subst (λ l. Tells g.K.Sink.takes g.K.Sink.drops c.tell_all.result c.args.sink.now l c.tell_all.new.sink) items c.tell_all.ensures.told,
+      on_ok c.tell_all.result (next_kept file c.args.bench.now.chain c.args.page ok c.requires.page.0 (λ z. absurd (not_map (geometry file) c.args.page free z)) chain),
+    ))

@@ -1,0 +1,31 @@
+-- Which findings are faults, and which show that the schema has a row.
+use Rattle.std.specs.Prelude.{Bool, true, false, not, ◌&&◌, ◌==◌, List, filter_map, Option, Some, None}
+use Rattle.dbformat.specs.Address.{schema_start}
+use Rattle.dbformat.specs.Rows.{StatRow}
+use Rattle.dbformat.specs.declared.Fault.{Fault}
+use Rattle.dbformat.specs.declared.PageType.{PageType}
+use Rattle.dbformat.specs.declared.PageType.TheVariants.{Leaf}
+use Rattle.dbwalk.specs.Finding.{Finding, told_row, told_fault}
+
+-- the fault of a finding, if it is one
+abbrev pub fault_in : Finding → Option Fault
+fault_in (told_row r) = None
+fault_in (told_fault f) = Some f
+
+-- the faults among findings
+abbrev pub faults_in : List Finding → List Fault
+faults_in items = filter_map fault_in items
+
+-- whether a page is a leaf
+abbrev pub is_leaf : PageType → Bool
+is_leaf Leaf = true
+is_leaf _ = false
+
+-- whether a row of the statistics is of a leaf of the schema with a cell
+abbrev pub is_schema_leaf : StatRow → Bool
+is_schema_leaf r = (r.start == schema_start) && is_leaf r.pagetype && not (r.ncell == 0)
+
+-- whether a finding is such a row
+abbrev pub is_schema_row : Finding → Bool
+is_schema_row (told_row r) = is_schema_leaf r
+is_schema_row (told_fault f) = false

@@ -1,0 +1,12 @@
+-- All that a run tells, in its order.
+use Rattle.std.specs.Prelude.{ℕ, List, [], ◌++◌, length}
+use Rattle.dbformat.specs.EndFaults.{end_faults}
+use Rattle.dbformat.specs.HeaderFaults.{header_faults}
+use Rattle.dbformat.specs.Reference.{Reference}
+use Rattle.dbformat.specs.Story.{start_errands}
+use Rattle.dbwalk.specs.Finding.{Finding, told_below}
+use Rattle.dbwalk.specs.Telling.{findings}
+
+-- the header's faults, what is told below all starts, and the faults at the end
+abbrev pub run_items : List ℕ → List Reference → List Finding
+run_items file V = findings (header_faults file (length file)) ++ told_below file [] (start_errands file V) ++ findings (end_faults file V)

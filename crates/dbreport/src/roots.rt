@@ -1,0 +1,186 @@
+// The list of roots.
+ghost use Rattle.std.specs.Prelude.{◌≡◌, ◌+◌, ◌-◌, ◌<◌, ◌≤◌, [], ◌∷◌, ◌++◌, length, option_map, slice_get, vec_len, IfOk, IfErr, OnOk, OnErr};
+ghost use Rattle.std.specs.Option.{option_copied};
+ghost use Rattle.dbwalk.specs.Rows.{schema_row_of};
+ghost use Rattle.dbreport.specs.Roots.{kept_row, short_name, name_in, IsWithin, Grows};
+
+use dbbytes::SchemaRow;
+use dbformat::RowKind;
+use dbsource::Failures;
+use dbwalk::{Taken, Taker};
+use std::alloc::{AllocError, Allocator, Global};
+use std::marker::Model;
+
+// How many roots are taken (own).
+const MAX_ROOTS: usize = 65536;
+// How many bytes of a name are kept (own).
+const MAX_NAME: usize = 1000;
+
+// Where the bytes of a name stand.
+#[derive(Clone, Copy, Debug, PartialEq, Eq)]
+struct Span {
+    start: u32,
+    len: u32,
+}
+
+// A row of the schema that has a root page.
+#[derive(Clone, Copy, Debug, PartialEq, Eq)]
+struct Entry {
+    page: u32,
+    kind: RowKind,
+    name: Option<Span>,
+}
+
+/// The rows of the schema that have a root page, 65536 at most, each with the bytes of its name, 1000 at most. A longer
+/// name is kept as none.
+#[derive(Drop)]
+pub struct RootList<A: Allocator = Global> {
+    entries: Vec<Entry, A>,
+    names: Vec<u8, A>,
+    refusals: Failures,
+}
+
+impl<A: Allocator> Model for RootList<A> {
+    ghost use Rattle.dbreport.specs.Roots.{Listed};
+
+    ghost Value = { Listed };
+
+    ghost use Rattle.dbreport.specs.Roots.{listed, AreRoots};
+
+    ghost view = { listed };
+
+    ghost invariant = { AreRoots };
+}
+
+impl RootList {
+    /// An empty list. It takes memory from `alloc` as rows are taken.
+    pub fn new(alloc: Global) -> RootList
+        ensures rows { result.rows ≡ [] }
+        ensures refusals { result.refusals ≡ 0 }
+    {
+        RootList::new_in(alloc)
+    }
+}
+
+impl<A: Allocator + Copy> RootList<A> {
+    /// An empty list, over any allocator. It takes memory as rows are taken.
+    pub fn new_in(alloc: A) -> RootList<A>
+        ensures rows { result.rows ≡ [] }
+        ensures refusals { result.refusals ≡ 0 }
+    {
+        RootList {
+            entries: Vec::new(alloc),
+            names: Vec::new(alloc),
+            refusals: Failures::new(),
+        }
+    }
+}
+
+impl<A: Allocator> RootList<A> {
+    /// How many rows there are.
+    pub fn len(&self) -> u32
+        ensures count { result ≡ length self.now.rows }
+        ensures most { result ≤ 65536 }
+    {
+        self.entries.len() as u32
+    }
+
+    /// The row of a start, numbered from 1, if there is one.
+    pub fn get(&self, start: u32) -> Option<SchemaRow<'_>>
+        requires { 1 ≤ start }
+        ensures { option_map schema_row_of result ≡ slice_get self.now.rows (start - 1) }
+    {
+        let entry = self.entries.get(start as usize - 1)?;
+        let name = match entry.name {
+            Some(span) => {
+                let start = span.start as usize;
+                Some(&self.names[start..start + span.len as usize])
+            }
+            None => None,
+        };
+        Some(SchemaRow {
+            kind: entry.kind,
+            root: entry.page,
+            name,
+        })
+    }
+
+    /// Takes all rows away, and gives no memory back. The count of refusals stays.
+    pub fn clear(&mut self)
+        ensures rows { self.new.rows ≡ [] }
+        ensures refusals { self.new.refusals ≡ self.old.refusals }
+    {
+        self.entries.clear();
+        self.names.clear();
+    }
+
+    // Adds a row, for which there is room.
+    #[tactic(auto, using(crate::proofs::RootLists::rows_kept))]
+    fn add(&mut self, row: &SchemaRow<'_>) -> Result<(), AllocError>
+        requires { length self.old.rows < 65536 }
+        ensures added { OnOk result (self.new ≡ record self.old { rows = self.old.rows ++ kept_row (schema_row_of row.now) ∷ [] }) }
+        ensures refused { OnErr result (self.new ≡ self.old) }
+    {
+        let old_len = self.names.len();
+        let name = keep_name(&mut self.names, row.name)?;
+        let entry = Entry {
+            page: row.root,
+            kind: row.kind,
+            name,
+        };
+        if self.entries.push(entry).is_err() {
+            self.names.truncate(old_len);
+            return Err(AllocError);
+        }
+        Ok(())
+    }
+}
+
+impl<A: Allocator> Taker for RootList<A> {
+    ghost use Rattle.dbreport.specs.Roots.{TakesRow, RefusesRow};
+
+    ghost takes = { TakesRow };
+
+    ghost refuses = { RefusesRow };
+
+    ghost refusals = { λ l. l.refusals };
+
+    fn take(&mut self, row: &SchemaRow<'_>) -> Result<Taken, AllocError> {
+        if row.root == 0 {
+            return Ok(Taken::NoRoot);
+        }
+        if self.entries.len() >= MAX_ROOTS {
+            return Ok(Taken::Full);
+        }
+        match self.add(row) {
+            Ok(()) => Ok(Taken::Taken),
+            Err(error) => {
+                self.refusals.add();
+                Err(error)
+            }
+        }
+    }
+}
+
+// Adds the bytes of a name behind those of others, where there are 1000 at most.
+fn keep_name<A: Allocator>(
+    names: &mut Vec<u8, A>,
+    name: Option<&[u8]>,
+) -> Result<Option<Span>, AllocError>
+    requires { vec_len names.old ≤ 65536000 }
+    ensures more { IfOk result (λ _. Grows names.old.items names.new.items) }
+    ensures len { (vec_len names.old ≤ vec_len names.new) × (vec_len names.new ≤ vec_len names.old + 1000) }
+    ensures name { IfOk result (λ span. name_in names.new.items span ≡ short_name (option_copied name.entry)) }
+    ensures within { IfOk result (λ span. IsWithin (vec_len names.new) span) }
+    ensures same { IfErr result (λ _. (names.new.items ≡ names.old.items) × (vec_len names.new ≡ vec_len names.old)) }
+{
+    match name {
+        Some(bytes) if bytes.len() <= MAX_NAME => {
+            let start = names.len() as u32;
+            let len = bytes.len() as u32;
+            names.extend_from_slice(bytes)?;
+            Ok(Some(Span { start, len }))
+        }
+        _ => Ok(None),
+    }
+}
