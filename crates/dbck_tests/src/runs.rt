@@ -46,7 +46,10 @@ const ROWS: [Row; 14] = [
     Row {
         patches: &[(19, &[0]), (21, &[63, 31, 33])],
         answer: Ok(Verdict::Faulty(4)),
-        out: "H01 page 1 item 19 value 0: file version is not 1 or 2\nH02 page 1 item 21 value 63: payload fraction is not the fixed one\nH02 page 1 item 22 value 31: payload fraction is not the fixed one\nH02 page 1 item 23 value 33: payload fraction is not the fixed one\n",
+        out: "H01 page 1 item 19 value 0: file version is not 1 or 2\n\
+              H02 page 1 item 21 value 63: payload fraction is not the fixed one\n\
+              H02 page 1 item 22 value 31: payload fraction is not the fixed one\n\
+              H02 page 1 item 23 value 33: payload fraction is not the fixed one\n",
     },
     Row {
         patches: &[(44, &[0, 0, 0, 5]), (56, &[0, 0, 1, 0])],
