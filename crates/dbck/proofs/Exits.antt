@@ -1,11 +1,12 @@
 -- What a status says of a report, by the outcome that it stands for.
-use Rattle.std.proofs.Common.{inl, inr, ◌≡◌, ℕ, List, [], Option, None, Some, Result, Ok, Err, ◌≤◌, refl, sym, subst, arith}
+use Rattle.std.proofs.Common.{inl, inr, ◌≡◌, ◌↔◌, ℕ, List, [], Option, None, Some, Result, Ok, Err, ◌≤◌, refl, sym, subst, arith}
 use Rattle.std.specs.Prelude.{OnOk, IfOk, IfSome, ◌==◌, if◌then◌else◌}
 use Rattle.std.specs.Io.KnownBytes.{Appends}
 use Rattle.std.proofs.lemmas.List.{append-nil}
 use Rattle.dbformat.specs.File.{refusal}
 use Rattle.dbformat.specs.Reference.{Reference}
 use Rattle.dbformat.specs.Report.{Report, report}
+use Rattle.dbformat.specs.Sound.{Sound}
 use Rattle.dbformat.specs.Survey.{Survey}
 use Rattle.dbformat.specs.declared.Command.{Command}
 use Rattle.dbformat.specs.declared.Refusal.{Refusal}
@@ -16,8 +17,8 @@ use Rattle.dbsource.specs.Errors.{is_write_failed}
 use Rattle.dbsource.specs.Failures.{failures_after, one_more}
 use Rattle.dbsource.specs.Outs.{Begins, OutState, Writes}
 use Rattle.dbsource.specs.declared.error.RunError.{RunError}
-use Rattle.dbsource.specs.declared.error.RunError.TheVariants.{NotYet, Refused, ReadFailed, OutOfMemory, WriteFailed}
-use Rattle.dbck.specs.Exit.{IsExit, IsExitOf, IsStatusOf}
+use Rattle.dbsource.specs.declared.error.RunError.TheVariants.{Refused, ReadFailed, OutOfMemory, WriteFailed}
+use Rattle.dbck.specs.Exit.{IsExit, IsExitOf, IsOkIfSound, IsStatusOf}
 use Rattle.dbck.specs.Status.{exit_status}
 
 -- the report of a refused file
@@ -63,7 +64,6 @@ exit_by_outcome command file V (Err (Refused e)) out out' err err' answer writte
 exit_by_outcome command file V (Err ReadFailed) out out' err err' answer written told verdict unwritten = neither 4 (report command file V) out out' err err' (omega arith) written
 exit_by_outcome command file V (Err OutOfMemory) out out' err err' answer written told verdict unwritten = neither 5 (report command file V) out out' err err' (omega arith) written
 exit_by_outcome command file V (Err WriteFailed) out out' err err' answer written told verdict unwritten = neither 6 (report command file V) out out' err err' (omega arith) written
-exit_by_outcome command file V (Err NotYet) out out' err err' answer written told verdict unwritten = neither 7 (report command file V) out out' err err' (omega arith) written
 
 at_survey : (P : Verdict → List Reference → Type 0) (file : List ℕ) (outcome : Result Verdict RunError) (V : List Reference) → Survey file V
     → IfOk outcome (λ v. (U : List Reference) → Survey file U → P v U) → IfOk outcome (λ v. P v V)
@@ -96,31 +96,41 @@ six_failed (Err (Refused e)) n = refl
 six_failed (Err ReadFailed) n = refl
 six_failed (Err OutOfMemory) n = refl
 six_failed (Err WriteFailed) n = refl
-six_failed (Err NotYet) n = refl
 
 -- a status by its outcome
 status_by : (outcome : Result Verdict RunError) (file : List ℕ) → IsAnswerOf outcome file → IsStatusOf (exit_status outcome) file
-status_by (Ok Clean) file answer = record { memory = λ e. absurd (omega arith); unwritable = λ e. absurd (omega arith); later = λ e. absurd (omega arith); known = inl (omega arith) }
-status_by (Ok (Faulty n)) file answer = record { memory = λ e. absurd (omega arith); unwritable = λ e. absurd (omega arith); later = λ e. absurd (omega arith); known = inl (omega arith) }
-status_by (Err (Refused e)) file answer = record { memory = λ e. absurd (omega arith); unwritable = λ e. absurd (omega arith); later = λ e. absurd (omega arith); known = inr (omega arith, omega arith) }
-status_by (Err ReadFailed) file answer = record { memory = λ e. absurd (omega arith); unwritable = λ e. absurd (omega arith); later = λ e. absurd (omega arith); known = inr (omega arith, omega arith) }
-status_by (Err OutOfMemory) file answer = record { memory = λ e. answer; unwritable = λ e. absurd (omega arith); later = λ e. absurd (omega arith); known = inr (omega arith, omega arith) }
-status_by (Err WriteFailed) file answer = record { memory = λ e. absurd (omega arith); unwritable = λ e. answer; later = λ e. absurd (omega arith); known = inr (omega arith, omega arith) }
-status_by (Err NotYet) file answer = record { memory = λ e. absurd (omega arith); unwritable = λ e. absurd (omega arith); later = λ e. answer; known = inr (omega arith, omega arith) }
+status_by (Ok Clean) file answer = record { memory = λ e. absurd (omega arith); unwritable = λ e. absurd (omega arith); known = inl (omega arith) }
+status_by (Ok (Faulty n)) file answer = record { memory = λ e. absurd (omega arith); unwritable = λ e. absurd (omega arith); known = inl (omega arith) }
+status_by (Err (Refused e)) file answer = record { memory = λ e. absurd (omega arith); unwritable = λ e. absurd (omega arith); known = inr (omega arith, omega arith) }
+status_by (Err ReadFailed) file answer = record { memory = λ e. absurd (omega arith); unwritable = λ e. absurd (omega arith); known = inr (omega arith, omega arith) }
+status_by (Err OutOfMemory) file answer = record { memory = λ e. answer; unwritable = λ e. absurd (omega arith); known = inr (omega arith, omega arith) }
+status_by (Err WriteFailed) file answer = record { memory = λ e. absurd (omega arith); unwritable = λ e. answer; known = inr (omega arith, omega arith) }
 
 -- the same where bytes are told, if they are
 pub statuses : (outcome : Result Verdict RunError) (told : Option (List ℕ)) → IfSome told (IsAnswerOf outcome) → IfSome told (IsStatusOf (exit_status outcome))
 statuses outcome None h = tt
 statuses outcome (Some file) h = status_by outcome file h
 
--- nothing is written beside a verdict and a failed write
-pub unwritten_but_six : (outcome : Result Verdict RunError) (old new : OutState) → IsUnwritten outcome old.bytes new.bytes
-    → new.failures ≡ failures_after is_write_failed outcome old.failures
-    → 3 ≤ exit_status outcome → (exit_status outcome ≡ 6 → ⊥) → new.bytes ≡ old.bytes
-unwritten_but_six (Ok Clean) old new u f h k = absurd (omega arith)
-unwritten_but_six (Ok (Faulty n)) old new u f h k = absurd (omega arith)
-unwritten_but_six (Err (Refused e)) old new u f h k = u
-unwritten_but_six (Err ReadFailed) old new u f h k = u
-unwritten_but_six (Err OutOfMemory) old new u f h k = u
-unwritten_but_six (Err WriteFailed) old new u f h k = absurd (k refl)
-unwritten_but_six (Err NotYet) old new u f h k = u
+-- of the two statuses of a verdict 0 is that of a sound file
+sound_by : (outcome : Result Verdict RunError) (file : List ℕ) → IfOk outcome (λ v. v ≡ Clean ↔ Sound file) → IsOkIfSound (exit_status outcome) file
+sound_by (Ok Clean) file h = λ m. (λ e. h.0 refl, λ s. refl)
+sound_by (Ok (Faulty n)) file h = λ m. (λ e. absurd (omega arith), λ s. let e : Faulty n ≡ Clean = h.1 s in cc)
+sound_by (Err (Refused e)) file h = λ m. absurd (omega arith)
+sound_by (Err ReadFailed) file h = λ m. absurd (omega arith)
+sound_by (Err OutOfMemory) file h = λ m. absurd (omega arith)
+sound_by (Err WriteFailed) file h = λ m. absurd (omega arith)
+
+-- the same where bytes are told, if they are
+pub ok_if_sound : (outcome : Result Verdict RunError) (told : Option (List ℕ)) → IfOk outcome (λ v. IfSome told (λ file. v ≡ Clean ↔ Sound file))
+    → IfSome told (IsOkIfSound (exit_status outcome))
+ok_if_sound outcome None h = tt
+ok_if_sound outcome (Some file) h = sound_by outcome file h
+
+-- at a refusal nothing is written
+pub unwritten_at_3 : (outcome : Result Verdict RunError) (old new : OutState) → IsUnwritten outcome old.bytes new.bytes → exit_status outcome ≡ 3 → new.bytes ≡ old.bytes
+unwritten_at_3 (Ok Clean) old new u k = absurd (omega arith)
+unwritten_at_3 (Ok (Faulty n)) old new u k = absurd (omega arith)
+unwritten_at_3 (Err (Refused e)) old new u k = u
+unwritten_at_3 (Err ReadFailed) old new u k = absurd (omega arith)
+unwritten_at_3 (Err OutOfMemory) old new u k = absurd (omega arith)
+unwritten_at_3 (Err WriteFailed) old new u k = absurd (omega arith)

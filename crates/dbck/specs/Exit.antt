@@ -1,10 +1,10 @@
 -- What an exit status says of the report of a file, and of what was written of it.
-use Rattle.std.specs.Prelude.{◌≡◌, ◌≤◌, ◌⊎◌, ℕ, List, Ok, Err, None, true, false, length}
+use Rattle.std.specs.Prelude.{◌≡◌, ◌≤◌, ◌⊎◌, ◌↔◌, ℕ, List, Ok, Err, None}
 use Rattle.dbformat.specs.File.{refusal}
-use Rattle.dbformat.specs.Plain.{has_one_page, is_plain}
 use Rattle.std.specs.Io.KnownBytes.{Appends}
 use Rattle.dbformat.specs.Reference.{Reference}
 use Rattle.dbformat.specs.Report.{Report, report}
+use Rattle.dbformat.specs.Sound.{Sound}
 use Rattle.dbformat.specs.Survey.{Survey}
 use Rattle.dbformat.specs.declared.Command.{Command}
 use Rattle.dbformat.specs.declared.Refusal.{Refusal}
@@ -29,9 +29,12 @@ abbrev pub IsExitOf : ℕ → Command → List ℕ → OutState → OutState →
 IsExitOf status command file out out' err err' =
     (V : List Reference) → Survey file V → IsExit status (report command file V) out out' err err'
 
--- What a status that is no verdict says of the file; and there is no other status.
+-- Want of memory and a failed write come only where the file is not refused; and there is no other status.
 pub record IsStatusOf (status : ℕ) (file : List ℕ) : Type 0 where
-  pub memory : status ≡ 5 → (refusal file ≡ None) × (has_one_page file (length file) ≡ true)
-  pub unwritable : status ≡ 6 → (refusal file ≡ None) × (is_plain file ≡ true)
-  pub later : status ≡ 7 → (refusal file ≡ None) × (is_plain file ≡ false)
-  pub known : (status ≤ 1) ⊎ ((3 ≤ status) × (status ≤ 7))
+  pub memory : status ≡ 5 → refusal file ≡ None
+  pub unwritable : status ≡ 6 → refusal file ≡ None
+  pub known : (status ≤ 1) ⊎ ((3 ≤ status) × (status ≤ 6))
+
+-- of the two statuses of a verdict 0 is that of a sound file
+abbrev pub IsOkIfSound : ℕ → List ℕ → Type 0
+IsOkIfSound status file = status ≤ 1 → status ≡ 0 ↔ Sound file

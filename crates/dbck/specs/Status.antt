@@ -6,7 +6,7 @@ use Rattle.clap.specs.declared.error.kind.ErrorKind.TheVariants.{DisplayHelp, Ou
 use Rattle.dbformat.specs.Report.{status}
 use Rattle.dbformat.specs.declared.Verdict.{Verdict}
 use Rattle.dbsource.specs.declared.error.RunError.{RunError}
-use Rattle.dbsource.specs.declared.error.RunError.TheVariants.{NotYet, Refused, ReadFailed, OutOfMemory, WriteFailed}
+use Rattle.dbsource.specs.declared.error.RunError.TheVariants.{Refused, ReadFailed, OutOfMemory, WriteFailed}
 use Rattle.dbck.specs.declared.command_line.LineError.{LineError}
 use Rattle.dbck.specs.declared.command_line.LineError.TheVariants.{Words, Limit, NotText}
 
@@ -17,7 +17,6 @@ exit_status (Err (Refused refusal)) = status (Err refusal)
 exit_status (Err ReadFailed) = 4
 exit_status (Err OutOfMemory) = 5
 exit_status (Err WriteFailed) = 6
-exit_status (Err NotYet) = 7
 
 -- 0 where help was asked for, 5 for want of memory, and else 2
 abbrev pub kind_status : ErrorKind → ℕ

@@ -44,8 +44,7 @@ const STATUSES: &str = "Exit status:
   3  the file is no database that is checked (E1 to E7)
   4  the file cannot be read (E8)
   5  out of memory (E9)
-  6  the output cannot be written (E10)
-  7  the file needs a later stage of the program (E0)";
+  6  the output cannot be written (E10)";
 
 fn file_arg<'a>(alloc: Global) -> Arg<'a>
     ensures rule { rule_of result ≡ file_rule }

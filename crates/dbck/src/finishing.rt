@@ -1,8 +1,8 @@
 // From an opened file to an exit status.
-ghost use Rattle.std.specs.Prelude.{◌≡◌, ◌≤◌, OnOk, IfOk, IfSome, IsErr, ◌==◌, if◌then◌else◌};
+ghost use Rattle.std.specs.Prelude.{◌≡◌, OnOk, IfOk, IfSome, IsErr, ◌==◌, if◌then◌else◌};
 ghost use Rattle.dbreport.specs.Runs.{IsCheck};
 ghost use Rattle.dbsource.specs.Failures.{one_more};
-ghost use Rattle.dbck.specs.Exit.{IsExitOf, IsStatusOf};
+ghost use Rattle.dbck.specs.Exit.{IsExitOf, IsOkIfSound, IsStatusOf};
 ghost use Rattle.dbck.specs.Status.{exit_status};
 
 use crate::status::status_of;
@@ -43,7 +43,8 @@ fn finish_opened<S: Source, O: Out, E: Out>(
     ensures exit { IfSome (S.held source.old).bytes (λ file.
         IsExitOf result command file (O.held out.old) (O.held out.new) (E.held err.old) (E.held err.new)) }
     ensures status { IfSome (S.held source.old).bytes (IsStatusOf result) }
-    ensures unwritten { 3 ≤ result → (result ≡ 6 → ⊥) → (O.held out.new).bytes ≡ (O.held out.old).bytes }
+    ensures sound { IfSome (S.held source.old).bytes (IsOkIfSound result) }
+    ensures unwritten { result ≡ 3 → (O.held out.new).bytes ≡ (O.held out.old).bytes }
     ensures failed { (O.held out.new).failures ≡ (if result == 6 then one_more (O.held out.old).failures else (O.held out.old).failures) }
 {
     let outcome = run(alloc, command, source, out, err);
@@ -64,9 +65,10 @@ pub fn finish<S: Source + Drop, O: Out, E: Out>(
     ensures opened { IfOk opened (λ source. IfSome (S.held source).bytes (λ file.
         IsExitOf result command file (O.held out.old) (O.held out.new) (E.held err.old) (E.held err.new))) }
     ensures status { IfOk opened (λ source. IfSome (S.held source).bytes (IsStatusOf result)) }
-    // For every source: 6 exactly where the Out failed, nothing written at any other error, and 4 where the file could not be
-    // opened.
-    ensures unwritten { 3 ≤ result → (result ≡ 6 → ⊥) → (O.held out.new).bytes ≡ (O.held out.old).bytes }
+    // 0 for a sound file, and 1 for any other that is checked to its end.
+    ensures sound { IfOk opened (λ source. IfSome (S.held source).bytes (IsOkIfSound result)) }
+    // For every source: nothing written at 3, 6 exactly where the Out failed, and 4 where the file could not be opened.
+    ensures unwritten { result ≡ 3 → (O.held out.new).bytes ≡ (O.held out.old).bytes }
     ensures failed { (O.held out.new).failures ≡ (if result == 6 then one_more (O.held out.old).failures else (O.held out.old).failures) }
     ensures unopened { IsErr opened → (result ≡ 4) × (O.held out.new ≡ O.held out.old) }
 {

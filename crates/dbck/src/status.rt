@@ -8,7 +8,7 @@ use dbreport::Verdict;
 use dbsource::RunError;
 
 /// The exit status for the outcome of a run: 0 without a fault, 1 with faults, 3 for a refused file, 4 where it cannot be
-/// read, 5 for want of memory, 6 where the output cannot be written, and 7 where the file needs a later stage.
+/// read, 5 for want of memory, and 6 where the output cannot be written.
 pub fn status_of(outcome: &Result<Verdict, RunError>) -> u8
     ensures { result ≡ exit_status outcome.now }
 {
@@ -19,7 +19,6 @@ pub fn status_of(outcome: &Result<Verdict, RunError>) -> u8
         Err(RunError::ReadFailed) => 4,
         Err(RunError::OutOfMemory) => 5,
         Err(RunError::WriteFailed) => 6,
-        Err(RunError::NotYet) => 7,
     }
 }
 

@@ -28,7 +28,6 @@ Exit status:
   4  the file cannot be read (E8)
   5  out of memory (E9)
   6  the output cannot be written (E10)
-  7  the file needs a later stage of the program (E0)
 ";
 
 const CHECK_HELP: &str = "Writes a line for each fault of the file, or 'ok'
@@ -173,7 +172,13 @@ const RUNS: [(usize, u8, u8, &str, &str); 7] = [
     (16, 3, 3, "", "dbck: E3 page size is not valid\n"),
     (20, 33, 3, "", "dbck: E4 usable size is below 480\n"),
     (16, 4, 3, "", "dbck: E5 file has no whole page\n"),
-    (107, 1, 7, "", "dbck: E0 this file needs a later stage\n"),
+    (
+        107,
+        1,
+        1,
+        "P09 page 1 item 0 value 0: fragmented bytes differ from the count\n",
+        "",
+    ),
 ];
 
 #[test]
@@ -242,7 +247,6 @@ fn opens_files(rt: HostRuntime) -> Result<(), Fail> {
 #[test]
 fn errors_have_texts(rt: HostRuntime) -> Result<(), Fail> {
     for (error, text) in [
-        (RunError::NotYet, "E0 this file needs a later stage"),
         (
             RunError::Refused(Refusal::Short),
             "E1 file is shorter than 100 bytes",

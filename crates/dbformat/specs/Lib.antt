@@ -17,7 +17,6 @@ pub mod Numbers
 pub mod Options
 pub mod PageFaults
 pub mod Payload
-pub mod Plain
 pub mod Record
 pub mod Reference
 pub mod ReferenceFaults

@@ -14,7 +14,6 @@ ghost use Rattle.dbformat.specs.Errands.{IsByCell, IsNoneAtDamage, IsOneCellMore
 ghost use Rattle.dbformat.specs.Laws.{HasOneSurvey, FollowsTheUnrefused, IsRefusedByMarks, IsInTheTheory, IsToldInOrder, LooksBackAlone};
 ghost use Rattle.dbformat.specs.Laws.{IsByStarts, IsSchemaBelowItsStart, FollowsAllWhereFaultless, HasWholeChains};
 ghost use Rattle.dbformat.specs.Log.{RunsReadOnce};
-ghost use Rattle.dbformat.specs.Plain.{PlainFilesAreEmpty};
 ghost use Rattle.dbformat.specs.Samples.{long_row_file};
 ghost use Rattle.dbformat.specs.Sound.{Sound};
 
@@ -329,12 +328,6 @@ pub fn schema_below_its_start()
 pub fn faultless_files_are_followed()
     ensures all { (file : List ℕ) → FollowsAllWhereFaultless file }
     ensures chains { (file : List ℕ) → HasWholeChains file }
-{}
-
-/// A plain file that is read has one survey, page 1 alone, and its faults are those of its header and of its
-/// freelist count.
-pub fn plain_files_are_empty()
-    ensures { PlainFilesAreEmpty }
 {}
 
 /// A file of one table with a row on an overflow page is sound.

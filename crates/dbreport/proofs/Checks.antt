@@ -14,7 +14,7 @@ use Rattle.dbformat.specs.declared.Verdict.{Verdict}
 use Rattle.dbformat.specs.declared.Verdict.TheVariants.{Clean, Faulty}
 use Rattle.dbsource.specs.Outs.{Begins, OutState, Puts}
 use Rattle.dbsource.specs.declared.error.RunError.{RunError}
-use Rattle.dbsource.specs.declared.error.RunError.TheVariants.{ReadFailed, WriteFailed, OutOfMemory, NotYet, Refused}
+use Rattle.dbsource.specs.declared.error.RunError.TheVariants.{ReadFailed, WriteFailed, OutOfMemory, Refused}
 use Rattle.dbsource.proofs.Puts.{appends_append, appends_nothing, puts_then}
 use Rattle.dbwalk.specs.Finding.{Finding, told_row, told_fault}
 use Rattle.dbwalk.specs.Outcomes.{StopsBy}
@@ -236,7 +236,6 @@ module _ {O : Type 0} (held : O → OutState) where
   breaks_by WriteFailed items s t l m h = breaks_stop items s t l m h
   breaks_by ReadFailed items s t l m h = breaks_some items s t l m h
   breaks_by OutOfMemory items s t l m h = breaks_some items s t l m h
-  breaks_by NotYet items s t l m h = breaks_some items s t l m h
   breaks_by (Refused r) items s t l m h = breaks_some items s t l m h
 
   -- ---- the whole check, from a sink that was told nothing

@@ -55,13 +55,13 @@ reads_more g p log turn h (inr e) = record {
 }
 
 -- where only a write failed, nothing was asked for
-pub asks_nothing : (step : List ByteRange → ByteRange → List ByteRange) (P : List ByteRange → Type 0) (r : Result (Unit {0}) RunError) (s : SourceState)
+pub asks_nothing : {A : Type 0} (step : List ByteRange → ByteRange → List ByteRange) (P : List ByteRange → Type 0) (r : Result A RunError) (s : SourceState)
     → IfErr r (λ e. e ≡ WriteFailed) → P [] → Asks step P is_read_failed r s s
-asks_nothing step P r s only holds = record { told = refl; log = record { log = []; leads = refl; holds = holds }; count = uncounted r only }
+asks_nothing {A} step P r s only holds = record { told = refl; log = record { log = []; leads = refl; holds = holds }; count = uncounted r only }
   where
-    uncounted : (r : Result (Unit {0}) RunError) → IfErr r (λ e. e ≡ WriteFailed) → s.failures ≡ failures_after is_read_failed r s.failures
+    uncounted : (r : Result A RunError) → IfErr r (λ e. e ≡ WriteFailed) → s.failures ≡ failures_after is_read_failed r s.failures
     uncounted (Ok u) h = refl
-    uncounted (Err e) h = subst (λ (x : RunError). s.failures ≡ failures_after {A = Unit {0}} is_read_failed (Err x) s.failures) (sym h) refl
+    uncounted (Err e) h = subst (λ (x : RunError). s.failures ≡ failures_after {A = A} is_read_failed (Err x) s.failures) (sym h) refl
 
 -- ---- the pages that are read
 

@@ -5,7 +5,7 @@ use Rattle.std.specs.List.{list_any}
 use Rattle.std.proofs.Math.Bool.{or_assoc, or-false}
 use Rattle.dbsurvey.specs.Moves.{Moves, Stops, MovesBySome}
 use Rattle.dbsource.specs.declared.error.RunError.{RunError}
-use Rattle.dbsource.specs.declared.error.RunError.TheVariants.{ReadFailed, WriteFailed, OutOfMemory, NotYet, Refused}
+use Rattle.dbsource.specs.declared.error.RunError.TheVariants.{ReadFailed, WriteFailed, OutOfMemory, Refused}
 use Rattle.dbwalk.specs.Finding.{Finding}
 use Rattle.dbwalk.specs.Outcomes.{StopsBy}
 use Rattle.dbreport.specs.Findings.{is_schema_row}
@@ -35,7 +35,6 @@ module _ {K : Type 0} (takes drops : K → Finding → K → Type 0) where
 
   -- it stopped: so did the sink, in the same way
   pub watch_stops : (e : RunError) (items : List Finding) (s t : SchemaWatch K) → StopsBy (HandsOn takes) (HandsOn drops) e s items t → StopsBy takes drops e s.sink items t.sink
-  watch_stops NotYet items s t h = watch_some items s t h
   watch_stops (Refused r) items s t h = watch_some items s t h
   watch_stops ReadFailed items s t h = watch_some items s t h
   watch_stops OutOfMemory items s t h = watch_some items s t h

@@ -7,6 +7,10 @@ use Rattle.dbformat.specs.Story.{start_errands}
 use Rattle.dbwalk.specs.Finding.{Finding, told_below}
 use Rattle.dbwalk.specs.Telling.{findings}
 
--- the header's faults, what is told below all starts, and the faults at the end
+-- what is told below all starts, and the faults at the end
+abbrev pub walk_items : List ℕ → List Reference → List Finding
+walk_items file V = told_below file [] (start_errands file V) ++ findings (end_faults file V)
+
+-- the header's faults, and then those
 abbrev pub run_items : List ℕ → List Reference → List Finding
-run_items file V = findings (header_faults file (length file)) ++ told_below file [] (start_errands file V) ++ findings (end_faults file V)
+run_items file V = findings (header_faults file (length file)) ++ walk_items file V

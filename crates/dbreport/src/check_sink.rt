@@ -1,10 +1,10 @@
 // What a check writes of what it is told.
 ghost use Rattle.std.specs.Prelude.{◌≡◌, [], ◌∷◌, IfOk};
+ghost use Rattle.dbformat.specs.Report.{more_text};
 ghost use Rattle.dbsource.specs.Outs.{Puts};
 ghost use Rattle.dbreport.specs.CheckSink.{end_text, verdict_of};
 
-use crate::check::put_rest;
-use crate::lines::{put_fault, put_ok};
+use crate::lines::{put_fault, put_more, put_ok};
 use dbformat::Verdict;
 use dbsource::{Out, WriteFailed};
 use dbwalk::{Fault, Row, Sink};
@@ -73,4 +73,14 @@ impl<O: Out> Sink for CheckSink<'_, O> {
     fn row(&mut self, _row: &Row<'_>) -> Result<(), WriteFailed> {
         Ok(())
     }
+}
+
+// Puts the line that counts the faults that are not shown, if there are any.
+fn put_rest<O: Out>(out: &mut O, count: u64) -> Result<(), WriteFailed>
+    ensures { Puts result (O.held out.old) (O.held out.new) (more_text count) }
+{
+    if count == 0 {
+        return Ok(());
+    }
+    put_more(out, count)
 }

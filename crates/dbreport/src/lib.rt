@@ -7,21 +7,24 @@
 //! ```
 #![tactic(auto)]
 
-mod check;
 mod check_sink;
+mod checking;
 mod code_text;
 mod counts;
+mod desk;
 mod end_faults;
 mod end_pass;
 mod header_faults;
 mod lines;
 mod map_entry;
-mod plain;
 mod roots;
 mod runs;
 mod schema_watch;
 mod tell;
+mod telling;
 mod walks;
 
 pub use dbformat::{Command, Verdict};
-pub use runs::run;
+pub use desk::Desk;
+pub use roots::RootList;
+pub use runs::{run, run_on};

@@ -20,7 +20,7 @@ ghost use Rattle.dbwalk.specs.Reads.{Reads};
 ghost use Rattle.dbreport.specs.Starts.{AreBelowStarts, AreWalked, IsSchemaWalked, errands_from, kind_by, root_of, schema_root};
 ghost use Rattle.dbwalk.specs.Sinks.{after_writes};
 
-use crate::roots::RootList;
+use crate::RootList;
 use crate::schema_watch::SchemaWatch;
 use dbformat::{Encoding, RowKind};
 use dbsource::{Bench, Header, RunError, Source};

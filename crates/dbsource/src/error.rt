@@ -17,9 +17,6 @@ pub enum OpenError {
 /// Why a run did not end with a verdict. The text of each begins with its number.
 #[derive(Clone, Copy, Debug, Error, PartialEq, Eq)]
 pub enum RunError {
-    /// The file is not refused, and needs a part of the checker that is not there yet.
-    #[error("E0 this file needs a later stage")]
-    NotYet,
     /// The file's first bytes, or its length, say that it is not to be read.
     #[error("{0}")]
     Refused(Refusal),

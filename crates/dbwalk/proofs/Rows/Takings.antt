@@ -18,7 +18,7 @@ use Rattle.dbformat.specs.declared.CellFault.{CellFault}
 use Rattle.dbformat.specs.declared.RowFault.{RowFault}
 use Rattle.dbformat.specs.declared.TreeKind.{TreeKind}
 use Rattle.dbsource.specs.declared.error.RunError.{RunError}
-use Rattle.dbsource.specs.declared.error.RunError.TheVariants.{NotYet, Refused, ReadFailed, WriteFailed, OutOfMemory}
+use Rattle.dbsource.specs.declared.error.RunError.TheVariants.{Refused, ReadFailed, WriteFailed, OutOfMemory}
 use Rattle.dbwalk.specs.Outcomes.{IsReadOrWrite}
 use Rattle.dbwalk.specs.Running.{AreBefore, AreRowsBefore, IsVisit, IsLatest, cells_before, rows_before}
 use Rattle.dbwalk.proofs.Running.RunningKeys.{no_chain_view}
@@ -137,7 +137,6 @@ module _ {T : Type 0} (takes : T → SchemaRow → Taken → T → Type 0) (held
 module _ {T : Type 0} (takes : T → SchemaRow → Taken → T → Type 0) (refuses : T → SchemaRow → T → Type 0) where
   -- in the first of two lists of rows
   pub giving_first : (e : RunError) (s t : T) (L M : List SchemaRow) → StopsGiving takes refuses e s L t → StopsGiving takes refuses e s (L ++ M) t
-  giving_first NotYet s t L M h = some_first (gives takes) s t L M h
   giving_first (Refused r) s t L M h = some_first (gives takes) s t L M h
   giving_first ReadFailed s t L M h = some_first (gives takes) s t L M h
   giving_first WriteFailed s t L M h = some_first (gives takes) s t L M h

@@ -3,13 +3,12 @@ use Rattle.std.proofs.Common.{List, ◌++◌}
 use Rattle.dbsurvey.specs.Moves.{Moves}
 use Rattle.dbsurvey.proofs.Moving.{some_first, some_after, stops_first, stops_after}
 use Rattle.dbsource.specs.declared.error.RunError.{RunError}
-use Rattle.dbsource.specs.declared.error.RunError.TheVariants.{NotYet, Refused, ReadFailed, OutOfMemory, WriteFailed}
+use Rattle.dbsource.specs.declared.error.RunError.TheVariants.{Refused, ReadFailed, OutOfMemory, WriteFailed}
 use Rattle.dbwalk.specs.Outcomes.{StopsBy}
 
 module _ {S I : Type 0} (takes drops : S → I → S → Type 0) where
   -- an error in the first of two lists of items
   pub stops_by_first : (e : RunError) (s t : S) (L M : List I) → StopsBy takes drops e s L t → StopsBy takes drops e s (L ++ M) t
-  stops_by_first NotYet s t L M h = some_first takes s t L M h
   stops_by_first (Refused r) s t L M h = some_first takes s t L M h
   stops_by_first ReadFailed s t L M h = some_first takes s t L M h
   stops_by_first OutOfMemory s t L M h = some_first takes s t L M h
@@ -17,7 +16,6 @@ module _ {S I : Type 0} (takes drops : S → I → S → Type 0) where
 
   -- some items, and then an error
   pub stops_by_after : (e : RunError) (s m t : S) (L M : List I) → Moves takes s L m → StopsBy takes drops e m M t → StopsBy takes drops e s (L ++ M) t
-  stops_by_after NotYet s m t L M h k = some_after takes s m t L M h k
   stops_by_after (Refused r) s m t L M h k = some_after takes s m t L M h k
   stops_by_after ReadFailed s m t L M h k = some_after takes s m t L M h k
   stops_by_after OutOfMemory s m t L M h k = some_after takes s m t L M h k

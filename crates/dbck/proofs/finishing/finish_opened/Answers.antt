@@ -1,5 +1,5 @@
 use Rattle.std.proofs.Common.{◌∙◌}
-use Rattle.dbck.proofs.Exits.{exits, six_failed, statuses, unwritten_but_six}
+use Rattle.dbck.proofs.Exits.{exits, ok_if_sound, six_failed, statuses, unwritten_at_3}
 use Rattle.dbck.proofs.finishing.finish_opened.Goals as goal
 
 pub returns-clause-exit : goal.returns-clause-exit
@@ -14,5 +14,8 @@ returns-clause-failed g c = rw c.end.ensures.status (c.run-outcome.ensures.out_f
 pub returns-clause-status : goal.returns-clause-status
 returns-clause-status g c = rw c.end.ensures.status (statuses c.run-outcome.result (g.S.Source.held c.args.source.now).bytes c.run-outcome.ensures.answer)
 
+pub returns-clause-sound : goal.returns-clause-sound
+returns-clause-sound g c = rw c.end.ensures.status (ok_if_sound c.run-outcome.result (g.S.Source.held c.args.source.now).bytes c.run-outcome.ensures.sound)
+
 pub returns-clause-unwritten : goal.returns-clause-unwritten
-returns-clause-unwritten g c = rw c.end.ensures.status (unwritten_but_six c.run-outcome.result (g.O.Out.held c.args.out.now) (g.O.Out.held c.run-outcome.new.out) c.run-outcome.ensures.unwritten c.run-outcome.ensures.out_failures)
+returns-clause-unwritten g c = rw c.end.ensures.status (unwritten_at_3 c.run-outcome.result (g.O.Out.held c.args.out.now) (g.O.Out.held c.run-outcome.new.out) c.run-outcome.ensures.unwritten)

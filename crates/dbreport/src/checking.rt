@@ -1,0 +1,101 @@
+// A check of a file, by its header.
+ghost use Rattle.std.specs.Prelude.{◌≡◌, [], false, List, IfErr, IfOk, IfSome};
+ghost use Rattle.dbformat.specs.File.{geometry};
+ghost use Rattle.dbformat.specs.HeaderFaults.{header_faults};
+ghost use Rattle.dbformat.specs.Log.{IsPageLog};
+ghost use Rattle.dbformat.specs.Reference.{Reference};
+ghost use Rattle.dbformat.specs.Report.{check_text, faults, verdict};
+ghost use Rattle.dbformat.specs.Survey.{Survey};
+ghost use Rattle.dbsource.specs.Errors.{is_out_of_memory, is_read_failed, is_write_failed};
+ghost use Rattle.dbsource.specs.Failures.{failures_after};
+ghost use Rattle.dbsource.specs.Headers.{IsHeaderOf};
+ghost use Rattle.dbsource.specs.Outs.{Writes};
+ghost use Rattle.dbsource.specs.Sources.{Asks};
+ghost use Rattle.dbsource.specs.declared.error.RunError.TheVariants.{WriteFailed};
+ghost use Rattle.dbwalk.specs.Marking.{AreMarksFor, marks_of};
+ghost use Rattle.dbwalk.specs.Outcomes.{IsReadWriteOrMemory, Tells};
+ghost use Rattle.dbwalk.specs.Telling.{findings};
+ghost use Rattle.dbreport.specs.CheckSink.{Cuts, Shows};
+ghost use Rattle.dbreport.specs.RunItems.{walk_items};
+
+use crate::RootList;
+use crate::check_sink::CheckSink;
+use crate::schema_watch::SchemaWatch;
+use crate::telling::{tell_header, tell_walks};
+use dbformat::Verdict;
+use dbsource::{Bench, Header, Out, RunError, Source};
+use dbwalk::Marks;
+use std::alloc::Allocator;
+
+// Tells the header's faults to the sink of a check, which keeps its Out.
+fn tell_check_header<O: Out>(header: &Header, sink: &mut CheckSink<'_, O>) -> Result<(), RunError>
+    ensures same_out { sink.new.out.ghost_name ≡ sink.old.out.ghost_name }
+    ensures told { Tells (Shows O.held) (Cuts O.held) result sink.old (findings (header_faults header.now.bytes header.now.file_len)) sink.new }
+    ensures writes { (O.held sink.new.out.now).failures ≡ failures_after is_write_failed result (O.held sink.old.out.now).failures }
+    ensures only { IfErr result (λ e. e ≡ WriteFailed) }
+{
+    tell_header(header, sink)
+}
+
+// Tells it what the walks find and what is told at the end.
+fn tell_check<A: Allocator, S: Source, O: Out>(
+    header: &Header,
+    source: &mut S,
+    bench: &mut Bench<A>,
+    marks: &mut Marks<A>,
+    roots: &mut RootList<A>,
+    watch: &mut SchemaWatch<CheckSink<'_, O>>,
+) -> Result<(), RunError>
+    requires empty { roots.old.rows ≡ [] }
+    requires unseen { watch.old.has_rows ≡ false }
+    requires fresh { marks.old ≡ marks_of bench.old.geometry [] }
+    ensures same_out { watch.new.sink.out.ghost_name ≡ watch.old.sink.out.ghost_name }
+    ensures shape { bench.new.geometry ≡ bench.old.geometry }
+    ensures marks { AreMarksFor bench.old.geometry marks.new }
+    ensures asks { Asks S.step (IsPageLog bench.old.geometry) is_read_failed result (S.held source.old) (S.held source.new) }
+    ensures writes { (O.held watch.new.sink.out.now).failures ≡ failures_after is_write_failed result (O.held watch.old.sink.out.now).failures }
+    ensures refusals { roots.new.refusals ≡ failures_after is_out_of_memory result roots.old.refusals }
+    ensures only { IfErr result IsReadWriteOrMemory }
+    ensures done { IfSome (S.held source.old).bytes (λ file. IsHeaderOf header.now file → bench.old.geometry ≡ geometry file
+        → (V : List Reference) → Survey file V
+        → Tells (Shows O.held) (Cuts O.held) result watch.old.sink (walk_items file V) watch.new.sink) }
+{
+    tell_walks(header, source, bench, marks, roots, watch)
+}
+
+/// Writes the first faults of a file, so many at most, and how many more there are, or that there is none; and answers
+/// what was found.
+///
+/// # Errors
+///
+/// [`RunError::ReadFailed`] exactly where the source failed, [`RunError::WriteFailed`] exactly where the Out failed, and
+/// [`RunError::OutOfMemory`] exactly where the list was refused memory. The Out got a beginning of the text then.
+pub(crate) fn check<A: Allocator, S: Source, O: Out>(
+    limit: u32,
+    header: &Header,
+    source: &mut S,
+    bench: &mut Bench<A>,
+    marks: &mut Marks<A>,
+    roots: &mut RootList<A>,
+    out: &mut O,
+) -> Result<Verdict, RunError>
+    requires empty { roots.old.rows ≡ [] }
+    requires fresh { marks.old ≡ marks_of bench.old.geometry [] }
+    ensures shape { bench.new.geometry ≡ bench.old.geometry }
+    ensures marks { AreMarksFor bench.old.geometry marks.new }
+    ensures asks { Asks S.step (IsPageLog bench.old.geometry) is_read_failed result (S.held source.old) (S.held source.new) }
+    ensures writes { (O.held out.new).failures ≡ failures_after is_write_failed result (O.held out.old).failures }
+    ensures refusals { roots.new.refusals ≡ failures_after is_out_of_memory result roots.old.refusals }
+    ensures only { IfErr result IsReadWriteOrMemory }
+    ensures text { IfSome (S.held source.old).bytes (λ file. IsHeaderOf header.now file → bench.old.geometry ≡ geometry file
+        → (V : List Reference) → Survey file V
+        → Writes result (O.held out.old).bytes (O.held out.new).bytes (check_text limit (faults file V))) }
+    ensures verdict { IfOk result (λ v. IfSome (S.held source.old).bytes (λ file. IsHeaderOf header.now file → bench.old.geometry ≡ geometry file
+        → (V : List Reference) → Survey file V → v ≡ verdict (faults file V))) }
+{
+    let mut sink = CheckSink::new(out, limit);
+    tell_check_header(header, &mut sink)?;
+    let mut watch = SchemaWatch::new(sink);
+    tell_check(header, source, bench, marks, roots, &mut watch)?;
+    Ok(watch.sink.finish()?)
+}
