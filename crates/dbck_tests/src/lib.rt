@@ -2,10 +2,36 @@
 #![tactic(auto)]
 
 #[cfg(test)]
+mod desks;
+#[cfg(test)]
 mod fakes;
+#[cfg(test)]
+mod files;
+#[cfg(test)]
+mod freelists;
 #[cfg(test)]
 mod headers;
 #[cfg(test)]
 mod outs;
 #[cfg(test)]
+mod refusals;
+#[cfg(test)]
+mod root_list;
+#[cfg(test)]
 mod runs;
+#[cfg(test)]
+mod schemas;
+#[cfg(test)]
+mod slow_file;
+#[cfg(test)]
+mod slow_page;
+#[cfg(test)]
+mod slow_row;
+#[cfg(test)]
+mod slow_sound;
+#[cfg(test)]
+mod soundness;
+#[cfg(test)]
+mod tables;
+#[cfg(test)]
+mod trees;

@@ -11,7 +11,7 @@ fn streams_loop_over_writes(rt: HostRuntime) -> Result<(), Fail> {
         (Manner::Nothing, Err(WriteFailed)),
         (Manner::Fails, Err(WriteFailed)),
     ] {
-        let mut out = StreamOut::new(FakeWriter { manner, taken: 0 });
+        let mut out = StreamOut::new(FakeWriter::new(manner));
         assert!(rt; out.put(b"ok\n") == answer);
         assert!(rt; out.put(b"") == Ok(()));
     }

@@ -1,9 +1,7 @@
 // Whole runs: what is written, what is answered and what was asked for.
-use crate::fakes::{SmallOut, StatedSource};
 use dbfiles::file_of;
 use dbreport::{Command, Verdict, run};
 use dbsource::{ByteRange, LogSource, MemOut, MemSource, Refusal, RunError};
-use linked_list_allocator::LocalHeap;
 use std::test::Fail;
 
 const CHECK: Command = Command::Check { limit: 100 };
@@ -16,7 +14,7 @@ struct Row {
     out: &'static str,
 }
 
-const ROWS: [Row; 14] = [
+const ROWS: [Row; 18] = [
     Row {
         patches: &[],
         answer: Ok(Verdict::Clean),
@@ -62,37 +60,57 @@ const ROWS: [Row; 14] = [
         answer: Ok(Verdict::Faulty(2)),
         out: "H06 page 1 item 0 value 4294967295: file is shorter than its stated size\nH07 page 1 item 0 value 1: incremental vacuum without a pointer map\n",
     },
-    // A first trunk, and a greatest root page: not plain.
+    // A first trunk that is in use, and a greatest root page.
     Row {
         patches: &[(32, &[0, 0, 0, 1])],
-        answer: Err(RunError::NotYet),
-        out: "",
+        answer: Ok(Verdict::Faulty(1)),
+        out: "R03 page 0 item 65537 value 1: page is already in use\n",
     },
     Row {
         patches: &[(52, &[0, 0, 0, 1])],
-        answer: Err(RunError::NotYet),
-        out: "",
+        answer: Ok(Verdict::Clean),
+        out: "ok\n",
     },
-    // A page 1 that is no empty leaf: its type, freeblock, cells, content start and fragments.
+    // The type, freeblock, cells, content start and fragments of page 1.
     Row {
         patches: &[(100, &[5])],
-        answer: Err(RunError::NotYet),
-        out: "",
+        answer: Ok(Verdict::Faulty(1)),
+        out: "R01 page 1 item 0 value 0: page number out of range\n",
+    },
+    Row {
+        patches: &[(100, &[10])],
+        answer: Ok(Verdict::Faulty(1)),
+        out: "P02 page 1 item 0 value 10: page belongs to the other kind of tree\n",
+    },
+    Row {
+        patches: &[(100, &[0])],
+        answer: Ok(Verdict::Faulty(1)),
+        out: "P01 page 1 item 0 value 0: unknown page type\n",
     },
     Row {
         patches: &[(101, &[1, 0])],
-        answer: Err(RunError::NotYet),
-        out: "",
+        answer: Ok(Verdict::Faulty(1)),
+        out: "P07 page 1 item 0 value 256: bad freeblock\n",
+    },
+    Row {
+        patches: &[(103, &[0, 1])],
+        answer: Ok(Verdict::Faulty(2)),
+        out: "P05 page 1 item 0 value 0: cell offset out of bounds\nH08 page 1 item 0 value 0: schema has rows but no format or encoding\n",
     },
     Row {
         patches: &[(105, &[0, 0])],
-        answer: Err(RunError::NotYet),
-        out: "",
+        answer: Ok(Verdict::Faulty(1)),
+        out: "P03 page 1 item 0 value 65536: content area out of bounds\n",
     },
     Row {
         patches: &[(107, &[1])],
-        answer: Err(RunError::NotYet),
-        out: "",
+        answer: Ok(Verdict::Faulty(1)),
+        out: "P09 page 1 item 0 value 0: fragmented bytes differ from the count\n",
+    },
+    Row {
+        patches: &[(107, &[61])],
+        answer: Ok(Verdict::Faulty(2)),
+        out: "P04 page 1 item 0 value 61: more than 60 fragmented bytes\nP09 page 1 item 0 value 0: fragmented bytes differ from the count\n",
     },
 ];
 
@@ -134,7 +152,7 @@ fn asks_for_the_header_and_page_1(rt: HostRuntime) -> Result<(), Fail> {
     for (page_size, pages, len, answer, asked) in [
         (512, 1, 512, Ok(Verdict::Clean), 2),
         (65536, 1, 65536, Ok(Verdict::Clean), 2),
-        (512, 2, 1024, Err(RunError::NotYet), 1),
+        (512, 2, 1024, Ok(Verdict::Faulty(1)), 2),
         (512, 1, 0, Err(short), 0),
         (512, 1, 99, Err(short), 0),
         (512, 1, 100, Err(RunError::Refused(Refusal::NoPage)), 1),
@@ -158,76 +176,6 @@ fn asks_for_the_header_and_page_1(rt: HostRuntime) -> Result<(), Fail> {
             },
         ];
         assert!(rt; Some(source.ranges()) == all.get(..asked), "{len} bytes");
-    }
-    Ok(())
-}
-
-// The length, or either read, fails: nothing is written.
-#[test]
-fn each_read_fails_in_turn(rt: HostRuntime) -> Result<(), Fail> {
-    let file = file_of(rt.alloc(), 512, 1, &[])?;
-    for fails_at in 0..4u64 {
-        let mut source = StatedSource::new(file.as_slice(), 512, fails_at);
-        let mut out = MemOut::new(rt.alloc());
-        let mut err = MemOut::new(rt.alloc());
-        let found = run(rt.alloc(), CHECK, &mut source, &mut out, &mut err);
-        let fails = fails_at < 3;
-        assert!(rt;
-            found
-                == if fails {
-                    Err(RunError::ReadFailed)
-                } else {
-                    Ok(Verdict::Clean)
-                }
-        );
-        assert!(rt; out.bytes().is_empty() == fails);
-    }
-    Ok(())
-}
-
-// An out of little room holds a beginning of the report.
-#[test]
-fn each_write_fails_in_turn(rt: HostRuntime) -> Result<(), Fail> {
-    let file = file_of(rt.alloc(), 512, 1, &[])?;
-    for room in 0..5usize {
-        let mut source = MemSource::new(file.as_slice());
-        let mut out = SmallOut::new(room);
-        let mut err = SmallOut::new(0);
-        let found = run(rt.alloc(), CHECK, &mut source, &mut out, &mut err);
-        assert!(rt;
-            found
-                == if room < 3 {
-                    Err(RunError::WriteFailed)
-                } else {
-                    Ok(Verdict::Clean)
-                }
-        );
-        assert!(rt; Some(out.bytes()) == "ok\n".as_bytes().get(..room.min(3)));
-    }
-    Ok(())
-}
-
-// One growth is made, that of the page: without it nothing is written.
-#[test]
-fn the_growth_fails(rt: HostRuntime) -> Result<(), Fail> {
-    let file = file_of(rt.alloc(), 512, 1, &[])?;
-    for room in [0usize, 496, 512] {
-        let heap = LocalHeap::new(rt.alloc(), room)?;
-        let mut source = MemSource::new(file.as_slice());
-        let mut out = SmallOut::new(9);
-        let mut err = SmallOut::new(9);
-        let found = run(&heap, CHECK, &mut source, &mut out, &mut err);
-        let fits = room == 512;
-        assert!(rt;
-            found
-                == if fits {
-                    Ok(Verdict::Clean)
-                } else {
-                    Err(RunError::OutOfMemory)
-                }
-        );
-        assert!(rt; out.bytes().is_empty() != fits);
-        assert!(rt; heap.used() == 0);
     }
     Ok(())
 }

@@ -1,0 +1,121 @@
+// Checks of files whose schema has a fault, or none.
+use crate::files::{LONG_ROW, SHARED_ROOT, TWO_LEAVES};
+use crate::tables::{Patch, Row, are_as_told};
+use std::test::Fail;
+
+// A row of the schema whose encoding is UTF-16be, and whose name has a control character.
+const UTF_16: [Patch; 6] = [
+    (44, &[0, 0, 0, 4]),
+    (56, &[0, 0, 0, 3]),
+    (103, &[0, 1, 1, 229]),
+    (108, &[1, 229]),
+    (
+        485,
+        b"\x19\x01\x06\x21\x19\x11\x01\x00\0t\0a\0b\0l\0e\0a\0\x09\0b\0t\x02",
+    ),
+    (512, &[13, 0, 0, 0, 0, 2, 0, 0]),
+];
+
+// A row of the schema whose SQL stands on page 3, for the most part, and its table on page 2.
+const LONG_SQL: [Patch; 7] = [
+    (44, &[0, 0, 0, 4]),
+    (56, &[0, 0, 0, 1]),
+    (103, &[0, 1, 1, 157]),
+    (108, &[1, 157]),
+    (413, b"\x84\x58\x01\x07\x17\x0f\x0f\x01\x89\x1ftablett\x02"),
+    (508, &[0, 0, 0, 3]),
+    (512, &[13, 0, 0, 0, 0, 2, 0, 0]),
+];
+
+const ROWS: [Row; 9] = [
+    Row {
+        name: "two rows of one root",
+        pages: 2,
+        file: &SHARED_ROOT,
+        changed: &[],
+        faults: 1,
+        out: "R03 page 0 item 2 value 2: page is already in use\n",
+        asked: &[1, 2],
+    },
+    Row {
+        name: "a name in UTF-16",
+        pages: 2,
+        file: &UTF_16,
+        changed: &[],
+        faults: 0,
+        out: "ok\n",
+        asked: &[1, 2],
+    },
+    Row {
+        name: "a name that is not well-formed",
+        pages: 2,
+        file: &UTF_16,
+        changed: &[(503, &[0xd8, 0, 0, 97, 0, 98])],
+        faults: 1,
+        out: "S02 page 1 item 0 value 1: name cannot be shown\n",
+        asked: &[1, 2],
+    },
+    Row {
+        name: "a row without an encoding",
+        pages: 3,
+        file: &LONG_ROW,
+        changed: &[(56, &[0, 0, 0, 0])],
+        faults: 1,
+        out: "H08 page 1 item 4 value 0: schema has rows but no format or encoding\n",
+        asked: &[1, 2, 3],
+    },
+    Row {
+        name: "a root below 0",
+        pages: 3,
+        file: &LONG_ROW,
+        changed: &[(511, &[255])],
+        faults: 3,
+        out: "S03 page 1 item 0 value -1: root page or type is wrong\n\
+              N01 page 2 item 0 value 0: page is not in use\n\
+              N01 page 3 item 0 value 0: page is not in use\n",
+        asked: &[1],
+    },
+    Row {
+        name: "a row of the schema on an overflow page",
+        pages: 3,
+        file: &LONG_SQL,
+        changed: &[],
+        faults: 0,
+        out: "ok\n",
+        asked: &[1, 3, 2],
+    },
+    Row {
+        name: "the same without the overflow page",
+        pages: 2,
+        file: &LONG_SQL,
+        changed: &[],
+        faults: 3,
+        out: "R01 page 1 item 0 value 3: page number out of range\n\
+              S01 page 1 item 0 value 1: schema row cannot be read\n\
+              N01 page 2 item 0 value 0: page is not in use\n",
+        asked: &[1],
+    },
+    Row {
+        name: "a file that is shorter than its stated size",
+        pages: 4,
+        file: &TWO_LEAVES,
+        changed: &[(24, &[0, 0, 0, 7, 0, 0, 0, 5]), (92, &[0, 0, 0, 7])],
+        faults: 1,
+        out: "H06 page 1 item 0 value 5: file is shorter than its stated size\n",
+        asked: &[1, 2, 3, 4],
+    },
+    Row {
+        name: "a stated size of another change",
+        pages: 4,
+        file: &TWO_LEAVES,
+        changed: &[(24, &[0, 0, 0, 7, 0, 0, 0, 5]), (92, &[0, 0, 0, 6])],
+        faults: 0,
+        out: "ok\n",
+        asked: &[1, 2, 3, 4],
+    },
+];
+
+#[test]
+fn tells_the_faults_of_schemas(rt: HostRuntime) -> Result<(), Fail> {
+    are_as_told(&rt, rt.alloc(), &ROWS)
+}
