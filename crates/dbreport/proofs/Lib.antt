@@ -15,7 +15,6 @@ pub mod RunTold
 pub mod SchemaTold
 pub mod SchemaWalks
 pub mod ShortNames
-pub mod Shown
 pub mod Starts
 pub mod ToldFaults
 pub mod Watched

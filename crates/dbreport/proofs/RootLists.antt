@@ -1,7 +1,7 @@
 -- The rows of a list of roots, as its fields hold them, where a row is added.
 use Rattle.std.proofs.Common.{◌≡◌, ℕ, ◌-◌, ◌≤◌, List, [], ◌∷◌, ◌++◌, length, take, drop, map, Option, Some, None, refl, ap, ap₂, ◌∙◌, arith, length-drop}
 use Rattle.std.specs.List.{All}
-use Rattle.std.proofs.lemmas.List.Elements.{All-head, All-tail, All-cons, All-nil, All-append}
+use Rattle.std.proofs.lemmas.List.Elements.{All-head, All-tail, All-cons, All-nil}
 use Rattle.std.proofs.lemmas.List.{take-append-le, drop-append-le, map-append}
 use Rattle.dbformat.specs.SchemaRow.{SchemaRow}
 use Rattle.dbreport.specs.declared.roots.Span.{Span}
@@ -33,9 +33,6 @@ names_more n m [] l h = All-nil (λ e. IsWithin m e.name)
 names_more n m (e ∷ es) l h = All-cons (λ e. IsWithin m e.name) e es
     (within_more n m e.name l (All-head (λ e. IsWithin n e.name) e es h))
     (names_more n m es l (All-tail (λ e. IsWithin n e.name) e es h))
-
-pub names_one : (n m : ℕ) (es : List Entry) (e : Entry) → n ≤ m → All (λ e. IsWithin n e.name) es → IsWithin m e.name → All (λ e. IsWithin m e.name) (es ++ e ∷ [])
-names_one n m es e l h k = All-append (λ e. IsWithin m e.name) es (e ∷ []) (names_more n m es l h) (All-cons (λ e. IsWithin m e.name) e [] k (All-nil (λ e. IsWithin m e.name)))
 
 -- the rows with one more
 pub row_added : (names news : List ℕ) (es fs : List Entry) (e : Entry) (row : SchemaRow) (rows : List SchemaRow) (n : ℕ) → Grows names news
