@@ -22,9 +22,9 @@ abbrev pub check_app : App
 check_app = with_rule (with_rule (new_app (codes "check")) limit_rule) file_rule
 
 abbrev pub top_app : App
-top_app = let a = new_app (codes "dbck") in record a { top = record a.top { subcommand_required = true } }
+top_app = let a = new_app (codes "dbck") in record a { top = record a.top { has_version = true; subcommand_required = true } }
 
--- `dbck`, whose subcommand is required
+-- `dbck`, which has a version, and whose subcommand is required
 abbrev pub dbck_app : App
 dbck_app = with_subcommand top_app check_app.top
 

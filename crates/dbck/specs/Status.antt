@@ -2,7 +2,7 @@
 use Rattle.std.specs.Prelude.{ℕ, Result, Ok, Err}
 use Rattle.clap.specs.Values.{kind_of}
 use Rattle.clap.specs.declared.error.kind.ErrorKind.{ErrorKind}
-use Rattle.clap.specs.declared.error.kind.ErrorKind.TheVariants.{DisplayHelp, OutOfMemory as NoMemory}
+use Rattle.clap.specs.declared.error.kind.ErrorKind.TheVariants.{DisplayHelp, DisplayVersion, OutOfMemory as NoMemory}
 use Rattle.dbformat.specs.Report.{status}
 use Rattle.dbformat.specs.declared.Verdict.{Verdict}
 use Rattle.dbsource.specs.declared.error.RunError.{RunError}
@@ -18,9 +18,10 @@ exit_status (Err ReadFailed) = 4
 exit_status (Err OutOfMemory) = 5
 exit_status (Err WriteFailed) = 6
 
--- 0 where help was asked for, 5 for want of memory, and else 2
+-- 0 where help or the version was asked for, 5 for want of memory, and else 2
 abbrev pub kind_status : ErrorKind → ℕ
 kind_status DisplayHelp = 0
+kind_status DisplayVersion = 0
 kind_status NoMemory = 5
 kind_status _ = 2
 

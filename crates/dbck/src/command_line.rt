@@ -19,7 +19,7 @@ pub struct Line<'a> {
     pub file: &'a str,
 }
 
-/// Why a command line is not one of the program's, or that it asks for help.
+/// Why a command line is not one of the program's, or that it asks for help or the version.
 #[derive(Debug, Drop, Error)]
 pub enum LineError {
     /// What the parser of the words says.
@@ -33,12 +33,15 @@ pub enum LineError {
     NotText,
 }
 
+/// The version of the program: it stands here alone.
+const VERSION: &str = "0.1.0";
+
 const ABOUT: &str = "Checks the structure of a SQLite 3 database file, which it only reads";
 
 const CHECK_ABOUT: &str = "Writes a line for each fault of the file, or 'ok'";
 
 const STATUSES: &str = "Exit status:
-  0  no fault was found, or help was asked for
+  0  no fault was found, or help or the version was asked for
   1  the file has faults
   2  the command line is wrong
   3  the file is no database that is checked (E1 to E7)
@@ -86,6 +89,7 @@ fn dbck_command<'a>(alloc: Global) -> Result<Words<'a>, clap::Error>
     ensures { IfOk result (λ c. app_of c ≡ dbck_app) }
 {
     let command = described(alloc, "dbck", ABOUT)
+        .version(VERSION)
         .after_help(STATUSES)
         .subcommand_required(true)
         .subcommand(check_command(alloc)?)?;
@@ -112,8 +116,8 @@ fn command_of(name: &str, given: &ArgMatches<'_>) -> Option<Command>
 ///
 /// # Errors
 ///
-/// [`LineError::Words`] where they ask for help, where they are no command line of the program, or for want of memory;
-/// its kind says which.
+/// [`LineError::Words`] where they ask for help or the version, where they are no command line of the program, or for want
+/// of memory; its kind says which.
 pub fn line_of<'a>(alloc: Global, words: &'a [&'a str]) -> Result<Line<'a>, LineError>
     ensures says { IfOk result (λ line. Says line.command line.file.now (subcommand_of dbck_app (map (λ word. word.now) words.entry.now))) }
     ensures limit { IfOk result (λ line. HasLimit line.command) }

@@ -22,13 +22,13 @@ pub fn status_of(outcome: &Result<Verdict, RunError>) -> u8
     }
 }
 
-/// The exit status for a command line that is not taken: 0 where it asks for help, 5 for want of memory, else 2.
+/// The exit status for a command line that is not taken: 0 where it asks for help or the version, 5 for want of memory, else 2.
 pub fn line_status(error: &LineError) -> u8
     ensures { result ≡ line_status error.now }
 {
     match error {
         LineError::Words(error) => match error.kind() {
-            ErrorKind::DisplayHelp => 0,
+            ErrorKind::DisplayHelp | ErrorKind::DisplayVersion => 0,
             ErrorKind::OutOfMemory => 5,
             _ => 2,
         },

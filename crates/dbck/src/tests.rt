@@ -18,10 +18,11 @@ Commands:
   help   Print this message or the help of the given subcommand(s)
 
 Options:
-  -h, --help  Print help
+  -h, --help     Print help
+  -V, --version  Print version
 
 Exit status:
-  0  no fault was found, or help was asked for
+  0  no fault was found, or help or the version was asked for
   1  the file has faults
   2  the command line is wrong
   3  the file is no database that is checked (E1 to E7)
@@ -67,10 +68,12 @@ fn takes_lines(rt: HostRuntime) -> Result<(), Fail> {
 // Lines that are not: the status, and how the text begins.
 #[test]
 fn refuses_lines(rt: HostRuntime) -> Result<(), Fail> {
-    let lines: [(&[&str], u8, &str); 12] = [
+    let lines: [(&[&str], u8, &str); 14] = [
         (&["dbck", "--help"], 0, HELP),
         (&["dbck", "help"], 0, HELP),
         (&["dbck", "check", "--help"], 0, CHECK_HELP),
+        (&["dbck", "--version"], 0, "dbck 0.1.0\n"),
+        (&["dbck", "-V"], 0, "dbck 0.1.0\n"),
         (
             &["dbck"],
             2,
@@ -107,7 +110,7 @@ fn refuses_lines(rt: HostRuntime) -> Result<(), Fail> {
             "error: unexpected argument 'y' found\n",
         ),
         (
-            &["dbck", "--version"],
+            &["dbck", "check", "--version"],
             2,
             "error: unexpected argument '--version' found\n",
         ),
