@@ -4,10 +4,10 @@ use crate::finishing::finish;
 use crate::status::line_status;
 use dbfiles::{base_file, patch};
 use dbreport::Command;
-use dbsource::{
-    Failures, FileSource, MemOut, MemSource, Out, ReadFailed, Refusal, RunError, WriteFailed,
-};
+use dbsource::{Failures, MemOut, MemSource, Out, ReadFailed, Refusal, RunError, WriteFailed};
 use std::test::Fail;
+
+mod odd_files;
 
 const HELP: &str = "Checks the structure of a SQLite 3 database file, which it only reads
 
@@ -222,27 +222,6 @@ fn finishes_without_file_or_room(rt: HostRuntime) -> Result<(), Fail> {
     assert!(rt; finish(rt.alloc(), command, opened, &mut no_room, &mut told) == 6);
     assert!(rt; told.bytes() == "dbck: E10 the output cannot be written\n".as_bytes());
     assert!(rt; out.bytes().is_empty());
-    Ok(())
-}
-
-// A directory, a file that is not there, and one of no bytes.
-#[test]
-fn opens_files(rt: HostRuntime) -> Result<(), Fail> {
-    let unread = "dbck: E8 the file cannot be read\n";
-    for (path, status, text) in [
-        (".", 4, unread),
-        ("no-such-file", 4, unread),
-        ("/dev/null", 3, "dbck: E1 file is shorter than 100 bytes\n"),
-    ] {
-        let mut out = MemOut::new(rt.alloc());
-        let mut err = MemOut::new(rt.alloc());
-        let command = Command::Check { limit: 100 };
-        let opened = FileSource::open(&rt, path);
-        let found = finish(rt.alloc(), command, opened, &mut out, &mut err);
-        assert!(rt; found == status, "{text}");
-        assert!(rt; err.bytes() == text.as_bytes(), "{text}");
-        assert!(rt; out.bytes().is_empty(), "{text}");
-    }
     Ok(())
 }
 
