@@ -5,6 +5,7 @@ ghost use Rattle.dbreport.specs.Runs.{IsCheck};
 
 mod command_line;
 mod finishing;
+mod logs;
 mod status;
 #[cfg(test)]
 mod tests;
@@ -13,6 +14,7 @@ use clap::error::ErrorKind as WordsErrorKind;
 use command_line::{Line, LineError, line_of};
 use dbsource::{FileSource, StreamOut};
 use finishing::finish;
+use logs::put_notes;
 use status::line_status;
 use std::alloc::AllocError;
 use std::env;
@@ -35,13 +37,16 @@ fn words_of(rt: &HostRuntime) -> Result<Vec<String>, LineError> {
     }
 }
 
-// Runs what a line asks for.
+// Runs what a line asks for, on the file alone: of a log beside it there is a note.
 fn run_line(rt: &HostRuntime, line: Line<'_>) -> u8
     requires check { IsCheck line.command }
 {
     let mut out = StreamOut::new(rt.stdout());
     let mut err = StreamOut::new(rt.stderr());
     let opened = FileSource::open(rt, line.file);
+    if opened.is_ok() {
+        put_notes(rt, line.file, &mut err);
+    }
     finish(rt.alloc(), line.command, opened, &mut out, &mut err)
 }
 

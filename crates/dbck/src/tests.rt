@@ -7,6 +7,7 @@ use dbreport::Command;
 use dbsource::{Failures, MemOut, MemSource, Out, ReadFailed, Refusal, RunError, WriteFailed};
 use std::test::Fail;
 
+mod logs;
 mod odd_files;
 
 const HELP: &str = "Checks the structure of a SQLite 3 database file, which it only reads

@@ -1,0 +1,59 @@
+// The logs of SQLite that lie beside a database, of which a check reads nothing.
+use dbsource::Out;
+use std::alloc::{AllocError, Global};
+use std::fmt::Write;
+use std::{fs, io};
+
+// What a log's name has behind that of its database, and what SQLite has to do with it.
+const LOGS: [(&str, &str); 2] = [("-wal", "checkpoint"), ("-journal", "recover")];
+
+// The path as one line shows it: a control character stands as in a shown name.
+fn shown(alloc: Global, path: &str) -> Result<String, AllocError> {
+    let mut text = String::new(alloc);
+    for c in path.chars() {
+        if c.is_control() {
+            let code = u32::from(c);
+            write!(text, "\\x{code:02x}")?;
+        } else {
+            text.push(c)?;
+        }
+    }
+    Ok(text)
+}
+
+// Where the database itself lies, if `file` is a link to it: there SQLite looks for the logs.
+fn behind_links(rt: &HostRuntime, file: &str) -> io::Result<String> {
+    if fs::symlink_metadata(rt, file)?.is_symlink() {
+        Ok(fs::canonicalize(rt, file)?.into_string())
+    } else {
+        Ok(String::from_str(rt.alloc(), file)?)
+    }
+}
+
+// Puts the line of a log that lies at `path` and is not empty.
+fn put_note<E: Out>(rt: &HostRuntime, path: &str, duty: &str, err: &mut E) -> io::Result<()> {
+    let metadata = fs::metadata(rt, path)?;
+    if metadata.is_file() && metadata.len() > 0 {
+        let name = shown(rt.alloc(), path)?;
+        let line = format!(in rt.alloc();
+            "dbck: note: {name} is not read; let SQLite open a copy of both files to {duty} it, and check that copy\n"
+        )?;
+        let _ = err.put(line.as_str().as_bytes());
+    }
+    Ok(())
+}
+
+fn put_each_note<E: Out>(rt: &HostRuntime, file: &str, err: &mut E) -> io::Result<()> {
+    let database = behind_links(rt, file)?;
+    for (suffix, duty) in LOGS {
+        let path = format!(in rt.alloc(); "{database}{suffix}")?;
+        let _ = put_note(rt, path.as_str(), duty, err);
+    }
+    Ok(())
+}
+
+/// Puts a line to `err` for each log of SQLite that lies beside the database at `file` and is not empty, if that can be.
+/// An error while one is looked for is ignored.
+pub fn put_notes<E: Out>(rt: &HostRuntime, file: &str, err: &mut E) {
+    let _ = put_each_note(rt, file, err);
+}
