@@ -40,6 +40,13 @@ const ABOUT: &str = "Checks the structure of a SQLite 3 database file, which it 
 
 const CHECK_ABOUT: &str = "Writes a line for each fault of the file, or 'ok'";
 
+const EXAMPLES: &str = "Examples:
+  dbck check notes.db            The first 100 faults of notes.db, or 'ok'
+  dbck check --limit 1 notes.db  The first fault, and how many more there are
+  dbck check -- -notes.db        A file whose name begins with '-'
+
+'dbck --help' lists the exit statuses.";
+
 const STATUSES: &str = "Exit status:
   0  no fault was found, or help or the version was asked for
   1  the file has faults
@@ -69,18 +76,18 @@ fn limit_arg<'a>(alloc: Global) -> Arg<'a>
         .help("How many fault lines are written at most, from 1 to 1000000")
 }
 
-// A command of this name, with the text at the top of its help.
-fn described<'a>(alloc: Global, name: &'a str, about: &'a str) -> Words<'a>
+// A command of this name, with the texts at the top and at the end of its help.
+fn described<'a>(alloc: Global, name: &'a str, about: &'a str, after: &'a str) -> Words<'a>
     ensures app { app_of result ≡ new_app name.entry.now }
     ensures local { (fields_of result).has_globals ≡ false }
 {
-    Words::new(alloc, name).about(about)
+    Words::new(alloc, name).about(about).after_help(after)
 }
 
 fn check_command<'a>(alloc: Global) -> Result<Words<'a>, AllocError>
     ensures { IfOk result (λ c. (app_of c ≡ check_app) × ((fields_of c).has_globals ≡ false)) }
 {
-    described(alloc, "check", CHECK_ABOUT)
+    described(alloc, "check", CHECK_ABOUT, EXAMPLES)
         .arg(limit_arg(alloc))?
         .arg(file_arg(alloc))
 }
@@ -88,9 +95,8 @@ fn check_command<'a>(alloc: Global) -> Result<Words<'a>, AllocError>
 fn dbck_command<'a>(alloc: Global) -> Result<Words<'a>, clap::Error>
     ensures { IfOk result (λ c. app_of c ≡ dbck_app) }
 {
-    let command = described(alloc, "dbck", ABOUT)
+    let command = described(alloc, "dbck", ABOUT, STATUSES)
         .version(VERSION)
-        .after_help(STATUSES)
         .subcommand_required(true)
         .subcommand(check_command(alloc)?)?;
     Ok(command)

@@ -42,23 +42,31 @@ Arguments:
 Options:
       --limit <N>  How many fault lines are written at most, from 1 to 1000000 [default: 100]
   -h, --help       Print help
+
+Examples:
+  dbck check notes.db            The first 100 faults of notes.db, or 'ok'
+  dbck check --limit 1 notes.db  The first fault, and how many more there are
+  dbck check -- -notes.db        A file whose name begins with '-'
+
+'dbck --help' lists the exit statuses.
 ";
 
-// Lines that are taken: the limit that they ask for. The file is x in each.
+// Lines that are taken: the limit that they ask for, and the file.
 #[test]
 fn takes_lines(rt: HostRuntime) -> Result<(), Fail> {
-    let lines: [(&[&str], u32); 5] = [
-        (&["dbck", "check", "x"], 100),
-        (&["dbck", "check", "--limit", "1", "x"], 1),
-        (&["dbck", "check", "x", "--limit=1000000"], 1000000),
-        (&["dbck", "check", "--limit", "+7", "x"], 7),
-        (&["dbck", "check", "--", "x"], 100),
+    let lines: [(&[&str], u32, &str); 6] = [
+        (&["dbck", "check", "x"], 100, "x"),
+        (&["dbck", "check", "--limit", "1", "x"], 1, "x"),
+        (&["dbck", "check", "x", "--limit=1000000"], 1000000, "x"),
+        (&["dbck", "check", "--limit", "+7", "x"], 7, "x"),
+        (&["dbck", "check", "--", "x"], 100, "x"),
+        (&["dbck", "check", "--", "-x"], 100, "-x"),
     ];
-    for (words, limit) in lines {
+    for (words, limit, file) in lines {
         match line_of(rt.alloc(), words) {
             Ok(line) => {
                 assert!(rt; line.command == Command::Check { limit });
-                assert!(rt; line.file == "x");
+                assert!(rt; line.file == file);
             }
             Err(_) => assert!(rt; false, "a line of limit {limit}"),
         }

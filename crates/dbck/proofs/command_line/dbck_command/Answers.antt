@@ -12,7 +12,6 @@ required a = record a { top = record a.top { subcommand_required = true } }
 pub returns : goal.returns
 returns c =
     let first : app_of c.version.result ≡ versioned (new_app (codes "dbck")) = ap app_of_fields c.version.ensures ∙ ap versioned c.described.ensures.app in
-    let plain : app_of c.after_help.result ≡ versioned (new_app (codes "dbck")) = ap app_of_fields c.after_help.ensures ∙ first in
     let top : app_of c.subcommand_required.result ≡ required (versioned (new_app (codes "dbck"))) =
-    ap app_of_fields c.subcommand_required.ensures ∙ ap required plain in
+    ap app_of_fields c.subcommand_required.ensures ∙ ap required first in
     c.in_ok-command.ensures.shape c.in_ok-check_command.ensures.1 ∙ ap₂ with_subcommand top (ap (λ (a : App). a.top) c.in_ok-check_command.ensures.0)
