@@ -13,7 +13,7 @@ use Rattle.dbformat.specs.Head.{cell_count, content_start, first_freeblock, frag
 use Rattle.dbformat.specs.Header.{change_counter, encoding, encoding_number, first_trunk, freelist_count, greatest_root, has_pointer_map, incremental_vacuum, is_size_valid, page_count, page_size, reserved_bytes, schema_format, stated_pages, usable_size, version_valid_for, whole_pages}
 use Rattle.dbformat.specs.HeaderFaults.{header_faults}
 use Rattle.dbformat.specs.KeyFaults.{key_faults, keys, row_faults}
-use Rattle.dbformat.specs.Lines.{fault_line, more_line, path_text, stat_line, tree_name}
+use Rattle.dbformat.specs.Lines.{fault_line, more_line, path_text, tree_name}
 use Rattle.dbformat.specs.PageFaults.{depth_fault, page_faults, tree_page_faults}
 use Rattle.dbformat.specs.Payload.{local_len}
 use Rattle.dbformat.specs.Record.{record_values, serial_len}
@@ -50,7 +50,7 @@ unfolding cell cell_count cell_pointer cells change_counter content_start encodi
 late_root_survey = refl
 
 pub late_root_check : report (Check 100) (late_root 4) (with_free_page 4 3) ≡ record { out = codes "M02 page 4 item 0 value 3: root page after a page that is no root\n"; err = []; answer = Ok (Faulty 1) }
-unfolding cell cell_count cell_pointer cells change_counter content_start coverage depth_fault encoding encoding_number fault_line faults first_freeblock first_trunk fixed_use fragmented_bytes freeblocks freelist_count greatest_root has_pointer_map header_faults incremental_vacuum is_size_valid items key_faults keys late_root_fault later_starts local_len map_entry map_page_of more_line own_kind page_bytes page_count page_faults page_size path_text payload record_values refusal_of refused report reserved_bytes right_number row_faults rules_of schema schema_format schema_row serial_len shown_name stat_line stat_rows stated_pages story_of sum_faults telling tree_name tree_page_faults tree_view type_byte unused usable_size use_fault varint version_valid_for view walk_faults whole_pages is_utf8 chars utf16_chars encode digits
+unfolding cell cell_count cell_pointer cells change_counter content_start coverage depth_fault encoding encoding_number fault_line faults first_freeblock first_trunk fixed_use fragmented_bytes freeblocks freelist_count greatest_root has_pointer_map header_faults incremental_vacuum is_size_valid items key_faults keys late_root_fault later_starts local_len map_entry map_page_of more_line own_kind page_bytes page_count page_faults page_size path_text payload record_values refusal_of refused report reserved_bytes right_number row_faults rules_of schema schema_format schema_row serial_len shown_name stat_rows stated_pages story_of sum_faults telling tree_name tree_page_faults tree_view type_byte unused usable_size use_fault varint version_valid_for view walk_faults whole_pages is_utf8 chars utf16_chars encode digits
 late_root_check = refl
 
 -- the same without a pointer map
@@ -59,7 +59,7 @@ unfolding cell cell_count cell_pointer cells change_counter content_start encodi
 unmapped_survey = refl
 
 pub unmapped_check : report (Check 100) (late_root 0) (with_free_page 4 3) ≡ record { out = codes "N01 page 2 item 0 value 0: page is not in use\n"; err = []; answer = Ok (Faulty 1) }
-unfolding cell cell_count cell_pointer cells change_counter content_start coverage depth_fault encoding encoding_number fault_line faults first_freeblock first_trunk fixed_use fragmented_bytes freeblocks freelist_count greatest_root has_pointer_map header_faults incremental_vacuum is_size_valid items key_faults keys late_root_fault later_starts local_len map_entry map_page_of more_line own_kind page_bytes page_count page_faults page_size path_text payload record_values refusal_of refused report reserved_bytes right_number row_faults rules_of schema schema_format schema_row serial_len shown_name stat_line stat_rows stated_pages story_of sum_faults telling tree_name tree_page_faults tree_view type_byte unused usable_size use_fault varint version_valid_for view walk_faults whole_pages is_utf8 chars utf16_chars encode digits
+unfolding cell cell_count cell_pointer cells change_counter content_start coverage depth_fault encoding encoding_number fault_line faults first_freeblock first_trunk fixed_use fragmented_bytes freeblocks freelist_count greatest_root has_pointer_map header_faults incremental_vacuum is_size_valid items key_faults keys late_root_fault later_starts local_len map_entry map_page_of more_line own_kind page_bytes page_count page_faults page_size path_text payload record_values refusal_of refused report reserved_bytes right_number row_faults rules_of schema schema_format schema_row serial_len shown_name stat_rows stated_pages story_of sum_faults telling tree_name tree_page_faults tree_view type_byte unused usable_size use_fault varint version_valid_for view walk_faults whole_pages is_utf8 chars utf16_chars encode digits
 unmapped_check = refl
 
 -- the root page before the free page, and behind a page of the pointer map
@@ -71,7 +71,7 @@ unfolding cell cell_count cell_pointer cells change_counter content_start encodi
 root_first_survey = refl
 
 pub root_first_check : report (Check 100) root_first (with_free_page 3 4) ≡ record { out = codes "ok\n"; err = []; answer = Ok Clean }
-unfolding cell cell_count cell_pointer cells change_counter content_start coverage depth_fault encoding encoding_number fault_line faults first_freeblock first_trunk fixed_use fragmented_bytes freeblocks freelist_count greatest_root has_pointer_map header_faults incremental_vacuum is_size_valid items key_faults keys late_root_fault later_starts local_len map_entry map_page_of more_line own_kind page_bytes page_count page_faults page_size path_text payload record_values refusal_of refused report reserved_bytes right_number row_faults rules_of schema schema_format schema_row serial_len shown_name stat_line stat_rows stated_pages story_of sum_faults telling tree_name tree_page_faults tree_view type_byte unused usable_size use_fault varint version_valid_for view walk_faults whole_pages is_utf8 chars utf16_chars encode digits
+unfolding cell cell_count cell_pointer cells change_counter content_start coverage depth_fault encoding encoding_number fault_line faults first_freeblock first_trunk fixed_use fragmented_bytes freeblocks freelist_count greatest_root has_pointer_map header_faults incremental_vacuum is_size_valid items key_faults keys late_root_fault later_starts local_len map_entry map_page_of more_line own_kind page_bytes page_count page_faults page_size path_text payload record_values refusal_of refused report reserved_bytes right_number row_faults rules_of schema schema_format schema_row serial_len shown_name stat_rows stated_pages story_of sum_faults telling tree_name tree_page_faults tree_view type_byte unused usable_size use_fault varint version_valid_for view walk_faults whole_pages is_utf8 chars utf16_chars encode digits
 root_first_check = refl
 
 -- the file of the long row with a pointer map
@@ -86,7 +86,7 @@ unfolding cell cell_count cell_pointer cells change_counter content_start encodi
 mapped_row_survey = refl
 
 pub mapped_row_check : report (Check 100) mapped_row mapped_row_visits ≡ record { out = codes "ok\n"; err = []; answer = Ok Clean }
-unfolding cell cell_count cell_pointer cells change_counter content_start coverage depth_fault encoding encoding_number fault_line faults first_freeblock first_trunk fixed_use fragmented_bytes freeblocks freelist_count greatest_root has_pointer_map header_faults incremental_vacuum is_size_valid items key_faults keys late_root_fault later_starts local_len map_entry map_page_of more_line own_kind page_bytes page_count page_faults page_size path_text payload record_values refusal_of refused report reserved_bytes right_number row_faults rules_of schema schema_format schema_row serial_len shown_name stat_line stat_rows stated_pages story_of sum_faults telling tree_name tree_page_faults tree_view type_byte unused usable_size use_fault varint version_valid_for view walk_faults whole_pages is_utf8 chars utf16_chars encode digits
+unfolding cell cell_count cell_pointer cells change_counter content_start coverage depth_fault encoding encoding_number fault_line faults first_freeblock first_trunk fixed_use fragmented_bytes freeblocks freelist_count greatest_root has_pointer_map header_faults incremental_vacuum is_size_valid items key_faults keys late_root_fault later_starts local_len map_entry map_page_of more_line own_kind page_bytes page_count page_faults page_size path_text payload record_values refusal_of refused report reserved_bytes right_number row_faults rules_of schema schema_format schema_row serial_len shown_name stat_rows stated_pages story_of sum_faults telling tree_name tree_page_faults tree_view type_byte unused usable_size use_fault varint version_valid_for view walk_faults whole_pages is_utf8 chars utf16_chars encode digits
 mapped_row_check = refl
 
 -- ---- a freelist
@@ -103,5 +103,5 @@ unfolding cell cell_count cell_pointer cells change_counter content_start encodi
 free_leaf_survey = refl
 
 pub free_leaf_check : report (Check 100) free_leaf_file free_leaf_visits ≡ record { out = codes "ok\n"; err = []; answer = Ok Clean }
-unfolding cell cell_count cell_pointer cells change_counter content_start coverage depth_fault encoding encoding_number fault_line faults first_freeblock first_trunk fixed_use fragmented_bytes freeblocks freelist_count greatest_root has_pointer_map header_faults incremental_vacuum is_size_valid items key_faults keys late_root_fault later_starts local_len map_entry map_page_of more_line own_kind page_bytes page_count page_faults page_size path_text payload record_values refusal_of refused report reserved_bytes right_number row_faults rules_of schema schema_format schema_row serial_len shown_name stat_line stat_rows stated_pages story_of sum_faults telling tree_name tree_page_faults tree_view type_byte unused usable_size use_fault varint version_valid_for view walk_faults whole_pages is_utf8 chars utf16_chars encode digits
+unfolding cell cell_count cell_pointer cells change_counter content_start coverage depth_fault encoding encoding_number fault_line faults first_freeblock first_trunk fixed_use fragmented_bytes freeblocks freelist_count greatest_root has_pointer_map header_faults incremental_vacuum is_size_valid items key_faults keys late_root_fault later_starts local_len map_entry map_page_of more_line own_kind page_bytes page_count page_faults page_size path_text payload record_values refusal_of refused report reserved_bytes right_number row_faults rules_of schema schema_format schema_row serial_len shown_name stat_rows stated_pages story_of sum_faults telling tree_name tree_page_faults tree_view type_byte unused usable_size use_fault varint version_valid_for view walk_faults whole_pages is_utf8 chars utf16_chars encode digits
 free_leaf_check = refl

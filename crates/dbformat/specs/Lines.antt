@@ -1,5 +1,5 @@
 -- The lines of a report, as bytes (own; the columns are those of The DBSTAT Virtual Table).
-use Rattle.std.specs.Prelude.{ℕ, zero, suc, ◌-◌, ◌*◌, List, [], ◌∷◌, ◌++◌, length, map, flat_map, fold, max, sum_by, Option, Some, None, codes, decimal, slice_get}
+use Rattle.std.specs.Prelude.{ℕ, zero, suc, ◌-◌, ◌*◌, ◌^◌, List, [], ◌∷◌, ◌++◌, length, map, flat_map, fold, max, min, sum_by, Option, Some, None, codes, decimal, slice_get}
 use Rattle.std.specs.List.{join_with_byte}
 use Rattle.std.specs.Option.{option_map_or}
 use Rattle.std.specs.Fmt.{signed_decimal}
@@ -142,10 +142,10 @@ tree_name file V (suc k) = option_map_or (row_name_text file) (slice_get (rooted
 abbrev pub columns : List (List ℕ) → List ℕ
 columns texts = join_with_byte tab texts ++ line_feed ∷ []
 
--- the line of the row of a page
-unfoldable pub stat_line : List ℕ → List Reference → StatRow → List ℕ
-stat_line file V row = columns (
-    tree_name file V row.start
+-- the line of a page's row, by the name of its tree and the page size
+abbrev pub page_line : List ℕ → ℕ → StatRow → List ℕ
+page_line name size row = columns (
+    name
     ∷ path_text row.path row.chain
     ∷ decimal row.page
     ∷ pagetype_text row.pagetype
@@ -153,8 +153,8 @@ stat_line file V row = columns (
     ∷ decimal row.payload
     ∷ decimal row.unused
     ∷ decimal row.mx_payload
-    ∷ decimal ((row.page - 1) * page_size file)
-    ∷ decimal (page_size file) ∷ [])
+    ∷ decimal ((row.page - 1) * size)
+    ∷ decimal size ∷ [])
 
 -- the text of what another page is (own)
 abbrev pub other_text : OtherPage → List ℕ
@@ -168,22 +168,28 @@ other_text unowned_page = codes "unowned"
 abbrev pub no_text : List ℕ
 no_text = codes "-"
 
--- The line of a row of a form. A tree has the number of its page rows in place of a page, their sums, and the greatest
--- payload among them.
-unfoldable pub form_line : List ℕ → List Reference → FormRow → List ℕ
-form_line file V (page_row row) = stat_line file V row
-form_line file V (tree_row k rows) = columns (
-    tree_name file V k
+-- a count that stops at the greatest number of 64 bits
+abbrev pub counted : ℕ → ℕ
+counted n = min n (2 ^ 64 - 1)
+
+-- The line of a tree: the number of its page rows in place of a page, their sums, each of which stops at the greatest
+-- number of 64 bits, and the greatest payload among them.
+abbrev pub tree_line : List ℕ → ℕ → List StatRow → List ℕ
+tree_line name size rows = columns (
+    name
     ∷ no_text
-    ∷ decimal (length rows)
+    ∷ decimal (counted (length rows))
     ∷ no_text
-    ∷ decimal (sum_by (λ row. row.ncell) rows)
-    ∷ decimal (sum_by (λ row. row.payload) rows)
-    ∷ decimal (sum_by (λ row. row.unused) rows)
+    ∷ decimal (counted (sum_by (λ row. row.ncell) rows))
+    ∷ decimal (counted (sum_by (λ row. row.payload) rows))
+    ∷ decimal (counted (sum_by (λ row. row.unused) rows))
     ∷ decimal (fold max 0 (map (λ row. row.mx_payload) rows))
     ∷ no_text
-    ∷ decimal (length rows * page_size file) ∷ [])
-form_line file V (other_row p what) = columns (
+    ∷ decimal (counted (length rows * size)) ∷ [])
+
+-- the line of another page
+abbrev pub other_line : ℕ → ℕ → OtherPage → List ℕ
+other_line size p what = columns (
     no_text
     ∷ no_text
     ∷ decimal p
@@ -192,5 +198,11 @@ form_line file V (other_row p what) = columns (
     ∷ decimal 0
     ∷ decimal 0
     ∷ decimal 0
-    ∷ decimal ((p - 1) * page_size file)
-    ∷ decimal (page_size file) ∷ [])
+    ∷ decimal ((p - 1) * size)
+    ∷ decimal size ∷ [])
+
+-- the line of a row of a form
+unfoldable pub form_line : List ℕ → List Reference → FormRow → List ℕ
+form_line file V (page_row row) = page_line (tree_name file V row.start) (page_size file) row
+form_line file V (tree_row k rows) = tree_line (tree_name file V k) (page_size file) rows
+form_line file V (other_row p what) = other_line (page_size file) p what

@@ -1,27 +1,27 @@
 -- What a check has written and found, by the findings that its sink was told.
 use Rattle.std.proofs.Common.{◌≡◌, ℕ, zero, suc, ◌+◌, ◌-◌, ◌^◌, ◌<◌, ◌≤◌, true, false, cond, inl, inr, List, [], ◌∷◌, ◌++◌, length, take, drop, Option, Result, Ok, refl, sym, ap, ap₂, ◌∙◌, subst, arith, append_assoc, length-drop}
 use Rattle.std.specs.Prelude.{flat_map, ◌==◌, nat_lt}
-use Rattle.std.specs.Io.KnownBytes.{Appends}
 use Rattle.std.proofs.Math.Seq.{take-nil}
 use Rattle.std.proofs.lemmas.Grind.{common_steps}
 use Rattle.std.proofs.lemmas.Bool.{cases_Bool}
 use Rattle.std.proofs.lemmas.Bool.Decides.{nat_tests}
 use Rattle.dbsurvey.specs.Moves.{Moves, Stops, MovesBySome}
-use Rattle.dbformat.specs.Lines.{fault_line, ok_line, more_line}
-use Rattle.dbformat.specs.Report.{counted, check_text, more_text, verdict}
+use Rattle.dbformat.specs.Lines.{counted, fault_line, more_line, ok_line}
+use Rattle.dbformat.specs.Report.{check_text, more_text, verdict}
 use Rattle.dbformat.specs.declared.Fault.{Fault}
 use Rattle.dbformat.specs.declared.Verdict.{Verdict}
 use Rattle.dbformat.specs.declared.Verdict.TheVariants.{Clean, Faulty}
 use Rattle.dbsource.specs.Outs.{Begins, OutState, Puts}
 use Rattle.dbsource.specs.declared.error.RunError.{RunError}
 use Rattle.dbsource.specs.declared.error.RunError.TheVariants.{ReadFailed, WriteFailed, OutOfMemory, Refused}
-use Rattle.dbsource.proofs.Puts.{appends_append, appends_nothing, puts_then}
+use Rattle.dbsource.proofs.Puts.{appends_nothing, puts_then}
 use Rattle.dbwalk.specs.Finding.{Finding, told_row, told_fault}
 use Rattle.dbwalk.specs.Outcomes.{StopsBy}
 use Rattle.dbwalk.proofs.Telling.Tellings.{stops_by_first}
 use Rattle.dbreport.specs.CheckSink.{PutsAll, ShowsFault, Shows, Cuts, end_text, verdict_of}
 use Rattle.dbreport.specs.Findings.{faults_in}
 use Rattle.dbreport.specs.declared.check_sink.CheckSink.{CheckSink}
+use Rattle.dbreport.proofs.Beginnings.{begins_nothing, begins_more, begins_after}
 
 counted_is : (n : ℕ) → n ≤ 2 ^ 64 - 1 → n ≡ counted (n + 0)
 counted_is n h = omega arith
@@ -68,27 +68,6 @@ verdict_is limit (f ∷ fs) =
     let e : counted (length (take limit (f ∷ fs)) + counted (length (drop limit (f ∷ fs)))) ≡ counted (length (f ∷ fs)) = omega arith in
     ap (λ b. cond b Clean (Faulty (counted (length (take limit (f ∷ fs)) + counted (length (drop limit (f ∷ fs))))))) (some_left limit f fs)
     ∙ ap Faulty e
-
--- ---- beginnings
-
-begins_nothing : (o : Option (List ℕ)) (a : List ℕ) → Begins o o a
-begins_nothing o a = record { part = []; rest = a; whole = refl; added = appends_nothing o }
-
-begins_more : (o t : Option (List ℕ)) (a b c : List ℕ) → a ++ b ≡ c → Begins o t a → Begins o t c
-begins_more o t a b c e h = record {
-  part = h.part;
-  rest = h.rest ++ b;
-  whole = sym (append_assoc h.part h.rest b) ∙ ap (λ x. x ++ b) h.whole ∙ e;
-  added = h.added;
-}
-
-begins_after : (o m t : Option (List ℕ)) (a b c : List ℕ) → a ++ b ≡ c → Appends o m a → Begins m t b → Begins o t c
-begins_after o m t a b c e h k = record {
-  part = a ++ k.part;
-  rest = k.rest;
-  whole = append_assoc a k.part k.rest ∙ ap (λ x. a ++ x) k.whole ∙ e;
-  added = appends_append o m t a k.part h k.added;
-}
 
 -- ---- fault after fault
 

@@ -49,7 +49,7 @@ starts_are file V s = ap (λ ls. Go schema_reference ∷ errands_at [] (map Foll
 pub starts_apart : (file : List ℕ) (V : List Reference) → AreErrandsApart (start_errands file V)
 starts_apart file V = errands_at-apart [] (map Follow (starts file V)) (follows_pairs (starts file V) (starts_rise file (under schema_start V)))
 
-goes_named : (a : List ℕ) (ls : List (Link Way)) → goes (errands_at {E = Event} a (map Follow ls)) ≡ named_at a ls
+pub goes_named : (a : List ℕ) (ls : List (Link Way)) → goes (errands_at {E = Event} a (map Follow ls)) ≡ named_at a ls
 goes_named a [] = refl
 goes_named a (l ∷ ls) = ap (λ cs. record { address = a ++ (l.step ∷ []); page = l.page; role = l.role } ∷ cs) (goes_named a ls)
 

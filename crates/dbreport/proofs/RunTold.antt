@@ -29,7 +29,7 @@ no_faults : (rows : List StatRow) → faults_in (map told_row rows) ≡ []
 no_faults [] = refl
 no_faults (r ∷ rows) = no_faults rows
 
-all_faults : (fs : List Fault) → faults_in (findings fs) ≡ fs
+pub all_faults : (fs : List Fault) → faults_in (findings fs) ≡ fs
 all_faults [] = refl
 all_faults (f ∷ fs) = ap (λ l. f ∷ l) (all_faults fs)
 
@@ -44,7 +44,7 @@ in_list file W (t ∷ L) =
     filter_map-append fault_in (told_at file U t.event) (read_back own_visit (told_at file) U L)
     ∙ ap₂ (λ a b. a ++ b) (at_event file U t.event) (in_list file U L)
 
-faults_told : (file : List ℕ) (W : List Reference) (errands : List (Errand Way Event)) → faults_in (told_below file W errands) ≡ faults_below file W errands
+pub faults_told : (file : List ℕ) (W : List Reference) (errands : List (Errand Way Event)) → faults_in (told_below file W errands) ≡ faults_below file W errands
 faults_told file W errands = in_list file W (telling_of (rules_of file) (story_of file) (geometry file).pages W errands)
 
 -- they are the faults of the file

@@ -50,9 +50,10 @@ module _ {K : Type 0} (takes drops : K → Finding → K → Type 0) (file : Lis
         done = record { marked = d.marked; told = told.0 };
         schema = λ V s.
             let same : schema file V ≡ schema file P = (by_starts file V s).1 in
-            let rows = schema_roots file P old new empty g in
+            let rows = schema_roots file P old new empty g ∙ ap (λ cs. take last_root_start (rooted_rows cs)) (sym same) in
             record {
+              listed = rows;
               has_rows = told.1 ∙ ap (λ b. b || list_any is_schema_row items) unseen ∙ schema_rows_told file V s;
-              left = ap (λ ls. errands_at [] (map Follow ls)) (sym (starts_listed file V new.rows (rows ∙ ap (λ cs. take last_root_start (rooted_rows cs)) (sym same))));
+              left = ap (λ ls. errands_at [] (map Follow ls)) (sym (starts_listed file V new.rows rows));
             };
       }

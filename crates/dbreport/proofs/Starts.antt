@@ -1,6 +1,6 @@
 -- The starts of a run, one after another: what a walk at the next one leaves.
 use Rattle.std.proofs.Common.{◌≡◌, ◌≢◌, ℕ, zero, suc, ◌+◌, ◌≤◌, ◌-◌, ◌<◌, inl, inr, List, [], ◌∷◌, ◌++◌, take, drop, map, length, false, cond, Option, Some, None, Result, Ok, Err, refl, sym, ap, subst, arith, ◌∙◌}
-use Rattle.std.specs.Prelude.{slice_get, option_map, ◌==◌}
+use Rattle.std.specs.Prelude.{slice_get, option_map, ◌==◌, ◌↔◌}
 use Rattle.dbwalk.specs.declared.root.Root.{Root}
 use Rattle.dbwalk.specs.declared.root.RootKind.TheVariants.{Schema}
 use Rattle.dbsurvey.specs.Address.{Address, IsIn, IsBefore}
@@ -8,7 +8,7 @@ use Rattle.dbsurvey.proofs.Order.{IsIn-left}
 use Rattle.dbsurvey.specs.InOrder.{AreQuiet, IsPast}
 use Rattle.dbsurvey.specs.Moves.{Moves}
 use Rattle.dbsurvey.specs.Story.{Told, Errand, Go, Tell, Follow, errands_at}
-use Rattle.dbformat.specs.Address.{freelist_start}
+use Rattle.dbformat.specs.Address.{freelist_start, schema_start}
 use Rattle.dbformat.specs.File.{page_bytes}
 use Rattle.dbformat.specs.Header.{first_trunk, encoding}
 use Rattle.dbformat.proofs.HeaderPrefix.{encoding_number_within}
@@ -64,7 +64,7 @@ early_of k (s ∷ a) n (inl l) = l
 early_of k (s ∷ []) n (inr h) = absurd h.1
 early_of k (s ∷ t ∷ a) n (inr h) = absurd h.1
 
-drop_more : {X : Type 0} (xs : List X) (i : ℕ) (x : X) → slice_get xs i ≡ Some x → drop i xs ≡ x ∷ drop (suc i) xs
+pub drop_more : {X : Type 0} (xs : List X) (i : ℕ) (x : X) → slice_get xs i ≡ Some x → drop i xs ≡ x ∷ drop (suc i) xs
 drop_more [] i x e = cc
 drop_more (y ∷ xs) zero x e = cc
 drop_more (y ∷ xs) (suc i) x e = drop_more xs i x e
@@ -93,7 +93,7 @@ module _ {S : Type 0} (takes drops : S → Finding → S → Type 0) (file : Lis
       (sym (told_join file U es fs quiet)) d.told
 
   -- the next start is a root
-  root_next : (encoding : Encoding) (k : ℕ) (r : SchemaRow) (es : List (Errand Way Event)) → AreBelowStarts (W ++ visited_below file W errands)
+  pub root_next : (encoding : Encoding) (k : ℕ) (r : SchemaRow) (es : List (Errand Way Event)) → AreBelowStarts (W ++ visited_below file W errands)
       → IsLeft takes file W errands before U (Go (root_reference file k r) ∷ es) marks s → IsRootAfter file (root_of encoding k r) U (root_reference file k r) marks
   root_next encoding k r es below h = record {
     candidate = record {
@@ -162,3 +162,7 @@ drop_none [] zero h = refl
 drop_none [] (suc i) h = refl
 drop_none (x ∷ xs) zero h = absurd (omega (arith, h))
 drop_none (x ∷ xs) (suc i) h = drop_none xs i (omega (arith, h))
+
+-- a root behind the schema's is not the schema's
+pub no_schema_start : (named : Root) {X : Type 0} → (named.kind ≡ Schema ↔ named.start ≡ schema_start) → 1 ≤ named.start → named.kind ≡ Schema → X
+no_schema_start named is later e = let z = is.0 e in absurd (omega (arith, z, later))

@@ -1,7 +1,7 @@
 -- The sink of a check: what a finding makes of it, and what it writes and answers at the end.
 use Rattle.std.specs.Prelude.{◌≡◌, ℕ, ◌+◌, true, ◌==◌, nat_lt, List, [], Ok, Err, if◌then◌else◌}
-use Rattle.dbformat.specs.Lines.{fault_line, ok_line}
-use Rattle.dbformat.specs.Report.{counted, more_text}
+use Rattle.dbformat.specs.Lines.{counted, fault_line, ok_line}
+use Rattle.dbformat.specs.Report.{more_text}
 use Rattle.dbformat.specs.declared.Fault.{Fault}
 use Rattle.dbformat.specs.declared.Verdict.{Verdict}
 use Rattle.dbformat.specs.declared.Verdict.TheVariants.{Clean, Faulty}

@@ -1,13 +1,13 @@
 -- The starts behind the schema's, as a run comes by them: the roots of a list, and the first trunk.
-use Rattle.std.specs.Prelude.{◌≡◌, ◌≢◌, ℕ, Bool, List, [], ◌∷◌, map, ◌++◌, Result, OnOk}
+use Rattle.std.specs.Prelude.{◌≡◌, ◌≢◌, ℕ, Bool, List, [], ◌∷◌, map, take, ◌++◌, Result, OnOk}
 use Rattle.std.specs.List.{enumerate_from}
 use Rattle.dbsurvey.specs.Address.{IsIn}
 use Rattle.dbsurvey.specs.Story.{Errand, Go, Follow, errands_at}
 use Rattle.dbsurvey.specs.Survey.{Link}
-use Rattle.dbformat.specs.Address.{schema_start}
+use Rattle.dbformat.specs.Address.{schema_start, last_root_start}
 use Rattle.dbformat.specs.EndFaults.{has_rows}
 use Rattle.dbformat.specs.Reference.{Way, Reference}
-use Rattle.dbformat.specs.Schema.{schema_link, root_start, freelist_starts, later_starts}
+use Rattle.dbformat.specs.Schema.{schema, schema_link, root_start, rooted_rows, freelist_starts, later_starts}
 use Rattle.dbformat.specs.SchemaRow.{SchemaRow}
 use Rattle.dbformat.specs.Story.{Event, start_errands}
 use Rattle.dbformat.specs.Survey.{Survey}
@@ -53,10 +53,15 @@ schema_reference = record { address = schema_start ∷ []; page = 1; role = sche
 abbrev pub later_errands : List ℕ → List Reference → List (Errand Way Event)
 later_errands file V = errands_at [] (map Follow (later_starts file V))
 
+-- the rows of a list are those of the schema that have a root page, the first 65536
+abbrev pub AreListed : List ℕ → List Reference → List SchemaRow → Type 0
+AreListed file V rows = rows ≡ take last_root_start (rooted_rows (schema file V))
+
 -- What the walk over the schema has come by: whether it has a row, and the roots of its rows, by which what is left to do
 -- is known.
 pub record IsSchemaOf (file : List ℕ) (V : List Reference) (rows : List SchemaRow) (any : Bool) : Type 0 where
   pub has_rows : any ≡ has_rows file V
+  pub listed : AreListed file V rows
   pub left : errands_from file 1 rows ≡ later_errands file V
 
 -- The walk over the schema's tree: what is below page 1 is marked and told, or a beginning of it told; and what it has come

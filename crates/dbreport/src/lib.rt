@@ -10,18 +10,28 @@
 mod check_sink;
 mod checking;
 mod code_text;
+mod columns;
 mod counts;
 mod desk;
 mod end_faults;
 mod end_pass;
 mod header_faults;
+mod hex;
 mod lines;
 mod map_entry;
+mod other_pages;
+mod page_texts;
 mod roots;
 mod runs;
 mod schema_watch;
+mod stat_lines;
+mod stat_sink;
+mod stat_walks;
+mod statistics;
+mod sums;
 mod tell;
 mod telling;
+mod tree_name;
 mod walks;
 
 pub use dbformat::{Command, Verdict};

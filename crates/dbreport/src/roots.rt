@@ -14,7 +14,7 @@ use std::marker::Model;
 // How many roots are taken (own).
 const MAX_ROOTS: usize = 65536;
 // How many bytes of a name are kept (own).
-const MAX_NAME: usize = 1000;
+pub(crate) const MAX_NAME: usize = 1000;
 
 // Where the bytes of a name stand.
 #[derive(Clone, Copy, Debug, PartialEq, Eq)]

@@ -40,7 +40,7 @@ fn schema_root(encoding: Encoding) -> Root
 }
 
 // Walks over the schema's tree. The list takes its rows, and the watch notes whether there are any.
-fn walk_schema<A: Allocator, S: Source, K: Sink + Drop>(
+pub(crate) fn walk_schema<A: Allocator, S: Source, K: Sink + Drop>(
     header: &Header,
     source: &mut S,
     bench: &mut Bench<A>,
@@ -63,7 +63,7 @@ fn walk_schema<A: Allocator, S: Source, K: Sink + Drop>(
 }
 
 // How a row names the kind of its tree.
-fn kind_by(kind: RowKind) -> RootKind
+pub(crate) fn kind_by(kind: RowKind) -> RootKind
     ensures { result ≡ kind_by kind }
 {
     match kind {

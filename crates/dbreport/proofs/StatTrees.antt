@@ -1,0 +1,256 @@
+-- What is visited below a start: it has this start, and the rows of at most one tree.
+use Rattle.std.proofs.Common.{◌≡◌, ℕ, zero, suc, ◌+◌, ◌<◌, ◌⊎◌, inl, inr, Bool, true, false, cond, List, [], ◌∷◌, ◌++◌, map, length, Some, None, refl, sym, ap, ap₂, subst, ◌∙◌, arith, length-append, append-nil}
+use Rattle.std.specs.Prelude.{take, filter, filter_map, ◌==◌}
+use Rattle.std.specs.List.{enumerate_from, cons_option}
+use Rattle.std.proofs.lemmas.Bool.{cases_Bool, ne_eqb}
+use Rattle.std.proofs.lemmas.List.{map-append}
+use Rattle.std.proofs.lemmas.List.Elements.{filter-append, filter_map-append}
+use Rattle.dbsurvey.specs.Address.{Address, IsIn}
+use Rattle.dbsurvey.specs.From.{under}
+use Rattle.dbsurvey.specs.Survey.{Link, IsRising, IsPart, named_at, children}
+use Rattle.dbsurvey.specs.Traverse.{is_followed, part_of}
+use Rattle.dbsurvey.proofs.Composing.{named_at-from, named_at-step, named_at-apart, part_below}
+use Rattle.dbsurvey.proofs.Lists.{filter-none, filter-from, filter_map-from}
+use Rattle.dbsurvey.proofs.Order.{IsIn-cases}
+use Rattle.dbsurvey.proofs.Ordering.{IsIn-from_map}
+use Rattle.dbsurvey.proofs.Remaining.{rest_none, rest_skip, rest_one}
+use Rattle.dbsurvey.proofs.Traversal.{free_at_most, traverse_part}
+use Rattle.dbformat.specs.Address.{start_of, schema_start, last_root_start, freelist_start}
+use Rattle.dbformat.specs.File.{geometry}
+use Rattle.dbformat.specs.Header.{first_trunk}
+use Rattle.dbformat.specs.Reference.{Role, root, child, first_overflow, later_overflow, trunk, free_leaf, Way, Reference, role_of, is_root, is_on_freelist}
+use Rattle.dbformat.specs.Rows.{StatRow, FormRow, tree_row, row_in, stat_rows, trees_reached, tree_rows}
+use Rattle.dbformat.specs.Schema.{schema, rooted_rows, start, root_start, root_starts, freelist_starts, later_starts, starts}
+use Rattle.dbformat.specs.SchemaRow.{SchemaRow}
+use Rattle.dbformat.specs.Survey.{rules_of}
+use Rattle.dbformat.proofs.Roles.{child_leads}
+use Rattle.dbformat.proofs.Theory.{are_rules}
+use Rattle.dbsound.proofs.RowCounts.RowPages.{of_row, row_of}
+
+-- ---- rows and roots of lists of visits
+
+pub rows_none : (file : List ℕ) → stat_rows file [] ≡ []
+unfolding stat_rows
+rows_none file = refl
+
+pub rows_join : (file : List ℕ) (A B : List Reference) → stat_rows file (A ++ B) ≡ stat_rows file A ++ stat_rows file B
+unfolding stat_rows
+rows_join file A B = filter_map-append (λ r. row_in (role_of r) file r) A B
+
+first_row : (file : List ℕ) (r : Reference) (V : List Reference) (row : StatRow) → row_in (role_of r) file r ≡ Some row → stat_rows file (r ∷ V) ≡ row ∷ stat_rows file V
+unfolding stat_rows
+first_row file r V row e = ap (λ o. cons_option o (filter_map (λ r. row_in (role_of r) file r) V)) e
+
+-- a row has the start of a visit
+row_from : (file : List ℕ) (V : List Reference) (row : StatRow) → IsIn row (stat_rows file V) → (t : Reference) × IsIn t V × (row.start ≡ start_of t.address)
+unfolding stat_rows
+row_from file V row i =
+    let m = filter_map-from (λ r. row_in (role_of r) file r) V row i in
+    (m.0, m.1, (of_row file m.0 (role_of m.0) row m.2).1)
+
+-- where all visits are on the freelist, there is no row
+no_row : (file : List ℕ) (r : Reference) (role : Role) → is_on_freelist role ≡ true → row_in role file r ≡ None
+no_row file r (root kind) e = cc
+no_row file r (child kind) e = cc
+no_row file r (first_overflow left) e = cc
+no_row file r (later_overflow left) e = cc
+no_row file r trunk e = refl
+no_row file r free_leaf e = refl
+
+no_rows : (file : List ℕ) (V : List Reference) → ((t : Reference) → IsIn t V → is_on_freelist (role_of t) ≡ true) → stat_rows file V ≡ []
+unfolding stat_rows
+no_rows file [] h = refl
+no_rows file (t ∷ V) h = ap (λ o. cons_option o (filter_map (λ r. row_in (role_of r) file r) V)) (no_row file t (role_of t) (h t (inl refl))) ∙ no_rows file V (λ u i. h u (inr i))
+
+trees_join : (A B : List Reference) → trees_reached (A ++ B) ≡ trees_reached A ++ trees_reached B
+trees_join A B =
+    ap (map (λ (r : Reference). start_of r.address)) (filter-append (λ (r : Reference). is_root (role_of r)) A B)
+    ∙ map-append (λ (r : Reference). start_of r.address) (filter (λ (r : Reference). is_root (role_of r)) A) (filter (λ (r : Reference). is_root (role_of r)) B)
+
+-- a start that was reached is that of a visit
+tree_from : (V : List Reference) (k : ℕ) → IsIn k (trees_reached V) → (t : Reference) × IsIn t V × (k ≡ start_of t.address)
+tree_from V k i =
+    let m = IsIn-from_map (λ (r : Reference). start_of r.address) (filter (λ (r : Reference). is_root (role_of r)) V) k i in
+    (m.0, (filter-from (λ (r : Reference). is_root (role_of r)) V m.0 m.1).0, m.2)
+
+-- roots are off the freelist
+
+root_off : (role : Role) → is_root role ≡ true → is_on_freelist role ≡ false
+root_off (root kind) e = refl
+root_off (child kind) e = cc
+root_off (first_overflow left) e = cc
+root_off (later_overflow left) e = cc
+root_off trunk e = cc
+root_off free_leaf e = cc
+
+no_root_on : (role : Role) → is_on_freelist role ≡ true → is_root role ≡ false
+no_root_on (root kind) e = cc
+no_root_on (child kind) e = refl
+no_root_on (first_overflow left) e = refl
+no_root_on (later_overflow left) e = refl
+no_root_on trunk e = refl
+no_root_on free_leaf e = refl
+
+-- ---- the rows of trees, part by part
+
+-- the row of the tree of start k, from rows of pages
+abbrev pub row_of_tree : List StatRow → ℕ → FormRow
+row_of_tree rows k = tree_row k (filter (λ row. row.start == k) rows)
+
+map_same : {X Y : Type 0} (f g : X → Y) (xs : List X) → ((x : X) → IsIn x xs → f x ≡ g x) → map f xs ≡ map g xs
+map_same f g [] h = refl
+map_same f g (x ∷ xs) h = ap₂ (λ y ys. y ∷ ys) (h x (inl refl)) (map_same f g xs (λ y i. h y (inr i)))
+
+-- rows of other starts change nothing
+in_left : (rows more : List StatRow) (k : ℕ) → ((row : StatRow) → IsIn row more → row.start ≡ k → ⊥) → row_of_tree (rows ++ more) k ≡ row_of_tree rows k
+in_left rows more k h = ap (tree_row k) (
+    filter-append (λ (row : StatRow). row.start == k) rows more
+    ∙ ap (λ l. filter (λ (row : StatRow). row.start == k) rows ++ l) (filter-none (λ (row : StatRow). row.start == k) more (λ row i. ne_eqb row.start k (h row i)))
+    ∙ append-nil (filter (λ (row : StatRow). row.start == k) rows))
+
+in_right : (rows more : List StatRow) (k : ℕ) → ((row : StatRow) → IsIn row rows → row.start ≡ k → ⊥) → row_of_tree (rows ++ more) k ≡ row_of_tree more k
+in_right rows more k h = ap (tree_row k) (
+    filter-append (λ (row : StatRow). row.start == k) rows more
+    ∙ ap (λ l. l ++ filter (λ (row : StatRow). row.start == k) more) (filter-none (λ (row : StatRow). row.start == k) rows (λ row i. ne_eqb row.start k (h row i))))
+
+-- the visits of Q have later starts than those of P
+abbrev pub HasLaterStarts : List Reference → List Reference → Type 0
+HasLaterStarts P Q = (t u : Reference) → IsIn t P → IsIn u Q → start_of t.address < start_of u.address
+
+pub trees_apart : (file : List ℕ) (P Q : List Reference) → HasLaterStarts P Q → tree_rows file (P ++ Q) ≡ tree_rows file P ++ tree_rows file Q
+trees_apart file P Q h =
+    let rows = stat_rows file P ++ stat_rows file Q in
+    ap₂ (λ ks rows. map (row_of_tree rows) ks) (trees_join P Q) (rows_join file P Q)
+    ∙ map-append (row_of_tree rows) (trees_reached P) (trees_reached Q)
+    ∙ ap₂ (λ a b. a ++ b) (map_same (row_of_tree rows) (row_of_tree (stat_rows file P)) (trees_reached P) of_left)
+    (map_same (row_of_tree rows) (row_of_tree (stat_rows file Q)) (trees_reached Q) of_right)
+  where
+    no_later : (a b : ℕ) → a < b → a ≡ b → ⊥
+    no_later a b l e = omega arith
+
+    of_left : (k : ℕ) → IsIn k (trees_reached P) → row_of_tree (stat_rows file P ++ stat_rows file Q) k ≡ row_of_tree (stat_rows file P) k
+    of_left k i = in_left (stat_rows file P) (stat_rows file Q) k (λ row j e.
+        let t = tree_from P k i in
+        let u = row_from file Q row j in
+        no_later (start_of t.0.address) (start_of u.0.address) (h t.0 u.0 t.1 u.1) (sym t.2 ∙ sym e ∙ u.2))
+
+    of_right : (k : ℕ) → IsIn k (trees_reached Q) → row_of_tree (stat_rows file P ++ stat_rows file Q) k ≡ row_of_tree (stat_rows file Q) k
+    of_right k i = in_right (stat_rows file P) (stat_rows file Q) k (λ row j e.
+        let t = row_from file P row j in
+        let u = tree_from Q k i in
+        no_later (start_of t.0.address) (start_of u.0.address) (h t.0 u.0 t.1 u.1) (sym t.2 ∙ e ∙ u.2))
+
+-- ---- below starts
+
+-- The visits P have no row and reach no tree, or they reach the tree of start k alone, and have a row.
+pub data IsTree (file : List ℕ) (k : ℕ) (P : List Reference) : Type 0 where
+  no_tree : stat_rows file P ≡ [] → trees_reached P ≡ [] → IsTree file k P
+  tree : (row : StatRow) (rows : List StatRow) → stat_rows file P ≡ row ∷ rows → trees_reached P ≡ k ∷ [] → IsTree file k P
+
+-- a start is a root, or on the freelist
+abbrev pub IsStart : Link Way → Type 0
+IsStart l = (is_root l.role.role ≡ true) ⊎ (is_on_freelist l.role.role ≡ true)
+
+pub start_role : (file : List ℕ) (V : List Reference) (l : Link Way) → IsIn l (starts file V) → IsStart l
+unfolding later_starts
+start_role file V l (inl e) = inl (ap (λ (l : Link Way). is_root l.role.role) e)
+start_role file V l (inr i) = elim (IsIn-cases l (root_starts file (rooted_rows (schema file (under schema_start V)))) (freelist_starts file) i) [
+  | inl j ↦ inl (of_rows (enumerate_from 1 (take last_root_start (rooted_rows (schema file (under schema_start V))))) j)
+  | inr j ↦ inr (of_freelist (first_trunk file == 0) j)
+]
+  where
+    of_rows : (rows : List (ℕ × SchemaRow)) → IsIn l (map (root_start file) rows) → is_root l.role.role ≡ true
+    of_rows rows j = let m = IsIn-from_map (root_start file) rows l j in ap (λ (l : Link Way). is_root l.role.role) m.2
+
+    of_freelist : (b : Bool) → IsIn l (cond b [] (start freelist_start trunk (first_trunk file) ∷ [])) → is_on_freelist l.role.role ≡ true
+    of_freelist true j = absurd j
+    of_freelist false (inl e) = ap (λ (l : Link Way). is_on_freelist l.role.role) e
+    of_freelist false (inr j) = absurd j
+
+module _ (file : List ℕ) where
+  -- what is visited below some links, after W
+  abbrev pub below_links : List Reference → Address → List (Link Way) → List Reference
+  below_links W a ls = part_of (rules_of file) (geometry file).pages W (named_at a ls)
+
+  is_part : (W : List Reference) (a : Address) (ls : List (Link Way)) → IsRising ls → IsPart (rules_of file) W (named_at a ls) (below_links W a ls)
+  is_part W a ls rising = traverse_part (rules_of file) (geometry file).pages (are_rules file) (geometry file).pages W (named_at a ls) (free_at_most (geometry file).pages W) (named_at-apart a ls rising)
+
+  -- a visit has the start that it is below
+  start_among : (W : List Reference) (ls : List (Link Way)) → IsRising ls → (t : Reference) → IsIn t (below_links W [] ls) → (l : Link Way) × IsIn l ls × (start_of t.address ≡ l.step)
+  start_among W ls rising t i =
+      let b = part_below (rules_of file) W (named_at [] ls) (below_links W [] ls) (is_part W [] ls rising) t i in
+      let m = named_at-from [] ls b.0 b.1 in
+      (m.0, m.1, ap start_of b.2.1 ∙ ap (λ (c : Reference). start_of (c.address ++ b.2.0)) m.2)
+
+  one_rising : (l : Link Way) → IsRising (l ∷ [])
+  one_rising l = ((λ m i. absurd i), tt)
+
+  pub only_start : (W : List Reference) (l : Link Way) (t : Reference) → IsIn t (below_links W [] (l ∷ [])) → start_of t.address ≡ l.step
+  only_start W l t i =
+      let m = start_among W (l ∷ []) (one_rising l) t i in
+      let e : m.0 ≡ l = elim m.1 [ inl e ↦ e | inr j ↦ absurd j ] in
+      m.2 ∙ ap (λ (l : Link Way). l.step) e
+
+  pub later_starts_below : (W U : List Reference) (l : Link Way) (ls : List (Link Way)) → IsRising (l ∷ ls) → HasLaterStarts (below_links W [] (l ∷ [])) (below_links U [] ls)
+  later_starts_below W U l ls rising t u i j =
+      let e : start_of t.address ≡ l.step = only_start W l t i in
+      let m = start_among U ls rising.1 u j in
+      let f : start_of u.address ≡ m.0.step = m.2 in
+      let k : l.step < m.0.step = rising.0 m.0 m.1 in
+      omega arith
+
+  pub row_start : (W : List Reference) (l : Link Way) (row : StatRow) → IsIn row (stat_rows file (below_links W [] (l ∷ []))) → row.start ≡ l.step
+  row_start W l row i = let m = row_from file (below_links W [] (l ∷ [])) row i in m.2 ∙ only_start W l m.0 m.1
+
+  -- below a page there is no root
+  no_root_below : (W : List Reference) (c t : Reference) → IsIn t (part_of (rules_of file) (geometry file).pages W (children (rules_of file) c)) → is_root (role_of t) ≡ false
+  no_root_below W c t i = elim (((is_part W c.address ((rules_of file).links c.page c.role) ((are_rules file).rising c.page c.role)).exact t).0 i).0 [
+    | inl j ↦ (child_leads file c t j).0
+    | inr u ↦ (child_leads file u.0 t u.2).0
+  ]
+
+  -- below what is on the freelist all is on it
+  on_freelist : (W : List Reference) (ls : List (Link Way)) → IsRising ls → ((c : Reference) → IsIn c (named_at [] ls) → is_on_freelist (role_of c) ≡ true)
+      → (n : ℕ) (t : Reference) → length t.address < n → IsIn t (below_links W [] ls) → is_on_freelist (role_of t) ≡ true
+  on_freelist W ls rising h zero t l i = absurd (omega arith)
+  on_freelist W ls rising h (suc n) t l i = elim (((is_part W [] ls rising).exact t).0 i).0 [
+    | inl j ↦ h t j
+    | inr u ↦ (
+        let k = named_at-step u.0.address ((rules_of file).links u.0.page u.0.role) t u.2 in
+        let e : length t.address ≡ length u.0.address + 1 = ap length k.1 ∙ length-append u.0.address (k.0 ∷ []) in
+        (child_leads file u.0 t u.2).1 ∙ on_freelist W ls rising h n u.0 (omega arith) u.1)
+  ]
+
+  all_on_freelist : (W : List Reference) (l : Link Way) → is_on_freelist l.role.role ≡ true → (t : Reference) → IsIn t (below_links W [] (l ∷ [])) → is_on_freelist (role_of t) ≡ true
+  all_on_freelist W l e t i = on_freelist W (l ∷ []) (one_rising l) (λ c j. elim j [ inl f ↦ ap (λ c. is_on_freelist (role_of c)) f ∙ e | inr k ↦ absurd k ]) (suc (length t.address)) t (omega arith) i
+
+  pub freelist_rows : (W : List Reference) (l : Link Way) → is_on_freelist l.role.role ≡ true → stat_rows file (below_links W [] (l ∷ [])) ≡ []
+  freelist_rows W l e = no_rows file (below_links W [] (l ∷ [])) (all_on_freelist W l e)
+
+  freelist_tree : (W : List Reference) (l : Link Way) → is_on_freelist l.role.role ≡ true → IsTree file l.step (below_links W [] (l ∷ []))
+  freelist_tree W l e =
+      let P = below_links W [] (l ∷ []) in
+      no_tree (freelist_rows W l e) (ap (map (λ (r : Reference). start_of r.address)) (filter-none (λ (r : Reference). is_root (role_of r)) P (λ t i. no_root_on (role_of t) (all_on_freelist W l e t i))))
+
+  root_tree : (W : List Reference) (l : Link Way) → is_root l.role.role ≡ true → IsTree file l.step (below_links W [] (l ∷ []))
+  root_tree W l e = elim (cases_Bool (is_followed (rules_of file) W c)) [
+    | inl f ↦ subst (IsTree file l.step) (sym (rest_one (rules_of file) (geometry file).pages (are_rules file) W c f)) visited
+    | inr f ↦ subst (IsTree file l.step) (sym (rest_skip (rules_of file) (geometry file).pages (are_rules file) W c [] f ∙ rest_none (rules_of file) (geometry file).pages (are_rules file) W)) (no_tree (rows_none file) refl)
+  ]
+    where
+      c : Reference
+      c = record { address = l.step ∷ []; page = l.page; role = l.role }
+
+      visited : IsTree file l.step (c ∷ part_of (rules_of file) (geometry file).pages (W ++ (c ∷ [])) (children (rules_of file) c))
+      visited =
+          let X = part_of (rules_of file) (geometry file).pages (W ++ (c ∷ [])) (children (rules_of file) c) in
+          let row = row_of file c (role_of c) (root_off (role_of c) e) in
+          let others = filter (λ (r : Reference). is_root (role_of r)) X in
+          tree row.0 (stat_rows file X) (first_row file c X row.0 row.1) (
+          ap (λ b. map (λ (r : Reference). start_of r.address) (cond b (c ∷ others) others)) e
+          ∙ ap (λ rs. map (λ (r : Reference). start_of r.address) (c ∷ rs)) (filter-none (λ (r : Reference). is_root (role_of r)) X (no_root_below (W ++ (c ∷ [])) c)))
+
+  -- below a start there is at most its tree
+  pub one_tree : (W : List Reference) (l : Link Way) → IsStart l → IsTree file l.step (below_links W [] (l ∷ []))
+  one_tree W l (inl e) = root_tree W l e
+  one_tree W l (inr e) = freelist_tree W l e

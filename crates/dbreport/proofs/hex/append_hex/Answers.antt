@@ -1,0 +1,13 @@
+use Rattle.std.proofs.Common.{◌≡◌, drop, arith}
+use Rattle.std.proofs.lemmas.Grind.{common_steps}
+use Rattle.dbformat.specs.Text.{hex_text}
+use Rattle.dbreport.proofs.Hexes.{hex_cut}
+use Rattle.dbreport.proofs.hex.append_hex.Goals as goal
+
+pub returns-clause-text : goal.returns-clause-text
+returns-clause-text g c =
+    let text = c.write_hex-start.new.text in
+    let cut : drop c.min.result text ≡ hex_text c.args.width c.args.number =
+    rw c.min.ensures (hex_cut c.args.width c.args.number c.write_hex-start.result text c.requires.width c.write_hex-start.ensures.some
+    c.write_hex-start.array_long c.write_hex-start.ensures.before c.write_hex-start.ensures.written) in
+    grind (arith, common_steps)

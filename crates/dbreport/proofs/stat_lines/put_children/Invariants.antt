@@ -1,0 +1,9 @@
+use Rattle.std.proofs.Common.{drop}
+use Rattle.std.specs.List.{flat_map}
+use Rattle.dbbytes.proofs.NameLemmas.{HasPut}
+use Rattle.dbreport.specs.Columns.{child_text}
+use Rattle.dbreport.proofs.stat_lines.put_children.Given as goal
+
+abbrev pub invariant-loop-child : goal.invariant-loop-child
+invariant-loop-child g l =
+    HasPut (g.O.Out.held l.initial.out) (g.O.Out.held l.out) (flat_map child_text (drop l.child-index l.path)) (flat_map child_text l.path)

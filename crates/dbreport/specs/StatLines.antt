@@ -1,0 +1,37 @@
+-- What the statistics write of the trees, from the starts on.
+use Rattle.std.specs.Prelude.{ℕ, Bool, true, false, List, [], ◌∷◌, ◌++◌, filter_map, flat_map, Option, Some, None}
+use Rattle.dbsurvey.specs.Story.{Errand, Go, Tell}
+use Rattle.dbformat.specs.Address.{start_of}
+use Rattle.dbformat.specs.Header.{page_size}
+use Rattle.dbformat.specs.Lines.{page_line, tree_line, tree_name}
+use Rattle.dbformat.specs.Reference.{Way, Reference}
+use Rattle.dbformat.specs.Rows.{StatRow}
+use Rattle.dbformat.specs.Story.{Event}
+use Rattle.dbwalk.specs.Finding.{Finding, told_row, told_fault, told_below, visited_below}
+
+-- the row of a finding, if it is one
+abbrev pub row_told : Finding → Option StatRow
+row_told (told_row r) = Some r
+row_told (told_fault f) = None
+
+-- the rows among findings
+abbrev pub rows_told : List Finding → List StatRow
+rows_told items = filter_map row_told items
+
+-- what is written of the rows of one tree
+abbrev pub tree_text : Bool → List ℕ → ℕ → List StatRow → List ℕ
+tree_text true name size [] = []
+tree_text true name size (row ∷ rows) = tree_line name size (row ∷ rows)
+tree_text false name size rows = flat_map (page_line name size) rows
+
+-- the start of what is done first
+abbrev pub start_in : Errand Way Event → ℕ
+start_in (Go c) = start_of c.address
+start_in (Tell t) = 0
+
+-- what is written of the trees below some starts, after the visits of W, where V is the survey
+abbrev pub starts_text : Bool → List ℕ → List Reference → List Reference → List (Errand Way Event) → List ℕ
+starts_text aggregate file V W [] = []
+starts_text aggregate file V W (e ∷ es) =
+    tree_text aggregate (tree_name file V (start_in e)) (page_size file) (rows_told (told_below file W (e ∷ [])))
+    ++ starts_text aggregate file V (W ++ visited_below file W (e ∷ [])) es

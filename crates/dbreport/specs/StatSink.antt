@@ -1,0 +1,132 @@
+-- The sink of the statistics: what a finding makes of it, and what it has written and counted after some.
+use Rattle.std.specs.Prelude.{◌≡◌, ℕ, ◌+◌, ◌%◌, ◌^◌, Bool, true, false, ◌==◌, List, [], ◌∷◌, ◌++◌, length, flat_map, Option, Result, MatchResult, OnOk, codes, if◌then◌else◌}
+use Rattle.std.specs.Io.KnownBytes.{Appends}
+use Rattle.std.specs.Option.{option_map_or}
+use Rattle.dbformat.specs.Lines.{counted, fault_line, page_line, tree_line}
+use Rattle.dbformat.specs.Rows.{StatRow}
+use Rattle.dbformat.specs.Text.{shown_name}
+use Rattle.dbformat.specs.declared.Fault.{Fault}
+use Rattle.dbformat.specs.declared.Geometry.{Geometry}
+use Rattle.dbformat.specs.declared.Verdict.{Verdict}
+use Rattle.dbformat.specs.declared.Verdict.TheVariants.{Clean, Faulty}
+use Rattle.dbsource.specs.Outs.{Begins, OutState, Puts}
+use Rattle.dbwalk.specs.Finding.{Finding, told_row, told_fault}
+use Rattle.dbwalk.specs.declared.mark.Mark.{Mark}
+use Rattle.dbreport.specs.CheckSink.{PutsAll, PutsPart}
+use Rattle.dbreport.specs.TreeNames.{label_text}
+use Rattle.dbreport.specs.OtherMarks.{marked_lines}
+use Rattle.dbreport.specs.Roots.{short_name}
+use Rattle.dbreport.specs.Sums.{sums_of}
+use Rattle.dbreport.specs.declared.stat_sink.StatSink.{StatSink}
+
+-- what is written of rows as they come
+abbrev pub pages_text : Bool → List ℕ → ℕ → List StatRow → List ℕ
+pages_text true name size rows = []
+pages_text false name size rows = flat_map (page_line name size) rows
+
+-- what is written behind the rows of a tree
+abbrev pub end_text : Bool → List ℕ → ℕ → List StatRow → List ℕ
+end_text true name size [] = []
+end_text true name size (row ∷ rows) = tree_line name size (row ∷ rows)
+end_text false name size rows = []
+
+-- what a sink writes of rows as they come
+abbrev pub text_of : {O E : Type 0} → StatSink O E → List StatRow → List ℕ
+text_of s rows = pages_text s.aggregate (label_text s.label) s.label.page_size rows
+
+-- it writes to the same Outs as before, with the same label and form
+pub record IsSameSink {O E : Type 0} (s t : StatSink O E) : Type 0 where
+  pub out : t.out.ghost_name ≡ s.out.ghost_name
+  pub err : t.err.ghost_name ≡ s.err.ghost_name
+  pub label : t.label ≡ s.label
+  pub aggregate : t.aggregate ≡ s.aggregate
+
+-- a row was taken: it was written, or counted for its tree's
+pub record TakesRow {O E : Type 0} (held : O → OutState) (s : StatSink O E) (r : StatRow) (t : StatSink O E) : Type 0 where
+  pub same : IsSameSink s t
+  pub err : t.err.now ≡ s.err.now
+  pub found : t.found ≡ s.found
+  pub sums : (rows : List StatRow) → s.sums ≡ sums_of rows → t.sums ≡ sums_of (rows ++ (r ∷ []))
+  pub puts : PutsAll (held s.out.now) (held t.out.now) (text_of s (r ∷ []))
+
+-- it was not written whole
+pub record CutsRow {O E : Type 0} (held : O → OutState) (s : StatSink O E) (r : StatRow) (t : StatSink O E) : Type 0 where
+  pub same : IsSameSink s t
+  pub err : t.err.now ≡ s.err.now
+  pub puts : PutsPart (held s.out.now) (held t.out.now) (text_of s (r ∷ []))
+
+-- a fault was written, and counted
+pub record TakesFault {O E : Type 0} (held : E → OutState) (s : StatSink O E) (f : Fault) (t : StatSink O E) : Type 0 where
+  pub same : IsSameSink s t
+  pub out : t.out.now ≡ s.out.now
+  pub found : t.found ≡ counted (s.found + 1)
+  pub sums : t.sums ≡ s.sums
+  pub puts : PutsAll (held s.err.now) (held t.err.now) (fault_line f)
+
+-- it was not written whole
+pub record CutsFault {O E : Type 0} (held : E → OutState) (s : StatSink O E) (f : Fault) (t : StatSink O E) : Type 0 where
+  pub same : IsSameSink s t
+  pub out : t.out.now ≡ s.out.now
+  pub puts : PutsPart (held s.err.now) (held t.err.now) (fault_line f)
+
+-- a finding was taken
+abbrev pub Counts : {O E : Type 0} → (O → OutState) → (E → OutState) → StatSink O E → Finding → StatSink O E → Type 0
+Counts out err s (told_row r) t = TakesRow out s r t
+Counts out err s (told_fault f) t = TakesFault err s f t
+
+-- it was not taken whole
+abbrev pub Breaks : {O E : Type 0} → (O → OutState) → (E → OutState) → StatSink O E → Finding → StatSink O E → Type 0
+Breaks out err s (told_row r) t = CutsRow out s r t
+Breaks out err s (told_fault f) t = CutsFault err s f t
+
+-- the failures of both Outs, in 64 bits
+abbrev pub failures_of_both : OutState → OutState → ℕ
+failures_of_both out err = (out.failures + err.failures) % 2 ^ 64
+
+-- what was found, by the count of faults
+abbrev pub found_verdict : ℕ → Verdict
+found_verdict n = if n == 0 then Clean else Faulty n
+
+-- From one sink to the other these bytes were written to the first Out, and the lines of these faults to the second.
+pub record HasWritten {O E : Type 0} (held : O → OutState) (held' : E → OutState) (s t : StatSink O E) (text : List ℕ) (faults : List Fault) : Type 0 where
+  pub aggregate : t.aggregate ≡ s.aggregate
+  pub encoding : t.label.encoding ≡ s.label.encoding
+  pub page_size : t.label.page_size ≡ s.label.page_size
+  pub found : (n : ℕ) → s.found ≡ counted n → t.found ≡ counted (n + length faults)
+  pub out : Appends (held s.out.now).bytes (held t.out.now).bytes text
+  pub err : Appends (held' s.err.now).bytes (held' t.err.now).bytes (flat_map fault_line faults)
+
+-- of each a beginning was written
+pub record HasBegun {O E : Type 0} (held : O → OutState) (held' : E → OutState) (s t : StatSink O E) (text : List ℕ) (faults : List Fault) : Type 0 where
+  pub out : Begins (held s.out.now).bytes (held t.out.now).bytes text
+  pub err : Begins (held' s.err.now).bytes (held' t.err.now).bytes (flat_map fault_line faults)
+
+-- at Ok all of both, and at Err a beginning of each
+abbrev pub WritesBoth : {A X O E : Type 0} → (O → OutState) → (E → OutState) → Result A X → StatSink O E → StatSink O E → List ℕ → List Fault → Type 0
+WritesBoth held held' r s t text faults = MatchResult r (λ _. HasWritten held held' s t text faults) (λ _. HasBegun held held' s t text faults)
+
+-- A tree of this name comes next: the name of the label alone is another.
+pub record BeginsTree {O E : Type 0} (s : StatSink O E) (name : Option (List ℕ)) (t : StatSink O E) : Type 0 where
+  pub out : t.out.now ≡ s.out.now
+  pub err : t.err.now ≡ s.err.now
+  pub aggregate : t.aggregate ≡ s.aggregate
+  pub sums : t.sums ≡ s.sums
+  pub found : t.found ≡ s.found
+  pub encoding : t.label.encoding ≡ s.label.encoding
+  pub page_size : t.label.page_size ≡ s.label.page_size
+  pub named : label_text t.label ≡ option_map_or (shown_name s.label.encoding) (short_name name) (codes "?")
+
+-- A tree has ended: its own row was written, where its rows are added up, or a beginning of it.
+pub record EndsTree {O E A X : Type 0} (held : O → OutState) (r : Result A X) (s t : StatSink O E) : Type 0 where
+  pub err : t.err.now ≡ s.err.now
+  pub aggregate : t.aggregate ≡ s.aggregate
+  pub label : t.label ≡ s.label
+  pub found : t.found ≡ s.found
+  pub sums : OnOk r (t.sums ≡ sums_of [])
+  pub puts : (rows : List StatRow) → s.sums ≡ sums_of rows
+      → Puts r (held s.out.now) (held t.out.now) (end_text s.aggregate (label_text s.label) s.label.page_size rows)
+
+-- The rows of the other pages were written, as the marks tell them, or a beginning of them.
+pub record PutsOthers {O E A X : Type 0} (held : O → OutState) (r : Result A X) (g : Geometry) (marks : List Mark) (s t : StatSink O E) : Type 0 where
+  pub rest : t ≡ record s { out = t.out }
+  pub puts : Puts r (held s.out.now) (held t.out.now) (marked_lines g marks 1 (length marks))

@@ -1,0 +1,84 @@
+// Columns of a row of the statistics, each behind a tab.
+ghost use Rattle.arrayvec.specs.ArrayVec.{array_vec_len};
+ghost use Rattle.std.specs.Prelude.{◌≡◌, ◌+◌, ◌-◌, ◌*◌, ◌≤◌, ◌∷◌, ◌++◌, length, decimal};
+ghost use Rattle.dbformat.specs.Lines.{tab, chain_text};
+ghost use Rattle.dbreport.specs.Columns.{counts_text, place_text};
+
+use crate::hex::append_hex;
+use crate::lines::append;
+use arrayvec::ArrayVec;
+use itoa::Buffer;
+
+// Adds a column with a text, for which there is room.
+pub(crate) fn append_text<const CAP: usize>(line: &mut ArrayVec<u8, CAP>, text: &str)
+    requires { array_vec_len line.old + 1 + length text.now ≤ CAP }
+    ensures { line.new.items ≡ line.old.items ++ tab ∷ text.now }
+{
+    append(line, "\t");
+    append(line, text);
+}
+
+// Adds a column with a number.
+pub(crate) fn append_number<const CAP: usize>(line: &mut ArrayVec<u8, CAP>, number: u64)
+    requires { array_vec_len line.old + 21 ≤ CAP }
+    ensures text { line.new.items ≡ line.old.items ++ tab ∷ decimal number }
+    ensures short { array_vec_len line.new ≤ array_vec_len line.old + 21 }
+{
+    let mut buffer = Buffer::new();
+    append_text(line, buffer.format(number));
+}
+
+// Adds the columns of what a page or a tree counts.
+pub(crate) fn append_counts<const CAP: usize>(
+    line: &mut ArrayVec<u8, CAP>,
+    ncell: u64,
+    payload: u64,
+    unused: u64,
+    mx_payload: u64,
+)
+    requires { array_vec_len line.old + 84 ≤ CAP }
+    ensures text { line.new.items ≡ line.old.items ++ counts_text ncell payload unused mx_payload }
+    ensures short { array_vec_len line.new ≤ array_vec_len line.old + 84 }
+{
+    append_number(line, ncell);
+    append_number(line, payload);
+    append_number(line, unused);
+    append_number(line, mx_payload);
+}
+
+// Adds the last columns of the row of a page, where it begins in the file and its size, and the end of the line.
+pub(crate) fn append_place<const CAP: usize>(
+    line: &mut ArrayVec<u8, CAP>,
+    page: u32,
+    page_size: u32,
+)
+    requires { array_vec_len line.old + 43 ≤ CAP }
+    ensures { line.new.items ≡ line.old.items ++ place_text page page_size }
+{
+    append_number(line, offset_of(page, page_size));
+    append_number(line, u64::from(page_size));
+    append(line, "\n");
+}
+
+// Where a page begins in the file.
+fn offset_of(page: u32, page_size: u32) -> u64
+    ensures { result ≡ (page - 1) * page_size }
+{
+    u64::from(page.saturating_sub(1)) * u64::from(page_size)
+}
+
+// Adds the end of a path: the cell of an overflow page, and its number in the chain.
+pub(crate) fn append_chain<const CAP: usize>(
+    line: &mut ArrayVec<u8, CAP>,
+    chain: Option<(u32, u32)>,
+)
+    requires { array_vec_len line.old + 17 ≤ CAP }
+    ensures text { line.new.items ≡ line.old.items ++ chain_text chain }
+    ensures short { array_vec_len line.new ≤ array_vec_len line.old + 17 }
+{
+    if let Some((cell, number)) = chain {
+        append_hex(line, 3, cell);
+        append(line, "+");
+        append_hex(line, 6, number);
+    }
+}

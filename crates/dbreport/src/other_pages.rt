@@ -1,0 +1,70 @@
+// The rows of the pages that are in no tree and in no overflow chain.
+ghost use Rattle.std.specs.Prelude.{◌≡◌, ◌≤◌, length, option_map};
+ghost use Rattle.dbformat.specs.FixedPages.{IsInRange, fixed_use};
+ghost use Rattle.dbformat.specs.Rows.{other_unvisited};
+ghost use Rattle.dbsource.specs.Outs.{Puts};
+ghost use Rattle.dbreport.specs.Columns.{other_of};
+ghost use Rattle.dbreport.specs.OtherMarks.{marked_line, marked_lines, marked_other};
+
+use crate::page_texts::OtherPage;
+use crate::stat_lines::put_other_row;
+use dbsource::{Fixed, Geometry, Out, WriteFailed};
+use dbwalk::{Mark, Marks};
+use std::alloc::Allocator;
+
+// What a page is that is not visited, by its fixed use.
+fn unvisited_page(shape: Geometry, page: u32) -> OtherPage
+    requires { IsInRange shape }
+    ensures { other_of result ≡ other_unvisited (fixed_use shape page) }
+{
+    match shape.fixed(page) {
+        Some(Fixed::Lock) => OtherPage::Lock,
+        Some(Fixed::Map) => OtherPage::Map,
+        None => OtherPage::Unowned,
+    }
+}
+
+// What a page with this mark is, where it is in no tree and in no overflow chain.
+fn other_page(shape: Geometry, page: u32, mark: Mark) -> Option<OtherPage>
+    requires { IsInRange shape }
+    ensures { option_map other_of result ≡ marked_other shape page mark }
+{
+    match mark {
+        Mark::Trunk => Some(OtherPage::Trunk),
+        Mark::FreeLeaf => Some(OtherPage::FreeLeaf),
+        Mark::Unmarked | Mark::Fixed => Some(unvisited_page(shape, page)),
+        _ => None,
+    }
+}
+
+// Puts the line of a page with this mark, where it is in no tree and in no overflow chain.
+fn put_marked<O: Out>(
+    out: &mut O,
+    shape: Geometry,
+    page: u32,
+    mark: Mark,
+) -> Result<(), WriteFailed>
+    requires range { IsInRange shape }
+    requires page { 1 ≤ page }
+    ensures { Puts result (O.held out.old) (O.held out.new) (marked_line shape page mark) }
+{
+    match other_page(shape, page, mark) {
+        Some(what) => put_other_row(out, shape.page_size, page, what),
+        None => Ok(()),
+    }
+}
+
+// Puts the rows of the pages that are in no tree and in no overflow chain, by number, as the marks after a walk tell them.
+pub(crate) fn put_others<A: Allocator, O: Out>(
+    shape: Geometry,
+    marks: &Marks<A>,
+    out: &mut O,
+) -> Result<(), WriteFailed>
+    requires { IsInRange shape }
+    ensures { Puts result (O.held out.old) (O.held out.new) (marked_lines shape marks.now 1 (length marks.now)) }
+{
+    for index in 0..marks.pages() {
+        put_marked(out, shape, index + 1, marks.get(index + 1))?;
+    }
+    Ok(())
+}

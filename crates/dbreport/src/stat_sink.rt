@@ -1,0 +1,147 @@
+// What the statistics write of what they are told.
+ghost use Rattle.std.specs.Prelude.{◌≡◌, [], List};
+ghost use Rattle.std.specs.Option.{option_copied};
+ghost use Rattle.dbformat.specs.FixedPages.{IsInRange};
+ghost use Rattle.dbformat.specs.Rows.{StatRow};
+ghost use Rattle.dbsource.specs.Failures.{failures_after, is_any};
+ghost use Rattle.dbsource.specs.Outs.{Puts};
+ghost use Rattle.dbreport.specs.StatSink.{BeginsTree, EndsTree, PutsOthers, end_text, found_verdict};
+ghost use Rattle.dbreport.specs.Sums.{sums_of};
+ghost use Rattle.dbreport.specs.TreeNames.{label_text};
+
+use crate::lines::put_fault;
+use crate::other_pages::put_others;
+use crate::stat_lines::{put_page_row, put_tree_row};
+use crate::sums::Sums;
+use crate::tree_name::Label;
+use dbformat::Verdict;
+use dbsource::{Geometry, Out, WriteFailed};
+use dbwalk::{Fault, Marks, Row, Sink};
+use std::alloc::Allocator;
+
+// Writes rows to the one Out and the lines of faults to the other, as they come. In the aggregate form it adds up the rows
+// of a tree, and writes their sums when it has ended.
+#[derive(Drop)]
+pub(crate) struct StatSink<'a, O, E> {
+    out: &'a mut O,
+    err: &'a mut E,
+    label: Label,
+    aggregate: bool,
+    sums: Sums,
+    found: u64,
+}
+
+impl<'a, O: Out, E: Out> StatSink<'a, O, E> {
+    // One that was told nothing; its first rows are those of the tree of this label.
+    pub(crate) fn new(
+        out: &'a mut O,
+        err: &'a mut E,
+        label: Label,
+        aggregate: bool,
+    ) -> StatSink<'a, O, E>
+        ensures same_out { result.out.ghost_name ≡ out.entry.ghost_name }
+        ensures same_err { result.err.ghost_name ≡ err.entry.ghost_name }
+        ensures out { result.out.now ≡ out.old }
+        ensures err { result.err.now ≡ err.old }
+        ensures label { result.label ≡ label }
+        ensures aggregate { result.aggregate ≡ aggregate }
+        ensures sums { result.sums ≡ sums_of [] }
+        ensures found { result.found ≡ 0 }
+    {
+        StatSink {
+            out,
+            err,
+            label,
+            aggregate,
+            sums: Sums::new(),
+            found: 0,
+        }
+    }
+
+    // The next rows are those of a tree of this name.
+    pub(crate) fn begin_tree(&mut self, name: Option<&[u8]>)
+        ensures same_out { self.new.out.ghost_name ≡ self.old.out.ghost_name }
+        ensures same_err { self.new.err.ghost_name ≡ self.old.err.ghost_name }
+        ensures begins { BeginsTree self.old (option_copied name.entry) self.new }
+    {
+        self.label.rename(name);
+    }
+
+    // All rows of a tree have come.
+    pub(crate) fn end_tree(&mut self) -> Result<(), WriteFailed>
+        ensures same_out { self.new.out.ghost_name ≡ self.old.out.ghost_name }
+        ensures same_err { self.new.err.ghost_name ≡ self.old.err.ghost_name }
+        ensures ends { EndsTree O.held result self.old self.new }
+        ensures count { (O.held self.new.out.now).failures ≡ failures_after is_any result (O.held self.old.out.now).failures }
+    {
+        put_sums(self.out, &self.label, self.aggregate, &self.sums)?;
+        self.sums = Sums::new();
+        Ok(())
+    }
+
+    // Writes the rows of the pages that are in no tree and in no overflow chain, as the marks tell them.
+    pub(crate) fn put_others<A: Allocator>(
+        &mut self,
+        shape: Geometry,
+        marks: &Marks<A>,
+    ) -> Result<(), WriteFailed>
+        requires { IsInRange shape }
+        ensures same_out { self.new.out.ghost_name ≡ self.old.out.ghost_name }
+        ensures same_err { self.new.err.ghost_name ≡ self.old.err.ghost_name }
+        ensures others { PutsOthers O.held result shape marks.now self.old self.new }
+    {
+        put_others(shape, marks, self.out)
+    }
+
+    // What was found.
+    pub(crate) fn verdict(&self) -> Verdict
+        ensures { result ≡ found_verdict self.now.found }
+    {
+        match self.found {
+            0 => Verdict::Clean,
+            count => Verdict::Faulty(count),
+        }
+    }
+}
+
+impl<O: Out, E: Out> Sink for StatSink<'_, O, E> {
+    ghost use Rattle.std.specs.Prelude.{[], ◌∷◌};
+    ghost use Rattle.dbreport.specs.StatSink.{Counts, Breaks, failures_of_both};
+
+    ghost takes = { Counts O.held E.held };
+
+    ghost drops = { Breaks O.held E.held };
+
+    ghost held = { λ s. record { lent = s.out.ghost_name ∷ s.err.ghost_name ∷ []; failures = failures_of_both (O.held s.out.now) (E.held s.err.now) } };
+
+    fn fault(&mut self, fault: &Fault) -> Result<(), WriteFailed> {
+        put_fault(self.err, fault)?;
+        self.found = self.found.saturating_add(1);
+        Ok(())
+    }
+
+    fn row(&mut self, row: &Row<'_>) -> Result<(), WriteFailed> {
+        if !self.aggregate {
+            put_page_row(self.out, &self.label, row)?;
+        }
+        self.sums.add(row);
+        Ok(())
+    }
+}
+
+// Puts the row of a tree, where rows are added up, and some came.
+fn put_sums<O: Out>(
+    out: &mut O,
+    label: &Label,
+    aggregate: bool,
+    sums: &Sums,
+) -> Result<(), WriteFailed>
+    ensures text { (rows : List StatRow) → sums.now ≡ sums_of rows
+        → Puts result (O.held out.old) (O.held out.new) (end_text aggregate (label_text label.now) label.now.page_size rows) }
+    ensures count { (O.held out.new).failures ≡ failures_after is_any result (O.held out.old).failures }
+{
+    if !aggregate || sums.pages == 0 {
+        return Ok(());
+    }
+    put_tree_row(out, label, sums)
+}

@@ -1,0 +1,140 @@
+// The statistics of a file, by its header.
+ghost use Rattle.std.specs.Prelude.{◌≡◌, [], false, List, IfErr, IfOk, IfSome, OnOk};
+ghost use Rattle.dbformat.specs.File.{geometry};
+ghost use Rattle.dbformat.specs.HeaderFaults.{header_faults};
+ghost use Rattle.dbformat.specs.Log.{IsPageLog};
+ghost use Rattle.dbformat.specs.Reference.{Reference};
+ghost use Rattle.dbformat.specs.Survey.{Survey};
+ghost use Rattle.dbsource.specs.Errors.{is_out_of_memory, is_read_failed, is_write_failed};
+ghost use Rattle.dbsource.specs.Failures.{failures_after};
+ghost use Rattle.dbsource.specs.Headers.{IsHeaderOf};
+ghost use Rattle.dbsource.specs.Sources.{Asks};
+ghost use Rattle.dbsource.specs.declared.error.RunError.TheVariants.{WriteFailed};
+ghost use Rattle.dbwalk.specs.Marking.{AreMarksFor, AreMarksOf, marks_of};
+ghost use Rattle.dbwalk.specs.Outcomes.{IsReadWriteOrMemory};
+ghost use Rattle.dbwalk.specs.Reads.{Reads};
+ghost use Rattle.dbreport.specs.StatSink.{IsSameSink, WritesBoth, failures_of_both, found_verdict};
+ghost use Rattle.dbreport.specs.StatStarts.{ArePagesWritten, IsForSchema, rows_text, walk_faults_told};
+ghost use Rattle.dbreport.specs.Sums.{sums_of};
+
+use crate::RootList;
+use crate::end_pass::tell_end;
+use crate::schema_watch::SchemaWatch;
+use crate::stat_sink::StatSink;
+use crate::stat_walks::stat_starts;
+use crate::telling::tell_header;
+use dbformat::Verdict;
+use dbsource::{Bench, Header, Out, RunError, Source};
+use dbwalk::Marks;
+use std::alloc::Allocator;
+
+// Tells the header's faults to the sink, which keeps its Outs.
+fn stat_header<O: Out, E: Out>(
+    header: &Header,
+    sink: &mut StatSink<'_, O, E>,
+) -> Result<(), RunError>
+    ensures same_out { sink.new.out.ghost_name ≡ sink.old.out.ghost_name }
+    ensures same_err { sink.new.err.ghost_name ≡ sink.old.err.ghost_name }
+    ensures writes { failures_of_both (O.held sink.new.out.now) (E.held sink.new.err.now) ≡ failures_after is_write_failed result (failures_of_both (O.held sink.old.out.now) (E.held sink.old.err.now)) }
+    ensures only { IfErr result (λ e. e ≡ WriteFailed) }
+    ensures kept { OnOk result (IsSameSink sink.old sink.new × (sink.old.sums ≡ sums_of [] → sink.new.sums ≡ sums_of [])) }
+    ensures done { WritesBoth O.held E.held result sink.old sink.new [] (header_faults header.now.bytes header.now.file_len) }
+{
+    tell_header(header, sink)
+}
+
+// Writes the rows of the trees, and where all pages are asked for, those of the others.
+fn stat_pages<A: Allocator, S: Source, O: Out, E: Out>(
+    header: &Header,
+    source: &mut S,
+    bench: &mut Bench<A>,
+    marks: &mut Marks<A>,
+    roots: &mut RootList<A>,
+    all: bool,
+    watch: &mut SchemaWatch<StatSink<'_, O, E>>,
+) -> Result<(), RunError>
+    requires empty { roots.old.rows ≡ [] }
+    requires unseen { watch.old.has_rows ≡ false }
+    ensures same_out { watch.new.sink.out.ghost_name ≡ watch.old.sink.out.ghost_name }
+    ensures same_err { watch.new.sink.err.ghost_name ≡ watch.old.sink.err.ghost_name }
+    ensures shape { bench.new.geometry ≡ bench.old.geometry }
+    ensures asks { Asks S.step (Reads bench.old.geometry.page_size marks.old marks.new) is_read_failed result (S.held source.old) (S.held source.new) }
+    ensures writes { failures_of_both (O.held watch.new.sink.out.now) (E.held watch.new.sink.err.now) ≡ failures_after is_write_failed result (failures_of_both (O.held watch.old.sink.out.now) (E.held watch.old.sink.err.now)) }
+    ensures refusals { roots.new.refusals ≡ failures_after is_out_of_memory result roots.old.refusals }
+    ensures only { IfErr result IsReadWriteOrMemory }
+    ensures done { IfSome (S.held source.old).bytes (λ file. IsHeaderOf header.now file → bench.old.geometry ≡ geometry file → AreMarksOf file [] marks.old
+        → IsForSchema file watch.old.sink → (V : List Reference) → Survey file V
+        → ArePagesWritten O.held E.held file V all result marks.new watch.new.has_rows watch.old.sink watch.new.sink) }
+{
+    stat_starts(header, source, bench, marks, roots, watch)?;
+    if !all {
+        return Ok(());
+    }
+    Ok(watch.sink.put_others(bench.geometry(), marks)?)
+}
+
+// Writes all that is told behind the header's faults.
+fn stat_walks<A: Allocator, S: Source, O: Out, E: Out>(
+    header: &Header,
+    source: &mut S,
+    bench: &mut Bench<A>,
+    marks: &mut Marks<A>,
+    roots: &mut RootList<A>,
+    all: bool,
+    watch: &mut SchemaWatch<StatSink<'_, O, E>>,
+) -> Result<(), RunError>
+    requires empty { roots.old.rows ≡ [] }
+    requires unseen { watch.old.has_rows ≡ false }
+    requires fresh { marks.old ≡ marks_of bench.old.geometry [] }
+    ensures same_out { watch.new.sink.out.ghost_name ≡ watch.old.sink.out.ghost_name }
+    ensures same_err { watch.new.sink.err.ghost_name ≡ watch.old.sink.err.ghost_name }
+    ensures shape { bench.new.geometry ≡ bench.old.geometry }
+    ensures marks { AreMarksFor bench.old.geometry marks.new }
+    ensures asks { Asks S.step (IsPageLog bench.old.geometry) is_read_failed result (S.held source.old) (S.held source.new) }
+    ensures writes { failures_of_both (O.held watch.new.sink.out.now) (E.held watch.new.sink.err.now) ≡ failures_after is_write_failed result (failures_of_both (O.held watch.old.sink.out.now) (E.held watch.old.sink.err.now)) }
+    ensures refusals { roots.new.refusals ≡ failures_after is_out_of_memory result roots.old.refusals }
+    ensures only { IfErr result IsReadWriteOrMemory }
+    ensures done { IfSome (S.held source.old).bytes (λ file. IsHeaderOf header.now file → bench.old.geometry ≡ geometry file
+        → IsForSchema file watch.old.sink → (V : List Reference) → Survey file V
+        → WritesBoth O.held E.held result watch.old.sink watch.new.sink (rows_text watch.old.sink.aggregate all file V) (walk_faults_told file V)) }
+{
+    stat_pages(header, source, bench, marks, roots, all, watch)?;
+    tell_end(
+        header,
+        source,
+        bench,
+        marks,
+        watch.has_rows,
+        &mut watch.sink,
+    )
+}
+
+// Writes that, and answers what was found.
+fn stat_rest<A: Allocator, S: Source, O: Out, E: Out>(
+    header: &Header,
+    source: &mut S,
+    bench: &mut Bench<A>,
+    marks: &mut Marks<A>,
+    roots: &mut RootList<A>,
+    all: bool,
+    watch: &mut SchemaWatch<StatSink<'_, O, E>>,
+) -> Result<Verdict, RunError>
+    requires empty { roots.old.rows ≡ [] }
+    requires unseen { watch.old.has_rows ≡ false }
+    requires fresh { marks.old ≡ marks_of bench.old.geometry [] }
+    ensures same_out { watch.new.sink.out.ghost_name ≡ watch.old.sink.out.ghost_name }
+    ensures same_err { watch.new.sink.err.ghost_name ≡ watch.old.sink.err.ghost_name }
+    ensures shape { bench.new.geometry ≡ bench.old.geometry }
+    ensures marks { AreMarksFor bench.old.geometry marks.new }
+    ensures asks { Asks S.step (IsPageLog bench.old.geometry) is_read_failed result (S.held source.old) (S.held source.new) }
+    ensures writes { failures_of_both (O.held watch.new.sink.out.now) (E.held watch.new.sink.err.now) ≡ failures_after is_write_failed result (failures_of_both (O.held watch.old.sink.out.now) (E.held watch.old.sink.err.now)) }
+    ensures refusals { roots.new.refusals ≡ failures_after is_out_of_memory result roots.old.refusals }
+    ensures only { IfErr result IsReadWriteOrMemory }
+    ensures done { IfSome (S.held source.old).bytes (λ file. IsHeaderOf header.now file → bench.old.geometry ≡ geometry file
+        → IsForSchema file watch.old.sink → (V : List Reference) → Survey file V
+        → WritesBoth O.held E.held result watch.old.sink watch.new.sink (rows_text watch.old.sink.aggregate all file V) (walk_faults_told file V)) }
+    ensures found { IfOk result (λ v. v ≡ found_verdict watch.new.sink.found) }
+{
+    stat_walks(header, source, bench, marks, roots, all, watch)?;
+    Ok(watch.sink.verdict())
+}
