@@ -1,7 +1,9 @@
 -- What a status says of a report, by the outcome that it stands for.
-use Rattle.std.proofs.Common.{inl, inr, ◌≡◌, ◌↔◌, ℕ, List, [], Option, None, Some, Result, Ok, Err, ◌≤◌, refl, sym, subst, arith}
+use Rattle.std.proofs.Common.{inl, inr, ◌≡◌, ◌∙◌, ◌↔◌, ℕ, suc, ◌+◌, ◌-◌, ◌*◌, ◌%◌, ◌^◌, List, [], Option, None, Some, Result, Ok, Err, ◌≤◌, refl, sym, ap, subst, arith, mul-suc}
 use Rattle.std.specs.Prelude.{OnOk, IfOk, IfSome, ◌==◌, if◌then◌else◌}
 use Rattle.std.specs.Io.KnownBytes.{Appends}
+use Rattle.std.proofs.KnownBytes.{Appends-nil, Appends-trans}
+use Rattle.std.proofs.Math.Nat.{add-mod-mod, add-mul-mod_self_right, mod-add-mod, mod-mod}
 use Rattle.std.proofs.lemmas.List.{append-nil}
 use Rattle.dbformat.specs.File.{refusal}
 use Rattle.dbformat.specs.Reference.{Reference}
@@ -13,12 +15,13 @@ use Rattle.dbformat.specs.declared.Refusal.{Refusal}
 use Rattle.dbformat.specs.declared.Verdict.{Verdict}
 use Rattle.dbformat.specs.declared.Verdict.TheVariants.{Clean, Faulty}
 use Rattle.dbreport.specs.Runs.{IsAnswerOf, IsUnwritten}
+use Rattle.dbreport.specs.StatSink.{failures_of_both}
 use Rattle.dbsource.specs.Errors.{is_write_failed}
 use Rattle.dbsource.specs.Failures.{failures_after, one_more}
 use Rattle.dbsource.specs.Outs.{Begins, OutState, Writes}
 use Rattle.dbsource.specs.declared.error.RunError.{RunError}
 use Rattle.dbsource.specs.declared.error.RunError.TheVariants.{Refused, ReadFailed, OutOfMemory, WriteFailed}
-use Rattle.dbck.specs.Exit.{IsExit, IsExitOf, IsOkIfSound, IsStatusOf}
+use Rattle.dbck.specs.Exit.{BeginsThenLine, CountsFailures, IsExit, IsExitOf, IsOkIfSound, IsStatusOf, PutsLine}
 use Rattle.dbck.specs.Status.{exit_status}
 
 -- the report of a refused file
@@ -27,9 +30,11 @@ unfolding report
 refused_answer command file V e h = rw h refl
 
 -- a status that is none of 0, 1 and 3
-neither : (n : ℕ) (r : Report) (out out' err err' : OutState) → 4 ≤ n → Begins out.bytes out'.bytes r.out → IsExit n r out out' err err'
-neither n r out out' err err' h begun = record {
+neither : (n : ℕ) (r : Report) (out out' err err' : OutState) → 4 ≤ n → Begins out.bytes out'.bytes r.out → BeginsThenLine err.bytes err'.bytes r.err
+    → IsExit n r out out' err err'
+neither n r out out' err err' h begun told = record {
   begun = begun;
+  told = told;
   clean = λ e. absurd (omega arith);
   faulty = λ e. absurd (omega arith);
   refused = λ e. absurd (omega arith);
@@ -39,54 +44,117 @@ neither n r out out' err err' h begun = record {
 all_begins : (old new : Option (List ℕ)) (bytes : List ℕ) → Appends old new bytes → Begins old new bytes
 all_begins old new bytes a = record { part = bytes; rest = []; whole = append-nil bytes; added = a }
 
-exit_by_outcome : (command : Command) (file : List ℕ) (V : List Reference) (outcome : Result Verdict RunError) (out out' err err' : OutState)
-    → IsAnswerOf outcome file → Writes outcome out.bytes out'.bytes (report command file V).out → OnOk outcome (Appends err.bytes err'.bytes (report command file V).err)
-    → IfOk outcome (λ v. (report command file V).answer ≡ Ok v)
-    → IsUnwritten outcome out.bytes out'.bytes → IsExit (exit_status outcome) (report command file V) out out' err err'
-exit_by_outcome command file V (Ok Clean) out out' err err' answer written told verdict unwritten = record {
+-- and a beginning, with no line behind it
+all_then_line : (old new : Option (List ℕ)) (bytes : List ℕ) → Appends old new bytes → BeginsThenLine old new bytes
+all_then_line old new bytes a = record {
+  part = bytes;
+  rest = [];
+  whole = append-nil bytes;
+  line = [];
+  short = omega arith;
+  added = let P : List ℕ → Type 0 = λ l. Appends old new l in subst P (sym (append-nil bytes)) a;
+}
+
+-- a beginning, and then the line of an error
+begins_then_line : (old mid new : OutState) (bytes : List ℕ) → Begins old.bytes mid.bytes bytes → PutsLine mid new → BeginsThenLine old.bytes new.bytes bytes
+begins_then_line old mid new bytes b l = record {
+  part = b.part;
+  rest = b.rest;
+  whole = b.whole;
+  line = l.line;
+  short = l.short;
+  added = Appends-trans old.bytes mid.bytes new.bytes b.part l.line b.added l.added;
+}
+
+-- what the second Out got of a report, where nothing more was put to it
+err_written : (err mid err' : OutState) (bytes : List ℕ) → Appends err.bytes mid.bytes bytes → err' ≡ mid → Appends err.bytes err'.bytes bytes
+err_written err mid err' bytes h e = let P : OutState → Type 0 = λ o. Appends err.bytes o.bytes bytes in subst P (sym e) h
+
+exit_by_outcome : (command : Command) (file : List ℕ) (V : List Reference) (outcome : Result Verdict RunError) (out out' err mid err' : OutState)
+    → IsAnswerOf outcome file → Writes outcome out.bytes out'.bytes (report command file V).out → Writes outcome err.bytes mid.bytes (report command file V).err
+    → IfOk outcome (λ v. (report command file V).answer ≡ Ok v) → IsUnwritten outcome out.bytes out'.bytes
+    → OnOk outcome (err' ≡ mid) → PutsLine mid err' → IsExit (exit_status outcome) (report command file V) out out' err err'
+exit_by_outcome command file V (Ok Clean) out out' err mid err' answer written second verdict unwritten quiet line = record {
   begun = all_begins out.bytes out'.bytes (report command file V).out written;
-  clean = λ e. (verdict, record { first = written; second = told });
+  told = all_then_line err.bytes err'.bytes (report command file V).err (err_written err mid err' (report command file V).err second quiet);
+  clean = λ e. (verdict, record { first = written; second = err_written err mid err' (report command file V).err second quiet });
   faulty = λ e. absurd (omega arith);
   refused = λ e. absurd (omega arith);
 }
-exit_by_outcome command file V (Ok (Faulty n)) out out' err err' answer written told verdict unwritten = record {
+exit_by_outcome command file V (Ok (Faulty n)) out out' err mid err' answer written second verdict unwritten quiet line = record {
   begun = all_begins out.bytes out'.bytes (report command file V).out written;
+  told = all_then_line err.bytes err'.bytes (report command file V).err (err_written err mid err' (report command file V).err second quiet);
   clean = λ e. absurd (omega arith);
-  faulty = λ e. (n, verdict, record { first = written; second = told });
+  faulty = λ e. (n, verdict, record { first = written; second = err_written err mid err' (report command file V).err second quiet });
   refused = λ e. absurd (omega arith);
 }
-exit_by_outcome command file V (Err (Refused e)) out out' err err' answer written told verdict unwritten = record {
+exit_by_outcome command file V (Err (Refused e)) out out' err mid err' answer written second verdict unwritten quiet line = record {
   begun = written;
+  told = begins_then_line err mid err' (report command file V).err second line;
   clean = λ h. absurd (omega arith);
   faulty = λ h. absurd (omega arith);
   refused = λ h. (e, refused_answer command file V e answer, unwritten);
 }
-exit_by_outcome command file V (Err ReadFailed) out out' err err' answer written told verdict unwritten = neither 4 (report command file V) out out' err err' (omega arith) written
-exit_by_outcome command file V (Err OutOfMemory) out out' err err' answer written told verdict unwritten = neither 5 (report command file V) out out' err err' (omega arith) written
-exit_by_outcome command file V (Err WriteFailed) out out' err err' answer written told verdict unwritten = neither 6 (report command file V) out out' err err' (omega arith) written
+exit_by_outcome command file V (Err ReadFailed) out out' err mid err' answer written second verdict unwritten quiet line =
+    neither 4 (report command file V) out out' err err' (omega arith) written (begins_then_line err mid err' (report command file V).err second line)
+exit_by_outcome command file V (Err OutOfMemory) out out' err mid err' answer written second verdict unwritten quiet line =
+    neither 5 (report command file V) out out' err err' (omega arith) written (begins_then_line err mid err' (report command file V).err second line)
+exit_by_outcome command file V (Err WriteFailed) out out' err mid err' answer written second verdict unwritten quiet line =
+    neither 6 (report command file V) out out' err err' (omega arith) written (begins_then_line err mid err' (report command file V).err second line)
 
 at_survey : (P : Verdict → List Reference → Type 0) (file : List ℕ) (outcome : Result Verdict RunError) (V : List Reference) → Survey file V
     → IfOk outcome (λ v. (U : List Reference) → Survey file U → P v U) → IfOk outcome (λ v. P v V)
 at_survey P file (Ok v) V s h = h V s
 at_survey P file (Err e) V s h = tt
 
--- what the second Out got of a report, where nothing more was put to it
-err_written : (outcome : Result Verdict RunError) (err mid err' : OutState) (bytes : List ℕ) → Writes outcome err.bytes mid.bytes bytes
-    → OnOk outcome (err' ≡ mid) → OnOk outcome (Appends err.bytes err'.bytes bytes)
-err_written (Ok v) err mid err' bytes h e = let P : OutState → Type 0 = λ o. Appends err.bytes o.bytes bytes in subst P (sym e) h
-err_written (Err e) err mid err' bytes h f = tt
-
 -- the same where bytes are told, if they are
 pub exits : (command : Command) (outcome : Result Verdict RunError) (told : Option (List ℕ)) (out out' err mid err' : OutState) → IfSome told (IsAnswerOf outcome)
     → IfSome told (λ file. (V : List Reference) → Survey file V → Writes outcome out.bytes out'.bytes (report command file V).out)
     → IfSome told (λ file. (V : List Reference) → Survey file V → Writes outcome err.bytes mid.bytes (report command file V).err)
     → IfOk outcome (λ v. IfSome told (λ file. (V : List Reference) → Survey file V → (report command file V).answer ≡ Ok v))
-    → IsUnwritten outcome out.bytes out'.bytes → OnOk outcome (err' ≡ mid)
+    → IsUnwritten outcome out.bytes out'.bytes → OnOk outcome (err' ≡ mid) → PutsLine mid err'
     → IfSome told (λ file. IsExitOf (exit_status outcome) command file out out' err err')
-exits command outcome None out out' err mid err' answer written second verdict unwritten quiet = tt
-exits command outcome (Some file) out out' err mid err' answer written second verdict unwritten quiet = λ V s.
-    exit_by_outcome command file V outcome out out' err err' answer (written V s) (err_written outcome err mid err' (report command file V).err (second V s) quiet)
-    (at_survey (λ v U. (report command file U).answer ≡ Ok v) file outcome V s verdict) unwritten
+exits command outcome None out out' err mid err' answer written second verdict unwritten quiet line = tt
+exits command outcome (Some file) out out' err mid err' answer written second verdict unwritten quiet line = λ V s.
+    exit_by_outcome command file V outcome out out' err mid err' answer (written V s) (second V s)
+    (at_survey (λ v U. (report command file U).answer ≡ Ok v) file outcome V s verdict) unwritten quiet line
+
+-- no line was put
+pub puts_none : (s : OutState) → PutsLine s s
+puts_none s = record { line = []; short = omega arith; added = Appends-nil s.bytes; failed = 0; once = omega arith; count = ap (λ k. k % 2 ^ 64) (let q : s.failures ≡ s.failures + 0 = omega arith in q) }
+
+-- so many more failures of the second Out are so many of both
+both_more : (o m e f : ℕ) → e % 2 ^ 64 ≡ (m + f) % 2 ^ 64 → (o + e) % 2 ^ 64 ≡ ((o + m) % 2 ^ 64 + f) % 2 ^ 64
+both_more o m e f h = sym (add-mod-mod o e (2 ^ 64)) ∙ ap (λ k. (o + k) % 2 ^ 64) h ∙ add-mod-mod o (m + f) (2 ^ 64)
+    ∙ ap (λ k. k % 2 ^ 64) (let q : o + (m + f) ≡ o + m + f = omega arith in q) ∙ sym (mod-add-mod (o + m) (2 ^ 64) f)
+
+nothing_more : (n f : ℕ) → (n + f) % 2 ^ 64 ≡ (n + 0 + f) % 2 ^ 64
+nothing_more n f = ap (λ k. k % 2 ^ 64) (let q : n + f ≡ n + 0 + f = omega arith in q)
+
+-- the failures of both Outs behind an outcome, and behind the line of an error
+counts_ok : (out err out' mid err' : OutState) → failures_of_both out' mid ≡ failures_of_both out err → err' ≡ mid
+    → failures_of_both out' err' ≡ (failures_of_both out err + 0 + 0) % 2 ^ 64
+counts_ok out err out' mid err' w quiet = let P : OutState → Type 0 = λ o. failures_of_both out' o ≡ failures_of_both out err in
+    subst P (sym quiet) w ∙ sym (mod-mod (out.failures + err.failures) (2 ^ 64)) ∙ ap (λ k. k % 2 ^ 64) (let q : failures_of_both out err ≡ failures_of_both out err + 0 + 0 = omega arith in q)
+
+counts_err : (out err out' mid err' : OutState) (l : PutsLine mid err') → failures_of_both out' mid ≡ failures_of_both out err
+    → failures_of_both out' err' ≡ (failures_of_both out err + 0 + l.failed) % 2 ^ 64
+counts_err out err out' mid err' l w = both_more out'.failures mid.failures err'.failures l.failed l.count ∙ ap (λ k. (k + l.failed) % 2 ^ 64) w ∙ nothing_more (failures_of_both out err) l.failed
+
+pub counts : (outcome : Result Verdict RunError) (out err out' mid err' : OutState)
+    → failures_of_both out' mid ≡ failures_after is_write_failed outcome (failures_of_both out err) → OnOk outcome (err' ≡ mid) → PutsLine mid err'
+    → CountsFailures (exit_status outcome) (failures_of_both out err) (failures_of_both out' err')
+counts (Ok Clean) out err out' mid err' w quiet l = record { line = 0; once = omega arith; quiet = λ e. refl; count = counts_ok out err out' mid err' w quiet }
+counts (Ok (Faulty n)) out err out' mid err' w quiet l = record { line = 0; once = omega arith; quiet = λ e. refl; count = counts_ok out err out' mid err' w quiet }
+counts (Err (Refused e)) out err out' mid err' w quiet l = record { line = l.failed; once = l.once; quiet = λ k. absurd (omega arith); count = counts_err out err out' mid err' l w }
+counts (Err ReadFailed) out err out' mid err' w quiet l = record { line = l.failed; once = l.once; quiet = λ k. absurd (omega arith); count = counts_err out err out' mid err' l w }
+counts (Err OutOfMemory) out err out' mid err' w quiet l = record { line = l.failed; once = l.once; quiet = λ k. absurd (omega arith); count = counts_err out err out' mid err' l w }
+counts (Err WriteFailed) out err out' mid err' w quiet l = record {
+  line = l.failed;
+  once = l.once;
+  quiet = λ k. absurd (omega arith);
+  count = both_more out'.failures mid.failures err'.failures l.failed l.count ∙ ap (λ k. (k + l.failed) % 2 ^ 64) w ∙ mod-add-mod (failures_of_both out err + 1) (2 ^ 64) l.failed;
+}
 
 -- status 6 is that of a failed write
 pub six_failed : (outcome : Result Verdict RunError) (n : ℕ) → failures_after is_write_failed outcome n ≡ (if exit_status outcome == 6 then one_more n else n)

@@ -1,5 +1,5 @@
 -- What an exit status says of the report of a file, and of what was written of it.
-use Rattle.std.specs.Prelude.{◌≡◌, ◌≤◌, ◌⊎◌, ◌↔◌, ℕ, List, Ok, Err, None}
+use Rattle.std.specs.Prelude.{◌≡◌, ◌≤◌, ◌⊎◌, ◌↔◌, ℕ, ◌+◌, ◌%◌, ◌^◌, ◌==◌, if◌then◌else◌, List, ◌++◌, length, Option, Ok, Err, None}
 use Rattle.dbformat.specs.File.{refusal}
 use Rattle.std.specs.Io.KnownBytes.{Appends}
 use Rattle.dbformat.specs.Reference.{Reference}
@@ -16,10 +16,37 @@ pub record IsWritten (r : Report) (out out' err err' : OutState) : Type 0 where
   pub first : Appends out.bytes out'.bytes r.out
   pub second : Appends err.bytes err'.bytes r.err
 
--- Whatever the status, what the first Out got is a beginning of the report. 0 is answered only where no fault was found,
+-- A line of at most 96 bytes was put, or a beginning of it, perhaps nothing; and at most one put failed.
+pub record PutsLine (old new : OutState) : Type 0 where
+  pub line : List ℕ
+  pub short : length line ≤ 96
+  pub added : Appends old.bytes new.bytes line
+  pub failed : ℕ
+  pub once : failed ≤ 1
+  pub count : new.failures % 2 ^ 64 ≡ (old.failures + failed) % 2 ^ 64
+
+-- told bytes grew by a beginning of these, and then by a line of at most 96 bytes, or a beginning of it, perhaps nothing
+pub record BeginsThenLine (old new : Option (List ℕ)) (bytes : List ℕ) : Type 0 where
+  pub part : List ℕ
+  pub rest : List ℕ
+  pub whole : part ++ rest ≡ bytes
+  pub line : List ℕ
+  pub short : length line ≤ 96
+  pub added : Appends old new (part ++ line)
+
+-- How many puts to both Outs failed: at 6 the one that ended the run, and behind an error perhaps that of its line.
+pub record CountsFailures (status before after : ℕ) : Type 0 where
+  pub line : ℕ
+  pub once : line ≤ 1
+  pub quiet : status ≤ 1 → line ≡ 0
+  pub count : after ≡ (before + (if status == 6 then 1 else 0) + line) % 2 ^ 64
+
+-- Whatever the status, what the first Out got is a beginning of its part of the report, and what the second got one of its
+-- own, and then perhaps the line of an error. 0 is answered only where no fault was found,
 -- 1 where some were, and all of the report was written; 3 where the file is refused, and nothing of it was.
 pub record IsExit (status : ℕ) (r : Report) (out out' err err' : OutState) : Type 0 where
   pub begun : Begins out.bytes out'.bytes r.out
+  pub told : BeginsThenLine err.bytes err'.bytes r.err
   pub clean : status ≡ 0 → (r.answer ≡ Ok Clean) × IsWritten r out out' err err'
   pub faulty : status ≡ 1 → (n : ℕ) × (r.answer ≡ Ok (Faulty n)) × IsWritten r out out' err err'
   pub refused : status ≡ 3 → (e : Refusal) × (r.answer ≡ Err e) × (out'.bytes ≡ out.bytes)

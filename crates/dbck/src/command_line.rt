@@ -1,11 +1,10 @@
 // The command line of the program.
-ghost use Rattle.std.specs.Prelude.{◌≡◌, IfOk, IfSome, map, false};
-ghost use Rattle.clap.specs.Words.{app_of, new_app, subcommand_of, rule_of};
+ghost use Rattle.std.specs.Prelude.{◌≡◌, IfOk, IfSome, codes, map, false};
+ghost use Rattle.clap.specs.Words.{app_of, found_of, new_app, rows_of, rule_of, subcommand_of};
 ghost use Rattle.clap.specs.declared.builder.command.Command.TheViews.{out-Command as fields_of};
-ghost use Rattle.dbck.specs.CommandLine.{dbck_app, check_app, file_rule, limit_rule, name_of, Says, HasLimit};
-ghost use Rattle.dbreport.specs.Runs.{IsCheck};
+ghost use Rattle.dbck.specs.CommandLine.{dbck_app, check_app, stat_app, file_rule, flag_rule, limit_rule, name_of, Says, HasFlags, HasLimit};
 
-use clap::{Arg, ArgMatches, Command as Words, value_parser};
+use clap::{Arg, ArgAction, ArgMatches, Command as Words, value_parser};
 use dbreport::Command;
 use std::alloc::{AllocError, Global};
 use thiserror::Error;
@@ -40,10 +39,22 @@ const ABOUT: &str = "Checks the structure of a SQLite 3 database file, which it 
 
 const CHECK_ABOUT: &str = "Writes a line for each fault of the file, or 'ok'";
 
-const EXAMPLES: &str = "Examples:
+const CHECK_EXAMPLES: &str = "Examples:
   dbck check notes.db            The first 100 faults of notes.db, or 'ok'
   dbck check --limit 1 notes.db  The first fault, and how many more there are
   dbck check -- -notes.db        A file whose name begins with '-'
+
+'dbck --help' lists the exit statuses.";
+
+const STAT_ABOUT: &str = "Writes a row for each page of a tree, and the faults to standard error";
+
+const STAT_EXAMPLES: &str = "Columns, with a tab between each two:
+  name path pageno pagetype ncell payload unused mx_payload pgoffset pgsize
+
+Examples:
+  dbck stat notes.db              A row for each page of a tree or an overflow chain
+  dbck stat --aggregate notes.db  A row for each tree
+  dbck stat --all notes.db        Each page of notes.db is in one row
 
 'dbck --help' lists the exit statuses.";
 
@@ -76,6 +87,17 @@ fn limit_arg<'a>(alloc: Global) -> Arg<'a>
         .help("How many fault lines are written at most, from 1 to 1000000")
 }
 
+// A flag, by its name behind two dashes.
+fn flag_arg<'a>(alloc: Global, name: &'a str, help: &'a str) -> Arg<'a>
+    ensures rule { rule_of result ≡ flag_rule name.entry.now }
+    ensures local { result.global ≡ false }
+{
+    Arg::new(alloc, name)
+        .long(name)
+        .action(ArgAction::SetTrue)
+        .help(help)
+}
+
 // A command of this name, with the texts at the top and at the end of its help.
 fn described<'a>(alloc: Global, name: &'a str, about: &'a str, after: &'a str) -> Words<'a>
     ensures app { app_of result ≡ new_app name.entry.now }
@@ -87,8 +109,23 @@ fn described<'a>(alloc: Global, name: &'a str, about: &'a str, after: &'a str) -
 fn check_command<'a>(alloc: Global) -> Result<Words<'a>, AllocError>
     ensures { IfOk result (λ c. (app_of c ≡ check_app) × ((fields_of c).has_globals ≡ false)) }
 {
-    described(alloc, "check", CHECK_ABOUT, EXAMPLES)
+    described(alloc, "check", CHECK_ABOUT, CHECK_EXAMPLES)
         .arg(limit_arg(alloc))?
+        .arg(file_arg(alloc))
+}
+
+fn stat_command<'a>(alloc: Global) -> Result<Words<'a>, AllocError>
+    ensures { IfOk result (λ c. (app_of c ≡ stat_app) × ((fields_of c).has_globals ≡ false)) }
+{
+    let aggregate = flag_arg(
+        alloc,
+        "aggregate",
+        "One row for each tree, with the sums of its pages",
+    );
+    let all = flag_arg(alloc, "all", "Rows for the pages that are in no tree, too");
+    described(alloc, "stat", STAT_ABOUT, STAT_EXAMPLES)
+        .arg(aggregate)?
+        .arg(all)?
         .arg(file_arg(alloc))
 }
 
@@ -98,24 +135,47 @@ fn dbck_command<'a>(alloc: Global) -> Result<Words<'a>, clap::Error>
     let command = described(alloc, "dbck", ABOUT, STATUSES)
         .version(VERSION)
         .subcommand_required(true)
-        .subcommand(check_command(alloc)?)?;
+        .subcommand(check_command(alloc)?)?
+        .subcommand(stat_command(alloc)?)?;
     Ok(command)
+}
+
+// The check that is asked for.
+fn check_of(given: &ArgMatches<'_>) -> Option<Command>
+    ensures named { IfSome result (λ command. name_of command ≡ codes "check") }
+    ensures limit { IfSome result HasLimit }
+    ensures flags { IfSome result (λ command. HasFlags command (rows_of (found_of given.now))) }
+{
+    let limit = given.get_one::<u32>("N")?;
+    if limit < 1 || limit > 1000000 {
+        return None;
+    }
+    Some(Command::Check { limit })
+}
+
+// The statistics that are asked for.
+fn stat_of(given: &ArgMatches<'_>) -> Command
+    ensures named { name_of result ≡ codes "stat" }
+    ensures limit { HasLimit result }
+    ensures flags { HasFlags result (rows_of (found_of given.now)) }
+{
+    Command::Stat {
+        aggregate: given.get_flag("aggregate"),
+        all: given.get_flag("all"),
+    }
 }
 
 // What the subcommand that was met asks for.
 fn command_of(name: &str, given: &ArgMatches<'_>) -> Option<Command>
     ensures named { IfSome result (λ command. name.now ≡ name_of command) }
     ensures limit { IfSome result HasLimit }
-    ensures check { IfSome result IsCheck }
+    ensures flags { IfSome result (λ command. HasFlags command (rows_of (found_of given.now))) }
 {
-    if name != "check" {
-        return None;
+    match name {
+        "check" => check_of(given),
+        "stat" => Some(stat_of(given)),
+        _ => None,
     }
-    let limit = given.get_one::<u32>("N")?;
-    if limit < 1 || limit > 1000000 {
-        return None;
-    }
-    Some(Command::Check { limit })
 }
 
 /// What the words ask for. The first of them is the program's name.
@@ -127,7 +187,6 @@ fn command_of(name: &str, given: &ArgMatches<'_>) -> Option<Command>
 pub fn line_of<'a>(alloc: Global, words: &'a [&'a str]) -> Result<Line<'a>, LineError>
     ensures says { IfOk result (λ line. Says line.command line.file.now (subcommand_of dbck_app (map (λ word. word.now) words.entry.now))) }
     ensures limit { IfOk result (λ line. HasLimit line.command) }
-    ensures check { IfOk result (λ line. IsCheck line.command) }
 {
     let command = dbck_command(alloc)?;
     let matches = command.try_get_matches_from(words)?;

@@ -1,8 +1,6 @@
 //! `dbck`: checks the structure of a SQLite 3 database file.
 #![tactic(auto)]
 
-ghost use Rattle.dbreport.specs.Runs.{IsCheck};
-
 mod command_line;
 mod finishing;
 mod logs;
@@ -38,9 +36,7 @@ fn words_of(rt: &HostRuntime) -> Result<Vec<String>, LineError> {
 }
 
 // Runs what a line asks for, on the file alone: of a log beside it there is a note.
-fn run_line(rt: &HostRuntime, line: Line<'_>) -> u8
-    requires check { IsCheck line.command }
-{
+fn run_line(rt: &HostRuntime, line: Line<'_>) -> u8 {
     let mut out = StreamOut::new(rt.stdout());
     let mut err = StreamOut::new(rt.stderr());
     let opened = FileSource::open(rt, line.file);

@@ -16,6 +16,7 @@ Usage: dbck <COMMAND>
 
 Commands:
   check  Writes a line for each fault of the file, or 'ok'
+  stat   Writes a row for each page of a tree, and the faults to standard error
   help   Print this message or the help of the given subcommand(s)
 
 Options:
@@ -51,6 +52,29 @@ Examples:
 'dbck --help' lists the exit statuses.
 ";
 
+const STAT_HELP: &str = "Writes a row for each page of a tree, and the faults to standard error
+
+Usage: dbck stat [OPTIONS] <FILE>
+
+Arguments:
+  <FILE>  The database file
+
+Options:
+      --aggregate  One row for each tree, with the sums of its pages
+      --all        Rows for the pages that are in no tree, too
+  -h, --help       Print help
+
+Columns, with a tab between each two:
+  name path pageno pagetype ncell payload unused mx_payload pgoffset pgsize
+
+Examples:
+  dbck stat notes.db              A row for each page of a tree or an overflow chain
+  dbck stat --aggregate notes.db  A row for each tree
+  dbck stat --all notes.db        Each page of notes.db is in one row
+
+'dbck --help' lists the exit statuses.
+";
+
 // Lines that are taken: the limit that they ask for, and the file.
 #[test]
 fn takes_lines(rt: HostRuntime) -> Result<(), Fail> {
@@ -74,13 +98,55 @@ fn takes_lines(rt: HostRuntime) -> Result<(), Fail> {
     Ok(())
 }
 
+// The same of the statistics: whether each flag is given, and the file.
+#[test]
+fn takes_statistics(rt: HostRuntime) -> Result<(), Fail> {
+    let lines: [(&[&str], bool, bool, &str); 8] = [
+        (&["dbck", "stat", "x"], false, false, "x"),
+        (&["dbck", "stat", "--aggregate", "x"], true, false, "x"),
+        (&["dbck", "stat", "--all", "x"], false, true, "x"),
+        (
+            &["dbck", "stat", "--aggregate", "--all", "x"],
+            true,
+            true,
+            "x",
+        ),
+        (
+            &["dbck", "stat", "--all", "--aggregate", "x"],
+            true,
+            true,
+            "x",
+        ),
+        (&["dbck", "stat", "x", "--aggregate"], true, false, "x"),
+        (
+            &["dbck", "stat", "--all", "x", "--aggregate"],
+            true,
+            true,
+            "x",
+        ),
+        (&["dbck", "stat", "--", "--all"], false, false, "--all"),
+    ];
+    for (words, aggregate, all, file) in lines {
+        match line_of(rt.alloc(), words) {
+            Ok(line) => {
+                assert!(rt; line.command == Command::Stat { aggregate, all });
+                assert!(rt; line.file == file);
+            }
+            Err(_) => assert!(rt; false, "a line of the statistics of {file}"),
+        }
+    }
+    Ok(())
+}
+
 // Lines that are not: the status, and how the text begins.
 #[test]
 fn refuses_lines(rt: HostRuntime) -> Result<(), Fail> {
-    let lines: [(&[&str], u8, &str); 14] = [
+    let lines: [(&[&str], u8, &str); 22] = [
         (&["dbck", "--help"], 0, HELP),
         (&["dbck", "help"], 0, HELP),
         (&["dbck", "check", "--help"], 0, CHECK_HELP),
+        (&["dbck", "stat", "--help"], 0, STAT_HELP),
+        (&["dbck", "help", "stat"], 0, STAT_HELP),
         (&["dbck", "--version"], 0, "dbck 0.1.0\n"),
         (&["dbck", "-V"], 0, "dbck 0.1.0\n"),
         (
@@ -122,6 +188,36 @@ fn refuses_lines(rt: HostRuntime) -> Result<(), Fail> {
             &["dbck", "check", "--version"],
             2,
             "error: unexpected argument '--version' found\n",
+        ),
+        (
+            &["dbck", "stat"],
+            2,
+            "error: the following required arguments were not provided:\n  <FILE>\n",
+        ),
+        (
+            &["dbck", "stat", "--all", "--all", "x"],
+            2,
+            "error: the argument '--all' cannot be used multiple times\n",
+        ),
+        (
+            &["dbck", "stat", "--aggregate", "x", "--aggregate"],
+            2,
+            "error: the argument '--aggregate' cannot be used multiple times\n",
+        ),
+        (
+            &["dbck", "stat", "--all=true", "x"],
+            2,
+            "error: unexpected value 'true' for '--all' found; no more were expected\n",
+        ),
+        (
+            &["dbck", "stat", "--limit", "1", "x"],
+            2,
+            "error: unexpected argument '--limit' found\n",
+        ),
+        (
+            &["dbck", "check", "--all", "x"],
+            2,
+            "error: unexpected argument '--all' found\n",
         ),
         (
             &["dbck", "repair", "x"],
@@ -207,6 +303,131 @@ fn finishes(rt: HostRuntime) -> Result<(), Fail> {
         assert!(rt; found == status, "byte {at}");
         assert!(rt; out.bytes() == written.as_bytes(), "byte {at}");
         assert!(rt; err.bytes() == told.as_bytes(), "byte {at}");
+    }
+    Ok(())
+}
+
+// The forms of the statistics, what is patched at a place of the smallest file of one page or of two, the status, and what
+// stands in the two outs.
+const STATISTICS: [(bool, bool, u32, usize, u8, u8, &str, &str); 8] = [
+    (
+        false,
+        false,
+        1,
+        18,
+        1,
+        0,
+        "sqlite_schema\t/\t1\tleaf\t0\t0\t404\t0\t0\t512\n",
+        "",
+    ),
+    (
+        true,
+        false,
+        1,
+        18,
+        1,
+        0,
+        "sqlite_schema\t-\t1\t-\t0\t0\t404\t0\t-\t512\n",
+        "",
+    ),
+    (
+        false,
+        false,
+        1,
+        18,
+        3,
+        1,
+        "sqlite_schema\t/\t1\tleaf\t0\t0\t404\t0\t0\t512\n",
+        "H01 page 1 item 18 value 3: file version is not 1 or 2\n",
+    ),
+    (
+        false,
+        false,
+        1,
+        105,
+        0,
+        1,
+        "sqlite_schema\t/\t1\tdamaged\t0\t0\t0\t0\t0\t512\n",
+        "P03 page 1 item 0 value 65536: content area out of bounds\n",
+    ),
+    (
+        false,
+        false,
+        2,
+        18,
+        1,
+        1,
+        "sqlite_schema\t/\t1\tleaf\t0\t0\t404\t0\t0\t512\n",
+        "N01 page 2 item 0 value 0: page is not in use\n",
+    ),
+    (
+        false,
+        true,
+        2,
+        18,
+        1,
+        1,
+        "sqlite_schema\t/\t1\tleaf\t0\t0\t404\t0\t0\t512\n-\t-\t2\tunowned\t0\t0\t0\t0\t512\t512\n",
+        "N01 page 2 item 0 value 0: page is not in use\n",
+    ),
+    (
+        true,
+        true,
+        2,
+        18,
+        1,
+        1,
+        "sqlite_schema\t-\t1\t-\t0\t0\t404\t0\t-\t512\n-\t-\t2\tunowned\t0\t0\t0\t0\t512\t512\n",
+        "N01 page 2 item 0 value 0: page is not in use\n",
+    ),
+    (
+        true,
+        true,
+        1,
+        0,
+        0,
+        3,
+        "",
+        "dbck: E2 file is not a SQLite 3 database\n",
+    ),
+];
+
+#[test]
+fn finishes_statistics(rt: HostRuntime) -> Result<(), Fail> {
+    for (aggregate, all, pages, at, byte, status, written, told) in STATISTICS {
+        assert!(rt; 1 <= pages && pages <= 2);
+        let mut file = base_file(rt.alloc(), 512, pages)?;
+        assert!(rt; at < 512);
+        patch(file.as_mut_slice(), at, &[byte]);
+        let mut out = MemOut::new(rt.alloc());
+        let mut err = MemOut::new(rt.alloc());
+        let command = Command::Stat { aggregate, all };
+        let opened = Ok(MemSource::new(file.as_slice()));
+        let found = finish(rt.alloc(), command, opened, &mut out, &mut err);
+        assert!(rt; found == status, "byte {at}");
+        assert!(rt; out.bytes() == written.as_bytes(), "byte {at}");
+        assert!(rt; err.bytes() == told.as_bytes(), "byte {at}");
+    }
+    Ok(())
+}
+
+// A second out that takes nothing ends the statistics of a file with a fault, and not those of another.
+#[test]
+fn finishes_statistics_without_room(rt: HostRuntime) -> Result<(), Fail> {
+    for (pages, status) in [(1, 0), (2, 6)] {
+        assert!(rt; 1 <= pages && pages <= 2);
+        let file = base_file(rt.alloc(), 512, pages)?;
+        let mut out = MemOut::new(rt.alloc());
+        let mut no_room = NoRoom {
+            failures: Failures::new(),
+        };
+        let command = Command::Stat {
+            aggregate: false,
+            all: false,
+        };
+        let opened = Ok(MemSource::new(file.as_slice()));
+        assert!(rt; finish(rt.alloc(), command, opened, &mut out, &mut no_room) == status);
+        assert!(rt; out.bytes() == "sqlite_schema\t/\t1\tleaf\t0\t0\t404\t0\t0\t512\n".as_bytes());
     }
     Ok(())
 }

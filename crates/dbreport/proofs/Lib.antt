@@ -21,6 +21,7 @@ pub mod SchemaWalks
 pub mod ShortNames
 pub mod Starts
 pub mod StatPieces
+pub mod StatReports
 pub mod StatSinks
 pub mod StatStarts
 pub mod StatSteps

@@ -1,11 +1,11 @@
 -- What the answer of a run says.
-use Rattle.std.proofs.Common.{◌≡◌, ℕ, ◌<◌, List, length, None, Some, Option, Ok, Err, Result, inl, inr, refl, sym, ◌∙◌, subst}
+use Rattle.std.proofs.Common.{◌≡◌, ℕ, ◌+◌, ◌%◌, ◌^◌, ◌<◌, List, length, None, Some, Option, Ok, Err, Result, inl, inr, refl, sym, ap, arith, ◌∙◌, subst}
 use Rattle.std.specs.Prelude.{IfErr, IfOk, IfSome}
 use Rattle.dbformat.specs.File.{refusal}
 use Rattle.dbformat.specs.declared.Verdict.{Verdict}
 use Rattle.dbformat.specs.declared.Refusal.TheVariants.{Short}
 use Rattle.dbsource.specs.Errors.{run_error, is_out_of_memory, is_write_failed}
-use Rattle.dbsource.specs.Failures.{failures_after}
+use Rattle.dbsource.specs.Failures.{failures_after, one_more}
 use Rattle.dbsource.specs.Headers.{IsRefusalOf}
 use Rattle.dbsource.specs.declared.error.OpenError.{OpenError}
 use Rattle.dbsource.specs.declared.error.OpenError.TheVariants as opening
@@ -71,3 +71,14 @@ memory_kept (Err e) n (inr h) = subst (λ (x : RunError). n ≡ failures_after {
 pub if_ok : {P Q : Verdict → Type 0} (r : Result Verdict RunError) → ((v : Verdict) → P v → Q v) → IfOk r P → IfOk r Q
 if_ok (Ok v) f h = f v h
 if_ok (Err e) f h = tt
+
+-- the failures of two Outs together, where only the first one's can have changed
+one_of_both : (a b : ℕ) → (one_more a + b) % 2 ^ 64 ≡ one_more ((a + b) % 2 ^ 64)
+one_of_both a b = omega arith
+
+pub both_failures : (r : Result Verdict RunError) (a n b : ℕ) → n ≡ failures_after is_write_failed r a → (n + b) % 2 ^ 64 ≡ failures_after is_write_failed r ((a + b) % 2 ^ 64)
+both_failures (Ok v) a n b e = ap (λ k. (k + b) % 2 ^ 64) e
+both_failures (Err (Refused r)) a n b e = ap (λ k. (k + b) % 2 ^ 64) e
+both_failures (Err ReadFailed) a n b e = ap (λ k. (k + b) % 2 ^ 64) e
+both_failures (Err OutOfMemory) a n b e = ap (λ k. (k + b) % 2 ^ 64) e
+both_failures (Err WriteFailed) a n b e = ap (λ k. (k + b) % 2 ^ 64) e ∙ one_of_both a b

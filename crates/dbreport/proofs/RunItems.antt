@@ -1,28 +1,20 @@
 -- What a run comes by in the walks from all starts: the survey, and its faults.
-use Rattle.std.proofs.Common.{◌≡◌, ℕ, List, [], ◌∷◌, ◌++◌, map, length, Bool, Result, Ok, Err, refl, sym, ap, ap₂, subst, ◌∙◌}
-use Rattle.std.specs.Prelude.{filter_map, option_to_list}
-use Rattle.std.proofs.lemmas.List.{append-nil}
-use Rattle.std.proofs.lemmas.List.Elements.{filter_map-append}
+use Rattle.std.proofs.Common.{◌≡◌, ℕ, List, [], ◌∷◌, ◌++◌, map, Bool, Result, Ok, Err, refl, sym, ap, subst, ◌∙◌}
 use Rattle.dbsurvey.specs.Address.{IsIn}
 use Rattle.dbsurvey.specs.From.{under}
-use Rattle.dbsurvey.specs.InOrder.{read_back}
-use Rattle.dbsurvey.specs.Story.{Told, Errand, Go, Follow, errands_at, goes, AreErrandsApart, telling_of}
+use Rattle.dbsurvey.specs.Story.{Go, Follow, errands_at, goes, AreErrandsApart}
 use Rattle.dbsurvey.specs.Survey.{Link, named_at}
 use Rattle.dbsurvey.specs.Traverse.{part_of}
 use Rattle.dbsurvey.proofs.Tellings.{errands_at-apart}
 use Rattle.dbformat.specs.Address.{schema_start}
-use Rattle.dbformat.specs.EndFaults.{end_faults, has_rows}
+use Rattle.dbformat.specs.EndFaults.{has_rows}
 use Rattle.dbformat.specs.File.{geometry}
-use Rattle.dbformat.specs.HeaderFaults.{header_faults}
-use Rattle.dbformat.specs.Laws.{event_row, schema_part}
+use Rattle.dbformat.specs.Laws.{schema_part}
 use Rattle.dbformat.specs.Reference.{Way, Reference}
-use Rattle.dbformat.specs.Report.{event_faults, faults_below, faults}
-use Rattle.dbformat.specs.Rows.{StatRow}
-use Rattle.dbformat.specs.Schema.{schema, schema_link, later_starts, starts}
-use Rattle.dbformat.specs.Story.{Event, own_visit, story_of, start_errands}
+use Rattle.dbformat.specs.Schema.{schema, later_starts, starts}
+use Rattle.dbformat.specs.Story.{Event, start_errands}
 use Rattle.dbformat.specs.Survey.{Survey, rules_of}
-use Rattle.dbformat.specs.declared.Fault.{Fault}
-use Rattle.dbformat.proofs.LookBack.{looks_back, by_starts}
+use Rattle.dbformat.proofs.LookBack.{by_starts}
 use Rattle.dbformat.proofs.Rising.{starts_rise, follows_pairs}
 use Rattle.dbformat.proofs.SchemaStart.{schema_below}
 use Rattle.dbformat.proofs.Visited.{has_address}
@@ -34,7 +26,7 @@ use Rattle.dbwalk.specs.Outcomes.{Tells}
 use Rattle.dbwalk.specs.declared.mark.Mark.{Mark}
 use Rattle.dbwalk.proofs.Telling.Lefts.{left_start, left_call, left_stop}
 use Rattle.dbreport.proofs.Starts.{quiet_go}
-use Rattle.dbwalk.specs.Finding.{Finding, told_row, told_fault, told_at, told_below, visited_below}
+use Rattle.dbwalk.specs.Finding.{Finding, told_below, visited_below}
 use Rattle.dbwalk.proofs.Telling.Belows.{visited_join, told_join}
 use Rattle.dbreport.specs.Starts.{AreBelowStarts, AreWalked, schema_reference, later_errands}
 

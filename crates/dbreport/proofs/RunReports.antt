@@ -1,18 +1,22 @@
--- The report of a check of a file that is read, by what was written of it.
+-- The report of a file that is read, by what was written of it and what was found.
 use Rattle.std.proofs.Common.{◌≡◌, List, [], Ok, Err, Result, None, Option, refl, sym, ap, ◌∙◌, subst, ℕ}
+use Rattle.std.specs.Prelude.{flat_map, true, false}
 use Rattle.dbformat.specs.File.{refusal}
+use Rattle.dbformat.specs.Lines.{fault_line, form_line}
 use Rattle.dbformat.specs.Reference.{Reference}
-use Rattle.dbformat.specs.Report.{Report, report, check_report, check_text, verdict, faults}
+use Rattle.dbformat.specs.Report.{Report, report, check_report, check_text, stat_report, verdict, faults}
+use Rattle.dbformat.specs.Rows.{form_rows}
+use Rattle.dbformat.specs.Survey.{Survey}
 use Rattle.dbformat.specs.declared.Command.{Command}
-use Rattle.dbformat.specs.declared.Command.TheVariants.{Check}
+use Rattle.dbformat.specs.declared.Command.TheVariants.{Check, Stat}
 use Rattle.dbformat.specs.declared.Verdict.{Verdict}
 use Rattle.dbsource.specs.Outs.{Begins, Writes}
 use Rattle.dbsource.specs.declared.error.RunError.{RunError}
 use Rattle.dbsource.proofs.Puts.{appends_nothing}
-
-report_read : (limit : ℕ) (file : List ℕ) (V : List Reference) → refusal file ≡ None → report (Check limit) file V ≡ check_report limit (faults file V)
-unfolding report
-report_read limit file V e = rw e refl
+use Rattle.dbsound.proofs.RowCounts.FormRows.{counts_each_page}
+use Rattle.dbreport.specs.Runs.{CountsAllPages}
+use Rattle.dbreport.specs.Statistics.{form_of}
+use Rattle.dbreport.specs.declared.statistics.Form.{Form}
 
 -- at an error nothing is a beginning, and to no bytes nothing is added
 pub begins_nothing : (held : Option (List ℕ)) (bytes : List ℕ) → Begins held held bytes
@@ -22,15 +26,36 @@ writes_nothing : (r : Result Verdict RunError) (held : Option (List ℕ)) → Wr
 writes_nothing (Ok v) held = appends_nothing held
 writes_nothing (Err e) held = begins_nothing held []
 
-module _ (command : Command) (limit : ℕ) (asked : command ≡ Check limit) (file : List ℕ) (V : List Reference) (read : refusal file ≡ None) where
-  report_is : report command file V ≡ check_report limit (faults file V)
-  report_is = ap (λ x. report x file V) asked ∙ report_read limit file V read
+module _ (limit : ℕ) (file : List ℕ) (V : List Reference) (read : refusal file ≡ None) where
+  check_is : report (Check limit) file V ≡ check_report limit (faults file V)
+  unfolding report
+  check_is = rw read refl
 
-  pub writes_out : (r : Result Verdict RunError) (old new : Option (List ℕ)) → Writes r old new (check_text limit (faults file V)) → Writes r old new (report command file V).out
-  writes_out r old new w = let P : List ℕ → Type 0 = Writes r old new in subst P (sym (ap (λ (r : Report). r.out) report_is)) w
+  pub check_out : (r : Result Verdict RunError) (old new : Option (List ℕ)) → Writes r old new (check_text limit (faults file V)) → Writes r old new (report (Check limit) file V).out
+  check_out r old new w = let P : List ℕ → Type 0 = Writes r old new in subst P (sym (ap (λ (r : Report). r.out) check_is)) w
 
-  pub writes_err : (r : Result Verdict RunError) (held : Option (List ℕ)) → Writes r held held (report command file V).err
-  writes_err r held = let P : List ℕ → Type 0 = Writes r held held in subst P (sym (ap (λ (r : Report). r.err) report_is)) (writes_nothing r held)
+  pub check_err : (r : Result Verdict RunError) (held : Option (List ℕ)) → Writes r held held (report (Check limit) file V).err
+  check_err r held = let P : List ℕ → Type 0 = Writes r held held in subst P (sym (ap (λ (r : Report). r.err) check_is)) (writes_nothing r held)
 
-  pub answer_is : (v : Verdict) → v ≡ verdict (faults file V) → (report command file V).answer ≡ Ok v
-  answer_is v e = ap (λ (r : Report). r.answer) report_is ∙ ap Ok (sym e)
+  pub check_answer : (v : Verdict) → v ≡ verdict (faults file V) → (report (Check limit) file V).answer ≡ Ok v
+  check_answer v e = ap (λ (r : Report). r.answer) check_is ∙ ap Ok (sym e)
+
+module _ (form : Form) (file : List ℕ) (V : List Reference) (read : refusal file ≡ None) where
+  stat_is : report (Stat form.aggregate form.all) file V ≡ stat_report (form_of form) file V
+  unfolding report
+  stat_is = rw read refl
+
+  pub stat_out : (r : Result Verdict RunError) (old new : Option (List ℕ)) → Writes r old new (flat_map (form_line file V) (form_rows (form_of form) file V)) → Writes r old new (report (Stat form.aggregate form.all) file V).out
+  stat_out r old new w = let P : List ℕ → Type 0 = Writes r old new in subst P (sym (ap (λ (r : Report). r.out) stat_is)) w
+
+  pub stat_err : (r : Result Verdict RunError) (old new : Option (List ℕ)) → Writes r old new (flat_map fault_line (faults file V)) → Writes r old new (report (Stat form.aggregate form.all) file V).err
+  stat_err r old new w = let P : List ℕ → Type 0 = Writes r old new in subst P (sym (ap (λ (r : Report). r.err) stat_is)) w
+
+  pub stat_answer : (v : Verdict) → v ≡ verdict (faults file V) → (report (Stat form.aggregate form.all) file V).answer ≡ Ok v
+  stat_answer v e = ap (λ (r : Report). r.answer) stat_is ∙ ap Ok (sym e)
+
+-- the rows of all pages count each once
+pub counts_all : (command : Command) (file : List ℕ) (V : List Reference) → Survey file V → CountsAllPages command file V
+counts_all (Check limit) file V s = tt
+counts_all (Stat aggregate true) file V s = counts_each_page file V s (record { aggregate = aggregate; all = true }) refl
+counts_all (Stat aggregate false) file V s = tt

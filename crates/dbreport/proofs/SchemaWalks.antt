@@ -1,31 +1,26 @@
 -- What the walk over the schema's tree has come by: its rows in the list, and whether there are any.
-use Rattle.std.proofs.Common.{◌≡◌, ℕ, false, Bool, List, [], ◌∷◌, ◌++◌, length, map, take, Result, Ok, Err, refl, sym, ap, subst, ◌∙◌}
+use Rattle.std.proofs.Common.{◌≡◌, ℕ, false, List, [], ◌∷◌, ◌++◌, map, take, Result, Ok, Err, refl, sym, ap, ◌∙◌}
 use Rattle.std.specs.Prelude.{◌||◌}
-use Rattle.std.specs.List.{enumerate_from, list_any}
+use Rattle.std.specs.List.{list_any}
 use Rattle.dbformat.specs.Address.{last_root_start}
 use Rattle.dbsurvey.specs.Story.{Go, Follow, errands_at}
-use Rattle.dbformat.specs.EndFaults.{has_rows}
 use Rattle.dbformat.specs.Laws.{schema_part}
-use Rattle.dbformat.specs.Reference.{Reference, root}
-use Rattle.dbformat.specs.Schema.{schema, schema_link, rooted_rows, root_start, freelist_starts}
-use Rattle.dbformat.specs.Survey.{Survey}
+use Rattle.dbformat.specs.Schema.{schema, rooted_rows}
 use Rattle.dbformat.specs.declared.Encoding.{Encoding}
 use Rattle.dbformat.proofs.LookBack.{by_starts}
 use Rattle.dbsource.specs.declared.error.RunError.{RunError}
 use Rattle.dbwalk.specs.Done.{IsDone}
 use Rattle.dbwalk.specs.Finding.{Finding, told_below, visited_below}
 use Rattle.dbwalk.specs.Marking.{AreMarksOf}
-use Rattle.dbwalk.specs.RootRoom.{StartsEmpty}
 use Rattle.dbwalk.specs.Roots.{IsRootAfter}
 use Rattle.dbwalk.specs.Taking.{Gives, readable_rows}
 use Rattle.dbwalk.specs.declared.mark.Mark.{Mark}
-use Rattle.dbwalk.specs.declared.root.Root.{Root}
 use Rattle.dbreport.specs.Findings.{is_schema_row}
 use Rattle.dbreport.specs.Roots.{Listed, TakesRow, RefusesRow}
 use Rattle.dbreport.specs.SchemaWatch.{HandsOn}
-use Rattle.dbreport.specs.Starts.{IsSchemaOf, IsSchemaWalked, errands_from, schema_reference, schema_root}
+use Rattle.dbreport.specs.Starts.{IsSchemaWalked, schema_reference, schema_root}
 use Rattle.dbreport.specs.declared.schema_watch.SchemaWatch.{SchemaWatch}
-use Rattle.dbreport.proofs.RootsTaken.{roots_start_empty, schema_roots, starts_listed}
+use Rattle.dbreport.proofs.RootsTaken.{schema_roots, starts_listed}
 use Rattle.dbreport.proofs.SchemaTold.{schema_rows_told}
 use Rattle.dbreport.proofs.Watched.{watch_moves, watch_stops}
 

@@ -1,20 +1,17 @@
 -- The starts of a run, one after another: what a walk at the next one leaves.
-use Rattle.std.proofs.Common.{◌≡◌, ◌≢◌, ℕ, zero, suc, ◌+◌, ◌≤◌, ◌-◌, ◌<◌, inl, inr, List, [], ◌∷◌, ◌++◌, take, drop, map, length, false, cond, Option, Some, None, Result, Ok, Err, refl, sym, ap, subst, arith, ◌∙◌}
+use Rattle.std.proofs.Common.{◌≡◌, ◌≢◌, ℕ, zero, suc, ◌+◌, ◌≤◌, ◌-◌, inl, inr, List, [], ◌∷◌, ◌++◌, take, drop, map, length, false, cond, Option, Some, None, Result, Ok, Err, refl, sym, ap, subst, arith, ◌∙◌}
 use Rattle.std.specs.Prelude.{slice_get, option_map, ◌==◌, ◌↔◌}
 use Rattle.dbwalk.specs.declared.root.Root.{Root}
 use Rattle.dbwalk.specs.declared.root.RootKind.TheVariants.{Schema}
 use Rattle.dbsurvey.specs.Address.{Address, IsIn, IsBefore}
 use Rattle.dbsurvey.proofs.Order.{IsIn-left}
-use Rattle.dbsurvey.specs.InOrder.{AreQuiet, IsPast}
-use Rattle.dbsurvey.specs.Moves.{Moves}
-use Rattle.dbsurvey.specs.Story.{Told, Errand, Go, Tell, Follow, errands_at}
+use Rattle.dbsurvey.specs.InOrder.{AreQuiet}
+use Rattle.dbsurvey.specs.Story.{Errand, Go, Follow, errands_at}
 use Rattle.dbformat.specs.Address.{freelist_start, schema_start}
-use Rattle.dbformat.specs.File.{page_bytes}
 use Rattle.dbformat.specs.Header.{first_trunk, encoding}
 use Rattle.dbformat.proofs.HeaderPrefix.{encoding_number_within}
-use Rattle.dbformat.specs.Head.{own_kind}
-use Rattle.dbformat.specs.Reference.{Role, root, trunk, Way, Reference}
-use Rattle.dbformat.specs.Schema.{root_kind, start, freelist_starts}
+use Rattle.dbformat.specs.Reference.{root, trunk, Way, Reference}
+use Rattle.dbformat.specs.Schema.{root_kind, start}
 use Rattle.dbformat.specs.SchemaRow.{SchemaRow}
 use Rattle.dbformat.specs.Story.{Event, own_visit}
 use Rattle.dbformat.specs.declared.Encoding.{Encoding}
@@ -29,7 +26,7 @@ use Rattle.dbwalk.specs.Trunks.{IsFirstTrunk, freelist_reference}
 use Rattle.dbwalk.specs.FreeLeaves.{Leaves}
 use Rattle.dbwalk.specs.Left.{IsLeft}
 use Rattle.dbwalk.specs.Roots.{kind_in, IsRootAfter}
-use Rattle.dbwalk.specs.Running.{IsOfEarlierStart, AreOfEarlierStarts}
+use Rattle.dbwalk.specs.Running.{IsOfEarlierStart}
 use Rattle.dbwalk.specs.declared.mark.Mark.{Mark}
 use Rattle.dbwalk.proofs.Telling.Belows.{told_join}
 use Rattle.dbwalk.proofs.Telling.Lefts.{left_call, left_none, left_stop}

@@ -1,5 +1,5 @@
 -- What the sink of the statistics has written and counted by the findings that it was told.
-use Rattle.std.proofs.Common.{◌≡◌, ℕ, suc, ◌+◌, ◌^◌, Bool, true, false, inl, inr, List, [], ◌∷◌, ◌++◌, length, Option, refl, sym, ap, ap₂, ◌∙◌, subst, arith, append_assoc, append-nil}
+use Rattle.std.proofs.Common.{◌≡◌, ℕ, suc, ◌+◌, Bool, true, false, inl, inr, List, [], ◌∷◌, ◌++◌, length, refl, sym, ap, ◌∙◌, subst, arith, append_assoc, append-nil}
 use Rattle.std.specs.Prelude.{flat_map}
 use Rattle.std.specs.Io.KnownBytes.{Appends}
 use Rattle.dbsurvey.specs.Moves.{Moves, Stops, MovesBySome}
@@ -15,7 +15,7 @@ use Rattle.dbwalk.specs.Outcomes.{StopsBy}
 use Rattle.dbreport.specs.Findings.{faults_in}
 use Rattle.dbreport.specs.TreeNames.{label_text}
 use Rattle.dbreport.specs.StatLines.{rows_told}
-use Rattle.dbreport.specs.StatSink.{pages_text, text_of, IsSameSink, TakesRow, CutsRow, TakesFault, CutsFault, Counts, Breaks, HasWritten, HasBegun}
+use Rattle.dbreport.specs.StatSink.{pages_text, text_of, IsSameSink, TakesRow, CutsRow, TakesFault, CutsFault, Counts, Breaks, HasBegun}
 use Rattle.dbreport.specs.Sums.{sums_of}
 use Rattle.dbreport.specs.declared.stat_sink.StatSink.{StatSink}
 use Rattle.dbreport.proofs.Beginnings.{begins_nothing, begins_more, begins_after}
@@ -56,7 +56,7 @@ module _ {O E : Type 0} (held : O → OutState) (held' : E → OutState) where
     same = record { out = refl; err = refl; label = refl; aggregate = refl };
     sums = λ rows e. e ∙ ap sums_of (sym (append-nil rows));
     found = λ n e. e ∙ ap counted (nothing_more n);
-    out = subst (λ l. Appends (held s.out.now).bytes (held s.out.now).bytes l) (sym (pages_none s.aggregate (label_text s.label) s.label.page_size)) (appends_nothing (held s.out.now).bytes);
+    out = subst (λ l. Appends (held s.out.now).bytes (held s.out.now).bytes l) (sym (pages_none s.aggregate (label_text s.label.now) s.label.now.page_size)) (appends_nothing (held s.out.now).bytes);
     err = appends_nothing (held' s.err.now).bytes;
   }
 
@@ -68,7 +68,7 @@ module _ {O E : Type 0} (held : O → OutState) (held' : E → OutState) where
     same = same_then s m t a.same b.same;
     sums = λ rows e. b.sums (rows ++ (r ∷ [])) (a.sums rows e) ∙ ap sums_of (append_assoc rows (r ∷ []) (rows_told items));
     found = λ n e. b.found n (a.found ∙ e);
-    out = subst (λ l. Appends (held s.out.now).bytes (held t.out.now).bytes l) (pages_more s.aggregate (label_text s.label) s.label.page_size r (rows_told items))
+    out = subst (λ l. Appends (held s.out.now).bytes (held t.out.now).bytes l) (pages_more s.aggregate (label_text s.label.now) s.label.now.page_size r (rows_told items))
         (appends_append (held s.out.now).bytes (held m.out.now).bytes (held t.out.now).bytes (text_of s (r ∷ [])) (text_of s (rows_told items)) a.puts.held
         (subst (λ l. Appends (held m.out.now).bytes (held t.out.now).bytes l) (same_text s m a.same (rows_told items)) b.out));
     err = subst (λ e. Appends (held' e).bytes (held' t.err.now).bytes (flat_map fault_line (faults_in items))) a.err b.err;
@@ -101,7 +101,7 @@ module _ {O E : Type 0} (held : O → OutState) (held' : E → OutState) where
   part_row : (s m t : StatSink O E) (r : StatRow) (items : List Finding) → TakesRow held s r m → HasPart m items t → HasPart s (told_row r ∷ items) t
   part_row s m t r items a b = record {
     out = begins_after (held s.out.now).bytes (held m.out.now).bytes (held t.out.now).bytes (text_of s (r ∷ [])) (text_of s (rows_told items)) (text_of s (r ∷ rows_told items))
-        (pages_more s.aggregate (label_text s.label) s.label.page_size r (rows_told items)) a.puts.held
+        (pages_more s.aggregate (label_text s.label.now) s.label.now.page_size r (rows_told items)) a.puts.held
         (subst (λ l. Begins (held m.out.now).bytes (held t.out.now).bytes l) (same_text s m a.same (rows_told items)) b.out);
     err = subst (λ e. Begins (held' e).bytes (held' t.err.now).bytes (flat_map fault_line (faults_in items))) a.err b.err;
   }
@@ -116,7 +116,7 @@ module _ {O E : Type 0} (held : O → OutState) (held' : E → OutState) where
   cut_row : (s t : StatSink O E) (r : StatRow) (items : List Finding) → CutsRow held s r t → HasPart s (told_row r ∷ items) t
   cut_row s t r items a = record {
     out = begins_more (held s.out.now).bytes (held t.out.now).bytes (text_of s (r ∷ [])) (text_of s (rows_told items)) (text_of s (r ∷ rows_told items))
-        (pages_more s.aggregate (label_text s.label) s.label.page_size r (rows_told items)) a.puts.held;
+        (pages_more s.aggregate (label_text s.label.now) s.label.now.page_size r (rows_told items)) a.puts.held;
     err = subst (λ e. Begins (held' s.err.now).bytes (held' e).bytes (flat_map fault_line (faults_in items))) (sym a.err) (begins_nothing (held' s.err.now).bytes (flat_map fault_line (faults_in items)));
   }
 

@@ -87,11 +87,11 @@ module _ {O E : Type 0} (held : O → OutState) (held' : E → OutState) where
         (subst (λ x. HasBegun held held' before t ((h.text ++ its_text) ++ then_text) x) all_faults b)
 
     -- the tree of a root, by a sink with its name
-    pub tree_written : {A : Type 0} (r : Result A RunError) → label_text s.label ≡ tree_name file V (start_of c.address)
+    pub tree_written : {A : Type 0} (r : Result A RunError) → label_text s.label.now ≡ tree_name file V (start_of c.address)
         → IsTreeWritten held held' file U c r marks' s t → StopsWriting held held' file V before es r marks' t
     tree_written r name d = start_written r d.marked (subst (λ x. WritesBoth held held' r s t x its_faults) same d.writes) d.summed
       where
-        same : tree_text s.aggregate (label_text s.label) s.label.page_size (rows_told (told_below file U (Go c ∷ []))) ≡ its_text
+        same : tree_text s.aggregate (label_text s.label.now) s.label.now.page_size (rows_told (told_below file U (Go c ∷ []))) ≡ its_text
         same = rw (h.written.aggregate, name, h.page_size) refl
 
   -- ---- the walk over one tree, and the row that ends it
@@ -104,10 +104,10 @@ module _ {O E : Type 0} (held : O → OutState) (held' : E → OutState) where
     rows = rows_told items
 
     abbrev tree : List ℕ
-    tree = tree_text s.aggregate (label_text s.label) s.label.page_size rows
+    tree = tree_text s.aggregate (label_text s.label.now) s.label.now.page_size rows
 
-    whole : text_of s rows ++ end_text s.aggregate (label_text s.label) s.label.page_size rows ≡ tree
-    whole = text_whole s.aggregate (label_text s.label) s.label.page_size rows
+    whole : text_of s rows ++ end_text s.aggregate (label_text s.label.now) s.label.now.page_size rows ≡ tree
+    whole = text_whole s.aggregate (label_text s.label.now) s.label.now.page_size rows
 
     -- an error stopped the walk
     pub tree_stopped : {A B : Type 0} (e : RunError) → IsDone {A = B} (Counts held held') (Breaks held held') file U (Go c ∷ []) (Err e) marks s t
@@ -115,15 +115,15 @@ module _ {O E : Type 0} (held : O → OutState) (held' : E → OutState) where
     tree_stopped {B = B} e d = record {
       marked = tt;
       writes = subst (λ x. HasBegun held held' s t x (faults_in items)) whole
-          (subst (λ f. HasBegun held held' s t (text_of s rows ++ end_text s.aggregate (label_text s.label) s.label.page_size rows) f) (append-nil (faults_in items))
-          (begun_first held held' s t (text_of s rows) (end_text s.aggregate (label_text s.label) s.label.page_size rows) (faults_in items) [] (told_written held held' {A = B} (Err e) items s t d.told)));
+          (subst (λ f. HasBegun held held' s t (text_of s rows ++ end_text s.aggregate (label_text s.label.now) s.label.now.page_size rows) f) (append-nil (faults_in items))
+          (begun_first held held' s t (text_of s rows) (end_text s.aggregate (label_text s.label.now) s.label.now.page_size rows) (faults_in items) [] (told_written held held' {A = B} (Err e) items s t d.told)));
       summed = tt;
     }
 
     -- all was told, and then the tree ended
     module _ {B : Type 0} (b : B) (none : s.sums ≡ sums_of []) (d : IsDone (Counts held held') (Breaks held held') file U (Go c ∷ []) (Ok b) marks s t) (u : StatSink O E) where
       abbrev its_end : List ℕ
-      its_end = end_text s.aggregate (label_text s.label) s.label.page_size rows
+      its_end = end_text s.aggregate (label_text s.label.now) s.label.now.page_size rows
 
       counted : HasCounted held held' s items t
       counted = has_counted held held' items s t d.told

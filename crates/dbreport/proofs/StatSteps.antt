@@ -1,9 +1,8 @@
 -- The statistics of the next start: what a walk from it leaves.
-use Rattle.std.proofs.Common.{◌≡◌, ℕ, suc, ◌+◌, ◌-◌, true, false, cond, List, [], ◌∷◌, ◌++◌, drop, map, Result, Ok, Err, refl, sym, ap, ap₂, subst, ◌∙◌, arith}
+use Rattle.std.proofs.Common.{◌≡◌, ℕ, suc, ◌+◌, ◌-◌, true, false, cond, List, [], ◌∷◌, drop, map, Result, Ok, Err, refl, sym, ap, ap₂, subst, ◌∙◌, arith}
 use Rattle.std.specs.Prelude.{slice_get, Option, Some, codes, ◌==◌, flat_map, OnOk, Bool}
 use Rattle.std.specs.Io.KnownBytes.{Appends}
 use Rattle.std.specs.Option.{option_map_or}
-use Rattle.dbsurvey.specs.InOrder.{IsPast}
 use Rattle.dbsurvey.specs.Story.{Errand, Go, Follow, errands_at}
 use Rattle.dbformat.specs.Address.{start_of, freelist_start}
 use Rattle.dbformat.specs.Header.{encoding as encoding_of, first_trunk, page_size}
@@ -28,10 +27,10 @@ use Rattle.dbwalk.specs.declared.mark.Mark.{Mark}
 use Rattle.dbwalk.specs.declared.root.Root.{Root}
 use Rattle.dbreport.specs.Findings.{faults_in}
 use Rattle.dbreport.specs.Roots.{short_name}
-use Rattle.dbreport.specs.Starts.{AreListed, errands_from, root_of}
+use Rattle.dbreport.specs.Starts.{AreListed, errands_from}
 use Rattle.dbreport.specs.StatLines.{rows_told, tree_text}
 use Rattle.dbreport.specs.StatSink.{BeginsTree, Counts, Breaks, WritesBoth, failures_of_both, text_of}
-use Rattle.dbreport.specs.StatStarts.{Any, IsAt, BeginsAt, IsTreeWritten, IsWriting, StopsWriting}
+use Rattle.dbreport.specs.StatStarts.{Any, BeginsAt, IsTreeWritten, IsWriting, StopsWriting}
 use Rattle.dbreport.specs.Sums.{sums_of}
 use Rattle.dbreport.specs.TreeNames.{label_text}
 use Rattle.dbreport.specs.declared.stat_sink.StatSink.{StatSink}
@@ -84,7 +83,7 @@ module _ {O E : Type 0} (held : O → OutState) (held' : E → OutState) (file :
         let rest : List (Errand Way Event) = errands_from file (i + 1 + 1) (drop (i + 1) rows) in
         let d = root_reference file (i + 1) b.row in
         let left = begun_tree (Go d ∷ rest) marks s m b.row.name b.begins (subst (λ l. IsWriting held held' file V before U (errands_from file (i + 1) l) marks s) here h) in
-        let name : label_text m.label ≡ tree_name file V (start_of d.address) =
+        let name : label_text m.label.now ≡ tree_name file V (start_of d.address) =
         b.begins.named ∙ ap (λ e. option_map_or (shown_name e) (short_name b.row.name) (codes "?")) h.encoding ∙ listed_name file V rows i b.row listed is ∙ ap (tree_name file V) k in
         let next = root_next Any Any file [] (start_errands file V) tt U marks marks tt tt encoding (i + 1) b.row rest (survey_below_starts file V survey) left.at in
         tree_written held held' file V before U d rest marks marks' m t left r name (done d (subst (λ x. IsRootAfter file x U d marks) (sym b.root) next) left.summed)
@@ -110,7 +109,7 @@ module _ {O E : Type 0} (held : O → OutState) (held' : E → OutState) (file :
         none = rows_below file U (Go (freelist_reference first) ∷ []) (quiet_go (freelist_reference first)) ∙ freelist_rows file U (start freelist_start trunk first) refl
 
         no_text : text_of s (rows_told items) ≡ tree_text before.aggregate (tree_name file V freelist_start) (page_size file) (rows_told items)
-        no_text = rw none (pages_none s.aggregate (label_text s.label) s.label.page_size ∙ sym (no_tree before.aggregate (tree_name file V freelist_start) (page_size file)))
+        no_text = rw none (pages_none s.aggregate (label_text s.label.now) s.label.now.page_size ∙ sym (no_tree before.aggregate (tree_name file V freelist_start) (page_size file)))
 
         by_case : (r : Result A RunError) → Tells (Counts held held') (Breaks held held') r s items t → OnOk r (t.sums ≡ sums_of [])
         by_case (Ok u) told = (has_counted held held' items s t told).sums [] h.summed ∙ ap sums_of none

@@ -28,7 +28,7 @@ use Rattle.dbformat.specs.Story.{Event, at_page, at_key, at_refused, own_visit, 
 use Rattle.dbformat.specs.Survey.{Survey, rules_of}
 use Rattle.dbformat.specs.declared.Fault.{Fault}
 use Rattle.dbformat.proofs.Rising.{starts_rise}
-use Rattle.dbformat.proofs.Theory.{are_rules, is_story, shows_visits, no_tell}
+use Rattle.dbformat.proofs.Theory.{are_rules, is_story, shows_visits}
 use Rattle.dbwalk.specs.Finding.{told_row, told_fault, told_at, told_below, visited_below}
 use Rattle.dbwalk.proofs.Telling.Belows.{visited_none, told_join}
 use Rattle.dbreport.specs.Findings.{fault_in, faults_in}
@@ -77,12 +77,6 @@ pub rows_below : (file : List ℕ) (W : List Reference) (es : List (Errand Way E
 rows_below file W es quiet =
     in_list file W (telling_of (rules_of file) (story_of file) (geometry file).pages W es)
     ∙ ap (stat_rows file) (visits_of (rules_of file) (story_of file) (geometry file).pages (are_rules file) (is_story file) own_visit (shows_visits file) W es quiet)
-
--- from all starts they are those of the survey
-pub rows_are_told : (file : List ℕ) (V : List Reference) → Survey file V → rows_told (told_below file [] (start_errands file V)) ≡ stat_rows file V
-rows_are_told file V s =
-    rows_below file [] (start_errands file V) (λ e i. absurd (no_tell [] (starts file V) e i))
-    ∙ ap (stat_rows file) (all_visited file V s)
 
 -- the faults come errand by errand
 pub faults_joined : (file : List ℕ) (W : List Reference) (e : Errand Way Event) (es : List (Errand Way Event)) → AreQuiet own_visit (e ∷ [])

@@ -15,7 +15,6 @@ use Rattle.dbformat.specs.declared.Fault.{Fault}
 use Rattle.dbformat.specs.declared.Geometry.{Geometry}
 use Rattle.dbsource.specs.Outs.{Begins, OutState}
 use Rattle.dbsource.specs.declared.error.RunError.{RunError}
-use Rattle.dbwalk.specs.Finding.{Finding}
 use Rattle.dbwalk.specs.Marking.{AreMarksOf}
 use Rattle.dbwalk.specs.Outcomes.{Tells}
 use Rattle.dbwalk.specs.Telling.{findings}
@@ -119,8 +118,8 @@ module _ {O E : Type 0} (held : O → OutState) (held' : E → OutState) (file :
       marked = h.marked;
       writes = record {
         aggregate = ap (λ (s : StatSink O E). s.aggregate) p.rest ∙ h.writes.aggregate;
-        encoding = ap (λ (s : StatSink O E). s.label.encoding) p.rest ∙ h.writes.encoding;
-        page_size = ap (λ (s : StatSink O E). s.label.page_size) p.rest ∙ h.writes.page_size;
+        encoding = ap (λ (s : StatSink O E). s.label.now.encoding) p.rest ∙ h.writes.encoding;
+        page_size = ap (λ (s : StatSink O E). s.label.now.page_size) p.rest ∙ h.writes.page_size;
         found = λ n q. ap (λ (s : StatSink O E). s.found) p.rest ∙ h.writes.found n q;
         out = appends_append (held before.out.now).bytes (held t.out.now).bytes (held u.out.now).bytes trees (others true) h.writes.out
             (subst (λ l. Appends (held t.out.now).bytes (held u.out.now).bytes l) its_lines p.puts.held);

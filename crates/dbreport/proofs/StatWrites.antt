@@ -1,13 +1,12 @@
 -- What the sink of the statistics has written, call after call.
-use Rattle.std.proofs.Common.{◌≡◌, ℕ, ◌+◌, true, false, Bool, List, [], ◌∷◌, ◌++◌, length, Result, Ok, Err, refl, sym, ap, ◌∙◌, subst, arith, append_assoc, append-nil, length-append}
+use Rattle.std.proofs.Common.{◌≡◌, ℕ, ◌+◌, true, false, Bool, List, [], ◌∷◌, ◌++◌, length, Result, Ok, Err, refl, sym, ap, ◌∙◌, subst, arith, append-nil, length-append}
 use Rattle.std.specs.Prelude.{flat_map, OnOk}
 use Rattle.std.specs.Io.KnownBytes.{Appends}
 use Rattle.std.proofs.lemmas.Grind.{flat_map-append}
-use Rattle.dbsurvey.specs.Moves.{Moves}
 use Rattle.dbformat.specs.Lines.{counted, fault_line}
 use Rattle.dbformat.specs.Rows.{StatRow}
 use Rattle.dbformat.specs.declared.Fault.{Fault}
-use Rattle.dbsource.specs.Outs.{Begins, OutState, Puts}
+use Rattle.dbsource.specs.Outs.{OutState}
 use Rattle.dbsource.specs.declared.error.RunError.{RunError}
 use Rattle.dbsource.proofs.Puts.{appends_append, appends_nothing}
 use Rattle.dbwalk.specs.Finding.{Finding}
@@ -19,7 +18,7 @@ use Rattle.dbreport.specs.StatLines.{tree_text, rows_told}
 use Rattle.dbreport.specs.StatSink.{IsSameSink, text_of, pages_text, end_text, Counts, Breaks, HasWritten, HasBegun, WritesBoth}
 use Rattle.dbreport.specs.Sums.{sums_of}
 use Rattle.dbreport.specs.declared.stat_sink.StatSink.{StatSink}
-use Rattle.dbreport.proofs.Beginnings.{begins_nothing, begins_more, begins_after}
+use Rattle.dbreport.proofs.Beginnings.{begins_more, begins_after}
 use Rattle.dbreport.proofs.RunTold.{all_faults}
 use Rattle.dbreport.proofs.StatSinks.{has_counted, has_begun, pages_none}
 
@@ -96,7 +95,7 @@ module _ {O E : Type 0} (held : O → OutState) (held' : E → OutState) where
   pub faults_written : {A : Type 0} (r : Result A RunError) (fs : List Fault) (s t : StatSink O E) → Tells (Counts held held') (Breaks held held') r s (findings fs) t
       → WritesBoth held held' r s t [] fs
   faults_written r fs s t h =
-      subst (λ x. WritesBoth held held' r s t x fs) (ap (text_of s) (no_rows fs) ∙ pages_none s.aggregate (label_text s.label) s.label.page_size)
+      subst (λ x. WritesBoth held held' r s t x fs) (ap (text_of s) (no_rows fs) ∙ pages_none s.aggregate (label_text s.label.now) s.label.now.page_size)
       (subst (λ x. WritesBoth held held' r s t (text_of s (rows_told (findings fs))) x) (all_faults fs) (told_written r (findings fs) s t h))
 
   pub faults_kept : {A : Type 0} (r : Result A RunError) (fs : List Fault) (s t : StatSink O E) → Tells (Counts held held') (Breaks held held') r s (findings fs) t

@@ -9,7 +9,10 @@ use Rattle.dbformat.specs.declared.Fault.{Fault}
 use Rattle.dbformat.specs.declared.Geometry.{Geometry}
 use Rattle.dbformat.specs.declared.Verdict.{Verdict}
 use Rattle.dbformat.specs.declared.Verdict.TheVariants.{Clean, Faulty}
+use Rattle.dbsource.specs.Errors.{is_write_failed}
+use Rattle.dbsource.specs.Failures.{failures_after}
 use Rattle.dbsource.specs.Outs.{Begins, OutState, Puts}
+use Rattle.dbsource.specs.declared.error.RunError.{RunError}
 use Rattle.dbwalk.specs.Finding.{Finding, told_row, told_fault}
 use Rattle.dbwalk.specs.declared.mark.Mark.{Mark}
 use Rattle.dbreport.specs.CheckSink.{PutsAll, PutsPart}
@@ -32,13 +35,13 @@ end_text false name size rows = []
 
 -- what a sink writes of rows as they come
 abbrev pub text_of : {O E : Type 0} → StatSink O E → List StatRow → List ℕ
-text_of s rows = pages_text s.aggregate (label_text s.label) s.label.page_size rows
+text_of s rows = pages_text s.aggregate (label_text s.label.now) s.label.now.page_size rows
 
 -- it writes to the same Outs as before, with the same label and form
 pub record IsSameSink {O E : Type 0} (s t : StatSink O E) : Type 0 where
   pub out : t.out.ghost_name ≡ s.out.ghost_name
   pub err : t.err.ghost_name ≡ s.err.ghost_name
-  pub label : t.label ≡ s.label
+  pub label : t.label.now ≡ s.label.now
   pub aggregate : t.aggregate ≡ s.aggregate
 
 -- a row was taken: it was written, or counted for its tree's
@@ -83,6 +86,11 @@ Breaks out err s (told_fault f) t = CutsFault err s f t
 abbrev pub failures_of_both : OutState → OutState → ℕ
 failures_of_both out err = (out.failures + err.failures) % 2 ^ 64
 
+-- From one sink to the other both Outs together failed once, exactly where the answer is a failed write.
+abbrev pub Fails : {A O E : Type 0} → (O → OutState) → (E → OutState) → Result A RunError → StatSink O E → StatSink O E → Type 0
+Fails held held' r s t =
+    failures_of_both (held t.out.now) (held' t.err.now) ≡ failures_after is_write_failed r (failures_of_both (held s.out.now) (held' s.err.now))
+
 -- what was found, by the count of faults
 abbrev pub found_verdict : ℕ → Verdict
 found_verdict n = if n == 0 then Clean else Faulty n
@@ -90,8 +98,8 @@ found_verdict n = if n == 0 then Clean else Faulty n
 -- From one sink to the other these bytes were written to the first Out, and the lines of these faults to the second.
 pub record HasWritten {O E : Type 0} (held : O → OutState) (held' : E → OutState) (s t : StatSink O E) (text : List ℕ) (faults : List Fault) : Type 0 where
   pub aggregate : t.aggregate ≡ s.aggregate
-  pub encoding : t.label.encoding ≡ s.label.encoding
-  pub page_size : t.label.page_size ≡ s.label.page_size
+  pub encoding : t.label.now.encoding ≡ s.label.now.encoding
+  pub page_size : t.label.now.page_size ≡ s.label.now.page_size
   pub found : (n : ℕ) → s.found ≡ counted n → t.found ≡ counted (n + length faults)
   pub out : Appends (held s.out.now).bytes (held t.out.now).bytes text
   pub err : Appends (held' s.err.now).bytes (held' t.err.now).bytes (flat_map fault_line faults)
@@ -112,19 +120,19 @@ pub record BeginsTree {O E : Type 0} (s : StatSink O E) (name : Option (List ℕ
   pub aggregate : t.aggregate ≡ s.aggregate
   pub sums : t.sums ≡ s.sums
   pub found : t.found ≡ s.found
-  pub encoding : t.label.encoding ≡ s.label.encoding
-  pub page_size : t.label.page_size ≡ s.label.page_size
-  pub named : label_text t.label ≡ option_map_or (shown_name s.label.encoding) (short_name name) (codes "?")
+  pub encoding : t.label.now.encoding ≡ s.label.now.encoding
+  pub page_size : t.label.now.page_size ≡ s.label.now.page_size
+  pub named : label_text t.label.now ≡ option_map_or (shown_name s.label.now.encoding) (short_name name) (codes "?")
 
 -- A tree has ended: its own row was written, where its rows are added up, or a beginning of it.
 pub record EndsTree {O E A X : Type 0} (held : O → OutState) (r : Result A X) (s t : StatSink O E) : Type 0 where
   pub err : t.err.now ≡ s.err.now
   pub aggregate : t.aggregate ≡ s.aggregate
-  pub label : t.label ≡ s.label
+  pub label : t.label.now ≡ s.label.now
   pub found : t.found ≡ s.found
   pub sums : OnOk r (t.sums ≡ sums_of [])
   pub puts : (rows : List StatRow) → s.sums ≡ sums_of rows
-      → Puts r (held s.out.now) (held t.out.now) (end_text s.aggregate (label_text s.label) s.label.page_size rows)
+      → Puts r (held s.out.now) (held t.out.now) (end_text s.aggregate (label_text s.label.now) s.label.now.page_size rows)
 
 -- The rows of the other pages were written, as the marks tell them, or a beginning of them.
 pub record PutsOthers {O E A X : Type 0} (held : O → OutState) (r : Result A X) (g : Geometry) (marks : List Mark) (s t : StatSink O E) : Type 0 where

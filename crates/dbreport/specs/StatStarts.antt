@@ -42,7 +42,7 @@ IsAt file V U left marks = IsLeft Any file [] (start_errands file V) tt U left m
 -- faults written; or after an error a beginning of them.
 pub record IsTreeWritten {O E A : Type 0} (held : O → OutState) (held' : E → OutState) (file : List ℕ) (U : List Reference) (c : Reference) (r : Result A RunError) (marks : List Mark) (s t : StatSink O E) : Type 0 where
   pub marked : OnOk r (AreMarksOf file (U ++ visited_below file U (Go c ∷ [])) marks)
-  pub writes : WritesBoth held held' r s t (tree_text s.aggregate (label_text s.label) s.label.page_size (rows_told (told_below file U (Go c ∷ [])))) (faults_told file U (Go c ∷ []))
+  pub writes : WritesBoth held held' r s t (tree_text s.aggregate (label_text s.label.now) s.label.now.page_size (rows_told (told_below file U (Go c ∷ [])))) (faults_told file U (Go c ∷ []))
   pub summed : OnOk r (t.sums ≡ sums_of [])
 
 -- In the midst of the starts: what is still to be written, behind what was, is all that is to be written of them.
@@ -53,8 +53,8 @@ pub record IsWriting {O E : Type 0} (held : O → OutState) (held' : E → OutSt
   pub written : HasWritten held held' before now text faults
   pub rest : text ++ starts_text before.aggregate file V U left ≡ starts_text before.aggregate file V [] (start_errands file V)
   pub rest_faults : faults ++ faults_told file U left ≡ faults_told file [] (start_errands file V)
-  pub encoding : now.label.encoding ≡ encoding file
-  pub page_size : now.label.page_size ≡ page_size file
+  pub encoding : now.label.now.encoding ≡ encoding file
+  pub page_size : now.label.now.page_size ≡ page_size file
   pub summed : now.sums ≡ sums_of []
 
 -- something is left after some visits, or an error stopped it
@@ -77,9 +77,9 @@ pub record IsSchemaWritten {O E A : Type 0} (held : O → OutState) (held' : E �
 
 -- the sink is that of the file's schema, and was told no row yet
 pub record IsForSchema {O E : Type 0} (file : List ℕ) (s : StatSink O E) : Type 0 where
-  pub name : label_text s.label ≡ codes "sqlite_schema"
-  pub encoding : s.label.encoding ≡ encoding file
-  pub page_size : s.label.page_size ≡ page_size file
+  pub name : label_text s.label.now ≡ codes "sqlite_schema"
+  pub encoding : s.label.now.encoding ≡ encoding file
+  pub page_size : s.label.now.page_size ≡ page_size file
   pub summed : s.sums ≡ sums_of []
 
 -- what is written of all rows: of the trees, and of the other pages, where they are asked for

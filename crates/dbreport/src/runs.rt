@@ -7,10 +7,11 @@ ghost use Rattle.dbformat.specs.Reference.{Reference};
 ghost use Rattle.dbformat.specs.Report.{report};
 ghost use Rattle.dbformat.specs.Sound.{Sound};
 ghost use Rattle.dbformat.specs.Survey.{Survey, survey};
-ghost use Rattle.dbformat.specs.declared.Command.TheVariants.{Check};
+ghost use Rattle.dbformat.specs.declared.Command.TheVariants.{Check, Stat};
 ghost use Rattle.dbformat.specs.declared.Verdict.TheVariants.{Clean};
 ghost use Rattle.dbreport.specs.DeskSizes.{DeskFitsInMemory};
-ghost use Rattle.dbreport.specs.Runs.{IsAnswerOf, IsCheck, IsUnwritten};
+ghost use Rattle.dbreport.specs.Runs.{CountsAllPages, IsAnswerOf, IsCheck, IsUnwritten};
+ghost use Rattle.dbreport.specs.StatSink.{failures_of_both};
 ghost use Rattle.dbsource.specs.Errors.{is_out_of_memory, is_read_failed, is_write_failed};
 ghost use Rattle.dbsource.specs.Failures.{failures_after};
 ghost use Rattle.dbsource.specs.Headers.{IsHeaderOf};
@@ -20,24 +21,80 @@ ghost use Rattle.dbwalk.specs.Outcomes.{IsReadWriteOrMemory};
 
 use crate::Desk;
 use crate::checking::check;
+use crate::statistics::{Form, stat};
 use dbformat::{Command, Verdict};
 use dbsource::{Header, Out, RunError, Source};
 use std::alloc::Allocator;
 
-// How many faults a check shows.
-fn limit_of(command: Command) -> u32
-    requires check { IsCheck command }
-    ensures { command ≡ Check result }
+// A check of the file whose header is on the desk.
+fn check_on<A: Allocator, S: Source, O: Out>(
+    limit: u32,
+    desk: &mut Desk<A>,
+    source: &mut S,
+    out: &mut O,
+) -> Result<Verdict, RunError>
+    ensures out { IfSome (S.held source.old).bytes (λ file. IsHeaderOf desk.old.header file → (V : List Reference) → Survey file V
+        → Writes result (O.held out.old).bytes (O.held out.new).bytes (report (Check limit) file V).out) }
+    ensures verdict { IfOk result (λ v. IfSome (S.held source.old).bytes (λ file. IsHeaderOf desk.old.header file
+        → (V : List Reference) → Survey file V → (report (Check limit) file V).answer ≡ Ok v)) }
+    ensures asks { Asks S.step (IsPageLog (geometry_of desk.old.header.bytes desk.old.header.file_len)) is_read_failed result
+        (S.held source.old) (S.held source.new) }
+    ensures out_failures { (O.held out.new).failures ≡ failures_after is_write_failed result (O.held out.old).failures }
+    ensures refusals { desk.new.roots.refusals ≡ failures_after is_out_of_memory result desk.old.roots.refusals }
+    ensures only { IfErr result IsReadWriteOrMemory }
+    ensures header { desk.new.header ≡ desk.old.header }
 {
-    match command {
-        Command::Check { limit } => limit,
-        Command::Stat { .. } => unreachable!(),
-    }
+    desk.marks.clear();
+    desk.roots.clear();
+    check(
+        limit,
+        &desk.header,
+        source,
+        &mut desk.bench,
+        &mut desk.marks,
+        &mut desk.roots,
+        out,
+    )
+}
+
+// The statistics of the file whose header is on the desk.
+fn stat_on<A: Allocator, S: Source, O: Out, E: Out>(
+    form: Form,
+    desk: &mut Desk<A>,
+    source: &mut S,
+    out: &mut O,
+    err: &mut E,
+) -> Result<Verdict, RunError>
+    ensures out { IfSome (S.held source.old).bytes (λ file. IsHeaderOf desk.old.header file → (V : List Reference) → Survey file V
+        → Writes result (O.held out.old).bytes (O.held out.new).bytes (report (Stat form.aggregate form.all) file V).out) }
+    ensures err { IfSome (S.held source.old).bytes (λ file. IsHeaderOf desk.old.header file → (V : List Reference) → Survey file V
+        → Writes result (E.held err.old).bytes (E.held err.new).bytes (report (Stat form.aggregate form.all) file V).err) }
+    ensures verdict { IfOk result (λ v. IfSome (S.held source.old).bytes (λ file. IsHeaderOf desk.old.header file
+        → (V : List Reference) → Survey file V → (report (Stat form.aggregate form.all) file V).answer ≡ Ok v)) }
+    ensures asks { Asks S.step (IsPageLog (geometry_of desk.old.header.bytes desk.old.header.file_len)) is_read_failed result
+        (S.held source.old) (S.held source.new) }
+    ensures writes { failures_of_both (O.held out.new) (E.held err.new) ≡ failures_after is_write_failed result (failures_of_both (O.held out.old) (E.held err.old)) }
+    ensures refusals { desk.new.roots.refusals ≡ failures_after is_out_of_memory result desk.old.roots.refusals }
+    ensures only { IfErr result IsReadWriteOrMemory }
+    ensures header { desk.new.header ≡ desk.old.header }
+{
+    desk.marks.clear();
+    desk.roots.clear();
+    stat(
+        form,
+        &desk.header,
+        source,
+        &mut desk.bench,
+        &mut desk.marks,
+        &mut desk.roots,
+        out,
+        err,
+    )
 }
 
 /// Writes what `command` asks of the file whose header is on the desk: for a check the fault lines to `out`, and nothing to
-/// `err`. It is called for checks alone until it writes the statistics. The header is not read again, and a desk may be used
-/// any number of times. Only the list of roots takes memory.
+/// `err`; for the statistics the rows to `out`, and all fault lines to `err`. The header is not read again, and a desk may be
+/// used any number of times. Only the list of roots takes memory.
 ///
 /// # Errors
 ///
@@ -51,7 +108,6 @@ pub fn run_on<A: Allocator, S: Source, O: Out, E: Out>(
     out: &mut O,
     err: &mut E,
 ) -> Result<Verdict, RunError>
-    requires check { IsCheck command }
     // Where the source tells its bytes, and the header is theirs: by any survey of them each Out got its part.
     ensures out { IfSome (S.held source.old).bytes (λ file. IsHeaderOf desk.old.header file → (V : List Reference) → Survey file V
         → Writes result (O.held out.old).bytes (O.held out.new).bytes (report command file V).out) }
@@ -62,29 +118,25 @@ pub fn run_on<A: Allocator, S: Source, O: Out, E: Out>(
     // Whatever the source answers.
     ensures asks { Asks S.step (IsPageLog (geometry_of desk.old.header.bytes desk.old.header.file_len)) is_read_failed result
         (S.held source.old) (S.held source.new) }
-    ensures out_failures { (O.held out.new).failures ≡ failures_after is_write_failed result (O.held out.old).failures }
-    ensures second_out { E.held err.new ≡ E.held err.old }
+    ensures writes { failures_of_both (O.held out.new) (E.held err.new) ≡ failures_after is_write_failed result (failures_of_both (O.held out.old) (E.held err.old)) }
+    // A check writes to the first Out alone.
+    ensures out_failures { IsCheck command → (O.held out.new).failures ≡ failures_after is_write_failed result (O.held out.old).failures }
+    ensures second_out { IsCheck command → E.held err.new ≡ E.held err.old }
     ensures refusals { desk.new.roots.refusals ≡ failures_after is_out_of_memory result desk.old.roots.refusals }
     ensures only { IfErr result IsReadWriteOrMemory }
     ensures header { desk.new.header ≡ desk.old.header }
 {
-    let _ = err;
-    desk.marks.clear();
-    desk.roots.clear();
-    check(
-        limit_of(command),
-        &desk.header,
-        source,
-        &mut desk.bench,
-        &mut desk.marks,
-        &mut desk.roots,
-        out,
-    )
+    match command {
+        Command::Check { limit } => check_on(limit, desk, source, out),
+        Command::Stat { aggregate, all } => {
+            stat_on(Form { aggregate, all }, desk, source, out, err)
+        }
+    }
 }
 
 /// Reads the database that `source` gives, and writes what `command` asks of it: for a check the fault lines to `out`,
-/// and nothing to `err`. It is called for checks alone until it writes the statistics. What it keeps of the file stands on
-/// a [`Desk`], in memory from `alloc`.
+/// and nothing to `err`; for the statistics the rows to `out`, and all fault lines to `err`. What it keeps of the file
+/// stands on a [`Desk`], in memory from `alloc`.
 ///
 /// # Errors
 ///
@@ -98,7 +150,6 @@ pub fn run<A: Allocator + Copy, S: Source, O: Out, E: Out>(
     out: &mut O,
     err: &mut E,
 ) -> Result<Verdict, RunError>
-    requires check { IsCheck command }
     // What is kept of the file is no larger than memory, as is so unless the allocator itself is about that large.
     requires fits { DeskFitsInMemory A.row A.Allocator }
     // Where the source tells its bytes: the file has a survey, and by any survey of it each Out got its part.
@@ -110,6 +161,8 @@ pub fn run<A: Allocator + Copy, S: Source, O: Out, E: Out>(
     ensures verdict { IfOk result (λ v. IfSome (S.held source.old).bytes (λ file. (V : List Reference) → Survey file V
         → (report command file V).answer ≡ Ok v)) }
     ensures answer { IfSome (S.held source.old).bytes (IsAnswerOf result) }
+    // The rows of all pages count each page once.
+    ensures counts { IfSome (S.held source.old).bytes (λ file. (V : List Reference) → Survey file V → CountsAllPages command file V) }
     // `Clean` is what a sound file is answered, and no other.
     ensures sound { IfOk result (λ v. IfSome (S.held source.old).bytes (λ file. v ≡ Clean ↔ Sound file)) }
     ensures log { IfSome (S.held source.old).bytes (λ file. HasLog S.step (IsRunLog (geometry file)) (S.held source.old).trail (S.held source.new).trail) }
@@ -117,8 +170,10 @@ pub fn run<A: Allocator + Copy, S: Source, O: Out, E: Out>(
     // Whatever the source answers.
     ensures asks { Asks S.step IsSomeRunLog is_read_failed result (S.held source.old) (S.held source.new) }
     ensures unwritten { IsUnwritten result (O.held out.old).bytes (O.held out.new).bytes }
-    ensures out_failures { (O.held out.new).failures ≡ failures_after is_write_failed result (O.held out.old).failures }
-    ensures second_out { E.held err.new ≡ E.held err.old }
+    ensures writes { failures_of_both (O.held out.new) (E.held err.new) ≡ failures_after is_write_failed result (failures_of_both (O.held out.old) (E.held err.old)) }
+    // A check writes to the first Out alone.
+    ensures out_failures { IsCheck command → (O.held out.new).failures ≡ failures_after is_write_failed result (O.held out.old).failures }
+    ensures second_out { IsCheck command → E.held err.new ≡ E.held err.old }
 {
     let header = Header::read(source)?;
     let mut desk = Desk::new_in(alloc, header)?;

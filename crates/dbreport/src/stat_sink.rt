@@ -25,7 +25,7 @@ use std::alloc::Allocator;
 pub(crate) struct StatSink<'a, O, E> {
     out: &'a mut O,
     err: &'a mut E,
-    label: Label,
+    label: &'a mut Label,
     aggregate: bool,
     sums: Sums,
     found: u64,
@@ -36,14 +36,14 @@ impl<'a, O: Out, E: Out> StatSink<'a, O, E> {
     pub(crate) fn new(
         out: &'a mut O,
         err: &'a mut E,
-        label: Label,
+        label: &'a mut Label,
         aggregate: bool,
     ) -> StatSink<'a, O, E>
         ensures same_out { result.out.ghost_name ≡ out.entry.ghost_name }
         ensures same_err { result.err.ghost_name ≡ err.entry.ghost_name }
         ensures out { result.out.now ≡ out.old }
         ensures err { result.err.now ≡ err.old }
-        ensures label { result.label ≡ label }
+        ensures label { result.label.now ≡ label.old }
         ensures aggregate { result.aggregate ≡ aggregate }
         ensures sums { result.sums ≡ sums_of [] }
         ensures found { result.found ≡ 0 }
@@ -74,7 +74,7 @@ impl<'a, O: Out, E: Out> StatSink<'a, O, E> {
         ensures ends { EndsTree O.held result self.old self.new }
         ensures count { (O.held self.new.out.now).failures ≡ failures_after is_any result (O.held self.old.out.now).failures }
     {
-        put_sums(self.out, &self.label, self.aggregate, &self.sums)?;
+        put_sums(self.out, self.label, self.aggregate, &self.sums)?;
         self.sums = Sums::new();
         Ok(())
     }
@@ -122,7 +122,7 @@ impl<O: Out, E: Out> Sink for StatSink<'_, O, E> {
 
     fn row(&mut self, row: &Row<'_>) -> Result<(), WriteFailed> {
         if !self.aggregate {
-            put_page_row(self.out, &self.label, row)?;
+            put_page_row(self.out, self.label, row)?;
         }
         self.sums.add(row);
         Ok(())

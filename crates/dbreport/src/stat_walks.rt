@@ -5,7 +5,7 @@ ghost use Rattle.dbformat.specs.File.{geometry as shape_of};
 ghost use Rattle.dbformat.specs.Header.{encoding as encoding_of};
 ghost use Rattle.dbformat.specs.Reference.{Reference};
 ghost use Rattle.dbformat.specs.Survey.{Survey};
-ghost use Rattle.dbsource.specs.Errors.{is_out_of_memory, is_read_failed, is_write_failed};
+ghost use Rattle.dbsource.specs.Errors.{is_out_of_memory, is_read_failed};
 ghost use Rattle.dbsource.specs.Failures.{failures_after};
 ghost use Rattle.dbsource.specs.Headers.{IsHeaderOf};
 ghost use Rattle.dbsource.specs.Sources.{Asks};
@@ -15,7 +15,7 @@ ghost use Rattle.dbwalk.specs.Reads.{Reads};
 ghost use Rattle.dbwalk.specs.Roots.{IsRootAfter};
 ghost use Rattle.dbwalk.specs.declared.root.RootKind.TheVariants as root_kind;
 ghost use Rattle.dbreport.specs.Starts.{AreListed, errands_from};
-ghost use Rattle.dbreport.specs.StatSink.{failures_of_both};
+ghost use Rattle.dbreport.specs.StatSink.{Fails};
 ghost use Rattle.dbreport.specs.StatStarts.{AreWritten, BeginsAt, IsForSchema, IsSchemaWritten, IsTreeWritten, IsWriting, StopsWriting};
 ghost use Rattle.dbreport.specs.Sums.{sums_of};
 
@@ -44,7 +44,7 @@ fn stat_tree<A: Allocator, S: Source, O: Out, E: Out>(
     ensures shape { bench.new.geometry ≡ bench.old.geometry }
     ensures roots { roots.new ≡ roots.old }
     ensures asks { Asks S.step (Reads bench.old.geometry.page_size marks.old marks.new) is_read_failed result (S.held source.old) (S.held source.new) }
-    ensures writes { failures_of_both (O.held sink.new.out.now) (E.held sink.new.err.now) ≡ failures_after is_write_failed result (failures_of_both (O.held sink.old.out.now) (E.held sink.old.err.now)) }
+    ensures writes { Fails O.held E.held result sink.old sink.new }
     ensures only { IfErr result IsReadOrWrite }
     ensures done { IfSome (S.held source.old).bytes (λ file. bench.old.geometry ≡ shape_of file → root.encoding ≡ encoding_of file
         → (W : List Reference) (c : Reference) → IsRootAfter file root W c marks.old → sink.old.sums ≡ sums_of []
@@ -92,7 +92,7 @@ fn stat_roots<A: Allocator, S: Source, O: Out, E: Out>(
     ensures shape { bench.new.geometry ≡ bench.old.geometry }
     ensures roots { roots.new ≡ roots.old }
     ensures asks { Asks S.step (Reads bench.old.geometry.page_size marks.old marks.new) is_read_failed result (S.held source.old) (S.held source.new) }
-    ensures writes { failures_of_both (O.held sink.new.out.now) (E.held sink.new.err.now) ≡ failures_after is_write_failed result (failures_of_both (O.held sink.old.out.now) (E.held sink.old.err.now)) }
+    ensures writes { Fails O.held E.held result sink.old sink.new }
     ensures only { IfErr result IsReadOrWrite }
     ensures done { IfSome (S.held source.old).bytes (λ file. bench.old.geometry ≡ shape_of file → encoding ≡ encoding_of file
         → (V : List Reference) → Survey file V → AreListed file V roots.old.rows → (before : StatSink O E) (U : List Reference)
@@ -120,7 +120,7 @@ fn stat_later<A: Allocator, S: Source, O: Out, E: Out>(
     ensures shape { bench.new.geometry ≡ bench.old.geometry }
     ensures roots { roots.new ≡ roots.old }
     ensures asks { Asks S.step (Reads bench.old.geometry.page_size marks.old marks.new) is_read_failed result (S.held source.old) (S.held source.new) }
-    ensures writes { failures_of_both (O.held sink.new.out.now) (E.held sink.new.err.now) ≡ failures_after is_write_failed result (failures_of_both (O.held sink.old.out.now) (E.held sink.old.err.now)) }
+    ensures writes { Fails O.held E.held result sink.old sink.new }
     ensures only { IfErr result IsReadOrWrite }
     ensures done { IfSome (S.held source.old).bytes (λ file. IsHeaderOf header.now file → bench.old.geometry ≡ shape_of file
         → (V : List Reference) → Survey file V → AreListed file V roots.old.rows → (before : StatSink O E) (U : List Reference)
@@ -150,7 +150,7 @@ fn stat_schema<A: Allocator, S: Source, O: Out, E: Out>(
     ensures same_err { watch.new.sink.err.ghost_name ≡ watch.old.sink.err.ghost_name }
     ensures shape { bench.new.geometry ≡ bench.old.geometry }
     ensures asks { Asks S.step (Reads bench.old.geometry.page_size marks.old marks.new) is_read_failed result (S.held source.old) (S.held source.new) }
-    ensures writes { failures_of_both (O.held watch.new.sink.out.now) (E.held watch.new.sink.err.now) ≡ failures_after is_write_failed result (failures_of_both (O.held watch.old.sink.out.now) (E.held watch.old.sink.err.now)) }
+    ensures writes { Fails O.held E.held result watch.old.sink watch.new.sink }
     ensures refusals { roots.new.refusals ≡ failures_after is_out_of_memory result roots.old.refusals }
     ensures only { IfErr result IsReadWriteOrMemory }
     ensures done { IfSome (S.held source.old).bytes (λ file. IsHeaderOf header.now file → bench.old.geometry ≡ shape_of file
@@ -182,7 +182,7 @@ pub(crate) fn stat_starts<A: Allocator, S: Source, O: Out, E: Out>(
     ensures same_err { watch.new.sink.err.ghost_name ≡ watch.old.sink.err.ghost_name }
     ensures shape { bench.new.geometry ≡ bench.old.geometry }
     ensures asks { Asks S.step (Reads bench.old.geometry.page_size marks.old marks.new) is_read_failed result (S.held source.old) (S.held source.new) }
-    ensures writes { failures_of_both (O.held watch.new.sink.out.now) (E.held watch.new.sink.err.now) ≡ failures_after is_write_failed result (failures_of_both (O.held watch.old.sink.out.now) (E.held watch.old.sink.err.now)) }
+    ensures writes { Fails O.held E.held result watch.old.sink watch.new.sink }
     ensures refusals { roots.new.refusals ≡ failures_after is_out_of_memory result roots.old.refusals }
     ensures only { IfErr result IsReadWriteOrMemory }
     ensures done { IfSome (S.held source.old).bytes (λ file. IsHeaderOf header.now file → bench.old.geometry ≡ shape_of file → AreMarksOf file [] marks.old

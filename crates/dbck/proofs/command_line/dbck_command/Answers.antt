@@ -14,4 +14,5 @@ returns c =
     let first : app_of c.version.result ≡ versioned (new_app (codes "dbck")) = ap app_of_fields c.version.ensures ∙ ap versioned c.described.ensures.app in
     let top : app_of c.subcommand_required.result ≡ required (versioned (new_app (codes "dbck"))) =
     ap app_of_fields c.subcommand_required.ensures ∙ ap required first in
-    c.in_ok-command.ensures.shape c.in_ok-check_command.ensures.1 ∙ ap₂ with_subcommand top (ap (λ (a : App). a.top) c.in_ok-check_command.ensures.0)
+    let check = c.in_ok-subcommand.ensures.shape c.in_ok-check_command.ensures.1 ∙ ap₂ with_subcommand top (ap (λ (a : App). a.top) c.in_ok-check_command.ensures.0) in
+    c.in_ok-command.ensures.shape c.in_ok-stat_command.ensures.1 ∙ ap₂ with_subcommand check (ap (λ (a : App). a.top) c.in_ok-stat_command.ensures.0)

@@ -20,4 +20,5 @@ returns-in-Some-command_of-clause-says c =
       rows = found;
       named = sym (matched.1 ∙ ap (λ a. subcommand_of a (map (λ word. word.now) c.args.words.now)) app) ∙ met ∙ ap (λ n. Some (n, found)) c.in-Some-command_of.ensures.named;
       file_given = sym (first_value-rows (found_of c.in-Some.given.now) (codes "FILE")) ∙ sym file;
+      flags = c.in-Some-command_of.ensures.flags;
     }

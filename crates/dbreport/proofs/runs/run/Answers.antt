@@ -15,9 +15,10 @@ use Rattle.dbsource.specs.declared.error.RunError.TheVariants.{OutOfMemory}
 use Rattle.dbsource.proofs.Logs.{asks_then, asks_weaker, has_append, has_weaker, open_failures}
 use Rattle.dbsource.proofs.Told.{if_told, told_all}
 use Rattle.dbwalk.proofs.Chaining.ChainTurns.{if_some_moved}
+use Rattle.dbreport.specs.StatSink.{failures_of_both}
 use Rattle.dbreport.proofs.RunAnswers.{if_ok_told, not_short, read_answer, read_unwritten, refused_answer, refused_failures, refused_unwritten}
 use Rattle.dbreport.proofs.RunLogs.{opened_log, opened_some_log, read_log}
-use Rattle.dbreport.proofs.RunReports.{begins_nothing}
+use Rattle.dbreport.proofs.RunReports.{begins_nothing, counts_all}
 use Rattle.dbreport.proofs.runs.run.Goals as goal
 
 -- ---- the header was not read
@@ -47,9 +48,14 @@ returns-in_err-header-clause-answer g c =
     rw q.1 (rw q.2 (if_told (g.S.Source.held c.args.source.now).bytes (λ file h. refused_answer file c.in_err-header.field-0.0 h) c.in_err-header.ensures.refusal))
 
 pub returns-in_err-header-clause-out_failures : goal.returns-in_err-header-clause-out_failures
-returns-in_err-header-clause-out_failures g c =
+returns-in_err-header-clause-out_failures g c = λ check.
     let q = err_from_is_err_and c.from_residual.result c.from_residual.ensures.1 in
     rw q.1 (rw q.2 (refused_failures c.in_err-header.field-0.0 (g.O.Out.held c.args.out.now).failures))
+
+pub returns-in_err-header-clause-writes : goal.returns-in_err-header-clause-writes
+returns-in_err-header-clause-writes g c =
+    let q = err_from_is_err_and c.from_residual.result c.from_residual.ensures.1 in
+    rw q.1 (rw q.2 (refused_failures c.in_err-header.field-0.0 (failures_of_both (g.O.Out.held c.args.out.now) (g.E.Out.held c.args.err.now))))
 
 pub returns-in_err-header-clause-log : goal.returns-in_err-header-clause-log
 returns-in_err-header-clause-log g c = told_all (g.S.Source.held c.args.source.now).bytes (λ file. has_weaker (IsOpenLog c.read.result) c.read.ensures.asks.log (opened_log (geometry file) c.read.result))
@@ -149,4 +155,15 @@ pub new_in-requires : goal.new_in-requires
 new_in-requires g c = c.requires.fits
 
 pub run_on-requires : goal.run_on-requires
-run_on-requires g c = (c.requires.fits, c.requires.check)
+run_on-requires g c = c.requires.fits
+
+-- ---- what the rows count
+
+pub returns-in_err-header-clause-counts : goal.returns-in_err-header-clause-counts
+returns-in_err-header-clause-counts g c = told_all (g.S.Source.held c.args.source.now).bytes (λ file V s. counts_all c.args.command file V s)
+
+pub returns-in_err-desk-clause-counts : goal.returns-in_err-desk-clause-counts
+returns-in_err-desk-clause-counts g c = told_all (g.S.Source.held c.args.source.now).bytes (λ file V s. counts_all c.args.command file V s)
+
+pub returns-clause-counts : goal.returns-clause-counts
+returns-clause-counts g c = told_all (g.S.Source.held c.args.source.now).bytes (λ file V s. counts_all c.args.command file V s)

@@ -1,25 +1,26 @@
-use Rattle.std.proofs.Common.{sym, ap, ◌∙◌, subst}
-use Rattle.dbsource.specs.Headers.{IsHeaderOf}
-use Rattle.dbsource.proofs.Told.{if_told, told_all}
-use Rattle.dbreport.specs.Desks.{Things}
-use Rattle.dbreport.proofs.RunAnswers.{if_ok}
-use Rattle.dbreport.proofs.RunReports.{writes_out, writes_err, answer_is}
+use Rattle.dbsource.proofs.Told.{told_all}
+use Rattle.dbreport.proofs.RunAnswers.{both_failures}
+use Rattle.dbreport.proofs.RunReports.{check_err}
 use Rattle.dbreport.proofs.runs.run_on.Goals as goal
 
-pub returns-clause-out : goal.returns-clause-out
-returns-clause-out g c = if_told (g.S.Source.held c.args.source.now).bytes (λ file text is V s.
-    let own = subst (λ h. IsHeaderOf h file) (sym (ap (λ (d : Things). d.header) c.desk.view_is)) is in
-    writes_out c.args.command c.limit_of.result c.limit_of.ensures file V is.is_read c.check.result (g.O.Out.held c.args.out.now).bytes (g.O.Out.held c.check.new.out).bytes
-    (text own (c.desk.invariant.shape ∙ own.shape) V s))
-    c.check.ensures.text
+pub returns-in-Check-clause-out : goal.returns-in-Check-clause-out
+returns-in-Check-clause-out g c = rw c.in-Check.is c.check_on.ensures.out
 
-pub returns-clause-err : goal.returns-clause-err
-returns-clause-err g c = told_all (g.S.Source.held c.args.source.now).bytes (λ file is V s.
-    writes_err c.args.command c.limit_of.result c.limit_of.ensures file V is.is_read c.check.result (g.E.Out.held c.args.err.now).bytes)
+pub returns-in-Check-clause-err : goal.returns-in-Check-clause-err
+returns-in-Check-clause-err g c = rw c.in-Check.is (told_all (g.S.Source.held c.args.source.now).bytes (λ file is V s.
+    check_err c.in-Check.limit file V is.is_read c.check_on.result (g.E.Out.held c.args.err.now).bytes))
 
-pub returns-clause-verdict : goal.returns-clause-verdict
-returns-clause-verdict g c = if_ok c.check.result (λ v told. if_told (g.S.Source.held c.args.source.now).bytes (λ file found is V s.
-    let own = subst (λ h. IsHeaderOf h file) (sym (ap (λ (d : Things). d.header) c.desk.view_is)) is in
-    answer_is c.args.command c.limit_of.result c.limit_of.ensures file V is.is_read v (found own (c.desk.invariant.shape ∙ own.shape) V s))
-    told)
-    c.check.ensures.verdict
+pub returns-in-Check-clause-verdict : goal.returns-in-Check-clause-verdict
+returns-in-Check-clause-verdict g c = rw c.in-Check.is c.check_on.ensures.verdict
+
+pub returns-in-Check-clause-writes : goal.returns-in-Check-clause-writes
+returns-in-Check-clause-writes g c = both_failures c.check_on.result (g.O.Out.held c.args.out.now).failures (g.O.Out.held c.check_on.new.out).failures (g.E.Out.held c.args.err.now).failures c.check_on.ensures.out_failures
+
+pub returns-in-Stat-clause-out : goal.returns-in-Stat-clause-out
+returns-in-Stat-clause-out g c = rw c.in-Stat.is c.stat_on.ensures.out
+
+pub returns-in-Stat-clause-err : goal.returns-in-Stat-clause-err
+returns-in-Stat-clause-err g c = rw c.in-Stat.is c.stat_on.ensures.err
+
+pub returns-in-Stat-clause-verdict : goal.returns-in-Stat-clause-verdict
+returns-in-Stat-clause-verdict g c = rw c.in-Stat.is c.stat_on.ensures.verdict

@@ -1,13 +1,12 @@
-use Rattle.std.proofs.Common.{rules, ◌≡◌, ◌+◌, ◌-◌, ℕ, List, [], ◌∷◌, drop, length, Err, Ok, refl, sym, ap, subst, ◌∙◌, arith}
+use Rattle.std.proofs.Common.{◌≡◌, ◌+◌, [], drop, length, Err, Ok, refl, sym, ap, subst, ◌∙◌, arith}
 use Rattle.std.proofs.lemmas.Result.{err_from_is_err_and}
-use Rattle.dbsource.specs.Errors.{is_read_failed, is_write_failed}
+use Rattle.dbsource.specs.Errors.{is_read_failed}
 use Rattle.dbsource.specs.Failures.{failures_after}
 use Rattle.dbwalk.proofs.Chaining.ChainTurns.{if_some_all, if_some_moved}
 use Rattle.dbwalk.proofs.Chaining.Overflows.{if_some_map}
 use Rattle.dbwalk.proofs.Marking.Readings.{log_none, log_then}
 use Rattle.dbreport.specs.Roots.{Listed}
 use Rattle.dbreport.specs.Starts.{errands_from}
-use Rattle.dbreport.specs.StatSink.{failures_of_both}
 use Rattle.dbreport.specs.StatStarts.{BeginsAt, IsWriting, StopsWriting}
 use Rattle.dbreport.proofs.Starts.{drop_none}
 use Rattle.dbreport.proofs.StatSteps.{root_written, begun_encoding, begun_failures}

@@ -1,4 +1,4 @@
-use Rattle.std.proofs.Common.{[], Err, Ok, sym, ap, subst, ◌∙◌}
+use Rattle.std.proofs.Common.{[], Err, sym, ap, subst, ◌∙◌}
 use Rattle.std.proofs.lemmas.Result.{err_from_is_err_and}
 use Rattle.dbwalk.proofs.Chaining.Overflows.{if_some_map}
 use Rattle.dbreport.specs.Starts.{schema_reference}

@@ -1,4 +1,4 @@
-use Rattle.std.proofs.Common.{Err, Ok, [], refl, sym, ap, ◌∙◌, subst}
+use Rattle.std.proofs.Common.{Err, [], refl, sym, ap, ◌∙◌, subst}
 use Rattle.std.proofs.lemmas.Result.{err_from_is_err_and}
 use Rattle.dbformat.specs.Log.{HasLog}
 use Rattle.dbsource.specs.Errors.{is_read_failed}

@@ -1,13 +1,13 @@
 use Rattle.std.specs.Prelude.{◌==◌}
 use Rattle.std.proofs.lemmas.Bool.Decides.{nat_tests}
-use Rattle.std.proofs.Common.{false, rules, ◌≡◌, ◌+◌, List, [], ◌∷◌, length, Err, Ok, refl, sym, ap, subst, ◌∙◌, arith}
+use Rattle.std.proofs.Common.{false, ◌≡◌, ◌+◌, length, Err, sym, ap, subst, ◌∙◌, arith}
 use Rattle.std.proofs.lemmas.Result.{err_from_is_err_and}
 use Rattle.dbformat.specs.Header.{encoding, first_trunk}
 use Rattle.dbformat.proofs.HeaderPrefix.{first_trunk_within}
 use Rattle.dbsource.specs.Errors.{is_read_failed}
 use Rattle.dbsource.specs.Failures.{failures_after}
 use Rattle.dbwalk.specs.Done.{IsDone}
-use Rattle.dbwalk.proofs.Chaining.ChainTurns.{if_some_all, if_some_moved}
+use Rattle.dbwalk.proofs.Chaining.ChainTurns.{if_some_moved}
 use Rattle.dbwalk.proofs.Chaining.Overflows.{if_some_map}
 use Rattle.dbwalk.proofs.Marking.Readings.{log_then}
 use Rattle.dbreport.proofs.Starts.{encoding_within, no_freelist, freelist_step}

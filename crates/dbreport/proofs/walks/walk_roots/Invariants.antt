@@ -1,4 +1,4 @@
-use Rattle.std.proofs.Common.{◌≡◌, ◌+◌, ℕ, List, ◌++◌, drop}
+use Rattle.std.proofs.Common.{◌≡◌, ◌+◌, List, ◌++◌, drop}
 use Rattle.std.specs.Prelude.{IfSome}
 use Rattle.dbsurvey.specs.Story.{Errand}
 use Rattle.dbformat.specs.File.{geometry}

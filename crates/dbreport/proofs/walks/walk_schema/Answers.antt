@@ -1,10 +1,9 @@
-use Rattle.std.proofs.Common.{rules, ◌≡◌, ℕ, List, [], ◌∷◌, length, Err, Ok, refl, sym, ap, subst, ◌∙◌}
+use Rattle.std.proofs.Common.{[], length, sym, ap, subst, ◌∙◌}
 use Rattle.dbformat.specs.Header.{encoding}
 use Rattle.dbwalk.specs.Roots.{IsRootAfter}
 use Rattle.dbwalk.specs.declared.root.Root.{Root}
 use Rattle.dbwalk.proofs.Chaining.ChainTurns.{if_some_both}
-use Rattle.dbreport.specs.Roots.{Listed}
-use Rattle.dbreport.specs.Starts.{schema_reference, schema_root}
+use Rattle.dbreport.specs.Starts.{schema_reference}
 use Rattle.dbreport.proofs.RootsTaken.{roots_start_empty}
 use Rattle.dbreport.proofs.SchemaWalks.{schema_first, schema_come_by}
 use Rattle.dbreport.proofs.Starts.{encoding_within}
