@@ -1,6 +1,7 @@
 // Desks that are used more than once, sources that answer other bytes at each read, and a schema of too many roots.
 use crate::fakes::DrawnSource;
-use crate::files::{LONG_ROW, write_over};
+use crate::files::{LONG_ROW, SHARED_ROOT, ladder, long_freelist, write_over};
+use crate::stat_tables::{ALL_PAGES, PAGES, TREES, TREES_AND_ALL, written};
 use crate::tables::{check, patched, verdict_of};
 use dbfiles::file_of;
 use dbreport::{Command, Desk, Verdict, run, run_on};
@@ -34,6 +35,40 @@ fn a_desk_serves_twice(rt: HostRuntime) -> Result<(), Fail> {
             assert!(rt; answer == Ok(verdict_of(faults)));
             assert!(rt; out.bytes() == text.as_bytes());
             assert!(rt; err.bytes().is_empty());
+        }
+    }
+    Ok(())
+}
+
+// A desk that is used for both commands in turn serves each like a fresh one.
+#[test]
+fn a_desk_serves_both_commands(rt: HostRuntime) -> Result<(), Fail> {
+    for file in [
+        patched(rt.alloc(), 3, &LONG_ROW, &[])?,
+        patched(rt.alloc(), 2, &SHARED_ROOT, &[(509, &[255])])?,
+        ladder(rt.alloc(), 21)?,
+        long_freelist(rt.alloc(), 127)?,
+    ] {
+        let header = Header::read(&mut MemSource::new(file.as_slice()))?;
+        let mut desk = Desk::new(rt.alloc(), header)?;
+        for command in [
+            CHECK,
+            PAGES,
+            CHECK,
+            ALL_PAGES,
+            TREES,
+            PAGES,
+            TREES_AND_ALL,
+            CHECK,
+        ] {
+            let fresh = written(rt.alloc(), command, &mut MemSource::new(file.as_slice()));
+            let mut source = MemSource::new(file.as_slice());
+            let mut out = MemOut::new(rt.alloc());
+            let mut err = MemOut::new(rt.alloc());
+            let answer = run_on(command, &mut desk, &mut source, &mut out, &mut err);
+            assert!(rt; answer == fresh.answer && answer.is_ok());
+            assert!(rt; out.bytes() == fresh.out.bytes() && !out.bytes().is_empty());
+            assert!(rt; err.bytes() == fresh.err.bytes());
         }
     }
     Ok(())

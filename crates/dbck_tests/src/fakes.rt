@@ -61,13 +61,13 @@ impl Source for StatedSource<'_> {
             self.failures.add();
             return Err(ReadFailed);
         }
-        for (i, place) in buf.iter_mut().enumerate() {
-            let at = offset.saturating_add(i as u64);
-            *place = match usize::try_from(at) {
-                Ok(at) => self.bytes.get(at).copied().unwrap_or(0),
-                Err(_) => 0,
-            };
-        }
+        buf.fill(0);
+        let given = usize::try_from(offset).ok();
+        write_over(
+            buf,
+            0,
+            given.and_then(|at| self.bytes.get(at..)).unwrap_or(&[]),
+        );
         Ok(())
     }
 }
@@ -110,8 +110,8 @@ fn small(drawn: u32) -> u8 {
     ((drawn >> 16) % 80) as u8
 }
 
-// The bytes of a page whose head stands here, drawn from a counter, and the counter behind them.
-fn draw(buf: &mut [u8], head_at: usize, from: u32) -> u32 {
+/// The bytes of a page whose head stands here, drawn from a counter, and the counter behind them.
+pub(crate) fn draw(buf: &mut [u8], head_at: usize, from: u32) -> u32 {
     let mut drawn = next_drawn(from);
     let kind = small(drawn);
     for (i, place) in buf.iter_mut().enumerate() {

@@ -23,6 +23,11 @@ pub(crate) const LONG_ROW: [Patch; 8] = [
     (1020, &[0, 0, 0, 3]),
 ];
 
+/// The rows of the file of one table and its row on an overflow page, in which each tab is written `|`.
+pub(crate) const LONG_ROW_ROWS: &str = "sqlite_schema|/|1|leaf|1|14|386|14|0|512\n\
+    t|/|2|leaf|1|92|403|600|512|512\n\
+    t|/000+000000|3|overflow|0|508|0|0|1024|512\n";
+
 /// Four pages: the same table behind a pointer map, with its root on page 3.
 pub(crate) const MAPPED: [Patch; 11] = [
     (44, &[0, 0, 0, 4]),
@@ -75,6 +80,91 @@ pub(crate) const SHARED_ROOT: [Patch; 7] = [
     (496, b"\x0e\x01\x06\x17\x0f\x0f\x01\x00tablett\x02"),
     (512, &[13, 0, 0, 0, 0, 2, 0, 0]),
 ];
+
+/// Five pages: an index of two leaves, whose key between them is of 600 bytes, of which 508 stand on page 5.
+pub(crate) const INDEX: [Patch; 13] = [
+    (44, &[0, 0, 0, 4]),
+    (56, &[0, 0, 0, 1]),
+    (103, &[0, 1, 1, 240]),
+    (108, &[1, 240]),
+    (496, b"\x0e\x01\x06\x17\x0f\x0f\x01\x00indextt\x02"),
+    (512, &[2, 0, 0, 0, 1, 1, 154, 0, 0, 0, 0, 4, 1, 154]),
+    (922, &[0, 0, 0, 3, 132, 88]),
+    (1020, &[0, 0, 0, 5]),
+    (1024, &[10, 0, 0, 0, 1, 1, 248, 0, 1, 248]),
+    (1528, &[7]),
+    (1536, &[10, 0, 0, 0, 1, 1, 248, 0, 1, 248]),
+    (2040, &[7]),
+    (2048, &[0, 0, 0, 0]),
+];
+
+/// Its rows, in which each tab is written `|`: the chain of a cell comes before its child.
+pub(crate) const INDEX_ROWS: &str = "sqlite_schema|/|1|leaf|1|14|386|14|0|512\n\
+    t|/|2|internal|1|92|396|600|512|512\n\
+    t|/000+000000|5|overflow|0|508|0|0|2048|512\n\
+    t|/000/|3|leaf|1|7|494|7|1024|512\n\
+    t|/001/|4|leaf|1|7|494|7|1536|512\n";
+
+/// One page: an interior page that is its own child twice, with the key 5.
+pub(crate) const OWN_CHILD: [Patch; 2] = [
+    (100, &[5, 0, 0, 0, 1, 1, 251, 0, 0, 0, 0, 1, 1, 251]),
+    (507, &[0, 0, 0, 1, 5]),
+];
+
+/// Two pages: a row of the schema whose encoding is UTF-16be, and whose name has a control character.
+pub(crate) const UTF_16: [Patch; 6] = [
+    (44, &[0, 0, 0, 4]),
+    (56, &[0, 0, 0, 3]),
+    (103, &[0, 1, 1, 229]),
+    (108, &[1, 229]),
+    (
+        485,
+        b"\x19\x01\x06\x21\x19\x11\x01\x00\0t\0a\0b\0l\0e\0a\0\x09\0b\0t\x02",
+    ),
+    (512, &[13, 0, 0, 0, 0, 2, 0, 0]),
+];
+
+/// Three pages: a row of the schema whose SQL stands on page 3, for the most part, and its table on page 2.
+pub(crate) const LONG_SQL: [Patch; 7] = [
+    (44, &[0, 0, 0, 4]),
+    (56, &[0, 0, 0, 1]),
+    (103, &[0, 1, 1, 157]),
+    (108, &[1, 157]),
+    (413, b"\x84\x58\x01\x07\x17\x0f\x0f\x01\x89\x1ftablett\x02"),
+    (508, &[0, 0, 0, 3]),
+    (512, &[13, 0, 0, 0, 0, 2, 0, 0]),
+];
+
+/// Four pages: a trunk and its leaf, behind a pointer map.
+pub(crate) const MAPPED_FREELIST: [Patch; 4] = [
+    (32, &[0, 0, 0, 3, 0, 0, 0, 2]),
+    (52, &[0, 0, 0, 1]),
+    (512, &[2, 0, 0, 0, 0, 2, 0, 0, 0, 0]),
+    (1024, &[0, 0, 0, 0, 0, 0, 0, 1, 0, 0, 0, 4]),
+];
+
+/// The rows of a ladder of 20 pages, in which each tab is written `|`. Free on a page is what lies between the pointer array,
+/// which ends at byte 112 of page 1, at 12 of an interior page and at 8 of the leaf, and byte 512.
+pub(crate) const DEEP_ROWS: &str = "sqlite_schema|/|1|internal|0|0|400|0|0|512\n\
+    sqlite_schema|/000/|2|internal|0|0|500|0|512|512\n\
+    sqlite_schema|/000/000/|3|internal|0|0|500|0|1024|512\n\
+    sqlite_schema|/000/000/000/|4|internal|0|0|500|0|1536|512\n\
+    sqlite_schema|/000/000/000/000/|5|internal|0|0|500|0|2048|512\n\
+    sqlite_schema|/000/000/000/000/000/|6|internal|0|0|500|0|2560|512\n\
+    sqlite_schema|/000/000/000/000/000/000/|7|internal|0|0|500|0|3072|512\n\
+    sqlite_schema|/000/000/000/000/000/000/000/|8|internal|0|0|500|0|3584|512\n\
+    sqlite_schema|/000/000/000/000/000/000/000/000/|9|internal|0|0|500|0|4096|512\n\
+    sqlite_schema|/000/000/000/000/000/000/000/000/000/|10|internal|0|0|500|0|4608|512\n\
+    sqlite_schema|/000/000/000/000/000/000/000/000/000/000/|11|internal|0|0|500|0|5120|512\n\
+    sqlite_schema|/000/000/000/000/000/000/000/000/000/000/000/|12|internal|0|0|500|0|5632|512\n\
+    sqlite_schema|/000/000/000/000/000/000/000/000/000/000/000/000/|13|internal|0|0|500|0|6144|512\n\
+    sqlite_schema|/000/000/000/000/000/000/000/000/000/000/000/000/000/|14|internal|0|0|500|0|6656|512\n\
+    sqlite_schema|/000/000/000/000/000/000/000/000/000/000/000/000/000/000/|15|internal|0|0|500|0|7168|512\n\
+    sqlite_schema|/000/000/000/000/000/000/000/000/000/000/000/000/000/000/000/|16|internal|0|0|500|0|7680|512\n\
+    sqlite_schema|/000/000/000/000/000/000/000/000/000/000/000/000/000/000/000/000/|17|internal|0|0|500|0|8192|512\n\
+    sqlite_schema|/000/000/000/000/000/000/000/000/000/000/000/000/000/000/000/000/000/|18|internal|0|0|500|0|8704|512\n\
+    sqlite_schema|/000/000/000/000/000/000/000/000/000/000/000/000/000/000/000/000/000/000/|19|internal|0|0|500|0|9216|512\n\
+    sqlite_schema|/000/000/000/000/000/000/000/000/000/000/000/000/000/000/000/000/000/000/000/|20|leaf|0|0|504|0|9728|512\n";
 
 /// What is told of pages 2 to 20 of a ladder.
 pub(crate) const EMPTY_PAGES: &str = "P10 page 2 item 0 value 0: empty page that is not a root\n\

@@ -1,5 +1,5 @@
 // Checks of files with a freelist, a pointer map, or pages that nothing uses.
-use crate::files::{MAPPED, long_freelist};
+use crate::files::{MAPPED, MAPPED_FREELIST, long_freelist};
 use crate::tables::{Patch, Row, are_as_told, asks_for, check, patched, verdict_of};
 use dbsource::LogSource;
 use std::alloc::{AllocError, Global};
@@ -9,14 +9,6 @@ use std::test::Fail;
 const OWN_TRUNK: [Patch; 2] = [
     (32, &[0, 0, 0, 2, 0, 0, 0, 1]),
     (512, &[0, 0, 0, 2, 0, 0, 0, 0]),
-];
-
-// A trunk and its leaf, behind a pointer map.
-const MAPPED_FREELIST: [Patch; 4] = [
-    (32, &[0, 0, 0, 3, 0, 0, 0, 2]),
-    (52, &[0, 0, 0, 1]),
-    (512, &[2, 0, 0, 0, 0, 2, 0, 0, 0, 0]),
-    (1024, &[0, 0, 0, 0, 0, 0, 0, 1, 0, 0, 0, 4]),
 ];
 
 // The root of a table is the last page, behind the only trunk and the map.

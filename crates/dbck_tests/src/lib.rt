@@ -32,6 +32,18 @@ mod slow_sound;
 #[cfg(test)]
 mod soundness;
 #[cfg(test)]
+mod stat_forms;
+#[cfg(test)]
+mod stat_names;
+#[cfg(test)]
+mod stat_refusals;
+#[cfg(test)]
+mod stat_sizes;
+#[cfg(test)]
+mod stat_tables;
+#[cfg(test)]
+mod statistics;
+#[cfg(test)]
 mod tables;
 #[cfg(test)]
 mod trees;

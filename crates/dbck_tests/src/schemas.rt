@@ -1,31 +1,7 @@
 // Checks of files whose schema has a fault, or none.
-use crate::files::{LONG_ROW, SHARED_ROOT, TWO_LEAVES};
-use crate::tables::{Patch, Row, are_as_told};
+use crate::files::{LONG_ROW, LONG_SQL, SHARED_ROOT, TWO_LEAVES, UTF_16};
+use crate::tables::{Row, are_as_told};
 use std::test::Fail;
-
-// A row of the schema whose encoding is UTF-16be, and whose name has a control character.
-const UTF_16: [Patch; 6] = [
-    (44, &[0, 0, 0, 4]),
-    (56, &[0, 0, 0, 3]),
-    (103, &[0, 1, 1, 229]),
-    (108, &[1, 229]),
-    (
-        485,
-        b"\x19\x01\x06\x21\x19\x11\x01\x00\0t\0a\0b\0l\0e\0a\0\x09\0b\0t\x02",
-    ),
-    (512, &[13, 0, 0, 0, 0, 2, 0, 0]),
-];
-
-// A row of the schema whose SQL stands on page 3, for the most part, and its table on page 2.
-const LONG_SQL: [Patch; 7] = [
-    (44, &[0, 0, 0, 4]),
-    (56, &[0, 0, 0, 1]),
-    (103, &[0, 1, 1, 157]),
-    (108, &[1, 157]),
-    (413, b"\x84\x58\x01\x07\x17\x0f\x0f\x01\x89\x1ftablett\x02"),
-    (508, &[0, 0, 0, 3]),
-    (512, &[13, 0, 0, 0, 0, 2, 0, 0]),
-];
 
 const ROWS: [Row; 9] = [
     Row {

@@ -1,5 +1,5 @@
 // Checks of files whose trees have a fault, or none.
-use crate::files::{EMPTY_PAGES, LONG_ROW, SHARED_BYTES, TWO_LEAVES, ladder};
+use crate::files::{EMPTY_PAGES, LONG_ROW, OWN_CHILD, SHARED_BYTES, TWO_LEAVES, ladder};
 use crate::tables::{Row, are_as_told, asks_for, check, verdict_of};
 use dbsource::LogSource;
 use std::test::Fail;
@@ -44,10 +44,7 @@ const ROWS: [Row; 12] = [
     Row {
         name: "a page that is its own child twice",
         pages: 1,
-        file: &[
-            (100, &[5, 0, 0, 0, 1, 1, 251, 0, 0, 0, 0, 1, 1, 251]),
-            (507, &[0, 0, 0, 1, 5]),
-        ],
+        file: &OWN_CHILD,
         changed: &[],
         faults: 2,
         out: "R03 page 1 item 0 value 1: page is already in use\n\
