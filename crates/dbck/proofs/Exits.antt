@@ -1,9 +1,9 @@
 -- What a status says of a report, by the outcome that it stands for.
-use Rattle.std.proofs.Common.{inl, inr, ◌≡◌, ◌∙◌, ◌↔◌, ℕ, suc, ◌+◌, ◌-◌, ◌*◌, ◌%◌, ◌^◌, List, [], Option, None, Some, Result, Ok, Err, ◌≤◌, refl, sym, ap, subst, arith, mul-suc}
+use Rattle.std.proofs.Common.{inl, inr, ◌≡◌, ◌∙◌, ◌↔◌, ℕ, ◌+◌, ◌%◌, ◌^◌, List, [], Option, None, Some, Result, Ok, Err, ◌≤◌, refl, sym, ap, subst, arith}
 use Rattle.std.specs.Prelude.{OnOk, IfOk, IfSome, ◌==◌, if◌then◌else◌}
 use Rattle.std.specs.Io.KnownBytes.{Appends}
 use Rattle.std.proofs.KnownBytes.{Appends-nil, Appends-trans}
-use Rattle.std.proofs.Math.Nat.{add-mod-mod, add-mul-mod_self_right, mod-add-mod, mod-mod}
+use Rattle.std.proofs.Math.Nat.{add-mod-mod, mod-add-mod, mod-mod}
 use Rattle.std.proofs.lemmas.List.{append-nil}
 use Rattle.dbformat.specs.File.{refusal}
 use Rattle.dbformat.specs.Reference.{Reference}
