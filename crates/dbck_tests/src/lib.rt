@@ -2,6 +2,8 @@
 #![tactic(auto)]
 
 #[cfg(test)]
+mod buffered_outs;
+#[cfg(test)]
 mod desks;
 #[cfg(test)]
 mod fakes;

@@ -1,4 +1,5 @@
 pub mod Benches
+pub mod Gathered
 pub mod Headers
 pub mod Logs
 pub mod Puts

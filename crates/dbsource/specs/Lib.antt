@@ -1,6 +1,7 @@
 pub mod Bench
 pub mod Errors
 pub mod Failures
+pub mod Gathers
 pub mod HeaderBytes
 pub mod Headers
 pub mod Lending

@@ -11,6 +11,7 @@
 #![tactic(auto)]
 
 mod bench;
+mod buffered_out;
 mod error;
 mod failures;
 mod file_source;
@@ -26,6 +27,7 @@ mod source;
 mod stream_out;
 
 pub use bench::Bench;
+pub use buffered_out::BufferedOut;
 pub use dbformat::{ByteRange, Fixed, Geometry, Refusal};
 pub use error::{OpenError, RunError};
 pub use failures::Failures;

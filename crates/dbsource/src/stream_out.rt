@@ -1,5 +1,6 @@
 // An Out over a writer.
-ghost use Rattle.std.specs.Prelude.{◌≡◌};
+ghost use Rattle.std.specs.Prelude.{◌≡◌, ◌≤◌, length, take, OnOk};
+ghost use Rattle.std.specs.Io.KnownBytes.{Appends};
 ghost use Rattle.dbsource.specs.Outs.{Writes};
 
 use crate::{Failures, Out, WriteFailed};
@@ -33,26 +34,32 @@ impl<W: Write> StreamOut<W> {
     }
 }
 
-// Writes the piece, as often as it takes.
-fn write_whole<W: Write>(writer: &mut W, piece: &[u8]) -> Result<(), WriteFailed>
-    ensures { Writes result (W.contents writer.old) (W.contents writer.new) piece.now }
+// Writes the piece, as often as it takes. The first result says how many bytes of it were taken.
+pub(crate) fn write_whole<W: Write>(
+    writer: &mut W,
+    piece: &[u8],
+) -> (usize, Result<(), WriteFailed>)
+    ensures bound { result.0 ≤ length piece.now }
+    ensures whole { OnOk result.1 (result.0 ≡ length piece.now) }
+    ensures taken { Appends (W.contents writer.old) (W.contents writer.new) (take result.0 piece.now) }
+    ensures writes { Writes result.1 (W.contents writer.old) (W.contents writer.new) piece.now }
 {
     let mut at = 0;
     while at < piece.len() {
         match writer.write(&piece[at..]) {
-            Ok(0) => return Err(WriteFailed),
+            Ok(0) => return (at, Err(WriteFailed)),
             Ok(count) => at += count,
-            Err(_) => return Err(WriteFailed),
+            Err(_) => return (at, Err(WriteFailed)),
         }
     }
-    Ok(())
+    (at, Ok(()))
 }
 
 impl<W: Write> Out for StreamOut<W> {
     ghost held = { λ s. s };
 
     fn put(&mut self, piece: &[u8]) -> Result<(), WriteFailed> {
-        let written = write_whole(&mut self.writer, piece);
+        let (_, written) = write_whole(&mut self.writer, piece);
         if written.is_err() {
             self.failures.add();
         }

@@ -1,0 +1,195 @@
+// An Out over a writer, which gathers bytes before it writes.
+ghost use Rattle.std.specs.Prelude.{◌≡◌, ◌+◌, ◌-◌, ◌≤◌, [], ◌++◌, length, drop, Some, IfSome, IfOk, IsOk, OnOk, vec_len, vec_capacity};
+ghost use Rattle.std.specs.Io.KnownBytes.{Appends, Keeps, append_known};
+ghost use Rattle.dbsource.specs.Failures.{failures_after, is_any};
+ghost use Rattle.dbsource.specs.Gathers.{gathered_most, told};
+ghost use Rattle.dbsource.specs.Outs.{Begins, Puts, Writes};
+
+use crate::stream_out::write_whole;
+use crate::{Failures, Out, WriteFailed};
+use std::alloc::{AllocError, Allocator, Global};
+use std::io::Write;
+use std::marker::Model;
+
+// How many bytes are gathered at most.
+const CAPACITY: usize = 65_536;
+
+/// A writer behind a buffer of 65536 bytes. What is put is gathered there, and handed to the writer where the next piece
+/// finds no room, and at a [`flush`](BufferedOut::flush). A piece that is longer than the buffer is written straight, behind
+/// what was gathered.
+///
+/// What the writer does not take stays gathered, and is handed on again later, so no byte is lost or written twice. What is
+/// gathered at the end is written by `flush` alone: a drop writes nothing.
+#[derive(Drop)]
+pub struct BufferedOut<W: Write, A: Allocator = Global> {
+    writer: W,
+    gathered: Vec<u8, A>,
+    failures: Failures,
+}
+
+impl<W: Write, A: Allocator> Model for BufferedOut<W, A> {
+    ghost use Rattle.std.specs.Prelude.{◌≤◌, length, vec_capacity};
+    ghost use Rattle.dbsource.specs.Gathers.{Gathering, gathered_most};
+
+    ghost Value = { Gathering };
+
+    ghost view = { λ s. record { written = W.contents s.writer; gathered = s.gathered.items; failures = s.failures } };
+
+    ghost invariant = { λ s. (length s.gathered.items ≤ gathered_most) × (gathered_most ≤ vec_capacity s.gathered) };
+}
+
+impl<W: Write> BufferedOut<W> {
+    /// One over `writer`, as [`new_in`](BufferedOut::new_in).
+    ///
+    /// # Errors
+    ///
+    /// [`AllocError`] where the buffer was refused. The writer is dropped then.
+    pub fn new(alloc: Global, writer: W) -> Result<BufferedOut<W>, AllocError>
+    where
+        W: Drop,
+        ensures { IfOk result (λ out. out ≡ record { written = W.contents writer; gathered = []; failures = 0 }) }
+    {
+        BufferedOut::new_in(alloc, writer)
+    }
+}
+
+impl<W: Write, A: Allocator> BufferedOut<W, A> {
+    /// One over `writer`, which has to hand on what it takes by itself. The buffer is one growth from `alloc`, the only one.
+    ///
+    /// # Errors
+    ///
+    /// [`AllocError`] where the buffer was refused. The writer is dropped then.
+    pub fn new_in(alloc: A, writer: W) -> Result<BufferedOut<W, A>, AllocError>
+    where
+        W: Drop,
+        ensures { IfOk result (λ out. out ≡ record { written = W.contents writer; gathered = []; failures = 0 }) }
+    {
+        let gathered = Vec::with_capacity(alloc, CAPACITY)?;
+        Ok(BufferedOut {
+            writer,
+            gathered,
+            failures: Failures::new(),
+        })
+    }
+
+    /// The writer. It holds a beginning of what was put, and lacks the bytes that are gathered.
+    pub fn writer(&self) -> &W
+        ensures { W.contents result.now ≡ self.now.written }
+    {
+        &self.writer
+    }
+
+    /// The bytes that were put and are not yet written, at most 65536.
+    pub fn gathered(&self) -> &[u8]
+        ensures bytes { result.now ≡ self.now.gathered }
+        ensures bound { length result.now ≤ gathered_most }
+    {
+        self.gathered.as_slice()
+    }
+
+    /// Hands on what is gathered.
+    ///
+    /// # Errors
+    ///
+    /// [`WriteFailed`] where the writer did not take it whole. What it did not take stays gathered then, and one failure is
+    /// counted.
+    #[tactic(auto, using(crate::proofs::Gathered::kept_begins))]
+    pub fn flush(&mut self) -> Result<(), WriteFailed>
+        ensures writes { Writes result self.old.written self.new.written self.old.gathered }
+        ensures whole { OnOk result (Keeps (told self.old).bytes self.new.written) }
+        ensures empty { OnOk result (self.new.gathered ≡ []) }
+        ensures beginning { IfSome (told self.old).bytes (λ bytes. Appends self.new.written (Some bytes) self.new.gathered) }
+        ensures kept { Keeps (told self.old).bytes (told self.new).bytes }
+        ensures count { self.new.failures ≡ failures_after is_any result self.old.failures }
+    {
+        let handed = hand_on(&mut self.writer, &mut self.gathered);
+        if handed.is_err() {
+            self.failures.add();
+        }
+        handed
+    }
+}
+
+// Writes what is gathered. What was not taken stays.
+fn hand_on<W: Write, A: Allocator>(
+    writer: &mut W,
+    gathered: &mut Vec<u8, A>,
+) -> Result<(), WriteFailed>
+    ensures writes { Writes result (W.contents writer.old) (W.contents writer.new) gathered.old.items }
+    ensures empty { OnOk result (gathered.new.items ≡ []) }
+    ensures bound { vec_len gathered.new ≤ vec_len gathered.old }
+    ensures capacity { vec_capacity gathered.new ≡ vec_capacity gathered.old }
+    ensures kept { Keeps (append_known (W.contents writer.old) gathered.old.items) (append_known (W.contents writer.new) gathered.new.items) }
+{
+    let (taken, written) = write_whole(writer, gathered.as_slice());
+    drop_front(gathered, taken);
+    written
+}
+
+// Lets go of the first `count` bytes.
+fn drop_front<A: Allocator>(bytes: &mut Vec<u8, A>, count: usize)
+    requires { count ≤ vec_len bytes.old }
+    ensures items { bytes.new.items ≡ drop count bytes.old.items }
+    ensures len { vec_len bytes.new ≡ vec_len bytes.old - count }
+    ensures capacity { vec_capacity bytes.new ≡ vec_capacity bytes.old }
+{
+    let len = bytes.len();
+    bytes.as_mut_slice().copy_within(count..len, 0);
+    bytes.truncate(len - count);
+}
+
+// Gathers a piece that has room.
+fn gather<A: Allocator>(gathered: &mut Vec<u8, A>, piece: &[u8])
+    requires { vec_len gathered.old + length piece.now ≤ vec_capacity gathered.old }
+    ensures items { gathered.new.items ≡ gathered.old.items ++ piece.now }
+    ensures capacity { vec_capacity gathered.old ≤ vec_capacity gathered.new }
+{
+    let Ok(()) = gathered.extend_from_slice(piece) else {
+        unreachable!()
+    };
+}
+
+// Gathers the piece, or writes it where it is longer than the buffer.
+#[tactic(auto, using(crate::proofs::Gathered::begins_nothing, crate::proofs::Gathered::begins_more, crate::proofs::Gathered::begins_first))]
+fn take_piece<W: Write, A: Allocator>(
+    writer: &mut W,
+    gathered: &mut Vec<u8, A>,
+    piece: &[u8],
+) -> Result<(), WriteFailed>
+    requires bound { vec_len gathered.old ≤ gathered_most }
+    requires room { gathered_most ≤ vec_capacity gathered.old }
+    ensures bound { vec_len gathered.new ≤ gathered_most }
+    ensures room { gathered_most ≤ vec_capacity gathered.new }
+    ensures writes { Writes result (append_known (W.contents writer.old) gathered.old.items) (append_known (W.contents writer.new) gathered.new.items) piece.now }
+    ensures grows { Begins (W.contents writer.old) (W.contents writer.new) (gathered.old.items ++ piece.now) }
+    ensures fits { vec_len gathered.old + length piece.now ≤ gathered_most → IsOk result }
+    ensures unwritten { vec_len gathered.old + length piece.now ≤ gathered_most → writer.new ≡ writer.old }
+    ensures gathers { vec_len gathered.old + length piece.now ≤ gathered_most → gathered.new.items ≡ gathered.old.items ++ piece.now }
+{
+    if piece.len() > CAPACITY - gathered.len() {
+        hand_on(writer, gathered)?;
+        if piece.len() > CAPACITY {
+            return write_whole(writer, piece).1;
+        }
+    }
+    gather(gathered, piece);
+    Ok(())
+}
+
+impl<W: Write, A: Allocator> Out for BufferedOut<W, A> {
+    ghost held = { told };
+
+    fn put(&mut self, piece: &[u8]) -> Result<(), WriteFailed>
+        ensures puts { Puts result (told self.old) (told self.new) piece.now }
+        ensures grows { Begins self.old.written self.new.written (self.old.gathered ++ piece.now) }
+        ensures fits { length self.old.gathered + length piece.now ≤ gathered_most → IsOk result }
+        ensures gathers { length self.old.gathered + length piece.now ≤ gathered_most
+            → self.new ≡ record self.old { gathered = self.old.gathered ++ piece.now } }
+    {
+        let taken = take_piece(&mut self.writer, &mut self.gathered, piece);
+        if taken.is_err() {
+            self.failures.add();
+        }
+        taken
+    }
+}
