@@ -35,7 +35,8 @@ use Rattle.dbreport.specs.Findings.{fault_in, faults_in}
 use Rattle.dbreport.specs.StatLines.{row_told, rows_told, tree_text, starts_text}
 use Rattle.dbreport.proofs.RunItems.{all_visited, goes_named}
 use Rattle.dbreport.proofs.Starts.{quiet_go}
-use Rattle.dbreport.proofs.StatTrees.{rows_none, rows_join, row_of_tree, HasLaterStarts, trees_apart, IsTree, no_tree, tree, IsStart, start_role, below_links, later_starts_below, row_start, one_tree}
+use Rattle.dbsound.proofs.RowCounts.FormRows.{start_role}
+use Rattle.dbreport.proofs.StatTrees.{rows_none, rows_join, row_of_tree, HasLaterStarts, trees_apart, IsTree, no_tree, tree, IsStart, below_links, later_starts_below, row_start, one_tree}
 
 -- ---- what is told
 

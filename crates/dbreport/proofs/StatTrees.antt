@@ -1,27 +1,22 @@
 -- What is visited below a start: it has this start, and the rows of at most one tree.
-use Rattle.std.proofs.Common.{◌≡◌, ℕ, zero, suc, ◌+◌, ◌<◌, ◌⊎◌, inl, inr, Bool, true, false, cond, List, [], ◌∷◌, ◌++◌, map, length, Some, None, refl, sym, ap, ap₂, subst, ◌∙◌, arith, length-append, append-nil}
-use Rattle.std.specs.Prelude.{take, filter, filter_map, ◌==◌}
-use Rattle.std.specs.List.{enumerate_from, cons_option}
+use Rattle.std.proofs.Common.{◌≡◌, ℕ, zero, suc, ◌+◌, ◌<◌, ◌⊎◌, inl, inr, true, false, cond, List, [], ◌∷◌, ◌++◌, map, length, Some, None, refl, sym, ap, ap₂, subst, ◌∙◌, arith, length-append, append-nil}
+use Rattle.std.specs.Prelude.{filter, filter_map, ◌==◌}
+use Rattle.std.specs.List.{cons_option}
 use Rattle.std.proofs.lemmas.Bool.{cases_Bool, ne_eqb}
 use Rattle.std.proofs.lemmas.List.{map-append}
 use Rattle.std.proofs.lemmas.List.Elements.{filter-append, filter_map-append}
 use Rattle.dbsurvey.specs.Address.{Address, IsIn}
-use Rattle.dbsurvey.specs.From.{under}
 use Rattle.dbsurvey.specs.Survey.{Link, IsRising, IsPart, named_at, children}
 use Rattle.dbsurvey.specs.Traverse.{is_followed, part_of}
 use Rattle.dbsurvey.proofs.Composing.{named_at-from, named_at-step, named_at-apart, part_below}
 use Rattle.dbsurvey.proofs.Lists.{filter-none, filter-from, filter_map-from}
-use Rattle.dbsurvey.proofs.Order.{IsIn-cases}
 use Rattle.dbsurvey.proofs.Ordering.{IsIn-from_map}
 use Rattle.dbsurvey.proofs.Remaining.{rest_none, rest_skip, rest_one}
 use Rattle.dbsurvey.proofs.Traversal.{free_at_most, traverse_part}
-use Rattle.dbformat.specs.Address.{start_of, schema_start, last_root_start, freelist_start}
+use Rattle.dbformat.specs.Address.{start_of}
 use Rattle.dbformat.specs.File.{geometry}
-use Rattle.dbformat.specs.Header.{first_trunk}
 use Rattle.dbformat.specs.Reference.{Role, root, child, first_overflow, later_overflow, trunk, free_leaf, Way, Reference, role_of, is_root, is_on_freelist}
 use Rattle.dbformat.specs.Rows.{StatRow, FormRow, tree_row, row_in, stat_rows, trees_reached, tree_rows}
-use Rattle.dbformat.specs.Schema.{schema, rooted_rows, start, root_start, root_starts, freelist_starts, later_starts, starts}
-use Rattle.dbformat.specs.SchemaRow.{SchemaRow}
 use Rattle.dbformat.specs.Survey.{rules_of}
 use Rattle.dbformat.proofs.Roles.{child_leads}
 use Rattle.dbformat.proofs.Theory.{are_rules}
@@ -150,22 +145,6 @@ pub data IsTree (file : List ℕ) (k : ℕ) (P : List Reference) : Type 0 where
 -- a start is a root, or on the freelist
 abbrev pub IsStart : Link Way → Type 0
 IsStart l = (is_root l.role.role ≡ true) ⊎ (is_on_freelist l.role.role ≡ true)
-
-pub start_role : (file : List ℕ) (V : List Reference) (l : Link Way) → IsIn l (starts file V) → IsStart l
-unfolding later_starts
-start_role file V l (inl e) = inl (ap (λ (l : Link Way). is_root l.role.role) e)
-start_role file V l (inr i) = elim (IsIn-cases l (root_starts file (rooted_rows (schema file (under schema_start V)))) (freelist_starts file) i) [
-  | inl j ↦ inl (of_rows (enumerate_from 1 (take last_root_start (rooted_rows (schema file (under schema_start V))))) j)
-  | inr j ↦ inr (of_freelist (first_trunk file == 0) j)
-]
-  where
-    of_rows : (rows : List (ℕ × SchemaRow)) → IsIn l (map (root_start file) rows) → is_root l.role.role ≡ true
-    of_rows rows j = let m = IsIn-from_map (root_start file) rows l j in ap (λ (l : Link Way). is_root l.role.role) m.2
-
-    of_freelist : (b : Bool) → IsIn l (cond b [] (start freelist_start trunk (first_trunk file) ∷ [])) → is_on_freelist l.role.role ≡ true
-    of_freelist true j = absurd j
-    of_freelist false (inl e) = ap (λ (l : Link Way). is_on_freelist l.role.role) e
-    of_freelist false (inr j) = absurd j
 
 module _ (file : List ℕ) where
   -- what is visited below some links, after W

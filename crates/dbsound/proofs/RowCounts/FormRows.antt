@@ -29,7 +29,7 @@ use Rattle.dbformat.proofs.Places.{same_start}
 use Rattle.dbsurvey.proofs.Groups.{group, group-from, groups-have, groups_once}
 
 -- the starts are roots of trees, and a trunk
-start_role : (file : List ℕ) (V : List Reference) (l : Link Way) → IsIn l (starts file V) → (is_root l.role.role ≡ true) ⊎ (is_on_freelist l.role.role ≡ true)
+pub start_role : (file : List ℕ) (V : List Reference) (l : Link Way) → IsIn l (starts file V) → (is_root l.role.role ≡ true) ⊎ (is_on_freelist l.role.role ≡ true)
 unfolding later_starts
 start_role file V l (inl e) = inl (ap (λ (l : Link Way). is_root l.role.role) e)
 start_role file V l (inr i) = elim (IsIn-cases l (root_starts file (rooted_rows (schema file (under schema_start V)))) (freelist_starts file) i) [
