@@ -21,7 +21,7 @@ use Rattle.dbwalk.proofs.Telling.Tellings.{stops_by_first}
 use Rattle.dbreport.specs.CheckSink.{PutsAll, ShowsFault, Shows, Cuts, end_text, verdict_of}
 use Rattle.dbreport.specs.Findings.{faults_in}
 use Rattle.dbreport.specs.declared.check_sink.CheckSink.{CheckSink}
-use Rattle.dbreport.proofs.Beginnings.{begins_nothing, begins_more, begins_after}
+use Rattle.dbsource.proofs.Beginnings.{begins_nothing, begins_more, begins_after}
 
 counted_is : (n : ℕ) → n ≤ 2 ^ 64 - 1 → n ≡ counted (n + 0)
 counted_is n h = omega arith

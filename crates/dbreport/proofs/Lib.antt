@@ -1,4 +1,3 @@
-pub mod Beginnings
 pub mod Checked
 pub mod Checks
 pub mod CountedMarks

@@ -10,8 +10,9 @@ use Rattle.dbformat.specs.Survey.{Survey}
 use Rattle.dbformat.specs.declared.Command.{Command}
 use Rattle.dbformat.specs.declared.Command.TheVariants.{Check, Stat}
 use Rattle.dbformat.specs.declared.Verdict.{Verdict}
-use Rattle.dbsource.specs.Outs.{Begins, Writes}
+use Rattle.dbsource.specs.Outs.{Writes}
 use Rattle.dbsource.specs.declared.error.RunError.{RunError}
+use Rattle.dbsource.proofs.Beginnings.{begins_nothing}
 use Rattle.dbsource.proofs.Puts.{appends_nothing}
 use Rattle.dbsound.proofs.RowCounts.FormRows.{counts_each_page}
 use Rattle.dbreport.specs.Runs.{CountsAllPages}
@@ -19,9 +20,6 @@ use Rattle.dbreport.specs.Statistics.{form_of}
 use Rattle.dbreport.specs.declared.statistics.Form.{Form}
 
 -- at an error nothing is a beginning, and to no bytes nothing is added
-pub begins_nothing : (held : Option (List ℕ)) (bytes : List ℕ) → Begins held held bytes
-begins_nothing held bytes = record { part = []; rest = bytes; whole = refl; added = appends_nothing held }
-
 writes_nothing : (r : Result Verdict RunError) (held : Option (List ℕ)) → Writes r held held []
 writes_nothing (Ok v) held = appends_nothing held
 writes_nothing (Err e) held = begins_nothing held []

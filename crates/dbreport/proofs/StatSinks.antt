@@ -18,7 +18,7 @@ use Rattle.dbreport.specs.StatLines.{rows_told}
 use Rattle.dbreport.specs.StatSink.{pages_text, text_of, IsSameSink, TakesRow, CutsRow, TakesFault, CutsFault, Counts, Breaks, HasBegun}
 use Rattle.dbreport.specs.Sums.{sums_of}
 use Rattle.dbreport.specs.declared.stat_sink.StatSink.{StatSink}
-use Rattle.dbreport.proofs.Beginnings.{begins_nothing, begins_more, begins_after}
+use Rattle.dbsource.proofs.Beginnings.{begins_nothing, begins_more, begins_after}
 
 pub pages_none : (aggregate : Bool) (name : List ℕ) (size : ℕ) → pages_text aggregate name size [] ≡ []
 pages_none true name size = refl

@@ -27,7 +27,7 @@ use Rattle.dbreport.specs.Sums.{sums_of}
 use Rattle.dbreport.specs.declared.stat_sink.StatSink.{StatSink}
 use Rattle.dbreport.specs.declared.tree_name.Label.{Label}
 use Rattle.dbsource.proofs.Puts.{appends_append}
-use Rattle.dbreport.proofs.Beginnings.{begins_after, all_begun}
+use Rattle.dbsource.proofs.Beginnings.{begins_after, all_begun}
 use Rattle.dbreport.proofs.Starts.{quiet_go}
 use Rattle.dbreport.proofs.StatSinks.{HasCounted, has_counted}
 use Rattle.dbreport.proofs.StatTexts.{faults_joined}

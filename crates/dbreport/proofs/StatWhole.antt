@@ -29,7 +29,7 @@ use Rattle.dbreport.specs.StatStarts.{Any, ArePagesWritten, AreWritten, IsForSch
 use Rattle.dbreport.specs.Starts.{later_errands, schema_reference}
 use Rattle.dbreport.specs.declared.stat_sink.StatSink.{StatSink}
 use Rattle.dbsource.proofs.Puts.{appends_append}
-use Rattle.dbreport.proofs.Beginnings.{all_begun, begins_after}
+use Rattle.dbsource.proofs.Beginnings.{all_begun, begins_after}
 use Rattle.dbreport.proofs.OtherRows.{others_text}
 use Rattle.dbreport.proofs.RunItems.{all_visited, starts_are, starts_left}
 use Rattle.dbreport.proofs.StatStarts.{tree_written}

@@ -18,7 +18,7 @@ use Rattle.dbreport.specs.StatLines.{tree_text, rows_told}
 use Rattle.dbreport.specs.StatSink.{IsSameSink, text_of, pages_text, end_text, Counts, Breaks, HasWritten, HasBegun, WritesBoth}
 use Rattle.dbreport.specs.Sums.{sums_of}
 use Rattle.dbreport.specs.declared.stat_sink.StatSink.{StatSink}
-use Rattle.dbreport.proofs.Beginnings.{begins_more, begins_after}
+use Rattle.dbsource.proofs.Beginnings.{begins_more, begins_after}
 use Rattle.dbreport.proofs.RunTold.{all_faults}
 use Rattle.dbreport.proofs.StatSinks.{has_counted, has_begun, pages_none}
 

@@ -1,3 +1,4 @@
+pub mod Beginnings
 pub mod Benches
 pub mod Gathered
 pub mod Headers

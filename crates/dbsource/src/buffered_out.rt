@@ -150,7 +150,7 @@ fn gather<A: Allocator>(gathered: &mut Vec<u8, A>, piece: &[u8])
 }
 
 // Gathers the piece, or writes it where it is longer than the buffer.
-#[tactic(auto, using(crate::proofs::Gathered::begins_nothing, crate::proofs::Gathered::begins_more, crate::proofs::Gathered::begins_first))]
+#[tactic(auto, using(crate::proofs::Beginnings::begins_nothing, crate::proofs::Gathered::begins_longer, crate::proofs::Gathered::begins_first))]
 fn take_piece<W: Write, A: Allocator>(
     writer: &mut W,
     gathered: &mut Vec<u8, A>,

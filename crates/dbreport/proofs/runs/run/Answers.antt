@@ -18,7 +18,8 @@ use Rattle.dbwalk.proofs.Chaining.ChainTurns.{if_some_moved}
 use Rattle.dbreport.specs.StatSink.{failures_of_both}
 use Rattle.dbreport.proofs.RunAnswers.{if_ok_told, not_short, read_answer, read_unwritten, refused_answer, refused_failures, refused_unwritten}
 use Rattle.dbreport.proofs.RunLogs.{opened_log, opened_some_log, read_log}
-use Rattle.dbreport.proofs.RunReports.{begins_nothing, counts_all}
+use Rattle.dbsource.proofs.Beginnings.{begins_nothing}
+use Rattle.dbreport.proofs.RunReports.{counts_all}
 use Rattle.dbreport.proofs.runs.run.Goals as goal
 
 -- ---- the header was not read

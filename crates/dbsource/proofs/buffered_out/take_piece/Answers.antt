@@ -1,5 +1,5 @@
 use Rattle.std.proofs.lemmas.Result.{err_from_is_err_and}
-use Rattle.dbsource.proofs.Gathered.{begins_after, begins_more, kept_fails}
+use Rattle.dbsource.proofs.Gathered.{begins_longer, begins_written, kept_fails}
 use Rattle.dbsource.proofs.buffered_out.take_piece.Goals as goal
 
 pub returns-in_err-hand_on-clause-writes : goal.returns-in_err-hand_on-clause-writes
@@ -8,8 +8,8 @@ returns-in_err-hand_on-clause-writes g c =
     kept_fails _ _ _ _ p.1 c.in_err-hand_on.ensures.kept
 
 pub returns-in_err-hand_on-clause-grows : goal.returns-in_err-hand_on-clause-grows
-returns-in_err-hand_on-clause-grows g c = begins_more _ _ c.args.gathered.now.items c.args.piece.now c.in_err-hand_on.ensures.writes
+returns-in_err-hand_on-clause-grows g c = begins_longer _ _ c.args.gathered.now.items c.args.piece.now c.in_err-hand_on.ensures.writes
 
 pub returns-then-piece-gt-CAPACITY-clause-grows : goal.returns-then-piece-gt-CAPACITY-clause-grows
 returns-then-piece-gt-CAPACITY-clause-grows g c =
-    begins_after c.write_whole.result.1 _ _ _ c.args.gathered.now.items c.args.piece.now c.in_ok-hand_on.ensures.writes c.write_whole.ensures.writes
+    begins_written c.write_whole.result.1 _ _ _ c.args.gathered.now.items c.args.piece.now c.in_ok-hand_on.ensures.writes c.write_whole.ensures.writes
