@@ -22,7 +22,7 @@ ghost use Rattle.dbreport.specs.Sums.{sums_of};
 use crate::RootList;
 use crate::schema_watch::SchemaWatch;
 use crate::stat_sink::StatSink;
-use crate::walks::{kind_by, walk_schema};
+use crate::walks::{root_of, walk_schema};
 use dbformat::Encoding;
 use dbsource::{Bench, Header, Out, RunError, Source};
 use dbwalk::{Marks, Root, walk_freelist, walk_tree};
@@ -70,12 +70,7 @@ fn begin_at<A: Allocator, O: Out, E: Out>(
         unreachable!()
     };
     sink.begin_tree(row.name);
-    Root {
-        start,
-        page: row.root,
-        kind: kind_by(row.kind),
-        encoding,
-    }
+    root_of(&row, start, encoding)
 }
 
 // Walks over the trees of the list, one after another.

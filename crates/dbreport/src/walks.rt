@@ -1,6 +1,7 @@
 // The walks of a run, start after start.
 ghost use Rattle.std.specs.Prelude.{◌≡◌, ◌≤◌, ◌+◌, false, ◌-◌, ◌++◌, List, [], length, option_map, slice_get, Some, IfErr, IfSome};
 ghost use Rattle.dbsurvey.specs.Story.{Errand};
+ghost use Rattle.dbwalk.specs.Rows.{schema_row_of};
 ghost use Rattle.dbformat.specs.File.{geometry as shape_of};
 ghost use Rattle.dbformat.specs.Header.{encoding as encoding_of};
 ghost use Rattle.dbformat.specs.Reference.{Way, Reference};
@@ -22,6 +23,7 @@ ghost use Rattle.dbwalk.specs.Sinks.{after_writes};
 
 use crate::RootList;
 use crate::schema_watch::SchemaWatch;
+use dbbytes::SchemaRow;
 use dbformat::{Encoding, RowKind};
 use dbsource::{Bench, Header, RunError, Source};
 use dbwalk::{Marks, Root, RootKind, Sink, walk_freelist, walk_tree};
@@ -63,12 +65,24 @@ pub(crate) fn walk_schema<A: Allocator, S: Source, K: Sink + Drop>(
 }
 
 // How a row names the kind of its tree.
-pub(crate) fn kind_by(kind: RowKind) -> RootKind
+fn kind_by(kind: RowKind) -> RootKind
     ensures { result ≡ kind_by kind }
 {
     match kind {
         RowKind::Index => RootKind::Index,
         _ => RootKind::Own,
+    }
+}
+
+// The root that a row of the list names.
+pub(crate) fn root_of(row: &SchemaRow<'_>, start: u32, encoding: Encoding) -> Root
+    ensures { result ≡ root_of encoding start (schema_row_of row.now) }
+{
+    Root {
+        start,
+        page: row.root,
+        kind: kind_by(row.kind),
+        encoding,
     }
 }
 
@@ -80,12 +94,7 @@ fn root_at<A: Allocator>(roots: &RootList<A>, start: u32, encoding: Encoding) ->
     let Some(row) = roots.get(start) else {
         unreachable!()
     };
-    Root {
-        start,
-        page: row.root,
-        kind: kind_by(row.kind),
-        encoding,
-    }
+    root_of(&row, start, encoding)
 }
 
 // Walks over the trees of the list, one after another.
