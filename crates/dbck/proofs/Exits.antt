@@ -1,9 +1,8 @@
 -- What a status says of a report, by the outcome that it stands for.
-use Rattle.std.proofs.Common.{inl, inr, ◌≡◌, ◌∙◌, ◌↔◌, ℕ, ◌+◌, ◌%◌, ◌^◌, List, [], Option, None, Some, Result, Ok, Err, ◌≤◌, refl, sym, ap, subst, arith}
-use Rattle.std.specs.Prelude.{OnOk, IfOk, IfSome, ◌==◌, if◌then◌else◌}
+use Rattle.std.proofs.Common.{inl, inr, ◌≡◌, ◌↔◌, ℕ, ◌+◌, ◌%◌, ◌^◌, List, [], Option, None, Some, Result, Ok, Err, ◌≤◌, refl, sym, ap, subst, arith}
+use Rattle.std.specs.Prelude.{OnOk, IfOk, IfSome}
 use Rattle.std.specs.Io.KnownBytes.{Appends}
 use Rattle.std.proofs.KnownBytes.{Appends-nil, Appends-trans}
-use Rattle.std.proofs.Math.Nat.{add-mod-mod, mod-add-mod, mod-mod}
 use Rattle.std.proofs.lemmas.List.{append-nil}
 use Rattle.dbformat.specs.File.{refusal}
 use Rattle.dbformat.specs.Reference.{Reference}
@@ -15,13 +14,11 @@ use Rattle.dbformat.specs.declared.Refusal.{Refusal}
 use Rattle.dbformat.specs.declared.Verdict.{Verdict}
 use Rattle.dbformat.specs.declared.Verdict.TheVariants.{Clean, Faulty}
 use Rattle.dbreport.specs.Runs.{IsAnswerOf, IsUnwritten}
-use Rattle.dbreport.specs.StatSink.{failures_of_both}
-use Rattle.dbsource.specs.Errors.{is_write_failed}
-use Rattle.dbsource.specs.Failures.{failures_after, one_more}
+use Rattle.dbsource.proofs.Beginnings.{all_begun}
 use Rattle.dbsource.specs.Outs.{Begins, OutState, Writes}
 use Rattle.dbsource.specs.declared.error.RunError.{RunError}
 use Rattle.dbsource.specs.declared.error.RunError.TheVariants.{Refused, ReadFailed, OutOfMemory, WriteFailed}
-use Rattle.dbck.specs.Exit.{BeginsThenLine, CountsFailures, IsExit, IsExitOf, IsOkIfSound, IsStatusOf, PutsLine}
+use Rattle.dbck.specs.Exit.{BeginsThenLine, IsExit, IsExitOf, IsOkIfSound, IsStatusOf, PutsLine}
 use Rattle.dbck.specs.Status.{exit_status}
 
 -- the report of a refused file
@@ -40,11 +37,7 @@ neither n r out out' err err' h begun told = record {
   refused = λ e. absurd (omega arith);
 }
 
--- all of it is a beginning of it
-all_begins : (old new : Option (List ℕ)) (bytes : List ℕ) → Appends old new bytes → Begins old new bytes
-all_begins old new bytes a = record { part = bytes; rest = []; whole = append-nil bytes; added = a }
-
--- and a beginning, with no line behind it
+-- all of it is a beginning of it, with no line behind
 all_then_line : (old new : Option (List ℕ)) (bytes : List ℕ) → Appends old new bytes → BeginsThenLine old new bytes
 all_then_line old new bytes a = record {
   part = bytes;
@@ -75,14 +68,14 @@ exit_by_outcome : (command : Command) (file : List ℕ) (V : List Reference) (ou
     → IfOk outcome (λ v. (report command file V).answer ≡ Ok v) → IsUnwritten outcome out.bytes out'.bytes
     → OnOk outcome (err' ≡ mid) → PutsLine mid err' → IsExit (exit_status outcome) (report command file V) out out' err err'
 exit_by_outcome command file V (Ok Clean) out out' err mid err' answer written second verdict unwritten quiet line = record {
-  begun = all_begins out.bytes out'.bytes (report command file V).out written;
+  begun = all_begun out.bytes out'.bytes (report command file V).out written;
   told = all_then_line err.bytes err'.bytes (report command file V).err (err_written err mid err' (report command file V).err second quiet);
   clean = λ e. (verdict, record { first = written; second = err_written err mid err' (report command file V).err second quiet });
   faulty = λ e. absurd (omega arith);
   refused = λ e. absurd (omega arith);
 }
 exit_by_outcome command file V (Ok (Faulty n)) out out' err mid err' answer written second verdict unwritten quiet line = record {
-  begun = all_begins out.bytes out'.bytes (report command file V).out written;
+  begun = all_begun out.bytes out'.bytes (report command file V).out written;
   told = all_then_line err.bytes err'.bytes (report command file V).err (err_written err mid err' (report command file V).err second quiet);
   clean = λ e. absurd (omega arith);
   faulty = λ e. (n, verdict, record { first = written; second = err_written err mid err' (report command file V).err second quiet });
@@ -122,48 +115,6 @@ exits command outcome (Some file) out out' err mid err' answer written second ve
 -- no line was put
 pub puts_none : (s : OutState) → PutsLine s s
 puts_none s = record { line = []; short = omega arith; added = Appends-nil s.bytes; failed = 0; once = omega arith; count = ap (λ k. k % 2 ^ 64) (let q : s.failures ≡ s.failures + 0 = omega arith in q) }
-
--- so many more failures of the second Out are so many of both
-both_more : (o m e f : ℕ) → e % 2 ^ 64 ≡ (m + f) % 2 ^ 64 → (o + e) % 2 ^ 64 ≡ ((o + m) % 2 ^ 64 + f) % 2 ^ 64
-both_more o m e f h = sym (add-mod-mod o e (2 ^ 64)) ∙ ap (λ k. (o + k) % 2 ^ 64) h ∙ add-mod-mod o (m + f) (2 ^ 64)
-    ∙ ap (λ k. k % 2 ^ 64) (let q : o + (m + f) ≡ o + m + f = omega arith in q) ∙ sym (mod-add-mod (o + m) (2 ^ 64) f)
-
-nothing_more : (n f : ℕ) → (n + f) % 2 ^ 64 ≡ (n + 0 + f) % 2 ^ 64
-nothing_more n f = ap (λ k. k % 2 ^ 64) (let q : n + f ≡ n + 0 + f = omega arith in q)
-
--- the failures of both Outs behind an outcome, and behind the line of an error
-counts_ok : (out err out' mid err' : OutState) → failures_of_both out' mid ≡ failures_of_both out err → err' ≡ mid
-    → failures_of_both out' err' ≡ (failures_of_both out err + 0 + 0) % 2 ^ 64
-counts_ok out err out' mid err' w quiet = let P : OutState → Type 0 = λ o. failures_of_both out' o ≡ failures_of_both out err in
-    subst P (sym quiet) w ∙ sym (mod-mod (out.failures + err.failures) (2 ^ 64)) ∙ ap (λ k. k % 2 ^ 64) (let q : failures_of_both out err ≡ failures_of_both out err + 0 + 0 = omega arith in q)
-
-counts_err : (out err out' mid err' : OutState) (l : PutsLine mid err') → failures_of_both out' mid ≡ failures_of_both out err
-    → failures_of_both out' err' ≡ (failures_of_both out err + 0 + l.failed) % 2 ^ 64
-counts_err out err out' mid err' l w = both_more out'.failures mid.failures err'.failures l.failed l.count ∙ ap (λ k. (k + l.failed) % 2 ^ 64) w ∙ nothing_more (failures_of_both out err) l.failed
-
-pub counts : (outcome : Result Verdict RunError) (out err out' mid err' : OutState)
-    → failures_of_both out' mid ≡ failures_after is_write_failed outcome (failures_of_both out err) → OnOk outcome (err' ≡ mid) → PutsLine mid err'
-    → CountsFailures (exit_status outcome) (failures_of_both out err) (failures_of_both out' err')
-counts (Ok Clean) out err out' mid err' w quiet l = record { line = 0; once = omega arith; quiet = λ e. refl; count = counts_ok out err out' mid err' w quiet }
-counts (Ok (Faulty n)) out err out' mid err' w quiet l = record { line = 0; once = omega arith; quiet = λ e. refl; count = counts_ok out err out' mid err' w quiet }
-counts (Err (Refused e)) out err out' mid err' w quiet l = record { line = l.failed; once = l.once; quiet = λ k. absurd (omega arith); count = counts_err out err out' mid err' l w }
-counts (Err ReadFailed) out err out' mid err' w quiet l = record { line = l.failed; once = l.once; quiet = λ k. absurd (omega arith); count = counts_err out err out' mid err' l w }
-counts (Err OutOfMemory) out err out' mid err' w quiet l = record { line = l.failed; once = l.once; quiet = λ k. absurd (omega arith); count = counts_err out err out' mid err' l w }
-counts (Err WriteFailed) out err out' mid err' w quiet l = record {
-  line = l.failed;
-  once = l.once;
-  quiet = λ k. absurd (omega arith);
-  count = both_more out'.failures mid.failures err'.failures l.failed l.count ∙ ap (λ k. (k + l.failed) % 2 ^ 64) w ∙ mod-add-mod (failures_of_both out err + 1) (2 ^ 64) l.failed;
-}
-
--- status 6 is that of a failed write
-pub six_failed : (outcome : Result Verdict RunError) (n : ℕ) → failures_after is_write_failed outcome n ≡ (if exit_status outcome == 6 then one_more n else n)
-six_failed (Ok Clean) n = refl
-six_failed (Ok (Faulty k)) n = refl
-six_failed (Err (Refused e)) n = refl
-six_failed (Err ReadFailed) n = refl
-six_failed (Err OutOfMemory) n = refl
-six_failed (Err WriteFailed) n = refl
 
 -- a status by its outcome
 status_by : (outcome : Result Verdict RunError) (file : List ℕ) → IsAnswerOf outcome file → IsStatusOf (exit_status outcome) file

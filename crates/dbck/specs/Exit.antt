@@ -1,5 +1,5 @@
 -- What an exit status says of the report of a file, and of what was written of it.
-use Rattle.std.specs.Prelude.{◌≡◌, ◌≤◌, ◌⊎◌, ◌↔◌, ℕ, ◌+◌, ◌%◌, ◌^◌, ◌==◌, if◌then◌else◌, List, ◌++◌, length, Option, Ok, Err, None}
+use Rattle.std.specs.Prelude.{◌≡◌, ◌≢◌, ◌≤◌, ◌⊎◌, ◌↔◌, ℕ, ◌+◌, ◌%◌, ◌^◌, ◌==◌, nat_lt, if◌then◌else◌, List, [], ◌++◌, length, Option, Ok, Err, None}
 use Rattle.dbformat.specs.File.{refusal}
 use Rattle.std.specs.Io.KnownBytes.{Appends}
 use Rattle.dbformat.specs.Reference.{Reference}
@@ -34,12 +34,22 @@ pub record BeginsThenLine (old new : Option (List ℕ)) (bytes : List ℕ) : Typ
   pub short : length line ≤ 96
   pub added : Appends old new (part ++ line)
 
--- How many puts to both Outs failed: at 6 the one that ended the run, and behind an error perhaps that of its line.
-pub record CountsFailures (status before after : ℕ) : Type 0 where
+-- behind each error its line is put
+abbrev pub error_lines : ℕ → ℕ
+error_lines status = if nat_lt 1 status then 1 else 0
+
+-- How many calls of Outs failed: at 6 a put that ended the run, or the handing on behind it; behind another error perhaps the
+-- handing on; and so many lines at most. Where handing on did not fail nothing stays gathered, but for a refusal.
+pub record CountsFailures (lines status before after : ℕ) (gathered : List ℕ) : Type 0 where
+  pub put : ℕ
+  pub handing : ℕ
   pub line : ℕ
-  pub once : line ≤ 1
-  pub quiet : status ≤ 1 → line ≡ 0
-  pub count : after ≡ (before + (if status == 6 then 1 else 0) + line) % 2 ^ 64
+  pub puts : put ≤ (if status == 6 then 1 else 0)
+  pub handings : handing ≤ (if nat_lt 3 status then 1 else 0)
+  pub lines_put : line ≤ lines
+  pub ends : status ≡ 6 → 1 ≤ put + handing
+  pub rest : handing ≡ 0 → status ≢ 3 → gathered ≡ []
+  pub count : after % 2 ^ 64 ≡ (before + put + (handing + line)) % 2 ^ 64
 
 -- Whatever the status, what the first Out got is a beginning of its part of the report, and what the second got one of its
 -- own, and then perhaps the line of an error. 0 is answered only where no fault was found,

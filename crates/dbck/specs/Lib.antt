@@ -1,3 +1,4 @@
 pub mod CommandLine
 pub mod Exit
+pub mod Handing
 pub mod Status

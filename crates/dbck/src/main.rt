@@ -10,7 +10,7 @@ mod tests;
 
 use clap::error::ErrorKind as WordsErrorKind;
 use command_line::{Line, LineError, line_of};
-use dbsource::{FileSource, StreamOut};
+use dbsource::{BufferedOut, FileSource, StreamOut};
 use finishing::finish;
 use logs::put_notes;
 use status::line_status;
@@ -36,14 +36,14 @@ fn words_of(rt: &HostRuntime) -> Result<Vec<String>, LineError> {
 }
 
 // Runs what a line asks for, on the file alone: of a log beside it there is a note.
-fn run_line(rt: &HostRuntime, line: Line<'_>) -> u8 {
-    let mut out = StreamOut::new(rt.stdout());
+fn run_line(rt: &HostRuntime, line: Line<'_>) -> Result<u8, LineError> {
+    let mut out = BufferedOut::new(rt.alloc(), rt.stdout()).map_err(clap::Error::from)?;
     let mut err = StreamOut::new(rt.stderr());
     let opened = FileSource::open(rt, line.file);
     if opened.is_ok() {
         put_notes(rt, line.file, &mut err);
     }
-    finish(rt.alloc(), line.command, opened, &mut out, &mut err)
+    Ok(finish(rt.alloc(), line.command, opened, &mut out, &mut err))
 }
 
 // Runs what the words ask for.
@@ -54,7 +54,7 @@ fn run_words(rt: &HostRuntime) -> Result<u8, LineError> {
         texts.push(word.as_str()).map_err(clap::Error::from)?;
     }
     let line = line_of(rt.alloc(), texts.as_slice())?;
-    Ok(run_line(rt, line))
+    run_line(rt, line)
 }
 
 // Tells why the words are no command line, or the help that they ask for, and answers the status.

@@ -210,10 +210,10 @@ fn has_each_page_once(
     Ok(())
 }
 
-// 2000 pages behind a pointer map: a tree with a long chain, which two rows of the schema name, a freelist of two trunks whose
+// 100000 pages behind a pointer map: a tree with a long chain, which two rows of the schema name, a freelist of two trunks whose
 // leaves are map pages too, and pages that nothing uses.
 fn many_pages(alloc: Global) -> Result<Vec<u8>, AllocError> {
-    let mut file = Vec::from_elem(alloc, 0u8, 2000 * 512)?;
+    let mut file = Vec::from_elem(alloc, 0u8, 100000 * 512)?;
     let chain = long_chain(alloc)?;
     let bytes = file.as_mut_slice();
     // Page 2 is a map page, so the table's leaf stands on page 3, and its chain goes on from page 4.
@@ -241,9 +241,9 @@ fn many_pages(alloc: Global) -> Result<Vec<u8>, AllocError> {
 }
 
 #[test]
-fn shows_each_of_2000_pages_once(rt: HostRuntime) -> Result<(), Fail> {
+fn shows_each_of_100000_pages_once(rt: HostRuntime) -> Result<(), Fail> {
     let file = many_pages(rt.alloc())?;
-    has_each_page_once(&rt, rt.alloc(), file.as_slice(), 2000, "2000 pages")
+    has_each_page_once(&rt, rt.alloc(), file.as_slice(), 100000, "100000 pages")
 }
 
 // 64 pages whose bytes are drawn from a counter, behind the header of a file with a freelist and, for every other counter, a

@@ -1,7 +1,7 @@
 // Paths behind which there is no file that can be read.
 use crate::finishing::finish;
 use dbreport::Command;
-use dbsource::{FileSource, MemOut, Source};
+use dbsource::{BufferedOut, FileSource, MemOut, Source};
 use std::alloc::Allocator;
 use std::fs::{File, Metadata, OpenOptions};
 use std::rt::Files;
@@ -24,14 +24,14 @@ fn opens_files(rt: HostRuntime) -> Result<(), Fail> {
             "dbck: E1 file is shorter than 100 bytes\n",
         ),
     ] {
-        let mut out = MemOut::new(rt.alloc());
+        let mut out = BufferedOut::new(rt.alloc(), Vec::new(rt.alloc()))?;
         let mut err = MemOut::new(rt.alloc());
         let command = Command::Check { limit: 100 };
         let opened = FileSource::open(&rt, path);
         let found = finish(rt.alloc(), command, opened, &mut out, &mut err);
         assert!(rt; found == status, "{path}");
         assert!(rt; err.bytes() == text.as_bytes(), "{path}");
-        assert!(rt; out.bytes().is_empty(), "{path}");
+        assert!(rt; out.writer().is_empty(), "{path}");
     }
     fs::remove_file(&rt, "no-bytes.db")?;
     Ok(())

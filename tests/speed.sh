@@ -1,0 +1,120 @@
+#!/bin/bash
+# Measures dbck beside SQLite: speed.sh DBCK [FOLDER [ROUNDS]]. It makes databases of some 64 MiB by the sqlite3 program, which
+# has to have dbstat, in the folder (they stay there, and are used again), and runs five commands on each, in turn: cat,
+# quick_check, dbck check, the rows of dbstat, and dbck stat. Of each the least time of all rounds counts. The files are in the
+# page cache then. It prints a table: milliseconds, the ratios of dbck to SQLite and to cat, and the peak memory of dbck in
+# MiB, by GNU time.
+set -eu
+dbck=$(realpath "${1:?give the program}")
+folder=${2:-}
+rounds=${3:-7}
+if [ -z "$folder" ]; then
+    folder=$(mktemp -d)
+    trap 'rm -rf "$folder"' EXIT
+fi
+mkdir -p "$folder"
+
+# make NAME: a database of the SQL on standard input, if it is not there yet.
+make() {
+    if [ ! -e "$folder/$1" ]; then
+        sqlite3 "$folder/$1.new" > /dev/null
+        mv "$folder/$1.new" "$folder/$1"
+    fi
+}
+
+# numbers COUNT: the head of a statement over n(i), with i from 1 to COUNT.
+numbers() {
+    echo "WITH RECURSIVE n(i) AS (SELECT 1 UNION ALL SELECT i + 1 FROM n WHERE i < $1)"
+}
+
+# A number of 32 bits for i, in no order, and each once.
+mixed='i * 2654435761 % 4294967296'
+settings='PRAGMA page_size = 4096; PRAGMA journal_mode = OFF; PRAGMA synchronous = OFF;'
+
+make small-rows.db <<SQL
+$settings
+CREATE TABLE t(a INTEGER PRIMARY KEY, b);
+$(numbers 2300000) INSERT INTO t SELECT i, printf('%020d', i) FROM n;
+SQL
+
+make rows-of-200.db <<SQL
+$settings
+CREATE TABLE t(a INTEGER PRIMARY KEY, b);
+$(numbers 310000) INSERT INTO t SELECT i, printf('%0200d', i) FROM n;
+SQL
+
+make random-order.db <<SQL
+$settings
+CREATE TABLE t(a INTEGER PRIMARY KEY, b);
+$(numbers 425000) INSERT INTO t SELECT $mixed, printf('%0*d', 50 + i % 150, i) FROM n;
+UPDATE t SET b = printf('%0*d', 50 + a % 100, a) WHERE a % 3 = 0;
+DELETE FROM t WHERE a % 7 = 0;
+SQL
+
+make random-index.db <<SQL
+$settings
+CREATE TABLE t(a INTEGER PRIMARY KEY, b);
+CREATE INDEX k ON t(b);
+$(numbers 900000) INSERT INTO t SELECT i, printf('%08x-%08x-%08x', $mixed, i, i) FROM n;
+SQL
+
+make without-rowid.db <<SQL
+$settings
+CREATE TABLE t(a PRIMARY KEY, b) WITHOUT ROWID;
+$(numbers 1100000) INSERT INTO t SELECT printf('%08x', $mixed), printf('%040d', i) FROM n;
+SQL
+
+make blobs.db <<SQL
+$settings
+CREATE TABLE t(a INTEGER PRIMARY KEY, b);
+$(numbers 660) INSERT INTO t SELECT i, zeroblob(100000 + i) FROM n;
+SQL
+
+# The present time, in microseconds.
+now() {
+    echo "${EPOCHREALTIME/./}"
+}
+
+# least NAME COMMAND..: keeps the least time of NAME, in microseconds. A status of 0 is wanted.
+declare -A time
+least() {
+    local name=$1 start end
+    shift
+    start=$(now)
+    "$@" > /dev/null
+    end=$(now)
+    if [ -z "${time[$name]:-}" ] || [ $((end - start)) -lt "${time[$name]}" ]; then
+        time[$name]=$((end - start))
+    fi
+}
+
+# ratio NAME NAME: of two times, with two decimals.
+ratio() {
+    local hundredths=$((time[$1] * 100 / time[$2]))
+    printf '%d.%02d' $((hundredths / 100)) $((hundredths % 100))
+}
+
+millis() {
+    printf '%d.%d' $((time[$1] / 1000)) $((time[$1] / 100 % 10))
+}
+
+memory() {
+    /usr/bin/time -f %M "$dbck" "$@" 2>&1 > /dev/null | awk '{ printf "%.1f", $1 / 1024 }'
+}
+
+sqlite3 --version | cut -d ' ' -f 1,2
+echo '| File | MiB | cat | quick_check | check | to it | to cat | dbstat | stat | to it | memory |'
+echo '|---|---|---|---|---|---|---|---|---|---|---|'
+for file in "$folder"/*.db; do
+    time=()
+    for _ in $(seq "$rounds"); do
+        least cat cat "$file"
+        least quick sqlite3 "$file" 'PRAGMA quick_check'
+        least check "$dbck" check "$file"
+        least dbstat sqlite3 "$file" 'SELECT * FROM dbstat'
+        least stat "$dbck" stat "$file"
+    done
+    printf '| %s | %d | %s | %s | %s | %s | %s | %s | %s | %s | %s, %s |\n' "$(basename "$file" .db)" \
+        $(($(stat -c %s "$file") / 1048576)) "$(millis cat)" "$(millis quick)" "$(millis check)" "$(ratio check quick)" \
+        "$(ratio check cat)" "$(millis dbstat)" "$(millis stat)" "$(ratio stat dbstat)" "$(memory check "$file")" "$(memory stat "$file")"
+done
