@@ -25,7 +25,7 @@ mod window;
 
 pub use dbformat::RowFault;
 pub use name::name_text;
-pub use payload::local_len;
+pub use payload::{local_len, most_local};
 pub use row::SchemaRow;
 pub use serial::serial_len;
 pub use sieve::RowSieve;

@@ -4,8 +4,9 @@ ghost use Rattle.dbformat.specs.Payload.{most_local, local_len};
 
 use dbformat::PayloadKind;
 
-// The most that stands in a cell without overflow, "X".
-fn most_local(kind: PayloadKind, usable: u32) -> u32
+/// How many bytes of a payload stand in a cell at most: a payload of as many bytes, or fewer, has no overflow page.
+#[inline(always)]
+pub fn most_local(kind: PayloadKind, usable: u32) -> u32
     requires low { 480 ≤ usable }
     requires high { usable ≤ 65536 }
     ensures value { result ≡ most_local kind usable }
@@ -19,6 +20,7 @@ fn most_local(kind: PayloadKind, usable: u32) -> u32
 
 /// How many bytes of a payload of `p` bytes stand in its cell, on pages of which `usable` bytes can be used. The others
 /// stand on overflow pages.
+#[inline(never)]
 #[tactic(auto, unfolding(dbformat::specs::Payload::local_len))]
 pub fn local_len(kind: PayloadKind, usable: u32, p: u32) -> u32
     requires usable_low { 480 ≤ usable }

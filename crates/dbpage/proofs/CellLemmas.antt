@@ -121,3 +121,38 @@ offset-held_by v i = by_case (cell v i) refl
     by_case : (r : Result Cell CellFault) → cell v i ≡ r → (held_by v i r).offset ≡ cell_pointer v i
     by_case (Ok c) h = (cell_within v i c h).place
     by_case (Err e) h = refl
+
+payload_local : (v : View) (kind : PayloadKind) (offset before size : ℕ) (left : Option ℕ) (key : Option ℤ) (c : Cell)
+    → payload_cell v kind offset before size left key ≡ Some c → length c.local ≤ v.usable
+payload_local v kind offset before size left key c h =
+    let here = local_len kind v.usable size in
+    let len : ℕ = before + here + (if nat_lt here size then 4 else 0) in
+    let p = if_some (nat_le size 2147483647 && nat_le (offset + len) v.usable) _ c h in
+    let fits : offset + len ≤ v.usable = both_fit size (offset + len) v.usable p.0 in
+    omega (arith, fits, ap (λ (d : Cell). length d.local) p.1, length-take here (drop (offset + before) v.bytes))
+
+cell_at_local : (kind : PageKind) (v : View) (offset : ℕ) (c : Cell) → cell_at kind v offset ≡ Some c → length c.local ≤ v.usable
+cell_at_local LeafTable v offset c h =
+    let size = then_some _ (varint (bytes_from v offset)) c h in
+    let rowid = then_some _ (varint (bytes_from v (offset + size.0.1))) c size.1 in
+    payload_local v TableLeaf offset (size.0.1 + rowid.0.1) size.0.0 None (Some (signed rowid.0.0)) c rowid.1
+cell_at_local InteriorTable v offset c h =
+    let key = then_some _ (varint (bytes_from v (offset + 4))) c h in
+    omega (arith, ap (λ (d : Cell). length d.local) (same_some key.1))
+cell_at_local LeafIndex v offset c h =
+    let size = then_some _ (varint (bytes_from v offset)) c h in
+    payload_local v Index offset size.0.1 size.0.0 None None c size.1
+cell_at_local InteriorIndex v offset c h =
+    let size = then_some _ (varint (bytes_from v (offset + 4))) c h in
+    payload_local v Index offset (4 + size.0.1) size.0.0 (Some (u32_at offset v.bytes)) None c size.1
+
+if_ok : (t : Bool) (o : Option Cell) (c : Cell) → (if t then ok_or o Unreadable else Err Offset) ≡ Ok c → o ≡ Some c
+if_ok true o c h = ok_some o c h
+if_ok false o c h = cc
+
+-- the local bytes of a payload are no more than those of its page
+pub cell_local : (v : View) (i : ℕ) (c : Cell) → cell v i ≡ Ok c → length c.local ≤ v.usable
+unfolding cell
+cell_local v i c h =
+    let at = cell_pointer v i in
+    cell_at_local v.kind v at c (if_ok (nat_le (content_start v.number v.bytes) at && nat_le at (v.usable - 4)) (cell_at v.kind v at) c h)

@@ -51,9 +51,9 @@ Holds-from_read v i c offset len readable place size =
     span : ℕ → ℕ → Span
     span o l = record { offset = o; len = l }
 
-pub AreMarked_none : (v : View) (table : List ℕ) → ((byte : ℕ) → start_of v ≤ byte → byte < v.usable → is_marked table byte ≡ false)
+pub AreMarked_none : (v : View) (table : List ℕ) → ((byte : ℕ) → byte < v.usable → is_marked table byte ≡ false)
     → AreMarked [] (start_of v) v.usable table 0
-AreMarked_none v table free = record { marked = free; apart = λ k none. absurd (omega arith); counted = omega (arith, none_held (start_of v) (v.usable - start_of v)) }
+AreMarked_none v table free = record { marked = λ byte from below. free byte below; apart = λ k none. absurd (omega arith); counted = omega (arith, none_held (start_of v) (v.usable - start_of v)) }
 
 module _ (v : View) (i : ℕ) (table : List ℕ) (held : ℕ) (was : AreMarked (cells_upto v i) (start_of v) v.usable table held) where
   -- one more cell is marked

@@ -5,8 +5,10 @@ use Rattle.std.proofs.lemmas.Bool.{cases_lt}
 use Rattle.std.proofs.lemmas.Bool.Decides.{nat_tests}
 use Rattle.std.proofs.lemmas.List.{get_or_append_left, take-append-le, get_or_at, take_at, length_push}
 use Rattle.std.proofs.lemmas.List.Folds.{list_any-append}
-use Rattle.dbformat.specs.Coverage.{Span, is_held, is_overlapping, first_overlap}
-use Rattle.dbpage.specs.Marking.{is_marked, is_within, Marks, HasMarked, AreMarked}
+use Rattle.dbformat.specs.Head.{View, content_start}
+use Rattle.dbformat.specs.Coverage.{Span, coverage, coverage_of, first_overlap, is_held, is_overlapping, items, unheld}
+use Rattle.dbformat.specs.declared.Coverage.TheVariants.{Unheld}
+use Rattle.dbpage.specs.Marking.{is_marked, is_within, Marks, HasMarked, AreApart, AreMarked}
 use Rattle.dbpage.proofs.Ranges.{find_first, find_none, any_at, any_none}
 use Rattle.dbpage.proofs.Unheld.{PassMore, fewer_fail}
 
@@ -50,40 +52,62 @@ outside from to byte h = grind (arith, nat_tests)
 from_within : (from to byte : ℕ) → is_within from to byte ≡ true → (from ≤ byte) × (byte < to)
 from_within from to byte h = (grind (arith, nat_tests), grind (arith, nat_tests))
 
-module _ (spans : List Span) (s : Span) (start end : ℕ) (table : List ℕ) (held : ℕ) (was : AreMarked spans start end table held) where
-  -- an item whose bytes are free is apart from those before it
-  pub apart_from : start ≤ s.offset → s.offset + s.len ≤ end → ((byte : ℕ) → s.offset ≤ byte → byte < s.offset + s.len → is_marked table byte ≡ false)
-      → (byte : ℕ) → s.offset ≤ byte → byte < s.offset + s.len → is_held spans byte ≡ false
-  apart_from low high free byte from below = sym (was.marked byte (omega arith) (omega arith)) ∙ free byte from below
-
-  pass_more : ((byte : ℕ) → s.offset ≤ byte → byte < s.offset + s.len → is_held spans byte ≡ false)
-      → PassMore (is_held spans) (is_held (spans ++ s ∷ [])) s.offset (s.offset + s.len)
-  pass_more free = record {
+-- an item apart from those before it
+module _ (spans : List Span) (s : Span) (free : (byte : ℕ) → s.offset ≤ byte → byte < s.offset + s.len → is_held spans byte ≡ false) where
+  pass_more : PassMore (is_held spans) (is_held (spans ++ s ∷ [])) s.offset (s.offset + s.len)
+  pass_more = record {
     before = free;
     now = λ byte from below. is_held_inside spans s byte (within s.offset (s.offset + s.len) byte from below);
     others = λ byte h. is_held_outside spans s byte (outside s.offset (s.offset + s.len) byte h);
   }
 
-  stay_apart : ((byte : ℕ) → s.offset ≤ byte → byte < s.offset + s.len → is_held spans byte ≡ false)
-      → (k : ℕ) → k < length (spans ++ s ∷ []) → is_overlapping (spans ++ s ∷ []) k ≡ false
-  stay_apart free k h =
+  stay_apart : ((k : ℕ) → k < length spans → is_overlapping spans k ≡ false) → (k : ℕ) → k < length (spans ++ s ∷ []) → is_overlapping (spans ++ s ∷ []) k ≡ false
+  stay_apart apart k h =
       elim (cases_lt k (length spans)) [
-        | inl earlier ↦ is_overlapping-append spans (s ∷ []) k earlier ∙ was.apart k earlier
+        | inl earlier ↦ is_overlapping-append spans (s ∷ []) k earlier ∙ apart k earlier
         | inr last ↦
             let same : length spans ≡ k = omega (arith, length_push spans s) in
             subst (λ (j : ℕ). is_overlapping (spans ++ s ∷ []) j ≡ false) same
             (is_overlapping_at spans s [] ∙ any_none (is_held spans) s.offset s.len free)
       ]
 
+  pub AreApart_push : (start end held : ℕ) → AreApart spans start end held → start ≤ s.offset → s.offset + s.len ≤ end → AreApart (spans ++ s ∷ []) start end (held + s.len)
+  AreApart_push start end held was low high =
+      let fewer = fewer_fail (is_held spans) (is_held (spans ++ s ∷ [])) s.offset (s.offset + s.len) start (end - start) pass_more in
+      record { apart = stay_apart was.apart; counted = omega (arith, fewer, was.counted) }
+
+-- an item that holds nothing
+module _ (spans : List Span) (s : Span) (none : s.len ≡ 0) where
+  pub free_of_none : (byte : ℕ) → s.offset ≤ byte → byte < s.offset + s.len → is_held spans byte ≡ false
+  free_of_none byte from below = absurd (omega arith)
+
+  pub AreApart_push_empty : (start end held : ℕ) → AreApart spans start end held → AreApart (spans ++ s ∷ []) start end held
+  AreApart_push_empty start end held was =
+      let fewer = fewer_fail (is_held spans) (is_held (spans ++ s ∷ [])) s.offset (s.offset + s.len) start (end - start) (pass_more spans s free_of_none) in
+      record { apart = stay_apart spans s free_of_none was.apart; counted = omega (arith, fewer, was.counted) }
+
+  pub is_held_push_empty : (byte : ℕ) → is_held (spans ++ s ∷ []) byte ≡ is_held spans byte
+  is_held_push_empty byte = is_held_outside spans s byte (outside s.offset (s.offset + s.len) byte (elim (cases_lt byte s.offset) [ inl below ↦ inl below | inr from ↦ inr (omega arith) ]))
+
+-- bytes beside an item
+pub is_held_push_beside : (spans : List Span) (s : Span) (byte : ℕ) → (byte < s.offset) ⊎ (s.offset + s.len ≤ byte) → is_held spans byte ≡ false → is_held (spans ++ s ∷ []) byte ≡ false
+is_held_push_beside spans s byte beside free = is_held_outside spans s byte (outside s.offset (s.offset + s.len) byte beside) ∙ free
+
+module _ (spans : List Span) (s : Span) (start end : ℕ) (table : List ℕ) (held : ℕ) (was : AreMarked spans start end table held) where
+  -- an item whose bytes are free is apart from those before it
+  pub apart_from : start ≤ s.offset → s.offset + s.len ≤ end → ((byte : ℕ) → s.offset ≤ byte → byte < s.offset + s.len → is_marked table byte ≡ false)
+      → (byte : ℕ) → s.offset ≤ byte → byte < s.offset + s.len → is_held spans byte ≡ false
+  apart_from low high free byte from below = sym (was.marked byte (omega arith) (omega arith)) ∙ free byte from below
+
   -- one more item is marked
   pub AreMarked_push : (new : List ℕ) → start ≤ s.offset → s.offset + s.len ≤ end → Marks table s.offset (s.offset + s.len) new
       → AreMarked (spans ++ s ∷ []) start end new (held + s.len)
   AreMarked_push new low high marks =
       let free = apart_from low high marks.were_free in
-      let fewer = fewer_fail (is_held spans) (is_held (spans ++ s ∷ [])) s.offset (s.offset + s.len) start (end - start) (pass_more free) in
+      let fewer = fewer_fail (is_held spans) (is_held (spans ++ s ∷ [])) s.offset (s.offset + s.len) start (end - start) (pass_more spans s free) in
       record {
         marked = λ byte from below. by_case byte from below (holds s byte) refl;
-        apart = stay_apart free;
+        apart = stay_apart spans s free was.apart;
         counted = omega (arith, fewer, was.counted);
       }
     where
@@ -97,10 +121,10 @@ module _ (spans : List Span) (s : Span) (start end : ℕ) (table : List ℕ) (he
   pub AreMarked_push_empty : s.len ≡ 0 → AreMarked (spans ++ s ∷ []) start end table held
   AreMarked_push_empty none =
       let free = λ (byte : ℕ) (from : s.offset ≤ byte) (below : byte < s.offset + s.len). absurd {A = is_held spans byte ≡ false} (omega arith) in
-      let fewer = fewer_fail (is_held spans) (is_held (spans ++ s ∷ [])) s.offset (s.offset + s.len) start (end - start) (pass_more free) in
+      let fewer = fewer_fail (is_held spans) (is_held (spans ++ s ∷ [])) s.offset (s.offset + s.len) start (end - start) (pass_more spans s free) in
       record {
         marked = λ byte from below. was.marked byte from below ∙ sym (is_held_outside spans s byte (outside s.offset (s.offset + s.len) byte (elim (cases_lt byte s.offset) [ inl below ↦ inl below | inr from ↦ inr (omega arith) ])));
-        apart = stay_apart free;
+        apart = stay_apart spans s free was.apart;
         counted = omega (arith, fewer, was.counted);
       }
 
@@ -113,5 +137,20 @@ module _ (spans : List Span) (s : Span) (start end : ℕ) (table : List ℕ) (he
       (is_overlapping_at spans s rest ∙ any_at (is_held spans) s.offset s.len hit.byte hit.from_on hit.below
       (sym (was.marked hit.byte (omega (arith, hit.from_on)) (omega (arith, hit.below))) ∙ hit.marked))
 
+pub no_overlap : (spans : List Span) (start end held : ℕ) → AreApart spans start end held → first_overlap spans ≡ None
+no_overlap spans start end held are = find_none (is_overlapping spans) 0 (length spans) (λ k l h. are.apart k (omega arith))
+
+pub AreApart-from_marked : (spans : List Span) (start end : ℕ) (table : List ℕ) (held : ℕ) → AreMarked spans start end table held → AreApart spans start end held
+AreApart-from_marked spans start end table held are = record { apart = are.apart; counted = are.counted }
+
 pub first_overlap_none : (spans : List Span) (start end : ℕ) (table : List ℕ) (held : ℕ) → AreMarked spans start end table held → first_overlap spans ≡ None
-first_overlap_none spans start end table held are = find_none (is_overlapping spans) 0 (length spans) (λ k l h. are.apart k (omega arith))
+first_overlap_none spans start end table held are = no_overlap spans start end held (AreApart-from_marked spans start end table held are)
+
+-- the coverage of a page whose items are apart
+pub coverage-from_apart : (v : View) (held : ℕ) → AreApart (items v) (content_start v.number v.bytes) v.usable held
+    → coverage v ≡ Unheld (v.usable - content_start v.number v.bytes - held)
+unfolding coverage
+coverage-from_apart v held are =
+    let none = no_overlap (items v) (content_start v.number v.bytes) v.usable held are in
+    let left : unheld v ≡ v.usable - content_start v.number v.bytes - held = omega (arith, are.counted) in
+    ap (coverage_of v) none ∙ ap (λ (n : ℕ). Unheld n) left

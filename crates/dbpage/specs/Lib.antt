@@ -1,3 +1,4 @@
 pub mod Freeblocks
 pub mod Head
 pub mod Marking
+pub mod Packed

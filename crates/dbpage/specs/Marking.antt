@@ -1,13 +1,18 @@
 -- What the marks of a table say of the items that were marked in it.
-use Rattle.std.specs.Prelude.{◌≡◌, ℕ, ◌+◌, ◌-◌, ◌<◌, ◌≤◌, Bool, true, false, not, ◌&&◌, List, length, map, count_by, slice_index, nat_lt, nat_le, ◌==◌}
+use Rattle.std.specs.Prelude.{◌≡◌, ℕ, ◌+◌, ◌-◌, ◌/◌, ◌%◌, ◌<◌, ◌≤◌, Bool, true, false, not, ◌&&◌, List, length, map, count_by, slice_index, nat_lt, nat_le, ◌==◌}
+use Rattle.std.specs.Int.{bit_at}
 use Rattle.std.specs.List.{range_with_len}
 use Rattle.dbformat.specs.Head.{View, content_start}
 use Rattle.dbformat.specs.Cell.{cell, count}
 use Rattle.dbformat.specs.Coverage.{Span, held_by, is_held, is_overlapping}
 
+-- The mark of a byte is a bit of the table: those of eight bytes stand in one of it, the first in its lowest bit.
+abbrev pub mark_bit : List ℕ → ℕ → ℕ
+mark_bit table byte = bit_at (slice_index table (byte / 8)) (byte % 8)
+
 -- whether the byte is marked
 abbrev pub is_marked : List ℕ → ℕ → Bool
-is_marked table byte = not (slice_index table byte == 0)
+is_marked table byte = not (mark_bit table byte == 0)
 
 -- whether the byte is one of these
 abbrev pub is_within : ℕ → ℕ → ℕ → Bool
@@ -26,9 +31,22 @@ pub record HasMarked (table : List ℕ) (from to : ℕ) : Type 0 where
   pub below : byte < to
   pub marked : is_marked table byte ≡ true
 
+-- one of these bytes of a table has marks
+pub record HasByte (table : List ℕ) (from to : ℕ) : Type 0 where
+  pub place : ℕ
+  pub from_on : from ≤ place
+  pub below : place < to
+  pub some : 0 < slice_index table place
+  pub fits : slice_index table place < 256
+
 -- how many of the bytes from start up to end no span holds
 abbrev pub unheld_by : List Span → ℕ → ℕ → ℕ
 unheld_by spans start end = count_by (λ byte. not (is_held spans byte)) (range_with_len start (end - start))
+
+-- no two spans share a byte, and they hold so many of the bytes from start up to end
+pub record AreApart (spans : List Span) (start end held : ℕ) : Type 0 where
+  pub apart : (k : ℕ) → k < length spans → is_overlapping spans k ≡ false
+  pub counted : held + unheld_by spans start end ≡ end - start
 
 -- the marked bytes of a content area are those that the spans hold, `held` in all, and no two spans share a byte
 pub record AreMarked (spans : List Span) (start end : ℕ) (table : List ℕ) (held : ℕ) : Type 0 where

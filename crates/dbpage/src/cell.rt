@@ -5,7 +5,7 @@ ghost use Rattle.dbformat.specs.Varint.{varint};
 ghost use Rattle.dbformat.specs.declared.PageKind.TheVariants.{InteriorIndex, InteriorTable, LeafIndex, LeafTable};
 
 use crate::view::{PageView, is_interior};
-use dbbytes::{local_len, varint};
+use dbbytes::{local_len, most_local, varint};
 use dbformat::{CellFault, PageKind, PayloadKind, u16_at, u32_at};
 use std::marker::Model;
 
@@ -43,20 +43,22 @@ impl<'a> PageView<'a> {
         requires { i < count self.now }
         ensures { result ≡ cell self.now i }
     {
-        self.read_cell(i)
+        self.read_cell(self.kind, i)
     }
 
-    // `cell`, within its caller, so that only what this uses is read.
+    // `cell`, within its caller, so that only what this uses is read. A caller that has the kind as a constant need not
+    // ask for it at each cell.
     #[inline(always)]
-    pub(crate) fn read_cell(&self, i: u32) -> Result<Cell<'a>, CellFault>
-        requires { i < count self.now }
+    pub(crate) fn read_cell(&self, kind: PageKind, i: u32) -> Result<Cell<'a>, CellFault>
+        requires within { i < count self.now }
+        requires kind { kind ≡ self.now.kind }
         ensures { result ≡ cell self.now i }
     {
         let offset = self.pointer(i);
         if offset < self.start || offset > self.usable - 4 {
             return Err(CellFault::Offset);
         }
-        self.cell_at(offset).ok_or(CellFault::Unreadable)
+        self.cell_at(kind, offset).ok_or(CellFault::Unreadable)
     }
 
     /// The page of child `i`: left of cell `i`, where this is readable, and the right child behind the last cell. `None`
@@ -96,13 +98,14 @@ impl<'a> PageView<'a> {
         }
     }
 
-    // The cell at `offset`, by the kind of the page.
+    // The cell at `offset` of a page of this kind.
     #[inline(always)]
-    fn cell_at(&self, offset: u32) -> Option<Cell<'a>>
-        requires { offset + 4 ≤ self.now.usable }
-        ensures { result ≡ cell_at self.now.kind self.now offset }
+    fn cell_at(&self, kind: PageKind, offset: u32) -> Option<Cell<'a>>
+        requires room { offset + 4 ≤ self.now.usable }
+        requires most { self.now.usable ≤ 65536 }
+        ensures { result ≡ cell_at kind self.now offset }
     {
-        match self.kind {
+        match kind {
             PageKind::LeafTable => self.table_leaf_cell(offset),
             PageKind::InteriorTable => self.table_interior_cell(offset),
             PageKind::LeafIndex => self.index_leaf_cell(offset),
@@ -181,6 +184,7 @@ impl<'a> PageView<'a> {
 
     // The cell at `offset` whose payload of `size` bytes begins `before` bytes into it.
     #[inline(always)]
+    #[tactic(auto, unfolding(dbformat::specs::Payload::local_len))]
     fn payload_cell(
         &self,
         kind: PayloadKind,
@@ -190,15 +194,33 @@ impl<'a> PageView<'a> {
         left: Option<u32>,
         key: Option<i64>,
     ) -> Option<Cell<'a>>
-        requires { offset + before ≤ self.now.usable }
+        requires place { offset + before ≤ self.now.usable }
+        requires most { self.now.usable ≤ 65536 }
         ensures { result ≡ payload_cell self.now kind offset before size left key }
     {
+        let payload = offset + before;
+        // Most payloads stand in their cells.
+        if size <= u64::from(most_local(kind, self.usable)) {
+            let size = size as u32;
+            let end = payload + size;
+            if end > self.usable {
+                return None;
+            }
+            return Some(Cell {
+                offset,
+                len: before + size,
+                size,
+                local: &self.bytes[payload as usize..end as usize],
+                left,
+                key,
+                overflow: None,
+            });
+        }
         if size > 2147483647 {
             return None;
         }
         let size = size as u32;
         let here = local_len(kind, self.usable, size);
-        let payload = offset + before;
         let end = payload + here;
         let overflow_len = if here < size { 4 } else { 0 };
         if end + overflow_len > self.usable {

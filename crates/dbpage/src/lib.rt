@@ -20,7 +20,10 @@
 mod cell;
 mod freeblocks;
 mod marks;
+mod order;
+mod scan;
 mod steps;
+mod table;
 #[cfg(test)]
 mod tests;
 mod view;
@@ -28,5 +31,6 @@ mod view;
 pub use cell::Cell;
 pub use freeblocks::{Freeblock, Freeblocks};
 pub use marks::{coverage, uncounted_coverage};
+pub use scan::Packed;
 pub use steps::Steps;
 pub use view::{PageView, content_start, type_byte};

@@ -1,15 +1,16 @@
 // What the cells and freeblocks of a page hold of it (Database File Format, 1.6).
-ghost use Rattle.std.specs.Prelude.{◌≡◌, ℕ, false, Some, ◌+◌, ◌^◌, ◌<◌, ◌≤◌, ◌==◌, not, length, MatchBool, MatchOption, MatchResult};
-ghost use Rattle.std.specs.List.{list_any};
+ghost use Rattle.std.specs.Prelude.{◌≡◌, ℕ, false, [], Some, ◌+◌, ◌<◌, ◌≤◌, length, IfSome, MatchOption, MatchResult};
 ghost use Rattle.dbformat.specs.Head.{content_start};
 ghost use Rattle.dbformat.specs.Cell.{count};
-ghost use Rattle.dbformat.specs.Coverage.{coverage, first_overlap, items};
-ghost use Rattle.dbpage.specs.Marking.{AreMarked, HasMarked, Holds, HoldsNothing, Marks, cell_items, is_marked};
+ghost use Rattle.dbformat.specs.Coverage.{coverage, first_overlap, freeblocks, items};
+ghost use Rattle.dbpage.specs.Marking.{AreApart, AreMarked, Holds, HoldsNothing, cell_items, is_marked};
 ghost use Rattle.dbformat.specs.declared.Coverage.TheVariants.{Unheld};
 
+use crate::order::Stack;
 use crate::steps::Steps;
-use crate::view::PageView;
-use dbformat::Coverage;
+use crate::table::{claim, clear};
+use crate::view::{PageView, by_kind};
+use dbformat::{Coverage, PageKind};
 use std::marker::Brand;
 use std::sync::ledger::{Blank, Ledger};
 
@@ -17,7 +18,8 @@ use std::sync::ledger::{Blank, Ledger};
 /// content area are in none. Items are the cells, readable or not, and then the good freeblocks.
 ///
 /// `table` is room to work in, a byte for each usable byte of the page. What it holds does not matter, and is open
-/// afterwards. `steps` counts each byte that is set in it for an item, and the finding that an item's byte is set.
+/// afterwards. `steps` counts each byte that is marked for an item, and the finding that an item's byte is marked. Bytes
+/// for which the order of the cells shows that no item before holds them are counted, though no mark is written.
 pub fn coverage<L: Ledger>(view: &PageView<'_>, table: &mut [u8], steps: &mut Steps<L>) -> Coverage
     requires { view.now.usable ≤ length table.old }
     ensures items { result ≡ coverage view.now }
@@ -26,15 +28,12 @@ pub fn coverage<L: Ledger>(view: &PageView<'_>, table: &mut [u8], steps: &mut St
     // Each held byte is marked.
     ensures each { (n : ℕ) → result ≡ Unheld n → steps.new + n + content_start view.now.number view.now.bytes ≡ steps.old + view.now.usable }
 {
-    let content = view.usable - view.start;
-    table[view.start as usize..view.usable as usize].fill(0);
-    let in_cells = match mark_cells(view, table, steps) {
-        Ok(held) => held,
-        Err(overlap) => return Coverage::Overlap(overlap.item),
-    };
-    match mark_freeblocks(view, in_cells, table, steps) {
-        Ok(held) => Coverage::Unheld(content - held),
-        Err(overlap) => Coverage::Overlap(overlap.item),
+    match held_in_order(view) {
+        Some(held) => {
+            steps.add(held);
+            Coverage::Unheld(view.usable - view.start - held)
+        }
+        None => marked_coverage(view, table, steps),
     }
 }
 
@@ -59,10 +58,64 @@ fn coverage_from<L: Ledger>(view: &PageView<'_>, table: &mut [u8], blank: Blank)
     coverage(view, table, &mut steps)
 }
 
+// How many bytes the items hold, where they are cells alone and each stands below or above all before it. SQLite packs the
+// cells of a page from its end downwards, so that this is so for most. No byte is marked, since none is held twice.
+#[inline(never)]
+fn held_in_order(view: &PageView<'_>) -> Option<u32>
+    ensures { IfSome result (AreApart (items view.now) (content_start view.now.number view.now.bytes) view.now.usable) }
+{
+    match view.freeblocks().next() {
+        Some(_) => None,
+        None => by_kind!(view.kind, kind => held_in_order_of(view, kind)),
+    }
+}
+
+// `held_in_order` of a page of this kind without freeblocks.
+#[inline(always)]
+fn held_in_order_of(view: &PageView<'_>, kind: PageKind) -> Option<u32>
+    requires kind { kind ≡ view.now.kind }
+    requires cells_alone { freeblocks view.now ≡ [] }
+    ensures { IfSome result (AreApart (items view.now) (content_start view.now.number view.now.bytes) view.now.usable) }
+{
+    let mut stack = Stack::new(view.usable);
+    for i in 0..view.cells {
+        if let Some((offset, len)) = held_by_cell(view, kind, i) {
+            if !stack.add(offset, len) {
+                return None;
+            }
+        }
+    }
+    Some(stack.held)
+}
+
+// `coverage`, by marks of all items.
+#[inline(never)]
+fn marked_coverage<L: Ledger>(
+    view: &PageView<'_>,
+    table: &mut [u8],
+    steps: &mut Steps<L>,
+) -> Coverage
+    requires { view.now.usable ≤ length table.old }
+    ensures items { result ≡ coverage view.now }
+    ensures few { steps.new ≤ steps.old + view.now.usable + 1 }
+    ensures each { (n : ℕ) → result ≡ Unheld n → steps.new + n + content_start view.now.number view.now.bytes ≡ steps.old + view.now.usable }
+{
+    let content = view.usable - view.start;
+    clear(table, view.usable);
+    let in_cells = match mark_cells(view, table, steps) {
+        Ok(held) => held,
+        Err(overlap) => return Coverage::Overlap(overlap.item),
+    };
+    match mark_freeblocks(view, in_cells, table, steps) {
+        Ok(held) => Coverage::Unheld(content - held),
+        Err(overlap) => Coverage::Overlap(overlap.item),
+    }
+}
+
 // The number of an item that shares a byte with one before it.
 #[derive(Drop)]
-struct Overlap {
-    item: u32,
+pub(crate) struct Overlap {
+    pub(crate) item: u32,
 }
 
 // Marks what the cells hold, and counts it.
@@ -72,7 +125,26 @@ fn mark_cells<L: Ledger>(
     steps: &mut Steps<L>,
 ) -> Result<u32, Overlap>
     requires room { view.now.usable ≤ length table.old }
-    requires free { (byte : ℕ) → content_start view.now.number view.now.bytes ≤ byte → byte < view.now.usable → is_marked table.old byte ≡ false }
+    requires free { (byte : ℕ) → byte < view.now.usable → is_marked table.old byte ≡ false }
+    ensures marked { MatchResult result
+        (λ held. (steps.new ≡ steps.old + held)
+        × AreMarked (cell_items view.now) (content_start view.now.number view.now.bytes) view.now.usable table.new held)
+        (λ overlap. (steps.new ≤ steps.old + view.now.usable + 1) × (first_overlap (items view.now) ≡ Some overlap.item)) }
+{
+    by_kind!(view.kind, kind => mark_cells_of(view, kind, table, steps))
+}
+
+// `mark_cells` of a page of this kind.
+#[inline(always)]
+fn mark_cells_of<L: Ledger>(
+    view: &PageView<'_>,
+    kind: PageKind,
+    table: &mut [u8],
+    steps: &mut Steps<L>,
+) -> Result<u32, Overlap>
+    requires kind { kind ≡ view.now.kind }
+    requires room { view.now.usable ≤ length table.old }
+    requires free { (byte : ℕ) → byte < view.now.usable → is_marked table.old byte ≡ false }
     ensures marked { MatchResult result
         (λ held. (steps.new ≡ steps.old + held)
         × AreMarked (cell_items view.now) (content_start view.now.number view.now.bytes) view.now.usable table.new held)
@@ -80,7 +152,7 @@ fn mark_cells<L: Ledger>(
 {
     let mut held = 0;
     for i in 0..view.cells {
-        if let Some((offset, len)) = held_by_cell(view, i) {
+        if let Some((offset, len)) = held_by_cell(view, kind, i) {
             if !claim(table, offset, len, steps) {
                 return Err(Overlap { item: i });
             }
@@ -92,18 +164,19 @@ fn mark_cells<L: Ledger>(
 
 // Where cell `i` begins and how many bytes it holds, if it is readable: four at least.
 #[inline(always)]
-fn held_by_cell(view: &PageView<'_>, i: u32) -> Option<(u32, u32)>
-    requires { i < count view.now }
+fn held_by_cell(view: &PageView<'_>, kind: PageKind, i: u32) -> Option<(u32, u32)>
+    requires within { i < count view.now }
+    requires kind { kind ≡ view.now.kind }
     ensures { MatchOption result (HoldsNothing view.now i) (λ held. Holds view.now i held.0 held.1) }
 {
-    match view.read_cell(i) {
+    match view.read_cell(kind, i) {
         Ok(cell) => Some((cell.offset, cell.len.max(4))),
         Err(_) => None,
     }
 }
 
 // Marks what the good freeblocks hold behind the `held` bytes of the cells, and counts it all.
-fn mark_freeblocks<L: Ledger>(
+pub(crate) fn mark_freeblocks<L: Ledger>(
     view: &PageView<'_>,
     held: u32,
     table: &mut [u8],
@@ -126,32 +199,4 @@ fn mark_freeblocks<L: Ledger>(
         item += 1;
     }
     Ok(all)
-}
-
-// Marks `len` bytes from `from` on, unless one of them is marked.
-fn claim<L: Ledger>(table: &mut [u8], from: u32, len: u32, steps: &mut Steps<L>) -> bool
-    requires room { from + len ≤ length table.old }
-    requires fits { from + len < 2 ^ 32 }
-    ensures marked { MatchBool result (Marks table.old from (from + len) table.new) (HasMarked table.old from (from + len)) }
-    ensures counted { MatchBool result (steps.new ≡ steps.old + len) (steps.new ≡ steps.old + 1) }
-{
-    let bytes = &mut table[from as usize..(from + len) as usize];
-    if is_any_marked(bytes) {
-        steps.add(1);
-        return false;
-    }
-    bytes.fill(1);
-    steps.add(len);
-    true
-}
-
-// Whether one of the bytes is marked. All are read, so that many can be read at once.
-fn is_any_marked(bytes: &[u8]) -> bool
-    ensures { result ≡ list_any (λ byte. not (byte == 0)) bytes.now }
-{
-    let mut any = 0;
-    for byte in bytes {
-        any |= *byte;
-    }
-    any != 0
 }

@@ -1,4 +1,5 @@
 // Pages written out by hand. What is expected of them is counted from their bytes.
+mod rows_of_marks;
 mod sqlite_pages;
 mod written_pages;
 
@@ -81,6 +82,57 @@ fn check(rt: &impl Abort, case: &Case<'_>, page: &[u8], usable: u32) {
         case.coverage,
         "{name}"
     );
+}
+
+fn packed(rt: &impl Abort, page: &[u8]) -> Option<Packed> {
+    assert!(rt; page.len() >= 512);
+    let mut table = [255u8; 512];
+    match PageView::new(page, 2, 512) {
+        Ok(view) => view.packed(&mut table),
+        Err(fault) => panic!(rt; "{fault:?}"),
+    }
+}
+
+// Leaves of two or three cells, which end the page.
+#[test]
+fn packed_pages(rt: HostRuntime) {
+    let two = b"\x0d\x00\x00\x00\x02\x01\xf0\x00\x01\xfc\x01\xf7\x00\x00";
+    let three = b"\x0d\x00\x00\x00\x03\x01\xf0\x00\x01\xfc\x01\xf0\x01\xf7";
+    let freeblock = b"\x0d\x01\xf0\x00\x02\x01\xf0\x00\x01\xfc\x01\xf7\x00\x00";
+    let cases = [
+        // The payload, the greatest, what no item holds, and the rowids of the first and the last.
+        (
+            two,
+            b"\0\0\0\0\0\0\0\x03\x02abc\x02\x01AB",
+            Some((5, 3, 7, 1, 2)),
+        ),
+        // A rowid comes twice.
+        (two, b"\0\0\0\0\0\0\0\x03\x01abc\x02\x01AB", None),
+        // The third cell stands between the others.
+        (
+            three,
+            b"\0\x02\0\0\0\0\0\x03\x03abc\x02\x01AB",
+            Some((5, 3, 3, 1, 3)),
+        ),
+        (
+            freeblock,
+            b"\0\0\0\x05\0\0\0\x03\x02abc\x02\x01AB",
+            Some((5, 3, 2, 1, 2)),
+        ),
+        // The freeblock ends within a cell.
+        (freeblock, b"\0\0\0\x08\0\0\0\x03\x02abc\x02\x01AB", None),
+    ];
+    for (head, cells, want) in cases {
+        let page = page_of(&[(0, head), (496, cells)]);
+        let numbers = packed(&rt, &page).map(|p| (
+            p.payload,
+            p.greatest,
+            p.unheld,
+            p.first.unwrap_or(0),
+            p.last.unwrap_or(0),
+        ));
+        assert_eq!(rt; numbers, want, "{head:?} {cells:?}");
+    }
 }
 
 #[test]

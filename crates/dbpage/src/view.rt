@@ -6,6 +6,32 @@ ghost use Rattle.dbformat.specs.Cell.{count};
 use dbformat::{HeadFault, PageKind, u16_at};
 use std::marker::Model;
 
+// `$call` with the kind of a page as a constant, so that a loop in it is compiled for each kind, and asks for none.
+macro_rules! by_kind {
+    ($kind:expr, $known:ident => $call:expr) => {
+        match $kind {
+            PageKind::LeafTable => {
+                let $known = PageKind::LeafTable;
+                $call
+            }
+            PageKind::InteriorTable => {
+                let $known = PageKind::InteriorTable;
+                $call
+            }
+            PageKind::LeafIndex => {
+                let $known = PageKind::LeafIndex;
+                $call
+            }
+            PageKind::InteriorIndex => {
+                let $known = PageKind::InteriorIndex;
+                $call
+            }
+        }
+    };
+}
+
+pub(crate) use by_kind;
+
 /// A b-tree page whose head is sound: its type is known, and its content area lies between the cell pointers and the
 /// end of the usable bytes. The numbers of the head are read once, when the view is made.
 #[derive(Drop)]

@@ -1,12 +1,13 @@
 //! Reads all pages of a database file, as many times as is asked, and prints how many pages a second that is: the
-//! arguments are FILE and ROUNDS. Without arguments it reads one small page, and prints nothing that changes.
+//! arguments are FILE and ROUNDS, and a type byte (2, 5, 10 or 13) where only pages of that kind are to be read. Without
+//! arguments it reads one small page, and prints nothing that changes.
 #![tactic(auto)]
 
 ghost use Rattle.std.specs.Prelude.{◌≡◌, ◌≤◌, length, IfOk};
 
 use anyhow::{Context, Result, bail};
-use dbformat::Coverage;
-use dbpage::{PageView, uncounted_coverage};
+use dbformat::{Coverage, PageKind};
+use dbpage::{Packed, PageView, type_byte, uncounted_coverage};
 use std::alloc::{AllocError, Global};
 use std::time::Instant;
 use std::{env, fs};
@@ -56,13 +57,31 @@ impl Totals {
         }
     }
 
+    fn add_packed(&mut self, view: &PageView<'_>, packed: Packed) {
+        self.cells = self.cells.wrapping_add(u64::from(view.cells()));
+        self.local = self.local.wrapping_add(u64::from(packed.payload));
+        self.unheld = self.unheld.wrapping_add(u64::from(packed.unheld));
+        if let PageKind::InteriorIndex | PageKind::InteriorTable = view.kind() {
+            for i in 0..view.cells() {
+                self.children = self
+                    .children
+                    .wrapping_add(u64::from(view.child(i).unwrap_or(0)));
+            }
+        }
+    }
+
+    // As a walk does: cells are read one by one only where the page is not packed.
     fn add_page(&mut self, view: &PageView<'_>, table: &mut [u8])
         requires { view.now.usable ≤ length table.old }
     {
         self.pages = self.pages.wrapping_add(1);
-        self.add_cells(view);
         self.add_freeblocks(view);
         self.unused = self.unused.wrapping_add(u64::from(view.unused()));
+        if let Some(packed) = view.packed(table) {
+            self.add_packed(view, packed);
+            return;
+        }
+        self.add_cells(view);
         match uncounted_coverage(view, table) {
             Coverage::Unheld(n) => self.unheld = self.unheld.wrapping_add(u64::from(n)),
             Coverage::Overlap(_) => self.overlaps = self.overlaps.wrapping_add(1),
@@ -102,8 +121,8 @@ fn table_of(alloc: Global, sizes: Sizes) -> std::result::Result<Vec<u8>, AllocEr
     Vec::from_elem(alloc, 0u8, sizes.page_size)
 }
 
-/// Adds all pages of a file.
-fn add_file(totals: &mut Totals, file: &[u8], sizes: Sizes, table: &mut [u8])
+/// Adds all pages of a file, or those of one type.
+fn add_file(totals: &mut Totals, file: &[u8], sizes: Sizes, only: Option<u8>, table: &mut [u8])
     requires { sizes.usable ≤ length table.old }
 {
     let mut rest = file;
@@ -111,22 +130,27 @@ fn add_file(totals: &mut Totals, file: &[u8], sizes: Sizes, table: &mut [u8])
     while rest.len() >= sizes.page_size {
         let (page, others) = rest.split_at(sizes.page_size);
         p = p.wrapping_add(1);
+        rest = others;
+        if let Some(only) = only
+            && type_byte(page, p) != only
+        {
+            continue;
+        }
         if let Ok(view) = PageView::new(page, p, sizes.usable) {
             totals.add_page(&view, table);
         }
-        rest = others;
     }
 }
 
-/// All pages of a file, so many times.
-fn totals_of(alloc: Global, file: &[u8], rounds: u32) -> Result<Totals> {
+/// All pages of a file, or those of one type, so many times.
+fn totals_of(alloc: Global, file: &[u8], rounds: u32, only: Option<u8>) -> Result<Totals> {
     let mut totals = Totals::new();
     let Some(sizes) = sizes_of(file) else {
         bail!("no database file");
     };
     let mut table = table_of(alloc, sizes)?;
     for _ in 0..rounds {
-        add_file(&mut totals, file, sizes, table.as_mut_slice());
+        add_file(&mut totals, file, sizes, only, table.as_mut_slice());
     }
     Ok(totals)
 }
@@ -151,18 +175,22 @@ fn small_file() -> [u8; 512] {
 fn main(rt: HostRuntime) -> Result<()> {
     let mut words = env::args(&rt)?.skip(1);
     let Some(path) = words.next() else {
-        let totals = totals_of(rt.alloc(), &small_file(), 1)?;
+        let totals = totals_of(rt.alloc(), &small_file(), 1, None)?;
         println!(rt; "{totals:?}")?;
         return Ok(());
     };
     let rounds = words
         .next()
-        .context("FILE ROUNDS")?
+        .context("FILE ROUNDS [TYPE]")?
         .as_str()
         .parse::<u32>()?;
+    let only = match words.next() {
+        Some(word) => Some(word.as_str().parse::<u8>()?),
+        None => None,
+    };
     let file = fs::read(&rt, path.as_str())?;
     let start = Instant::now(&rt)?;
-    let totals = totals_of(rt.alloc(), file.as_slice(), rounds)?;
+    let totals = totals_of(rt.alloc(), file.as_slice(), rounds, only)?;
     let seconds = start.elapsed(&rt)?.as_secs_f64();
     println!(rt; "{totals:?}")?;
     println!(rt; "{} pages in {seconds:.3} s", totals.pages)?;

@@ -1,14 +1,30 @@
-use Rattle.std.proofs.Common.{◌≡◌, Some}
-use Rattle.std.proofs.lemmas.Grind.{common_steps}
-use Rattle.std.proofs.Common.{arith}
-use Rattle.dbformat.specs.Varint.{varint}
-use Rattle.dbbytes.proofs.VarintLemmas.{varint-from-number, varint-within}
+use Rattle.std.proofs.Common.{sym, arith}
+use Rattle.dbbytes.proofs.ShortVarints.{varint_of_one, varint_of_two, varint_of_three, varint_of_four}
 use Rattle.dbbytes.proofs.varints.varint.Goals as goal
 
-pub loop-byte-init : goal.loop-byte-init
-loop-byte-init c = rw (c.new-number.ensures.value, c.new-number.ensures.length) (varint-from-number _)
+pub returns-then-one-lt128-clause-value : goal.returns-then-one-lt128-clause-value
+returns-then-one-lt128-clause-value c =
+    let one = c.from-one.ensures in
+    rw one (sym (varint_of_one c.args.bytes.now (omega arith) (omega (arith, one, c.if-one-lt128.true))))
 
-pub returns-in-Whole-clause-within : goal.returns-in-Whole-clause-within
-returns-in-Whole-clause-within c =
-    let found : varint c.args.bytes.now ≡ Some (c.in-Whole.value, c.from.result) = grind (arith, common_steps) in
-    rw found at (varint-within c.args.bytes.now)
+pub returns-then-bytes-lt128-clause-value : goal.returns-then-bytes-lt128-clause-value
+returns-then-bytes-lt128-clause-value c =
+    let one = c.from-one.ensures in
+    let two = c.from.ensures in
+    rw (one, two) (sym (varint_of_two c.args.bytes.now (omega arith) (omega (arith, one, c.if-one-lt128.false)) c.if-bytes-lt128.true))
+
+pub returns-then-bytes-lt128-2-clause-value : goal.returns-then-bytes-lt128-2-clause-value
+returns-then-bytes-lt128-2-clause-value c =
+    let one = c.from-one.ensures in
+    let two = c.from.ensures in
+    let three = c.from-2.ensures in
+    rw (one, two, three) (sym (varint_of_three c.args.bytes.now (omega arith) (omega (arith, one, c.if-one-lt128.false)) c.if-bytes-lt128.false c.if-bytes-lt128-2.true))
+
+pub returns-then-bytes-lt128-3-clause-value : goal.returns-then-bytes-lt128-3-clause-value
+returns-then-bytes-lt128-3-clause-value c =
+    let one = c.from-one.ensures in
+    let two = c.from.ensures in
+    let three = c.from-2.ensures in
+    let four = c.from-3.ensures in
+    rw (one, two, three, four)
+    (sym (varint_of_four c.args.bytes.now (omega arith) (omega (arith, one, c.if-one-lt128.false)) c.if-bytes-lt128.false c.if-bytes-lt128-2.false c.if-bytes-lt128-3.true))

@@ -3,8 +3,8 @@ use Rattle.dbformat.specs.Head.{View, cell_count, content_start}
 use Rattle.dbformat.specs.Cell.{count}
 use Rattle.dbpage.specs.Marking.{AreMarked, cells_upto}
 use Rattle.dbpage.proofs.Items.{AreMarked_none, cell_marked, cell_passed, cell_overlaps}
-use Rattle.dbpage.proofs.marks.mark_cells.Goals as goal
-use Rattle.dbpage.proofs.marks.mark_cells.Goals.{in-Some+else-not-claim, in_default}
+use Rattle.dbpage.proofs.marks.mark_cells_of.Goals as goal
+use Rattle.dbpage.proofs.marks.mark_cells_of.Goals.{in-Some+else-not-claim, in_default}
 
 pub loop-i-init : goal.loop-i-init
 loop-i-init g c = record { marked = AreMarked_none c.args.view.now c.args.table.now c.requires.free; counted = omega arith }

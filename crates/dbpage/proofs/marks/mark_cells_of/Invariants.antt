@@ -1,7 +1,7 @@
 use Rattle.std.proofs.Common.{◌≡◌, ◌+◌}
 use Rattle.dbformat.specs.Head.{content_start}
 use Rattle.dbpage.specs.Marking.{AreMarked, cells_upto}
-use Rattle.dbpage.proofs.marks.mark_cells.Given as goal
+use Rattle.dbpage.proofs.marks.mark_cells_of.Given as goal
 
 abbrev pub invariant-loop-i : goal.invariant-loop-i
 invariant-loop-i g l = record {

@@ -1,0 +1,63 @@
+-- Packed pages: those of which one reading of the cells tells all.
+use Rattle.std.specs.Prelude.{◌≡◌, ℕ, ◌+◌, ◌*◌, ◌<◌, ◌≤◌, List, length, map, max, fold, filter_map, Option, Some, None, option_and_then, option_map, Ok, ℤ, ◌<ℤ◌, sum_by}
+use Rattle.std.specs.List.{range_with_len}
+use Rattle.std.specs.Result.{result_ok}
+use Rattle.dbformat.specs.Head.{View}
+use Rattle.dbformat.specs.Cell.{Cell, cell, cells, count}
+use Rattle.dbformat.specs.Coverage.{coverage}
+use Rattle.dbformat.specs.declared.Coverage.TheVariants.{Unheld}
+
+-- the readable cells of the first n, each behind its number
+abbrev pub first_cells : View → ℕ → List (ℕ × Cell)
+first_cells v n = filter_map (λ i. option_map (λ c. (i, c)) (result_ok (cell v i))) (range_with_len 0 n)
+
+-- how many bytes of payloads stand in these cells
+abbrev pub payload_of : List (ℕ × Cell) → ℕ
+payload_of cells = sum_by (λ (i, c). length c.local) cells
+
+-- the bytes of the greatest of their payloads
+abbrev pub greatest_of : List (ℕ × Cell) → ℕ
+greatest_of cells = fold max 0 (map (λ (i, c). c.size) cells)
+
+-- cell i is readable, and has no overflow page
+pub record IsWhole (v : View) (i : ℕ) : Type 0 where
+  pub whole : Cell
+  pub readable : cell v i ≡ Ok whole
+  pub here : whole.overflow ≡ None
+
+-- the key of cell i, where it is readable and has one
+abbrev pub key_at : View → ℕ → Option ℤ
+key_at v i = option_and_then (λ c. c.key) (result_ok (cell v i))
+
+-- the keys of the first n cells rise
+abbrev pub AreRising : View → ℕ → Type 0
+AreRising v n = (i : ℕ) (a b : ℤ) → i + 1 < n → key_at v i ≡ Some a → key_at v (i + 1) ≡ Some b → a <ℤ b
+
+-- a key is greater than the last, as far as there are both
+abbrev pub IsRising : Option ℤ → Option ℤ → Type 0
+IsRising last key = (a b : ℤ) → last ≡ Some a → key ≡ Some b → a <ℤ b
+
+-- the first n cells are readable and whole, and their keys rise; their numbers, and the key of the last
+pub record AreRead (v : View) (n payload greatest : ℕ) (last : Option ℤ) : Type 0 where
+  pub whole : (i : ℕ) → i < n → IsWhole v i
+  pub rising : AreRising v n
+  pub last_is : (i : ℕ) → i + 1 ≡ n → key_at v i ≡ last
+  pub empty : n ≡ 0 → last ≡ None
+  pub payload_is : payload ≡ payload_of (first_cells v n)
+  pub greatest_is : greatest ≡ greatest_of (first_cells v n)
+  pub few : payload ≤ n * 65536
+
+-- all cells are readable and whole, with rising keys, and no two items share a byte; the numbers of the page, and its first and last key
+pub record IsPacked (v : View) (payload greatest unheld : ℕ) (first last : Option ℤ) : Type 0 where
+  pub whole : (i : ℕ) → i < count v → IsWhole v i
+  pub rising : AreRising v (count v)
+  pub payload_is : payload ≡ payload_of (cells v)
+  pub greatest_is : greatest ≡ greatest_of (cells v)
+  pub coverage_is : coverage v ≡ Unheld unheld
+  pub first_is : 0 < count v → key_at v 0 ≡ first
+  pub last_is : (i : ℕ) → i + 1 ≡ count v → key_at v i ≡ last
+  pub empty : count v ≡ 0 → (first ≡ None) × (last ≡ None)
+
+-- no numbers are such: a cell is not readable or has an overflow page, or keys do not rise, or two items share a byte
+abbrev pub IsUnpacked : View → Type 0
+IsUnpacked v = (payload greatest unheld : ℕ) (first last : Option ℤ) → IsPacked v payload greatest unheld first last → ⊥

@@ -1,0 +1,104 @@
+// Marks at the ends of their windows and lanes.
+use crate::table::{claim_long, claim_plain};
+use crate::{PageView, uncounted_coverage};
+use dbformat::Coverage;
+use std::process::Abort;
+
+// A page of 544 bytes, of which so many are usable.
+fn coverage_of(rt: &impl Abort, page: &[u8; 544], usable: u32) -> Coverage {
+    assert!(rt; usable >= 480 && usable <= 544);
+    let mut table = [255u8; 544];
+    match PageView::new(page, 2, usable) {
+        Ok(view) => uncounted_coverage(&view, &mut table),
+        Err(fault) => panic!(rt; "{fault:?}"),
+    }
+}
+
+fn page_with(head: &[u8], at_480: &[u8; 7]) -> [u8; 544] {
+    let mut page = [0u8; 544];
+    let mut i = 0;
+    for byte in head {
+        if i < 480 {
+            page[i] = *byte;
+            i += 1;
+        }
+    }
+    for (k, byte) in at_480.iter().enumerate() {
+        page[480 + k] = *byte;
+    }
+    page
+}
+
+#[test]
+fn covers_the_last_bytes(rt: HostRuntime) {
+    let freeblock: &[u8] = b"\x0d\x01\xe0\x00\x00\x01\xe0\x00";
+    let cells: &[u8] = b"\x0d\x00\x00\x00\x02\x01\xe0\x00\x01\xe0\x01\xe3";
+    let cases = [
+        (
+            freeblock,
+            b"\x00\x00\x00\x07\x00\x00\x00",
+            Coverage::Unheld(0),
+        ),
+        (
+            freeblock,
+            b"\x00\x00\x00\x06\x00\x00\x00",
+            Coverage::Unheld(1),
+        ),
+        (cells, b"\x03\x01\x41\x02\x02\x41\x41", Coverage::Overlap(1)),
+    ];
+    for (head, bytes, want) in cases {
+        let page = page_with(head, bytes);
+        assert_eq!(rt; coverage_of(&rt, &page, 487), want, "{head:?} {bytes:?}");
+    }
+}
+
+#[test]
+fn covers_pages_of_each_size(rt: HostRuntime) {
+    let page = page_with(b"\x0d\x00\x00\x00\x00\x00\x08\x00", b"\0\0\0\0\0\0\0");
+    for usable in 480..545 {
+        assert_eq!(rt;
+            coverage_of(&rt, &page, usable),
+            Coverage::Unheld(usable - 8),
+            "{usable}"
+        );
+    }
+}
+
+// Long ranges are marked by lanes as they are by windows, beside a mark of one byte or on it.
+#[test]
+fn lanes_mark_as_windows_do(rt: HostRuntime) {
+    for from in 64..73 {
+        for len in [264, 295, 512, 519, 776, 1000] {
+            for one in [
+                from - 1,
+                from,
+                from + 7,
+                from + 260,
+                from + len - 1,
+                from + len,
+            ] {
+                let mut by_lanes = [0u8; 2048];
+                let mut by_windows = [0u8; 2048];
+                assert!(rt; one < 2000 && from + len < 2000 && len > 8);
+                assert_eq!(rt;
+                    claim_plain(&mut by_lanes, one, 1),
+                    claim_plain(&mut by_windows, one, 1)
+                );
+                let is_free = claim_long(&mut by_lanes, from, len);
+                assert_eq!(rt;
+                    is_free,
+                    one < from || one >= from + len,
+                    "{from} {len} {one}"
+                );
+                assert_eq!(rt;
+                    claim_plain(&mut by_windows, from, len),
+                    is_free,
+                    "{from} {len} {one}"
+                );
+                if is_free {
+                    assert!(rt; by_lanes == by_windows, "{from} {len} {one}");
+                }
+            }
+        }
+    }
+}
