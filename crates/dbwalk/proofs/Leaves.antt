@@ -3,3 +3,4 @@ pub mod LeafCells
 pub mod LeafTurns
 pub mod LeafWays
 pub mod LeafRows
+pub mod PackedLeaves

@@ -2,6 +2,7 @@
 pub mod Sums
 pub mod PageTold
 pub mod PageTellings
+pub mod PackedPages
 pub mod PageVisits
 pub mod PageExits
 pub mod PageArrivals

@@ -7,6 +7,7 @@ pub mod Feeding
 pub mod Finding
 pub mod Found
 pub mod FreeLeaves
+pub mod KeySpans
 pub mod LeafCells
 pub mod Left
 pub mod Marking

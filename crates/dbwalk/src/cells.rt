@@ -1,9 +1,14 @@
 // What is read off the cells of a leaf that stands at a level.
 ghost use Rattle.std.specs.Prelude.{◌≡◌, ◌-◌, ◌<◌, ◌≤◌, length};
+ghost use Rattle.dbformat.specs.Cell.{count};
+ghost use Rattle.dbwalk.specs.KeySpans.{ArePassedAt, AreRisingFrom};
 ghost use Rattle.dbwalk.specs.LeafCells.{HasCell, HasCells};
+ghost use Rattle.dbwalk.specs.Standing.{IsSameButGreatest};
 
 use crate::page::undamaged;
+use crate::state::{Tree, is_above};
 use dbformat::TreeKind;
+use dbpage::PageView;
 use dbsource::Bench;
 use std::alloc::Allocator;
 
@@ -68,4 +73,57 @@ pub fn overflow_size(size: u32, local: &[u8]) -> u32
     ensures most { result ≤ size }
 {
     u64::from(size).saturating_sub(local.len() as u64) as u32
+}
+
+/// Passes over the cells of the leaf at the level of the tree's path, from cell `from` on, of which nothing but the key is left
+/// to look at, as long as their keys rise from above the greatest so far; and answers with the number of the first other
+/// cell, or of all. In the tree of the schema, whose rows are wanted, it passes over none.
+pub fn pass_cells<A: Allocator>(bench: &Bench<A>, tree: &mut Tree, page: u32, from: u32) -> u32
+    requires { length tree.old.path.items < 20 }
+    ensures passed { ArePassedAt bench.now.geometry.usable tree.old.kind bench.now.levels (length tree.old.path.items) page from result tree.old.greatest tree.new.greatest }
+    ensures other { from < result → 1 ≤ tree.old.start }
+    ensures others { IsSameButGreatest tree.old tree.new }
+{
+    if tree.start == 0 {
+        return from;
+    }
+    let usable = bench.geometry().usable;
+    let Ok(view) = undamaged(bench.page(tree.path.len()), page, usable, tree.kind) else {
+        return from;
+    };
+    if from >= view.cells() {
+        return from;
+    }
+    let rise = rise_from(&view, from, tree.greatest);
+    tree.greatest = rise.greatest;
+    rise.end
+}
+
+// Cells whose keys rise: the number of the first behind them, and the greatest key there.
+#[derive(Clone, Copy)]
+struct Rise {
+    end: u32,
+    greatest: Option<i64>,
+}
+
+// The cells from one on that are readable and without overflow pages, as long as their keys rise from above the greatest
+// before them.
+fn rise_from(view: &PageView<'_>, from: u32, mut greatest: Option<i64>) -> Rise
+    requires { from ≤ count view.now }
+    ensures within { (from ≤ result.end) × (result.end ≤ count view.now) }
+    ensures rising { AreRisingFrom view.now from (result.end - from) greatest result.greatest }
+{
+    for i in from..view.cells() {
+        let Ok(cell) = view.cell(i) else {
+            return Rise { end: i, greatest };
+        };
+        if cell.overflow.is_some() || !is_above(greatest, cell.key) {
+            return Rise { end: i, greatest };
+        }
+        greatest = cell.key.or(greatest);
+    }
+    Rise {
+        end: view.cells(),
+        greatest,
+    }
 }

@@ -202,3 +202,32 @@ pub fn walk_chain<S: Source, K: Sink, A: Allocator>(
     }
     Ok(())
 }
+
+/// Walks along the overflow chain of a cell as [`walk_chain`] does, for a caller that has no sieve. It is a function of its own so
+/// that only a chain costs the room of one.
+///
+/// # Errors
+///
+/// As of [`walk_chain`].
+#[inline(never)]
+pub fn walk_unfed<S: Source, K: Sink, A: Allocator>(
+    source: &mut S,
+    bench: &mut Bench<A>,
+    marks: &mut Marks<A>,
+    chain: &Chain<'_>,
+    sink: &mut K,
+) -> Result<(), RunError>
+    requires page { chain.now.page ≤ 67108864 }
+    requires left { chain.now.left ≤ 2147483647 }
+    ensures told { (S.held source.new).bytes ≡ (S.held source.old).bytes }
+    ensures log { HasLog S.step (Reads bench.old.geometry.page_size marks.old marks.new) (S.held source.old).trail (S.held source.new).trail }
+    ensures reads { (S.held source.new).failures ≡ failures_after is_read_failed result (S.held source.old).failures }
+    ensures writes { K.held sink.new ≡ after_writes is_write_failed result (K.held sink.old) }
+    ensures only { IfErr result IsReadOrWrite }
+    ensures bench { bench.new ≡ record bench.old { chain = bench.new.chain } }
+    ensures done { IfSome (S.held source.old).bytes (λ file. bench.old.geometry ≡ geometry file → (W : List Reference) (c : Reference)
+        → IsChainOf chain.now c → IsNext W c → AreMarksOf file W marks.old
+        → IsDone K.takes K.drops file W (Go c ∷ []) result marks.new sink.old sink.new) }
+{
+    walk_chain(source, bench, marks, chain, &mut None, sink)
+}

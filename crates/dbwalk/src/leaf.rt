@@ -12,7 +12,7 @@ ghost use Rattle.dbsource.specs.Failures.{failures_after};
 ghost use Rattle.dbwalk.specs.Standing.{AtLeaf, IsSameButGreatest};
 ghost use Rattle.dbwalk.specs.Sinks.{after_writes};
 
-use crate::cells::leaf_cells;
+use crate::cells::{leaf_cells, pass_cells};
 use crate::schema_cell::walk_leaf_cell;
 use crate::state::Tree;
 use crate::{Marks, Sink, Taker};
@@ -55,8 +55,10 @@ pub fn walk_leaf<A: Allocator, S: Source, K: Sink, T: Taker>(
 {
     let level = tree.path.len();
     let cells = leaf_cells(bench, tree.kind, level, page);
-    for i in 0..cells {
+    let mut i = pass_cells(bench, tree, page, 0);
+    while i < cells {
         walk_leaf_cell(source, bench, marks, tree, page, i, encoding, taker, sink)?;
+        i = pass_cells(bench, tree, page, i + 1);
     }
     Ok(())
 }

@@ -20,6 +20,9 @@
 //! of the tree. Pages on the path stay in the bench, a level each, and at most 20 are held; behind a chain the path is taken up
 //! where it was left.
 //!
+//! **Pages told at once** (specs/KeySpans). Where one reading of a page tells all of its cells, the row and the faults are told
+//! from that; and of a leaf of which nothing but the keys is left to look at, the first key and the last stand for all cells.
+//!
 //! **Rows of the schema** (specs/Taking and RootRoom) go to the taker where they stand; what it answers decides S04. As the sink
 //! is told a beginning at an error, the taker was given one then: the rows before a place to which a walk has come are a
 //! beginning of all rows.

@@ -1,6 +1,7 @@
 // The faults of one page of a tree, apart from other pages (Database File Format, 1.6).
-ghost use Rattle.std.specs.Prelude.{◌≡◌, ◌≤◌, ◌<◌, ◌==◌, ◌&&◌, length, None, Some, [], ◌∷◌, Bool, IfOk, MatchResult};
-ghost use Rattle.dbformat.specs.Cell.{count};
+ghost use Rattle.std.specs.Prelude.{◌≡◌, ℕ, ◌≤◌, ◌<◌, ◌==◌, ◌&&◌, length, None, Some, [], ◌∷◌, Bool, IsTrue, IsOk, IfOk, IfSome, MatchResult};
+ghost use Rattle.dbformat.specs.Cell.{cell, count};
+ghost use Rattle.dbformat.specs.Coverage.{coverage};
 ghost use Rattle.dbformat.specs.Head.{tree_of, is_same_tree, undamaged};
 ghost use Rattle.dbformat.specs.PageFaults.{fragment_fault, cell_fault, cell_faults, freeblock_fault, coverage_fault, empty_fault, inner_faults, tree_page_faults};
 ghost use Rattle.dbwalk.specs.Telling.{IsTold, findings};
@@ -65,22 +66,30 @@ fn is_of_tree(page: PageKind, tree: TreeKind) -> bool
     }
 }
 
-/// Tells the faults within an undamaged page. `uses` is room to work in, a byte for each usable byte of the page.
+/// Tells the faults within an undamaged page, of which it is known that its cells are all readable, or not known. `uses` is
+/// room to work in, a byte for each usable byte of the page.
 ///
 /// # Errors
 ///
 /// [`WriteFailed`] where the sink failed: it was told the faults up to the one that it did not take.
+// Most pages are packed, and do not come here.
+#[inline(never)]
 pub fn tell_inner<K: Sink>(
     view: &PageView<'_>,
     number: u32,
     is_child: bool,
+    are_readable: bool,
     uses: &mut [u8],
     sink: &mut K,
 ) -> Result<(), WriteFailed>
     requires number { number ≡ view.now.number }
     requires room { view.now.usable ≤ length uses.old }
+    requires cells { IsTrue are_readable → (i : ℕ) → i < count view.now → IsOk (cell view.now i) }
     ensures { IsTold K.takes K.drops K.held result sink.old (findings (inner_faults view.now is_child)) sink.new }
 {
+    if are_readable {
+        return tell_readable(view, number, is_child, None, uses, sink);
+    }
     tell_fragments(view, number, sink)?;
     let are_cells_good = tell_cells(view, number, sink)?;
     let are_freeblocks_good = tell_freeblock(view, number, sink)?;
@@ -91,6 +100,32 @@ pub fn tell_inner<K: Sink>(
         uses,
         sink,
     )?;
+    tell_empty(view, number, is_child, sink)
+}
+
+/// Tells the faults within an undamaged page whose cells are all readable, and so have none. `unheld` has its number of bytes
+/// that nothing holds, where it is known that nothing holds a byte twice.
+///
+/// # Errors
+///
+/// [`WriteFailed`] where the sink failed: it was told the faults up to the one that it did not take.
+pub fn tell_readable<K: Sink>(
+    view: &PageView<'_>,
+    number: u32,
+    is_child: bool,
+    unheld: Option<u32>,
+    uses: &mut [u8],
+    sink: &mut K,
+) -> Result<(), WriteFailed>
+    requires number { number ≡ view.now.number }
+    requires room { view.now.usable ≤ length uses.old }
+    requires cells { (i : ℕ) → i < count view.now → IsOk (cell view.now i) }
+    requires unheld { IfSome unheld (λ n. coverage view.now ≡ Coverage.Unheld n) }
+    ensures { IsTold K.takes K.drops K.held result sink.old (findings (inner_faults view.now is_child)) sink.new }
+{
+    tell_fragments(view, number, sink)?;
+    let are_freeblocks_good = tell_freeblock(view, number, sink)?;
+    tell_free_bytes(view, number, are_freeblocks_good, unheld, uses, sink)?;
     tell_empty(view, number, is_child, sink)
 }
 
@@ -183,13 +218,46 @@ fn tell_coverage<K: Sink>(
             item,
             view.item_offset(item),
         )),
-        Coverage::Unheld(free) => {
-            if !is_good || free == u32::from(view.fragments()) {
-                return Ok(());
-            }
-            sink.fault(&Fault::new(FaultCode::P09, number, 0, free))
-        }
+        Coverage::Unheld(unheld) => tell_unheld(view, number, is_good, unheld, sink),
     }
+}
+
+// What `tell_coverage` tells, with no look at the page where it is known how many bytes nothing holds.
+fn tell_free_bytes<K: Sink>(
+    view: &PageView<'_>,
+    number: u32,
+    is_good: bool,
+    unheld: Option<u32>,
+    uses: &mut [u8],
+    sink: &mut K,
+) -> Result<(), WriteFailed>
+    requires number { number ≡ view.now.number }
+    requires room { view.now.usable ≤ length uses.old }
+    requires unheld { IfSome unheld (λ n. coverage view.now ≡ Coverage.Unheld n) }
+    ensures { IsTold K.takes K.drops K.held result sink.old (findings (coverage_fault view.now is_good)) sink.new }
+{
+    match unheld {
+        Some(unheld) => tell_unheld(view, number, is_good, unheld, sink),
+        None => tell_coverage(view, number, is_good, uses, sink),
+    }
+}
+
+// Tells that the bytes of a good page that nothing holds are not as many as it says, where they are not.
+fn tell_unheld<K: Sink>(
+    view: &PageView<'_>,
+    number: u32,
+    is_good: bool,
+    unheld: u32,
+    sink: &mut K,
+) -> Result<(), WriteFailed>
+    requires number { number ≡ view.now.number }
+    requires unheld { coverage view.now ≡ Coverage.Unheld unheld }
+    ensures { IsTold K.takes K.drops K.held result sink.old (findings (coverage_fault view.now is_good)) sink.new }
+{
+    if !is_good || unheld == u32::from(view.fragments()) {
+        return Ok(());
+    }
+    sink.fault(&Fault::new(FaultCode::P09, number, 0, unheld))
 }
 
 // Tells that a child has no cells, where it has none.

@@ -90,7 +90,10 @@ pub fn visit_page<A: Allocator, S: Source, K: Sink, T: Taker>(
     match tell_page(bench, tree, page, sink)? {
         PageFound::Interior => Ok(true),
         PageFound::Damaged => Ok(false),
-        PageFound::Leaf => {
+        PageFound::Leaf(keys) => {
+            if tree.pass_over(keys) {
+                return Ok(false);
+            }
             walk_leaf(source, bench, marks, tree, page, encoding, taker, sink)?;
             Ok(false)
         }

@@ -1,5 +1,6 @@
 // What the walk over one tree keeps beside marks, buffers and frames.
-ghost use Rattle.std.specs.Prelude.{◌≡◌, [], Some, None};
+ghost use Rattle.std.specs.Prelude.{◌≡◌, [], Some, None, false, IsTrue, IsSomeAnd};
+ghost use Rattle.dbwalk.specs.KeySpans.{ArePassed, IsAbove};
 ghost use Rattle.dbwalk.specs.Running.{greater_key};
 ghost use Rattle.dbwalk.specs.Standing.{IsSameButGreatest, IsSameButLeaf};
 ghost use Rattle.dbwalk.specs.Telling.{IsTold, findings};
@@ -9,6 +10,14 @@ use crate::Sink;
 use arrayvec::ArrayVec;
 use dbformat::{Fault, FaultCode, TreeKind};
 use dbsource::WriteFailed;
+
+/// The keys of a leaf whose cells are all readable, without overflow pages and in the order of their keys: that of its first
+/// cell and that of its last, where there are cells and they have keys.
+#[derive(Clone, Copy, Debug, PartialEq, Eq)]
+pub struct KeySpan {
+    pub first: Option<i64>,
+    pub last: Option<i64>,
+}
 
 /// The number of the tree's start, its kind, the greatest key so far, the depth of its first leaf, and the numbers of the
 /// children on the way to the page at which the walk is.
@@ -68,6 +77,24 @@ impl Tree {
         })
     }
 
+    /// Passes over a leaf of whose cells nothing but the keys is left to look at, where it has these keys, they come behind the
+    /// greatest so far, and the tree is not the schema's, whose rows are wanted. Where it answers false, the cells have to be
+    /// walked over one by one.
+    pub fn pass_over(&mut self, keys: Option<KeySpan>) -> bool
+        ensures passed { IsTrue result → IsSomeAnd keys (λ span. ArePassed self.old.start self.old.greatest span self.new.greatest) }
+        ensures kept { result ≡ false → self.new.greatest ≡ self.old.greatest }
+        ensures others { IsSameButGreatest self.old self.new }
+    {
+        let Some(keys) = keys else {
+            return false;
+        };
+        if self.start == 0 || !is_above(self.greatest, keys.first) {
+            return false;
+        }
+        self.greatest = keys.last.or(self.greatest);
+        true
+    }
+
     /// Tells that a leaf has another depth than the first leaf of the tree, where it has.
     pub fn tell_depth<K: Sink>(
         &mut self,
@@ -90,5 +117,16 @@ impl Tree {
             item: 0,
             value: i64::from(depth),
         })
+    }
+}
+
+/// Whether a key is greater than the greatest so far, as far as there are both.
+#[inline(always)]
+pub fn is_above(greatest: Option<i64>, key: Option<i64>) -> bool
+    ensures { IsTrue result → IsAbove greatest key }
+{
+    match (greatest, key) {
+        (Some(top), Some(key)) => top < key,
+        _ => true,
     }
 }

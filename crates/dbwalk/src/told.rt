@@ -1,11 +1,13 @@
 // What is told of one page of a tree: its row, and its faults.
-ghost use Rattle.std.specs.Prelude.{◌≡◌, ◌≤◌, length};
+ghost use Rattle.std.specs.Prelude.{◌≡◌, ◌≤◌, length, IfOk, IfSome};
 ghost use Rattle.dbformat.specs.Head.{is_interior};
+ghost use Rattle.dbwalk.specs.KeySpans.{HasSpan};
 ghost use Rattle.dbwalk.specs.PageRows.{undamaged_findings, damaged_findings};
 ghost use Rattle.dbwalk.specs.Telling.{IsTold};
 
-use crate::page::tell_inner;
-use crate::payload::payload_sums;
+use crate::page::{tell_inner, tell_readable};
+use crate::payload::{CellSums, cell_sums};
+use crate::state::KeySpan;
 use crate::{Row, Sink};
 use dbformat::{Fault, PageKind, PageType};
 use dbpage::PageView;
@@ -30,8 +32,8 @@ pub fn is_interior(kind: PageKind) -> bool
     }
 }
 
-/// Tells the row of an undamaged page, and then the faults within it. `uses` is room to work in, a byte for each usable
-/// byte of the page.
+/// Tells the row of an undamaged page, and then the faults within it; and answers with the span of its keys, where one reading
+/// of its cells told all of them. `uses` is room to work in, a byte for each usable byte of the page.
 ///
 /// # Errors
 ///
@@ -42,13 +44,22 @@ pub fn tell_undamaged<K: Sink>(
     is_child: bool,
     uses: &mut [u8],
     sink: &mut K,
-) -> Result<(), WriteFailed>
+) -> Result<Option<KeySpan>, WriteFailed>
     requires number { place.now.page ≡ view.now.number }
     requires most { view.now.usable ≤ 65536 }
     requires room { view.now.usable ≤ length uses.old }
-    ensures { IsTold K.takes K.drops K.held result sink.old (undamaged_findings place.now.start place.now.path.now view.now is_child) sink.new }
+    ensures told { IsTold K.takes K.drops K.held result sink.old (undamaged_findings place.now.start place.now.path.now view.now is_child) sink.new }
+    ensures keys { IfOk result (λ keys. IfSome keys (HasSpan view.now)) }
 {
-    let (payload, mx_payload) = payload_sums(view);
+    let packed = view.packed(uses);
+    let sums = match packed {
+        Some(page) => CellSums {
+            payload: u64::from(page.payload),
+            greatest: u64::from(page.greatest),
+            are_readable: true,
+        },
+        None => cell_sums(view),
+    };
     let pagetype = if is_interior(view.kind()) {
         PageType::Internal
     } else {
@@ -61,11 +72,19 @@ pub fn tell_undamaged<K: Sink>(
         page: place.page,
         pagetype,
         ncell: view.cells(),
-        payload,
+        payload: sums.payload,
         unused: u64::from(view.unused()),
-        mx_payload,
+        mx_payload: sums.greatest,
     })?;
-    tell_inner(view, place.page, is_child, uses, sink)
+    let Some(page) = packed else {
+        tell_inner(view, place.page, is_child, sums.are_readable, uses, sink)?;
+        return Ok(None);
+    };
+    tell_readable(view, place.page, is_child, Some(page.unheld), uses, sink)?;
+    Ok(Some(KeySpan {
+        first: page.first,
+        last: page.last,
+    }))
 }
 
 /// Tells the row of a damaged page, and then its one fault.

@@ -16,7 +16,7 @@ ghost use Rattle.dbsource.specs.Failures.{failures_after};
 ghost use Rattle.dbwalk.specs.Standing.{AtStep};
 ghost use Rattle.dbwalk.specs.Sinks.{after_writes};
 
-use crate::chain::{Chain, walk_chain};
+use crate::chain::{Chain, walk_unfed};
 use crate::frame::Frame;
 use crate::page_entry::enter_page;
 use crate::state::Tree;
@@ -139,7 +139,7 @@ pub fn turn<A: Allocator, S: Source, K: Sink, T: Taker>(
                 first,
                 left,
             };
-            walk_chain(source, bench, marks, &chain, &mut None, sink)
+            walk_unfed(source, bench, marks, &chain, sink)
         }
         Next::Child(page) => {
             enter_child(

@@ -11,7 +11,7 @@ ghost use Rattle.dbwalk.specs.Sinks.{after_writes};
 
 use crate::Sink;
 use crate::page::undamaged;
-use crate::state::Tree;
+use crate::state::{KeySpan, Tree};
 use crate::told::{PagePlace, is_interior, tell_damaged, tell_undamaged};
 use dbsource::{Bench, WriteFailed};
 use std::alloc::Allocator;
@@ -21,7 +21,8 @@ use std::alloc::Allocator;
 pub enum PageFound {
     Damaged,
     Interior,
-    Leaf,
+    /// A leaf, with the span of its keys where nothing else of its cells is left to look at.
+    Leaf(Option<KeySpan>),
 }
 
 /// Tells the row of a page that was read at the level of the tree's path, and its faults, and of a leaf that its depth is
@@ -56,19 +57,19 @@ pub fn tell_page<A: Allocator, K: Sink>(
         page,
     };
     let (bytes, uses) = bench.uses(level);
-    let is_interior = match undamaged(bytes, page, usable, tree.kind) {
+    let keys = match undamaged(bytes, page, usable, tree.kind) {
         Ok(view) => {
-            tell_undamaged(&view, &place, depth > 1, uses, sink)?;
-            is_interior(view.kind())
+            let keys = tell_undamaged(&view, &place, depth > 1, uses, sink)?;
+            if is_interior(view.kind()) {
+                return Ok(PageFound::Interior);
+            }
+            keys
         }
         Err(damage) => {
             tell_damaged(&place, &damage, sink)?;
             return Ok(PageFound::Damaged);
         }
     };
-    if is_interior {
-        return Ok(PageFound::Interior);
-    }
     tree.tell_depth(page, depth, sink)?;
-    Ok(PageFound::Leaf)
+    Ok(PageFound::Leaf(keys))
 }

@@ -47,10 +47,10 @@ module _ {S : Type 0} (takes drops : S → Finding → S → Type 0) (file : Lis
 
   -- a leaf, by what is promised of its cells for the state that has come to it
   module _ (k' : ℕ) (children' : List ℕ) (greatest' : Option ℤ) (starts : k' ≡ k) (ways : children' ≡ children) (tops : greatest' ≡ greatest) (found : IsOpenLeaf usable kind' levels' (length children) p) where
-    pub found_leaf : (X : List Reference → Reference → Type 0)
+    pub found_leaf : (X : List Reference → Reference → View → Type 0)
         → ((V : List Reference) (d : Reference) (v : View) → IsLeafAt file kind' k' children' V d levels' p → tree_view file d ≡ Some v → is_interior v.kind ≡ false → IsPast V (errands_of (story_of file) d)
-        → AreMarksOf file V marks → IsRunning file k' V (then_step d.address 0) greatest' first → X V d)
-        → X (W ++ (c ∷ [])) c
+        → AreMarksOf file V marks → IsRunning file k' V (then_step d.address 0) greatest' first → X V d v)
+        → X (W ++ (c ∷ [])) c found.view
     found_leaf X h =
         let viewed = view_of found.bytes (Some found.view) found.there found.viewed in
         h (W ++ (c ∷ [])) c found.view

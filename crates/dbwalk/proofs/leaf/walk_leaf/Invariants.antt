@@ -1,8 +1,9 @@
-use Rattle.std.proofs.Common.{◌≡◌, ℕ, ◌≤◌, false, List, Some}
+use Rattle.std.proofs.Common.{◌≡◌, ℕ, ◌-◌, ◌≤◌, false, List, Some}
 use Rattle.std.specs.Prelude.{IfSome}
 use Rattle.dbsurvey.specs.InOrder.{IsPast}
 use Rattle.dbsurvey.specs.Story.{errands_of}
 use Rattle.dbformat.specs.Address.{then_step, schema_start}
+use Rattle.dbformat.specs.Cell.{count}
 use Rattle.dbformat.specs.File.{geometry}
 use Rattle.dbformat.specs.Head.{View, is_interior}
 use Rattle.dbformat.specs.Header.{encoding}
@@ -20,19 +21,22 @@ abbrev pub invariant-loop-i : goal.invariant-loop-i
 invariant-loop-i g l = record {
   shape : l.bench.geometry ≡ l.initial.bench.geometry;
   levels : l.bench.levels ≡ l.initial.bench.levels;
-  start : l.tree.start ≡ l.initial.tree.start;
-  kind : l.tree.kind ≡ l.initial.tree.kind;
-  leaf : l.tree.leaf ≡ l.initial.tree.leaf;
-  path : l.tree.path ≡ l.initial.tree.path;
+  start : l.tree.start ≡ l.fn.tree.start;
+  kind : l.tree.kind ≡ l.fn.tree.kind;
+  leaf : l.tree.leaf ≡ l.fn.tree.leaf;
+  path : l.tree.path ≡ l.fn.tree.path;
   told : (g.S.Source.held l.source).bytes ≡ (g.S.Source.held l.initial.source).bytes;
   reads : (g.S.Source.held l.source).failures ≡ (g.S.Source.held l.initial.source).failures;
   writes : g.K.Sink.held l.sink ≡ g.K.Sink.held l.initial.sink;
   refusals : g.T.Taker.refusals l.taker ≡ g.T.Taker.refusals l.initial.taker;
   log : HasLog g.S.Source.step (Reads l.initial.bench.geometry.page_size l.initial.marks l.marks) (g.S.Source.held l.initial.source).trail (g.S.Source.held l.source).trail;
-  others : 1 ≤ l.initial.tree.start → l.taker ≡ l.initial.taker;
+  others : 1 ≤ l.fn.tree.start → l.taker ≡ l.initial.taker;
   on : IfSome (g.S.Source.held l.initial.source).bytes (λ file. l.initial.bench.geometry ≡ geometry file → l.encoding ≡ encoding file → (U : List Reference) (c : Reference) (v : View)
-      → IsLeafAt file l.initial.tree.kind l.initial.tree.start l.initial.tree.path.items U c l.initial.bench.levels l.page → tree_view file c ≡ Some v → is_interior v.kind ≡ false
-      → IsPast U (errands_of (story_of file) c) → AreMarksOf file U l.initial.marks → IsRunning file l.initial.tree.start U (then_step c.address 0) l.initial.tree.greatest l.initial.tree.leaf
-      → (held : g.row.T.Denot → ℕ) (first : g.row.T.Denot) → (l.initial.tree.start ≡ schema_start → IsGiven g.T.Taker.takes held file U c (then_step c.address 0) first l.initial.taker)
-      → IsOnRows g.K.Sink.takes g.T.Taker.takes held file l.initial.tree.kind v U c l.initial.sink l.i l.marks l.tree.greatest l.tree.leaf l.sink first l.taker);
+      → IsLeafAt file l.fn.tree.kind l.fn.tree.start l.fn.tree.path.items U c l.initial.bench.levels l.page → tree_view file c ≡ Some v → is_interior v.kind ≡ false
+      → IsPast U (errands_of (story_of file) c) → AreMarksOf file U l.initial.marks → IsRunning file l.fn.tree.start U (then_step c.address 0) l.fn.tree.greatest l.fn.tree.leaf
+      → (held : g.row.T.Denot → ℕ) (first : g.row.T.Denot) → (l.fn.tree.start ≡ schema_start → IsGiven g.T.Taker.takes held file U c (then_step c.address 0) first l.initial.taker)
+      → IsOnRows g.K.Sink.takes g.T.Taker.takes held file l.fn.tree.kind v U c l.initial.sink l.i l.marks l.tree.greatest l.tree.leaf l.sink first l.taker × (l.i ≤ count v));
 }
+
+abbrev pub decreases-loop-i : goal.decreases-loop-i
+decreases-loop-i g l = l.cells - l.i

@@ -1,15 +1,19 @@
 use Rattle.std.proofs.Common.{◌≡◌, ◌≤◌, length, true, false, Ok, Err, inr, refl, sym, ap, subst, ◌∙◌}
 use Rattle.std.specs.Prelude.{ℕ, IfErr}
+use Rattle.std.specs.Option.{option_or}
 use Rattle.std.proofs.lemmas.Result.{err_from_is_err_and}
 use Rattle.dbformat.specs.Address.{then_step, schema_start}
 use Rattle.dbsource.specs.declared.error.RunError.TheVariants.{WriteFailed}
 use Rattle.dbwalk.proofs.Chaining.ChainTurns.{if_some_all, if_some_both}
 use Rattle.dbwalk.proofs.Marking.Readings.{log_none}
 use Rattle.dbwalk.specs.CellTaken.{IsGiven, IsRowsDone}
-use Rattle.dbwalk.specs.Found.{IsFound}
+use Rattle.dbwalk.specs.Found.{IsFound, IsLeafFound}
+use Rattle.dbwalk.specs.KeySpans.{HasSpan, ArePassed}
 use Rattle.dbwalk.specs.Outcomes.{IsReadOrWrite}
 use Rattle.dbwalk.specs.WalkGiven.{IsEntryDone}
 use Rattle.dbwalk.proofs.Trees.Arrivals.{visit_stop, leaf_passed, leaf_stopped}
+use Rattle.dbwalk.proofs.Leaves.PackedLeaves.{keys_passed}
+use Rattle.dbwalk.proofs.Pages.PackedPages.{with_span}
 use Rattle.dbwalk.proofs.Pages.PageArrivals.{found_interior, found_damaged, found_damage, found_leaf}
 use Rattle.dbwalk.proofs.Rows.EntryRows.{entry_interior, entry_leaf, entry_stopped, entry_damaged, entry_passed, entry_stopped_below}
 use Rattle.dbwalk.proofs.page_entry.visit_page.Goals as goal
@@ -22,10 +26,10 @@ returns-in_err-tell_page-clause-others g c =
 pub returns-in_err-walk_leaf-in-Leaf-clause-others : goal.returns-in_err-walk_leaf-in-Leaf-clause-others
 returns-in_err-walk_leaf-in-Leaf-clause-others g c =
     let q = err_from_is_err_and c.from_residual-in_err-walk_leaf-in-Leaf.result c.from_residual-in_err-walk_leaf-in-Leaf.ensures.1 in
-    λ l. let o = c.in_err-walk_leaf-in-Leaf.ensures.others (subst (λ k. 1 ≤ k) (sym c.tell_page.ensures.tree.0) l) in (o.0, subst (λ r. IfErr r IsReadOrWrite) (sym (q.1 ∙ ap Err q.2)) o.1)
+    λ l. let o = c.in_err-walk_leaf-in-Leaf.ensures.others (subst (λ k. 1 ≤ k) (sym (c.pass_over.ensures.others.0 ∙ c.tell_page.ensures.tree.0)) l) in (o.0, subst (λ r. IfErr r IsReadOrWrite) (sym (q.1 ∙ ap Err q.2)) o.1)
 
 pub returns-in_ok-walk_leaf-in-Leaf-clause-others : goal.returns-in_ok-walk_leaf-in-Leaf-clause-others
-returns-in_ok-walk_leaf-in-Leaf-clause-others g c = λ l. ((c.in_ok-walk_leaf-in-Leaf.ensures.others (subst (λ k. 1 ≤ k) (sym c.tell_page.ensures.tree.0) l)).0, tt)
+returns-in_ok-walk_leaf-in-Leaf-clause-others g c = λ l. ((c.in_ok-walk_leaf-in-Leaf.ensures.others (subst (λ k. 1 ≤ k) (sym (c.pass_over.ensures.others.0 ∙ c.tell_page.ensures.tree.0)) l)).0, tt)
 
 pub returns-in_err-tell_page-clause-log : goal.returns-in_err-tell_page-clause-log
 returns-in_err-tell_page-clause-log g c = log_none g.S.Source.step c.args.bench.now.geometry.page_size c.args.marks.now c.args.marks.now (g.S.Source.held c.args.source.now).trail refl
@@ -76,38 +80,71 @@ returns-in-Damaged-clause-done g c = if_some_all _ (g.S.Source.held c.args.sourc
 pub returns-in_err-walk_leaf-in-Leaf-clause-done : goal.returns-in_err-walk_leaf-in-Leaf-clause-done
 returns-in_err-walk_leaf-in-Leaf-clause-done g c = if_some_both _ _ _ (g.S.Source.held c.args.source.now).bytes c.in_err-walk_leaf-in-Leaf.ensures.done c.in_err-walk_leaf-in-Leaf.ensures.done (λ file h w e coded W d from item candidate there next followed early m run held first given.
     let t = c.args.tree.now in
-    let n = c.tell_page.new.tree in
+    let n = c.pass_over.new.self in
+    let same = c.pass_over.ensures.others in
+    let tree = c.tell_page.ensures.tree in
     let b = c.tell_page.new.bench in
     let told = c.in_ok-tell_page.ensures.told file W d from item e candidate there run.leaves in
-    let found = subst (λ f. IsFound b.geometry.usable n.kind b.levels (length t.path.items) c.args.page f) c.in-Leaf.is c.in_ok-tell_page.ensures.open in
+    let found = subst (λ k. IsLeafFound b.geometry.usable k b.levels (length t.path.items) c.args.page c.in-Leaf.keys) (sym same.1)
+    (subst (λ f. IsFound b.geometry.usable c.tell_page.new.tree.kind b.levels (length t.path.items) c.args.page f) c.in-Leaf.is c.in_ok-tell_page.ensures.open) in
+    let leaf = told.1 ∙ sym same.2 in
     let rows = found_leaf g.K.Sink.takes g.K.Sink.drops file W t.kind t.start t.path.items c.args.page from item d candidate next t.greatest t.leaf run c.args.sink.now followed early
-    c.args.marks.now c.tell_page.new.sink m told.0.items n.leaf told.1 c.args.bench.now.levels b.levels there c.tell_page.ensures.bench.1 n.kind c.tell_page.ensures.tree.1 b.geometry.usable (ap (λ s. s.usable) (c.tell_page.ensures.bench.0 ∙ e))
-    n.start n.path.items n.greatest c.tell_page.ensures.tree.0 (ap (λ p. p.items) c.tell_page.ensures.tree.3) c.tell_page.ensures.tree.2 found
-    (λ V e. (held : g.row.T.Denot → ℕ) (first : g.row.T.Denot) → (n.start ≡ schema_start → IsGiven g.T.Taker.takes held file V e (then_step e.address 0) first c.args.taker.now)
+    c.args.marks.now c.tell_page.new.sink m told.0.items n.leaf leaf c.args.bench.now.levels b.levels there c.tell_page.ensures.bench.1 n.kind (same.1 ∙ tree.1) b.geometry.usable (ap (λ s. s.usable) (c.tell_page.ensures.bench.0 ∙ e))
+    n.start n.path.items n.greatest (same.0 ∙ tree.0) (ap (λ p. p.items) (same.3 ∙ tree.3)) (c.pass_over.ensures.kept c.if-pass_over.false ∙ tree.2) found.leaf
+    (λ V e v. (held : g.row.T.Denot → ℕ) (first : g.row.T.Denot) → (n.start ≡ schema_start → IsGiven g.T.Taker.takes held file V e (then_step e.address 0) first c.args.taker.now)
     → IsRowsDone g.K.Sink.takes g.K.Sink.drops g.T.Taker.takes g.T.Taker.refuses file V e (Err c.in_err-walk_leaf-in-Leaf.field-0.0) c.walk_leaf.new.marks c.walk_leaf.new.tree.greatest c.walk_leaf.new.tree.leaf c.tell_page.new.sink c.walk_leaf.new.sink first c.walk_leaf.new.taker)
-    (h (c.tell_page.ensures.bench.0 ∙ e) coded) held first (λ z. entry_leaf g.T.Taker.takes g.T.Taker.refuses held file t.kind t.start t.path.items c.args.page from item d candidate W t.greatest t.leaf run first c.args.taker.now given (candidate.start ∙ sym c.tell_page.ensures.tree.0 ∙ z)) in
+    (h (c.tell_page.ensures.bench.0 ∙ e) coded) held first (λ z. entry_leaf g.T.Taker.takes g.T.Taker.refuses held file t.kind t.start t.path.items c.args.page from item d candidate W t.greatest t.leaf run first c.args.taker.now given (candidate.start ∙ sym (same.0 ∙ tree.0) ∙ z)) in
     let q = err_from_is_err_and c.from_residual-in_err-walk_leaf-in-Leaf.result c.from_residual-in_err-walk_leaf-in-Leaf.ensures.1 in
     subst (λ r. IsEntryDone g.K.Sink.takes g.K.Sink.drops g.T.Taker.takes g.T.Taker.refuses file W d r c.walk_leaf.new.bench.levels c.walk_leaf.new.marks c.walk_leaf.new.tree.greatest c.walk_leaf.new.tree.leaf c.args.sink.now c.walk_leaf.new.sink first c.walk_leaf.new.taker) (sym (q.1 ∙ ap Err q.2)) (record {
       entered = leaf_stopped g.K.Sink.takes g.K.Sink.drops file W t.kind t.start t.path.items c.args.page from item d candidate next t.greatest t.leaf run c.args.sink.now followed early
-          c.args.marks.now c.tell_page.new.sink m told.0.items n.leaf told.1 c.in_err-walk_leaf-in-Leaf.field-0.0 c.walk_leaf.new.marks c.walk_leaf.new.tree.greatest c.walk_leaf.new.tree.leaf c.walk_leaf.new.sink rows.cells;
+          c.args.marks.now c.tell_page.new.sink m told.0.items n.leaf leaf c.in_err-walk_leaf-in-Leaf.field-0.0 c.walk_leaf.new.marks c.walk_leaf.new.tree.greatest c.walk_leaf.new.tree.leaf c.walk_leaf.new.sink rows.cells;
       given = λ z. entry_stopped_below g.T.Taker.takes g.T.Taker.refuses held file t.kind t.start t.path.items c.args.page from item d candidate W t.greatest t.leaf run first c.args.taker.now given z followed c.in_err-walk_leaf-in-Leaf.field-0.0 c.walk_leaf.new.taker (rows.given z);
     }))
 
 pub returns-in_ok-walk_leaf-in-Leaf-clause-done : goal.returns-in_ok-walk_leaf-in-Leaf-clause-done
 returns-in_ok-walk_leaf-in-Leaf-clause-done g c = if_some_both _ _ _ (g.S.Source.held c.args.source.now).bytes c.in_ok-walk_leaf-in-Leaf.ensures.done c.in_ok-walk_leaf-in-Leaf.ensures.done (λ file h w e coded W d from item candidate there next followed early m run held first given.
     let t = c.args.tree.now in
-    let n = c.tell_page.new.tree in
+    let n = c.pass_over.new.self in
+    let same = c.pass_over.ensures.others in
+    let tree = c.tell_page.ensures.tree in
     let b = c.tell_page.new.bench in
     let told = c.in_ok-tell_page.ensures.told file W d from item e candidate there run.leaves in
-    let found = subst (λ f. IsFound b.geometry.usable n.kind b.levels (length t.path.items) c.args.page f) c.in-Leaf.is c.in_ok-tell_page.ensures.open in
+    let found = subst (λ k. IsLeafFound b.geometry.usable k b.levels (length t.path.items) c.args.page c.in-Leaf.keys) (sym same.1)
+    (subst (λ f. IsFound b.geometry.usable c.tell_page.new.tree.kind b.levels (length t.path.items) c.args.page f) c.in-Leaf.is c.in_ok-tell_page.ensures.open) in
+    let leaf = told.1 ∙ sym same.2 in
     let rows = found_leaf g.K.Sink.takes g.K.Sink.drops file W t.kind t.start t.path.items c.args.page from item d candidate next t.greatest t.leaf run c.args.sink.now followed early
-    c.args.marks.now c.tell_page.new.sink m told.0.items n.leaf told.1 c.args.bench.now.levels b.levels there c.tell_page.ensures.bench.1 n.kind c.tell_page.ensures.tree.1 b.geometry.usable (ap (λ s. s.usable) (c.tell_page.ensures.bench.0 ∙ e))
-    n.start n.path.items n.greatest c.tell_page.ensures.tree.0 (ap (λ p. p.items) c.tell_page.ensures.tree.3) c.tell_page.ensures.tree.2 found
-    (λ V e. (held : g.row.T.Denot → ℕ) (first : g.row.T.Denot) → (n.start ≡ schema_start → IsGiven g.T.Taker.takes held file V e (then_step e.address 0) first c.args.taker.now)
+    c.args.marks.now c.tell_page.new.sink m told.0.items n.leaf leaf c.args.bench.now.levels b.levels there c.tell_page.ensures.bench.1 n.kind (same.1 ∙ tree.1) b.geometry.usable (ap (λ s. s.usable) (c.tell_page.ensures.bench.0 ∙ e))
+    n.start n.path.items n.greatest (same.0 ∙ tree.0) (ap (λ p. p.items) (same.3 ∙ tree.3)) (c.pass_over.ensures.kept c.if-pass_over.false ∙ tree.2) found.leaf
+    (λ V e v. (held : g.row.T.Denot → ℕ) (first : g.row.T.Denot) → (n.start ≡ schema_start → IsGiven g.T.Taker.takes held file V e (then_step e.address 0) first c.args.taker.now)
     → IsRowsDone g.K.Sink.takes g.K.Sink.drops g.T.Taker.takes g.T.Taker.refuses file V e (Ok c.in_ok-walk_leaf-in-Leaf.field-0) c.walk_leaf.new.marks c.walk_leaf.new.tree.greatest c.walk_leaf.new.tree.leaf c.tell_page.new.sink c.walk_leaf.new.sink first c.walk_leaf.new.taker)
-    (h (c.tell_page.ensures.bench.0 ∙ e) coded) held first (λ z. entry_leaf g.T.Taker.takes g.T.Taker.refuses held file t.kind t.start t.path.items c.args.page from item d candidate W t.greatest t.leaf run first c.args.taker.now given (candidate.start ∙ sym c.tell_page.ensures.tree.0 ∙ z)) in
+    (h (c.tell_page.ensures.bench.0 ∙ e) coded) held first (λ z. entry_leaf g.T.Taker.takes g.T.Taker.refuses held file t.kind t.start t.path.items c.args.page from item d candidate W t.greatest t.leaf run first c.args.taker.now given (candidate.start ∙ sym (same.0 ∙ tree.0) ∙ z)) in
     record {
       entered = leaf_passed g.K.Sink.takes g.K.Sink.drops file W t.kind t.start t.path.items c.args.page from item d candidate next t.greatest t.leaf run c.args.sink.now followed early
-          c.args.marks.now c.tell_page.new.sink m told.0.items n.leaf told.1 c.in_ok-walk_leaf-in-Leaf.field-0 c.walk_leaf.new.marks c.walk_leaf.new.tree.greatest c.walk_leaf.new.tree.leaf c.walk_leaf.new.sink rows.cells;
+          c.args.marks.now c.tell_page.new.sink m told.0.items n.leaf leaf c.in_ok-walk_leaf-in-Leaf.field-0 c.walk_leaf.new.marks c.walk_leaf.new.tree.greatest c.walk_leaf.new.tree.leaf c.walk_leaf.new.sink rows.cells;
       given = λ z. entry_passed g.T.Taker.takes g.T.Taker.refuses held file t.kind t.start t.path.items c.args.page from item d candidate W t.greatest t.leaf run first c.args.taker.now given z followed c.walk_leaf.new.taker (rows.given z);
     })
+
+pub returns-then-pass_over-clause-log : goal.returns-then-pass_over-clause-log
+returns-then-pass_over-clause-log g c = log_none g.S.Source.step c.args.bench.now.geometry.page_size c.args.marks.now c.args.marks.now (g.S.Source.held c.args.source.now).trail refl
+
+pub returns-then-pass_over-clause-done : goal.returns-then-pass_over-clause-done
+returns-then-pass_over-clause-done g c = if_some_all _ (g.S.Source.held c.args.source.now).bytes (λ file e coded W d from item candidate there next followed early m run held first given.
+    let t = c.args.tree.now in
+    let n = c.tell_page.new.tree in
+    let b = c.tell_page.new.bench in
+    let after = c.pass_over.new.self in
+    let told = c.in_ok-tell_page.ensures.told file W d from item e candidate there run.leaves in
+    let found = subst (λ f. IsFound b.geometry.usable n.kind b.levels (length t.path.items) c.args.page f) c.in-Leaf.is c.in_ok-tell_page.ensures.open in
+    let keys = with_span c.in-Leaf.keys (λ span. ArePassed n.start n.greatest span after.greatest) (λ span. HasSpan found.leaf.view span) (c.pass_over.ensures.passed c.if-pass_over.true) found.span in
+    let rows = found_leaf g.K.Sink.takes g.K.Sink.drops file W t.kind t.start t.path.items c.args.page from item d candidate next t.greatest t.leaf run c.args.sink.now followed early
+    c.args.marks.now c.tell_page.new.sink m told.0.items n.leaf told.1 c.args.bench.now.levels b.levels there c.tell_page.ensures.bench.1 n.kind c.tell_page.ensures.tree.1 b.geometry.usable (ap (λ s. s.usable) (c.tell_page.ensures.bench.0 ∙ e))
+    n.start n.path.items n.greatest c.tell_page.ensures.tree.0 (ap (λ p. p.items) c.tell_page.ensures.tree.3) c.tell_page.ensures.tree.2 found.leaf
+    (λ V e v. HasSpan v keys.0 → IsRowsDone g.K.Sink.takes g.K.Sink.drops g.T.Taker.takes g.T.Taker.refuses file V e (Ok tt) c.args.marks.now (option_or keys.0.last n.greatest) n.leaf c.tell_page.new.sink c.tell_page.new.sink first c.args.taker.now)
+    (λ V e v at viewed leaf past m run span. keys_passed g.K.Sink.takes g.K.Sink.drops g.T.Taker.takes g.T.Taker.refuses file n.kind n.start n.path.items b.levels c.args.page V e at keys.1.other v viewed leaf keys.0 span n.greatest keys.1.above
+    c.tell_page.new.sink first c.args.taker.now c.args.marks.now n.leaf past m run) keys.2 in
+    subst (λ l. IsEntryDone g.K.Sink.takes g.K.Sink.drops g.T.Taker.takes g.T.Taker.refuses file W d (Ok false) b.levels c.args.marks.now after.greatest l c.args.sink.now c.tell_page.new.sink first c.args.taker.now) (sym c.pass_over.ensures.others.2)
+    (subst (λ top. IsEntryDone g.K.Sink.takes g.K.Sink.drops g.T.Taker.takes g.T.Taker.refuses file W d (Ok false) b.levels c.args.marks.now top n.leaf c.args.sink.now c.tell_page.new.sink first c.args.taker.now) (sym keys.1.after_is) (record {
+      entered = leaf_passed g.K.Sink.takes g.K.Sink.drops file W t.kind t.start t.path.items c.args.page from item d candidate next t.greatest t.leaf run c.args.sink.now followed early
+          c.args.marks.now c.tell_page.new.sink m told.0.items n.leaf told.1 tt c.args.marks.now (option_or keys.0.last n.greatest) n.leaf c.tell_page.new.sink rows.cells;
+      given = λ z. entry_passed g.T.Taker.takes g.T.Taker.refuses held file t.kind t.start t.path.items c.args.page from item d candidate W t.greatest t.leaf run first c.args.taker.now given z followed c.args.taker.now (rows.given z);
+    })))

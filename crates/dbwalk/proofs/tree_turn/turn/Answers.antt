@@ -60,8 +60,8 @@ stepped-requires-in-Chain g c =
     let m = s.most in
     omega arith
 
-pub walk_chain-requires : goal.walk_chain-requires
-walk_chain-requires g c =
+pub walk_unfed-requires : goal.walk_unfed-requires
+walk_unfed-requires g c =
     let t = c.args.tree.now in
     let b = c.args.bench.now in
     let fs = c.args.frames.now.items in
@@ -80,7 +80,7 @@ returns-in_err-tell_key-in-Key-clause-others g c =
     λ l. (refl, subst (λ r. IfErr r IsReadOrWrite) (sym (q.1 ∙ ap Err q.2)) (inr refl))
 
 pub returns-in-Chain-clause-others : goal.returns-in-Chain-clause-others
-returns-in-Chain-clause-others g c = λ l. (refl, c.walk_chain.ensures.only)
+returns-in-Chain-clause-others g c = λ l. (refl, c.walk_unfed.ensures.only)
 
 pub returns-in_err-tell_key-in-Key-clause-log : goal.returns-in_err-tell_key-in-Key-clause-log
 returns-in_err-tell_key-in-Key-clause-log g c = log_none g.S.Source.step c.args.bench.now.geometry.page_size c.args.marks.now c.args.marks.now (g.S.Source.held c.args.source.now).trail refl
@@ -213,11 +213,11 @@ returns-in-Chain-clause-open g c =
     let f = c.args.frame in
     let has = subst (λ x. HasNext b.geometry.usable t.kind b.levels (length fs) f.page f.next x) c.in-Chain.is (subst (λ n. HasNext b.geometry.usable t.kind b.levels n f.page f.next c.step_of.result) c.len.ensures.value c.step_of.ensures) in
     let s = at_step b.geometry.usable t.kind b.levels fs f (Chain c.in-Chain.first c.in-Chain.left) c.requires.«open» has in
-    let n = c.walk_chain.new.bench in
-    on_ok_all c.walk_chain.result
+    let n = c.walk_unfed.new.bench in
+    on_ok_all c.walk_unfed.result
     (subst (λ l. AreOpen n.geometry.usable t.kind n.levels 0 l) (sym c.push-in-Chain.ensures.items)
-    (open_kept b.geometry.usable t.kind b.levels n.geometry.usable t.kind n.levels (ap (λ (p : Pages). p.geometry.usable) c.walk_chain.ensures.bench) refl 0 (fs ++ (c.stepped-in-Chain.result ∷ []))
-    (λ m l. ap (λ (p : Pages). slice_get p.levels m) c.walk_chain.ensures.bench)
+    (open_kept b.geometry.usable t.kind b.levels n.geometry.usable t.kind n.levels (ap (λ (p : Pages). p.geometry.usable) c.walk_unfed.ensures.bench) refl 0 (fs ++ (c.stepped-in-Chain.result ∷ []))
+    (λ m l. ap (λ (p : Pages). slice_get p.levels m) c.walk_unfed.ensures.bench)
     (step_on b.geometry.usable t.kind b.levels fs f (Chain c.in-Chain.first c.in-Chain.left) c.stepped-in-Chain.result c.stepped-in-Chain.ensures.page c.stepped-in-Chain.ensures.next (λ x. cc) s)))
 
 pub returns-in-Chain-clause-ends : goal.returns-in-Chain-clause-ends
@@ -228,20 +228,20 @@ returns-in-Chain-clause-ends g c =
     let f = c.args.frame in
     let has = subst (λ x. HasNext b.geometry.usable t.kind b.levels (length fs) f.page f.next x) c.in-Chain.is (subst (λ n. HasNext b.geometry.usable t.kind b.levels n f.page f.next c.step_of.result) c.len.ensures.value c.step_of.ensures) in
     let s = at_step b.geometry.usable t.kind b.levels fs f (Chain c.in-Chain.first c.in-Chain.left) c.requires.«open» has in
-    on_ok_all c.walk_chain.result
-    (subst (λ l. cost c.walk_chain.new.marks l < cost c.args.marks.now (fs ++ (f ∷ []))) (sym c.push-in-Chain.ensures.items)
-    (ends_on c.args.marks.now c.walk_chain.new.marks fs f c.stepped-in-Chain.result (keeps_fewer c.args.marks.now c.walk_chain.new.marks c.walk_chain.ensures.log.holds.kept) c.stepped-in-Chain.ensures.next s.most))
+    on_ok_all c.walk_unfed.result
+    (subst (λ l. cost c.walk_unfed.new.marks l < cost c.args.marks.now (fs ++ (f ∷ []))) (sym c.push-in-Chain.ensures.items)
+    (ends_on c.args.marks.now c.walk_unfed.new.marks fs f c.stepped-in-Chain.result (keeps_fewer c.args.marks.now c.walk_unfed.new.marks c.walk_unfed.ensures.log.holds.kept) c.stepped-in-Chain.ensures.next s.most))
 
 pub returns-in-Chain-clause-walking : goal.returns-in-Chain-clause-walking
-returns-in-Chain-clause-walking g c = if_some_both _ _ _ (g.S.Source.held c.args.source.now).bytes c.walk_chain.ensures.done c.walk_chain.ensures.done (λ file h w e coded W d before candidate held first empty walk.
+returns-in-Chain-clause-walking g c = if_some_both _ _ _ (g.S.Source.held c.args.source.now).bytes c.walk_unfed.ensures.done c.walk_unfed.ensures.done (λ file h w e coded W d before candidate held first empty walk.
     let t = c.args.tree.now in
     let b = c.args.bench.now in
     let fs = c.args.frames.now.items in
     let f = c.args.frame in
     let has = subst (λ x. HasNext b.geometry.usable t.kind b.levels (length fs) f.page f.next x) c.in-Chain.is (subst (λ n. HasNext b.geometry.usable t.kind b.levels n f.page f.next c.step_of.result) c.len.ensures.value c.step_of.ensures) in
-    let n = c.walk_chain.new in
+    let n = c.walk_unfed.new in
     let chain = next_here g.K.Sink.takes g.K.Sink.drops file t.kind t.start W d candidate before b.levels fs f c.args.marks.now t.greatest t.leaf c.args.sink.now walk.walking b.geometry.usable (ap (λ s. s.usable) e) (Chain c.in-Chain.first c.in-Chain.left) has in
-    subst (λ ls. IsTurnDone g.K.Sink.takes g.K.Sink.drops g.T.Taker.takes g.T.Taker.refuses file t.kind W d c.walk_chain.result before c.push-in-Chain.new.self.items ls n.marks t.greatest t.leaf n.sink first c.args.taker.now) (sym (ap (λ (p : Pages). p.levels) c.walk_chain.ensures.bench))
-    (subst (λ l. IsTurnDone g.K.Sink.takes g.K.Sink.drops g.T.Taker.takes g.T.Taker.refuses file t.kind W d c.walk_chain.result before l b.levels n.marks t.greatest t.leaf n.sink first c.args.taker.now) (sym c.push-in-Chain.ensures.items)
-    (past_chain g.K.Sink.takes g.K.Sink.drops g.T.Taker.takes g.T.Taker.refuses file t.kind t.start W d candidate before b.levels fs f c.args.marks.now t.greatest t.leaf c.args.sink.now first c.args.taker.now walk c.stepped-in-Chain.result c.stepped-in-Chain.ensures.page c.stepped-in-Chain.ensures.next c.in-Chain.first c.in-Chain.left chain c.walk_chain.result c.walk_chain.ensures.only n.marks n.sink (turned_chain g.K.Sink.takes g.K.Sink.drops file t.kind t.start W d candidate before b.levels fs f c.args.marks.now t.greatest t.leaf c.args.sink.now walk.walking c.stepped-in-Chain.result c.stepped-in-Chain.ensures.page c.stepped-in-Chain.ensures.next c.in-Chain.first c.in-Chain.left chain
-    _ refl (c.as_slice.ensures.value ∙ c.requires.path) refl refl refl refl c.walk_chain.result n.marks n.sink (h e)))))
+    subst (λ ls. IsTurnDone g.K.Sink.takes g.K.Sink.drops g.T.Taker.takes g.T.Taker.refuses file t.kind W d c.walk_unfed.result before c.push-in-Chain.new.self.items ls n.marks t.greatest t.leaf n.sink first c.args.taker.now) (sym (ap (λ (p : Pages). p.levels) c.walk_unfed.ensures.bench))
+    (subst (λ l. IsTurnDone g.K.Sink.takes g.K.Sink.drops g.T.Taker.takes g.T.Taker.refuses file t.kind W d c.walk_unfed.result before l b.levels n.marks t.greatest t.leaf n.sink first c.args.taker.now) (sym c.push-in-Chain.ensures.items)
+    (past_chain g.K.Sink.takes g.K.Sink.drops g.T.Taker.takes g.T.Taker.refuses file t.kind t.start W d candidate before b.levels fs f c.args.marks.now t.greatest t.leaf c.args.sink.now first c.args.taker.now walk c.stepped-in-Chain.result c.stepped-in-Chain.ensures.page c.stepped-in-Chain.ensures.next c.in-Chain.first c.in-Chain.left chain c.walk_unfed.result c.walk_unfed.ensures.only n.marks n.sink (turned_chain g.K.Sink.takes g.K.Sink.drops file t.kind t.start W d candidate before b.levels fs f c.args.marks.now t.greatest t.leaf c.args.sink.now walk.walking c.stepped-in-Chain.result c.stepped-in-Chain.ensures.page c.stepped-in-Chain.ensures.next c.in-Chain.first c.in-Chain.left chain
+    _ refl (c.as_slice.ensures.value ∙ c.requires.path) refl refl refl refl c.walk_unfed.result n.marks n.sink (h e)))))

@@ -1,8 +1,10 @@
-use Rattle.std.proofs.Common.{◌≡◌, ◌+◌, length, map, fold, max, sum_by, sym, ap, ◌∙◌, arith, Ok, Err}
+use Rattle.std.proofs.Common.{◌≡◌, ◌+◌, refl, length, map, fold, max, sum_by, sym, ap, subst, ◌∙◌, arith, below_more, true, false, Ok, Err}
+use Rattle.std.specs.Prelude.{Result, IsTrue, IsOk}
 use Rattle.dbformat.specs.Cell.{Cell, cell, count}
+use Rattle.dbformat.specs.declared.CellFault.{CellFault}
 use Rattle.dbwalk.proofs.Pages.Sums.{cell_short, cells_upto, cells_all, cells_ok, cells_err, local_more, greatest_more, ord_max-max}
-use Rattle.dbwalk.proofs.payload.payload_sums.Goals as goal
-use Rattle.dbwalk.proofs.payload.payload_sums.Goals.{in-Ok, in_default}
+use Rattle.dbwalk.proofs.payload.cell_sums.Goals as goal
+use Rattle.dbwalk.proofs.payload.cell_sums.Goals.{in-Ok, in-Err}
 
 pub loop-i-preserved : goal.loop-i-preserved
 loop-i-preserved c = elim c.match-cell.branch [
@@ -20,15 +22,17 @@ loop-i-preserved c = elim c.match-cell.branch [
         greatest = w.greatest-is ∙ w.max-greatest.ensures ∙ ord_max-max c.loop-i.greatest w.from.result ∙ ap (λ m. max c.loop-i.greatest m) (w.from.ensures ∙ size) ∙ ap (λ m. max m x.size) c.loop-i.invariant.greatest
             ∙ sym (greatest_more (cells_upto v n) n x) ∙ ap (λ l. fold max 0 (map (λ (i, c). c.size) l)) (sym (cells_ok v n x read));
         small = omega arith;
+        readable = λ yes. below_more _ _ (c.loop-i.invariant.readable (subst IsTrue w.are_readable-is yes)) (subst (λ (r : Result Cell CellFault). IsOk r) (sym read) refl);
       })
-  | in_default w ↦ (
+  | in-Err w ↦ (
       let v = c.args.view.now in
       let n = c.loop-i.i in
-      let read : cell v n ≡ Err w.in_default.field-0 = sym c.cell.ensures ∙ w.in_default.is in
+      let read : cell v n ≡ Err w.in-Err.field-0 = sym c.cell.ensures ∙ w.in-Err.is in
       record {
-        local = w.local-is ∙ c.loop-i.invariant.local ∙ ap (λ l. sum_by (λ (i, c). length c.local) l) (sym (cells_err v n w.in_default.field-0 read));
-        greatest = w.greatest-is ∙ c.loop-i.invariant.greatest ∙ ap (λ l. fold max 0 (map (λ (i, c). c.size) l)) (sym (cells_err v n w.in_default.field-0 read));
+        local = w.local-is ∙ c.loop-i.invariant.local ∙ ap (λ l. sum_by (λ (i, c). length c.local) l) (sym (cells_err v n w.in-Err.field-0 read));
+        greatest = w.greatest-is ∙ c.loop-i.invariant.greatest ∙ ap (λ l. fold max 0 (map (λ (i, c). c.size) l)) (sym (cells_err v n w.in-Err.field-0 read));
         small = omega arith;
+        readable = λ yes. absurd (let h : false ≡ true = sym w.are_readable-is ∙ yes in cc);
       })
 ]
 
