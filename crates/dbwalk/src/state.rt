@@ -1,6 +1,7 @@
 // What the walk over one tree keeps beside marks, buffers and frames.
 ghost use Rattle.std.specs.Prelude.{◌≡◌, [], Some, None, false, IsTrue, IsSomeAnd};
-ghost use Rattle.dbwalk.specs.KeySpans.{ArePassed, IsAbove};
+ghost use Rattle.dbpage.specs.Packed.{IsRising};
+ghost use Rattle.dbwalk.specs.KeySpans.{ArePassed};
 ghost use Rattle.dbwalk.specs.Running.{greater_key};
 ghost use Rattle.dbwalk.specs.Standing.{IsSameButGreatest, IsSameButLeaf};
 ghost use Rattle.dbwalk.specs.Telling.{IsTold, findings};
@@ -123,7 +124,7 @@ impl Tree {
 /// Whether a key is greater than the greatest so far, as far as there are both.
 #[inline(always)]
 pub fn is_above(greatest: Option<i64>, key: Option<i64>) -> bool
-    ensures { IsTrue result → IsAbove greatest key }
+    ensures { IsTrue result → IsRising greatest key }
 {
     match (greatest, key) {
         (Some(top), Some(key)) => top < key,
