@@ -1,5 +1,6 @@
 -- The greatest key, the depth of leaves and the rows so far, place by place.
 pub mod Places
+pub mod ReadableCells
 pub mod RunningKeys
 pub mod RunningLeaves
 pub mod CellRows

@@ -21,7 +21,8 @@ use Rattle.dbwalk.specs.Running.{IsLatest, AreRowsBefore, cells_before, rows_bef
 use Rattle.dbwalk.specs.Taking.{readable_rows}
 use Rattle.dbwalk.proofs.Running.Places.{before_next}
 use Rattle.dbwalk.proofs.Running.RunningCells.{IsFrom, filter_out, filter_whole, from_longer, not_before, row_place, cells_at_visits}
-use Rattle.dbwalk.proofs.Running.RunningKeys.{cells_at, range_below, no_chain_view}
+use Rattle.dbwalk.proofs.Running.ReadableCells.{cells_at, range_below}
+use Rattle.dbwalk.proofs.Running.RunningKeys.{no_chain_view}
 
 -- a list of rows that begins with those of a test, and has no other of them
 pub record IsCut (p : SchemaCell → Bool) (L : List SchemaCell) : Type 0 where

@@ -35,7 +35,7 @@ use Rattle.dbwalk.specs.declared.frame.Frame.{Frame}
 use Rattle.dbwalk.proofs.Leaves.LeafWays.{errands_rest}
 use Rattle.dbwalk.proofs.Running.Places.{before_next}
 use Rattle.dbwalk.proofs.Running.RunningCells.{IsFrom, row_place}
-use Rattle.dbwalk.proofs.Running.RunningKeys.{range_below}
+use Rattle.dbwalk.proofs.Running.ReadableCells.{range_below}
 use Rattle.dbwalk.proofs.Rows.RowCuts.{no_row, no_row_inside}
 
 -- places from another on

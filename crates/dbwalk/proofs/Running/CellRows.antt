@@ -19,7 +19,7 @@ use Rattle.dbformat.specs.Cell.{Cell, cell, cells, count}
 use Rattle.dbformat.specs.Reference.{Reference, tree_view}
 use Rattle.dbformat.specs.Schema.{SchemaCell, schema_cell, leaf_rows, rows_at, schema}
 use Rattle.dbwalk.specs.Running.{AreBefore, cells_before}
-use Rattle.dbwalk.proofs.Running.RunningKeys.{cells_at, range_below}
+use Rattle.dbwalk.proofs.Running.ReadableCells.{cells_at, range_below}
 use Rattle.dbwalk.proofs.Running.Places.{up_to_step, before_next, not_below, same_last, last_below}
 use Rattle.dbwalk.proofs.Running.RunningCells.{filter_same, both_alike, row_place, filter_out, not_before}
 

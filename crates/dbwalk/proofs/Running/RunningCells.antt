@@ -17,7 +17,8 @@ use Rattle.dbformat.specs.Reference.{Reference, tree_view}
 use Rattle.dbformat.specs.Schema.{SchemaCell, chain, payload, schema_cell, leaf_rows, rows_at, schema}
 use Rattle.dbformat.specs.declared.CellFault.{CellFault}
 use Rattle.dbwalk.specs.Running.{AreBefore, IsVisit, cells_before}
-use Rattle.dbwalk.proofs.Running.RunningKeys.{cells_from, up_to_entry, deeper}
+use Rattle.dbwalk.proofs.Running.ReadableCells.{cells_from}
+use Rattle.dbwalk.proofs.Running.RunningKeys.{up_to_entry, deeper}
 use Rattle.dbwalk.proofs.Running.Places.{up_to_step, before_next, not_below, same_last, last_below}
 
 -- tests that agree on a list choose the same

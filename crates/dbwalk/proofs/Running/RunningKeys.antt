@@ -1,9 +1,8 @@
 -- The keys of a tree, as a walk comes by them.
-use Rattle.std.proofs.Common.{◌≡◌, ℕ, suc, ◌+◌, ◌<◌, ◌≤◌, ◌⊎◌, inl, inr, Bool, true, false, cond, not, ◌&&◌, List, [], ◌∷◌, ◌++◌, Option, Some, None, refl, sym, ap, subst, arith, ◌∙◌, ◌↔◌, append_assoc, ℤ, int_lt, length, zero}
-use Rattle.std.specs.Prelude.{flat_map, filter, filter_map, int_le, option_map, ◌==◌, ◌||◌, Result, Ok, Err}
-use Rattle.std.specs.List.{list_any, range_with_len, cons_option}
-use Rattle.std.specs.Result.{result_ok}
-use Rattle.std.proofs.lemmas.Bool.{and_parts, cases_Bool, cases_order, eqb-true, both_ways}
+use Rattle.std.proofs.Common.{◌≡◌, ℕ, suc, ◌+◌, ◌<◌, ◌≤◌, ◌⊎◌, inl, inr, Bool, true, false, cond, not, ◌&&◌, List, [], ◌∷◌, ◌++◌, Option, Some, None, refl, sym, ap, subst, arith, ◌∙◌, ◌↔◌, append_assoc, ℤ, int_lt, length}
+use Rattle.std.specs.Prelude.{flat_map, filter, int_le, ◌==◌, ◌||◌, Result, Ok, Err}
+use Rattle.std.specs.List.{list_any}
+use Rattle.std.proofs.lemmas.Bool.{and_parts, cases_Bool, eqb-true, both_ways}
 use Rattle.std.proofs.lemmas.Bool.Decides.{nat_tests}
 use Rattle.std.proofs.lemmas.Int.{ints}
 use Rattle.std.proofs.lemmas.Grind.{flat_map-append}
@@ -23,6 +22,7 @@ use Rattle.dbformat.specs.KeyFaults.{Key, key_of, keys_of_view, keys_at, keys, e
 use Rattle.dbformat.specs.declared.FaultCode.TheVariants.{T06}
 use Rattle.dbformat.specs.declared.CellFault.{CellFault}
 use Rattle.dbwalk.specs.Running.{IsOfEarlierStart, AreOfEarlierStarts, AreBefore, IsVisit, IsKeyBefore, IsGreatest, is_late, greater_key}
+use Rattle.dbwalk.proofs.Running.ReadableCells.{cells_from, cells_in}
 use Rattle.dbwalk.proofs.Running.Places.{up_to_step, before_next, not_below, same_last, last_below}
 
 -- the place of a key of a page
@@ -76,45 +76,6 @@ child_no_key i j e = omega arith
 
 pub overflow_no_key : (i j : ℕ) → overflow_step i ≡ key_step j → ⊥
 overflow_no_key i j e = omega arith
-
--- the readable cells
-pub cells_at : (v : View) (is : List ℕ) (x : ℕ × Cell) → IsIn x (filter_map (λ i. option_map (λ c. (i, c)) (result_ok (cell v i))) is) → IsIn x.0 is × (cell v x.0 ≡ Ok x.1)
-cells_at v [] x h = absurd h
-cells_at v (i ∷ is) x h = by_cell (cells_at v is x) (cell v i) refl h
-  where
-    by_cell : (IsIn x (filter_map (λ i. option_map (λ c. (i, c)) (result_ok (cell v i))) is) → IsIn x.0 is × (cell v x.0 ≡ Ok x.1)) → (r : Result Cell CellFault) → cell v i ≡ r → IsIn x (cons_option (option_map (λ c. (i, c)) (result_ok r)) (filter_map (λ i. option_map (λ c. (i, c)) (result_ok (cell v i))) is)) → IsIn x.0 (i ∷ is) × (cell v x.0 ≡ Ok x.1)
-    by_cell go (Ok c) e (inl f) = (inl (ap (λ x. x.0) f), ap (λ x. cell v x.0) f ∙ e ∙ ap (λ x. Ok x.1) (sym f))
-    by_cell go (Ok c) e (inr h) = let m = go h in (inr m.0, m.1)
-    by_cell go (Err f) e h = let m = go h in (inr m.0, m.1)
-
-pub range_below : (a n i : ℕ) → IsIn i (range_with_len a n) → (a ≤ i) × (i < a + n)
-range_below a zero i h = absurd h
-range_below a (suc n) i (inl e) = (omega arith, omega arith)
-range_below a (suc n) i (inr h) = let m = range_below (a + 1) n i h in (omega arith, omega arith)
-
-range_has : (a n i : ℕ) → a ≤ i → i < a + n → IsIn i (range_with_len a n)
-range_has a zero i l m = absurd (omega arith)
-range_has a (suc n) i l m = elim (cases_order a i) [
-  | inl e ↦ inl (sym e)
-  | inr d ↦ (elim d [ inl k ↦ inr (range_has (a + 1) n i (omega arith) (omega arith)) | inr k ↦ absurd (omega arith) ])
-]
-
-pub cells_from : (v : View) (x : ℕ × Cell) → IsIn x (cells v) → (cell v x.0 ≡ Ok x.1) × (x.0 < count v)
-unfolding cells
-cells_from v x h = let m = cells_at v (range_with_len 0 (count v)) x h in let l = range_below 0 (count v) x.0 m.0 in (m.1, omega arith)
-
-pub cells_in : (v : View) (i : ℕ) (c : Cell) → i < count v → cell v i ≡ Ok c → IsIn {X = ℕ × Cell} (i, c) (cells v)
-unfolding cells
-cells_in v i c l e = at (range_with_len 0 (count v)) (range_has 0 (count v) i (omega arith) (omega arith))
-  where
-    at : (is : List ℕ) → IsIn i is → IsIn {X = ℕ × Cell} (i, c) (filter_map (λ i. option_map (λ c. (i, c)) (result_ok (cell v i))) is)
-    at [] h = absurd h
-    at (j ∷ is) (inl f) = subst (λ r. IsIn {X = ℕ × Cell} (i, c) (cons_option (option_map (λ c. (j, c)) (result_ok r)) (filter_map (λ i. option_map (λ c. (i, c)) (result_ok (cell v i))) is))) (sym (ap (cell v) (sym f) ∙ e)) (inl (ap (λ j. (j, c)) f))
-    at (j ∷ is) (inr h) = later (result_ok (cell v j)) (at is h)
-      where
-        later : (o : Option Cell) → IsIn {X = ℕ × Cell} (i, c) (filter_map (λ i. option_map (λ c. (i, c)) (result_ok (cell v i))) is) → IsIn {X = ℕ × Cell} (i, c) (cons_option (option_map (λ c. (j, c)) o) (filter_map (λ i. option_map (λ c. (i, c)) (result_ok (cell v i))) is))
-        later None h = h
-        later (Some d) h = inr h
 
 -- tests of lists
 filter_from : {X : Type 0} (p : X → Bool) (xs : List X) (x : X) → IsIn x (filter p xs) → IsIn x xs × (p x ≡ true)

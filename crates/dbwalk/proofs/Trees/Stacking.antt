@@ -21,7 +21,7 @@ use Rattle.dbformat.specs.Errands.{go, tell_cell}
 use Rattle.dbformat.specs.declared.TreeKind.{TreeKind}
 use Rattle.dbformat.specs.declared.CellFault.{CellFault}
 use Rattle.dbformat.proofs.Theory.{is_story}
-use Rattle.dbwalk.proofs.Running.RunningKeys.{cells_in, cells_from}
+use Rattle.dbwalk.proofs.Running.ReadableCells.{cells_in, cells_from}
 use Rattle.dbwalk.specs.Stack.{errands_from, child_page, child_at, top_visit, left_over, IsFrame, AreFrames}
 use Rattle.dbwalk.specs.Running.{IsVisit}
 use Rattle.dbwalk.specs.declared.frame.Frame.{Frame}
