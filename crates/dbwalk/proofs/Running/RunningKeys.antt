@@ -1,6 +1,6 @@
 -- The keys of a tree, as a walk comes by them.
 use Rattle.std.proofs.Common.{◌≡◌, ℕ, suc, ◌+◌, ◌<◌, ◌≤◌, ◌⊎◌, inl, inr, Bool, true, false, cond, not, ◌&&◌, List, [], ◌∷◌, ◌++◌, Option, Some, None, refl, sym, ap, subst, arith, ◌∙◌, ◌↔◌, append_assoc, ℤ, int_lt, length}
-use Rattle.std.specs.Prelude.{flat_map, filter, int_le, ◌==◌, ◌||◌, Result, Ok, Err}
+use Rattle.std.specs.Prelude.{flat_map, int_le, ◌==◌, ◌||◌, Result, Ok, Err}
 use Rattle.std.specs.List.{list_any}
 use Rattle.std.proofs.lemmas.Bool.{and_parts, cases_Bool, eqb-true, both_ways}
 use Rattle.std.proofs.lemmas.Bool.Decides.{nat_tests}
@@ -9,6 +9,7 @@ use Rattle.std.proofs.lemmas.Grind.{flat_map-append}
 use Rattle.std.proofs.lemmas.List.{append-nil, length-append}
 use Rattle.dbsurvey.specs.Address.{IsIn, Address, IsBefore}
 use Rattle.dbsurvey.specs.InOrder.{is_before}
+use Rattle.dbsurvey.proofs.Lists.{filter-from, filter-has}
 use Rattle.dbsurvey.proofs.Order.{IsIn-left, IsIn-cases, IsBefore-irreflexive, IsBefore-trans, IsBefore-beginning}
 use Rattle.dbsurvey.proofs.Ordering.{is_before-means, is_before-from, IsIn-flat_map, IsIn-from_flat_map}
 use Rattle.dbsurvey.proofs.Running.{int_line}
@@ -78,24 +79,6 @@ pub overflow_no_key : (i j : ℕ) → overflow_step i ≡ key_step j → ⊥
 overflow_no_key i j e = omega arith
 
 -- tests of lists
-filter_from : {X : Type 0} (p : X → Bool) (xs : List X) (x : X) → IsIn x (filter p xs) → IsIn x xs × (p x ≡ true)
-filter_from p [] x h = absurd h
-filter_from {X} p (y ∷ xs) x h = by_test (filter_from p xs x) (p y) refl h
-  where
-    by_test : (IsIn x (filter p xs) → IsIn x xs × (p x ≡ true)) → (b : Bool) → p y ≡ b → IsIn x (cond b (y ∷ filter p xs) (filter p xs)) → IsIn x (y ∷ xs) × (p x ≡ true)
-    by_test go true e (inl f) = (inl f, ap p f ∙ e)
-    by_test go true e (inr h) = let m = go h in (inr m.0, m.1)
-    by_test go false e h = let m = go h in (inr m.0, m.1)
-
-filter_has : {X : Type 0} (p : X → Bool) (xs : List X) (x : X) → IsIn x xs → p x ≡ true → IsIn x (filter p xs)
-filter_has p [] x h e = absurd h
-filter_has p (y ∷ xs) x (inl f) e = subst (λ b. IsIn x (cond b (y ∷ filter p xs) (filter p xs))) (sym (ap p (sym f) ∙ e)) (inl f)
-filter_has {X} p (y ∷ xs) x (inr h) e = by_test (p y) (filter_has p xs x h e)
-  where
-    by_test : (b : Bool) → IsIn x (filter p xs) → IsIn x (cond b (y ∷ filter p xs) (filter p xs))
-    by_test true h = inr h
-    by_test false h = h
-
 any_from : {X : Type 0} (p : X → Bool) (xs : List X) → list_any p xs ≡ true → (y : X) × IsIn y xs × (p y ≡ true)
 any_from p [] e = cc
 any_from {X} p (x ∷ xs) e = by_test (any_from p xs) (p x) refl e
@@ -436,12 +419,12 @@ module _ (file : List ℕ) where
       chosen k = (start_of k.place == start_of key.place) && is_before k.place key.place
 
       one : (k : Key) → IsIn k (earlier_keys file W key) → IsKeyBefore file W key.place k
-      one k i = let m = filter_from chosen (keys file W) k i in
+      one k i = let m = filter-from chosen (keys file W) k i in
           let b = and_parts (start_of k.place == start_of key.place) (is_before k.place key.place) m.1 in
           (m.0, eqb-true (start_of k.place) (start_of key.place) b.0, is_before-means k.place key.place b.1)
 
       has : (k : Key) → IsKeyBefore file W key.place k → IsIn k (earlier_keys file W key)
-      has k i = filter_has chosen (keys file W) k i.0 (and_true (eqb-from (start_of k.place) (start_of key.place) i.1) (is_before-from k.place key.place i.2))
+      has k i = filter-has chosen (keys file W) k i.0 (and_true (eqb-from (start_of k.place) (start_of key.place) i.1) (is_before-from k.place key.place i.2))
 
       by_top : (top : Option ℤ) → IsGreatest file W key.place top → list_any (is_out_of_order key) (earlier_keys file W key) ≡ is_late key.is_rowid top key.value
       by_top None h = elim (cases_Bool (list_any (is_out_of_order key) (earlier_keys file W key))) [
