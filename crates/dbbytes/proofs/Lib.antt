@@ -3,7 +3,6 @@ pub mod KeptLemmas
 pub mod ListLemmas
 pub mod NameLemmas
 pub mod RecordLemmas
-pub mod ShortVarints
 pub mod SieveLemmas
 pub mod UnitLemmas
 pub mod VarintLemmas

@@ -7,7 +7,7 @@ use Rattle.std.proofs.lemmas.Nat.{pow-add}
 use Rattle.std.proofs.Math.Pow.{pow_mono}
 use Rattle.std.proofs.lemmas.Bool.Decides.{nat_tests}
 use Rattle.dbformat.specs.Varint.{varint}
-use Rattle.dbbytes.specs.Varint.{varint_from}
+use Rattle.dbbytes.specs.Varint.{varint_from, GoesOn}
 
 abbrev sevens_on : ℕ → List ℕ → ℕ
 sevens_on value bytes = fold (λ n byte. n * 128 + byte % 128) value bytes
@@ -106,8 +106,24 @@ number_parts : (bytes : List ℕ) (o : Option (ℕ × ℕ)) → option_map {T = 
 number_parts bytes None = refl
 number_parts bytes (Some x) = refl
 
-pub varint-from-number : (bytes : List ℕ) → option_map (λ r. (r.0, r.1)) (varint_from 0 0 bytes) ≡ varint bytes
+pub varint-from-number : (bytes : List ℕ) → GoesOn 0 0 bytes bytes
 varint-from-number bytes = rw (varint-from bytes) (number_parts bytes (varint bytes))
+
+low_bits : (b : ℕ) → ltb b 128 ≡ true → 0 * 128 + b % 128 ≡ b
+low_bits b h = grind (arith, nat_tests)
+
+from_none : (b : ℕ) → 0 * 128 + b % 128 ≡ b % 128
+from_none b = omega arith
+
+-- the number, after its first byte
+pub varint_after_first : (bytes : List ℕ) → 0 < length bytes
+    → varint bytes ≡ cond (ltb (get_or bytes 0 0) 128) (Some (get_or bytes 0 0, 1)) (option_map (λ r. (r.0, r.1)) (varint_from 1 (get_or bytes 0 0 % 128) (drop 1 bytes)))
+varint_after_first [] long = absurd (omega arith)
+varint_after_first (b ∷ bs) long =
+    sym (varint-from-number (b ∷ bs)) ∙ elim (byte_tests b) [
+      | inl t ↦ rw (t.0, low_bits b t.0) refl
+      | inr t ↦ rw (t.0, from_none b) refl
+    ]
 
 -- the number takes at least one byte more than came before, at most nine, and no more than there are
 abbrev pub IsWithin : ℕ → ℕ → ℕ × ℕ × List ℕ → Type 0

@@ -1,5 +1,6 @@
 -- Variable-length integers, byte by byte.
-use Rattle.std.specs.Prelude.{ℕ, ◌+◌, ◌*◌, ◌%◌, List, [], ◌∷◌, Option, Some, None, nat_lt, ◌==◌, if◌then◌else◌}
+use Rattle.std.specs.Prelude.{◌≡◌, ℕ, ◌+◌, ◌*◌, ◌%◌, List, [], ◌∷◌, Option, Some, None, option_map, nat_lt, ◌==◌, if◌then◌else◌}
+use Rattle.dbformat.specs.Varint.{varint}
 use Rattle.dbbytes.specs.declared.partial.Progress.{Progress}
 use Rattle.dbbytes.specs.declared.partial.Progress.TheVariants.{More, Whole}
 
@@ -12,7 +13,11 @@ varint_from n value (byte ∷ bytes) =
     if nat_lt byte 128 then Some (value * 128 + byte % 128, n + 1, bytes) else
     varint_from (n + 1) (value * 128 + byte % 128) bytes)
 
--- the same, of what a byte made of the number
+-- The number that bytes begin with goes on with this rest, after so many bytes that gave this value.
+abbrev pub GoesOn : ℕ → ℕ → List ℕ → List ℕ → Type 0
+GoesOn n value rest bytes = option_map (λ r. (r.0, r.1)) (varint_from n value rest) ≡ varint bytes
+
+-- the number of `varint_from`, of what a byte made of it
 abbrev pub varint_after : Progress → List ℕ → Option (ℕ × ℕ × List ℕ)
 varint_after (More part) bytes = varint_from part.length part.value bytes
 varint_after (Whole value length) bytes = Some (value, length, bytes)

@@ -107,6 +107,49 @@ fn varints(rt: HostRuntime) {
     }
 }
 
+// Numbers of five to nine bytes, cut anywhere within them and in the bytes behind.
+#[test]
+fn long_varints(rt: HostRuntime) {
+    for (bytes, value, length) in [
+        (
+            b"\x81\x82\x83\x84\x05\xff\xff\xff\xff\xff".as_slice(),
+            272679429,
+            5,
+        ),
+        (b"\x81\x82\x83\x84\x85\x06\xff\xff\xff\xff", 34902966918, 6),
+        (
+            b"\x81\x82\x83\x84\x85\x86\x07\xff\xff\xff",
+            4467579765511,
+            7,
+        ),
+        (
+            b"\x81\x82\x83\x84\x85\x86\x87\x08\xff\xff",
+            571850209985416,
+            8,
+        ),
+        (
+            b"\x81\x82\x83\x84\x85\x86\x87\x88\x09\xff",
+            146393653756266505,
+            9,
+        ),
+        (
+            b"\x81\x82\x83\x84\x85\x86\x87\x88\x89\x00",
+            146393653756266633,
+            9,
+        ),
+        (
+            b"\xff\xff\xff\xff\xff\xff\xff\xff\xff\x00",
+            18446744073709551615,
+            9,
+        ),
+    ] {
+        for end in 0..=bytes.len() {
+            let want = (length <= end).then_some((value, length));
+            assert_eq!(rt; varint(&bytes[..end]), want, "at {bytes:?}, cut at {end}");
+        }
+    }
+}
+
 #[test]
 fn lengths_of_serial_types(rt: HostRuntime) {
     for (serial_type, want) in [

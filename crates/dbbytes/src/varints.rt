@@ -1,6 +1,7 @@
 // Variable-length integers (Database File Format, 1.6).
-ghost use Rattle.std.specs.Prelude.{◌≡◌, ◌<◌, ◌≤◌, length, IfSome};
+ghost use Rattle.std.specs.Prelude.{◌≡◌, ◌<◌, ◌≤◌, drop, length, Some, IfSome};
 ghost use Rattle.dbformat.specs.Varint.{varint};
+ghost use Rattle.dbbytes.specs.Varint.{GoesOn};
 
 use crate::partial::{PartialVarint, Progress};
 
@@ -31,7 +32,40 @@ pub fn varint(bytes: &[u8]) -> Option<(u64, usize)>
     if bytes[3] < 128 {
         return Some((four, 4));
     }
-    long_varint(bytes)
+    if bytes.len() < 9 {
+        return long_varint(bytes);
+    }
+    Some(varint_after_four(bytes, four))
+}
+
+// `varint`, whose first four bytes gave `four` and say that more follow. Cold, so that what the loops of callers keep in
+// registers is what shorter numbers need.
+#[cold]
+#[inline(never)]
+fn varint_after_four(bytes: &[u8], four: u64) -> (u64, usize)
+    requires nine { 9 ≤ length bytes.now }
+    requires more { GoesOn 4 four (drop 4 bytes.now) bytes.now }
+    requires small { four < 268435456 }
+    ensures value { Some result ≡ varint bytes.now }
+    ensures within { (5 ≤ result.1) × (result.1 ≤ 9) }
+{
+    let five = four * 128 + u64::from(bytes[4] % 128);
+    if bytes[4] < 128 {
+        return (five, 5);
+    }
+    let six = five * 128 + u64::from(bytes[5] % 128);
+    if bytes[5] < 128 {
+        return (six, 6);
+    }
+    let seven = six * 128 + u64::from(bytes[6] % 128);
+    if bytes[6] < 128 {
+        return (seven, 7);
+    }
+    let eight = seven * 128 + u64::from(bytes[7] % 128);
+    if bytes[7] < 128 {
+        return (eight, 8);
+    }
+    (eight * 256 + u64::from(bytes[8]), 9)
 }
 
 // `varint`, byte by byte.
