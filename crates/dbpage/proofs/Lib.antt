@@ -1,10 +1,10 @@
 pub mod CellLemmas
 pub mod FreeblockLemmas
-pub mod InOrder
 pub mod Items
 pub mod Lanes
 pub mod Overlaps
 pub mod PackedLemmas
 pub mod Ranges
+pub mod Rows
 pub mod Tables
 pub mod Unheld

@@ -23,7 +23,7 @@ is_overlapping_at : (spans : List Span) (s : Span) (rest : List Span)
     → is_overlapping (spans ++ s ∷ rest) (length spans) ≡ list_any (is_held spans) (range_with_len s.offset s.len)
 is_overlapping_at spans s rest = rw (get_or_at spans s rest no_span (length spans) refl, take_at spans (s ∷ rest) (length spans) refl) refl
 
-abbrev holds : Span → ℕ → Bool
+abbrev pub holds : Span → ℕ → Bool
 holds s byte = is_within s.offset (s.offset + s.len) byte
 
 or_false : (a : Bool) → (a || false) ≡ a
@@ -34,7 +34,7 @@ or_true : (a : Bool) → (a || true) ≡ true
 or_true true = refl
 or_true false = refl
 
-is_held_push : (spans : List Span) (s : Span) (byte : ℕ) → is_held (spans ++ s ∷ []) byte ≡ (is_held spans byte || holds s byte)
+pub is_held_push : (spans : List Span) (s : Span) (byte : ℕ) → is_held (spans ++ s ∷ []) byte ≡ (is_held spans byte || holds s byte)
 is_held_push spans s byte = list_any-append (λ t. holds t byte) spans (s ∷ []) ∙ ap (λ b. is_held spans byte || b) (or_false (holds s byte))
 
 is_held_inside : (spans : List Span) (s : Span) (byte : ℕ) → holds s byte ≡ true → is_held (spans ++ s ∷ []) byte ≡ true
@@ -75,23 +75,6 @@ module _ (spans : List Span) (s : Span) (free : (byte : ℕ) → s.offset ≤ by
   AreApart_push start end held was low high =
       let fewer = fewer_fail (is_held spans) (is_held (spans ++ s ∷ [])) s.offset (s.offset + s.len) start (end - start) pass_more in
       record { apart = stay_apart was.apart; counted = omega (arith, fewer, was.counted) }
-
--- an item that holds nothing
-module _ (spans : List Span) (s : Span) (none : s.len ≡ 0) where
-  pub free_of_none : (byte : ℕ) → s.offset ≤ byte → byte < s.offset + s.len → is_held spans byte ≡ false
-  free_of_none byte from below = absurd (omega arith)
-
-  pub AreApart_push_empty : (start end held : ℕ) → AreApart spans start end held → AreApart (spans ++ s ∷ []) start end held
-  AreApart_push_empty start end held was =
-      let fewer = fewer_fail (is_held spans) (is_held (spans ++ s ∷ [])) s.offset (s.offset + s.len) start (end - start) (pass_more spans s free_of_none) in
-      record { apart = stay_apart spans s free_of_none was.apart; counted = omega (arith, fewer, was.counted) }
-
-  pub is_held_push_empty : (byte : ℕ) → is_held (spans ++ s ∷ []) byte ≡ is_held spans byte
-  is_held_push_empty byte = is_held_outside spans s byte (outside s.offset (s.offset + s.len) byte (elim (cases_lt byte s.offset) [ inl below ↦ inl below | inr from ↦ inr (omega arith) ]))
-
--- bytes beside an item
-pub is_held_push_beside : (spans : List Span) (s : Span) (byte : ℕ) → (byte < s.offset) ⊎ (s.offset + s.len ≤ byte) → is_held spans byte ≡ false → is_held (spans ++ s ∷ []) byte ≡ false
-is_held_push_beside spans s byte beside free = is_held_outside spans s byte (outside s.offset (s.offset + s.len) byte beside) ∙ free
 
 module _ (spans : List Span) (s : Span) (start end : ℕ) (table : List ℕ) (held : ℕ) (was : AreMarked spans start end table held) where
   -- an item whose bytes are free is apart from those before it

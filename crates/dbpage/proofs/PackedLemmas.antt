@@ -1,6 +1,6 @@
 -- The cells of a packed page, one after another.
-use Rattle.std.proofs.Common.{◌≡◌, ℕ, zero, suc, true, Err, ◌+◌, ◌-◌, ◌<◌, ◌≤◌, max, inl, inr, false, List, [], ◌∷◌, ◌++◌, length, map, Option, Some, None, Ok, ℤ, refl, sym, subst, ap, ◌∙◌, arith}
-use Rattle.std.specs.Prelude.{fold, filter_map, option_map, is_some, ◌<ℤ◌}
+use Rattle.std.proofs.Common.{◌≡◌, ℕ, zero, suc, true, Err, ◌+◌, ◌-◌, ◌<◌, ◌≤◌, max, inl, inr, false, List, [], ◌∷◌, ◌++◌, ◌||◌, Bool, length, map, Option, Some, None, Ok, ℤ, refl, sym, subst, ap, ◌∙◌, arith}
+use Rattle.std.specs.Prelude.{fold, filter_map, option_map, is_some, IsOk, MatchBool, ◌<ℤ◌}
 use Rattle.std.specs.List.{range_with_len}
 use Rattle.std.specs.Result.{result_ok}
 use Rattle.std.proofs.lemmas.Bool.{cases_lt}
@@ -13,18 +13,20 @@ use Rattle.dbformat.specs.Cell.{Cell, cell, cells, count}
 use Rattle.dbformat.specs.Coverage.{coverage, coverage_of, first_overlap, items}
 use Rattle.dbformat.specs.declared.CellFault.{CellFault}
 use Rattle.dbformat.specs.declared.Coverage.TheVariants.{Overlap, Unheld}
-use Rattle.dbpage.specs.Packed.{first_cells, payload_of, greatest_of, AreRead, IsRising, IsWhole, IsPacked, IsUnpacked, key_at}
+use Rattle.dbpage.specs.Packed.{first_cells, payload_of, greatest_of, AreRead, HasOverflow, IsRising, IsWhole, IsPacked, IsUnpacked, key_at}
 use Rattle.dbpage.specs.Marking.{AreApart}
 use Rattle.dbpage.proofs.Overlaps.{coverage-from_apart}
 
-pub none_read : (v : View) → AreRead v 0 0 0 None
+pub none_read : (v : View) → AreRead v 0 0 0 None None false
 none_read v = record {
-  whole = λ i h. absurd (omega arith);
+  readable = λ i h. absurd (omega arith);
   rising = λ i a b h p q. absurd (omega arith);
+  first_is = λ h. absurd (omega arith);
   last_is = λ i h. absurd (omega arith);
-  empty = λ h. refl;
+  empty = λ h. (refl, refl);
   payload_is = refl;
   greatest_is = refl;
+  overflow_is = λ i h. absurd (omega arith);
   few = omega arith;
 }
 
@@ -50,26 +52,31 @@ first_cells_more v n c readable =
     one : (take : ℕ → Option (ℕ × Cell)) → take n ≡ Some (n, c) → filter_map take (n ∷ []) ≡ (n, c) ∷ []
     one take h = rw h refl
 
-module _ (v : View) (n payload greatest : ℕ) (last : Option ℤ) (was : AreRead v n payload greatest last) where
-  pub one_more_read : (c : Cell) → cell v n ≡ Ok c → c.overflow ≡ None → length c.local ≤ 65536
-      → ((a b : ℤ) → last ≡ Some a → c.key ≡ Some b → a <ℤ b)
-      → AreRead v (n + 1) (payload + length c.local) (max greatest c.size) c.key
-  one_more_read c readable here fits greater =
+module _ (v : View) (n payload greatest : ℕ) (first last : Option ℤ) (overflow : Bool) (was : AreRead v n payload greatest first last overflow) where
+  pub one_more_read : (c : Cell) → cell v n ≡ Ok c → length c.local ≤ 65536 → ((a b : ℤ) → last ≡ Some a → c.key ≡ Some b → a <ℤ b)
+      → (now : Option ℤ) → (n ≡ 0 → now ≡ c.key) → (0 < n → now ≡ first)
+      → AreRead v (n + 1) (payload + length c.local) (max greatest c.size) now c.key (overflow || is_some c.overflow)
+  one_more_read c readable fits greater now at_first later =
       let all = first_cells_more v n c readable in
       let key : key_at v n ≡ c.key = rw readable refl in
       record {
-        whole = λ i h. elim (cases_lt i n) [
-          | inl before ↦ was.whole i before
-          | inr same ↦ subst (λ (k : ℕ). IsWhole v k) (n_is i h same) (record { whole = c; readable = readable; here = here })
+        readable = λ i h. elim (cases_lt i n) [
+          | inl before ↦ was.readable i before
+          | inr same ↦ subst (λ (k : ℕ). IsOk (cell v k)) (n_is i h same) (rw readable refl)
         ];
         rising = λ i a b h p q. elim (cases_lt (i + 1) n) [
           | inl before ↦ was.rising i a b before p q
           | inr same ↦ greater a b (sym (was.last_is i (omega arith)) ∙ p) (sym key ∙ ap (key_at v) (next_is i h same) ∙ q)
         ];
+        first_is = λ h. elim (cases_lt 0 n) [
+          | inl some ↦ was.first_is some ∙ sym (later some)
+          | inr none ↦ ap (key_at v) (first_at none) ∙ key ∙ sym (at_first (omega arith))
+        ];
         last_is = λ i h. ap (key_at v) (at_is i h) ∙ key;
         empty = λ h. absurd (omega (arith, h));
         payload_is = omega (arith, was.payload_is, ap payload_of all, sum_by-append (λ (i, c). length c.local) (first_cells v n) ((n, c) ∷ []));
         greatest_is = greatest_more all;
+        overflow_is = overflow_more overflow was.overflow_is c.overflow refl;
         few = omega (arith, was.few);
       }
     where
@@ -79,8 +86,20 @@ module _ (v : View) (n payload greatest : ℕ) (last : Option ℤ) (was : AreRea
       next_is : (i : ℕ) → i + 1 < n + 1 → n ≤ i + 1 → n ≡ i + 1
       next_is i h same = omega arith
 
+      first_at : n ≤ 0 → 0 ≡ n
+      first_at h = omega arith
+
       at_is : (i : ℕ) → i + 1 ≡ n + 1 → i ≡ n
       at_is i h = omega arith
+
+      overflow_more : (b : Bool) → MatchBool b (HasOverflow v n) ((i : ℕ) → i < n → IsWhole v i) → (o : Option ℕ) → c.overflow ≡ o
+          → MatchBool (b || is_some o) (HasOverflow v (n + 1)) ((i : ℕ) → i < n + 1 → IsWhole v i)
+      overflow_more true has o e = record { place = has.place; within = omega (arith, has.within); found = has.found; readable = has.readable; some = has.some }
+      overflow_more false whole (Some p) e = record { place = n; within = omega arith; found = c; readable = readable; some = ap is_some e }
+      overflow_more false whole None e = λ i h. elim (cases_lt i n) [
+        | inl before ↦ whole i before
+        | inr same ↦ subst (λ (k : ℕ). IsWhole v k) (n_is i h same) (record { whole = c; readable = readable; here = e })
+      ]
 
       greatest_more : first_cells v (n + 1) ≡ first_cells v n ++ (n, c) ∷ [] → max greatest c.size ≡ greatest_of (first_cells v (n + 1))
       greatest_more all =
@@ -88,63 +107,47 @@ module _ (v : View) (n payload greatest : ℕ) (last : Option ℤ) (was : AreRea
           ap (λ (g : ℕ). max g c.size) was.greatest_is
           ∙ sym (ap greatest_of all ∙ ap (fold max 0) (map-append size (first_cells v n) ((n, c) ∷ [])) ∙ fold-append max 0 (map size (first_cells v n)) (c.size ∷ []))
 
-pub read_as : {v : View} {n payload greatest payload' greatest' : ℕ} {last last' : Option ℤ}
-    → AreRead v n payload greatest last → payload' ≡ payload → greatest' ≡ greatest → last' ≡ last → AreRead v n payload' greatest' last'
-read_as {v} {n} {payload} {greatest} {payload'} {greatest'} {last} {last'} are p g l =
-    subst (λ (a : ℕ). AreRead v n a greatest' last') (sym p) (subst (λ (a : ℕ). AreRead v n payload a last') (sym g) (subst (λ (a : Option ℤ). AreRead v n payload greatest a) (sym l) are))
-
-pub not_some : (o : Option ℕ) → is_some o ≡ false → o ≡ None
-not_some None h = refl
-not_some (Some x) h = cc
+pub read_as : {v : View} {n payload greatest payload' greatest' : ℕ} {first first' last last' : Option ℤ} {overflow overflow' : Bool}
+    → AreRead v n payload greatest first last overflow → payload' ≡ payload → greatest' ≡ greatest → first' ≡ first → last' ≡ last → overflow' ≡ overflow → AreRead v n payload' greatest' first' last' overflow'
+read_as {v} {n} {payload} {greatest} {payload'} {greatest'} {first} {first'} {last} {last'} {overflow} {overflow'} are p g f l o =
+    subst (λ (a : ℕ). AreRead v n a greatest' first' last' overflow') (sym p) (subst (λ (a : ℕ). AreRead v n payload a first' last' overflow') (sym g)
+    (subst (λ (a : Option ℤ). AreRead v n payload greatest a last' overflow') (sym f) (subst (λ (a : Option ℤ). AreRead v n payload greatest first a overflow') (sym l)
+    (subst (λ (a : Bool). AreRead v n payload greatest first last a) (sym o) are))))
 
 -- where all cells were read, and all items are apart
-pub all_packed : (v : View) (payload greatest held : ℕ) (first last : Option ℤ) → AreRead v (count v) payload greatest last
-    → AreApart (items v) (content_start v.number v.bytes) v.usable held → (0 < count v → key_at v 0 ≡ first) → (count v ≡ 0 → first ≡ None)
-    → IsPacked v payload greatest (v.usable - content_start v.number v.bytes - held) first last
+pub all_packed : (v : View) (payload greatest held : ℕ) (first last : Option ℤ) (overflow : Bool) → AreRead v (count v) payload greatest first last overflow
+    → AreApart (items v) (content_start v.number v.bytes) v.usable held → IsPacked v payload greatest (v.usable - content_start v.number v.bytes - held) first last overflow
 unfolding cells
-all_packed v payload greatest held first last read apart first_is no_first = record {
-  whole = read.whole;
+all_packed v payload greatest held first last overflow read apart = record {
+  readable = read.readable;
   rising = read.rising;
   payload_is = read.payload_is;
   greatest_is = read.greatest_is;
   coverage_is = coverage-from_apart v held apart;
-  first_is = first_is;
+  first_is = read.first_is;
   last_is = read.last_is;
-  empty = λ h. (no_first h, read.empty h);
+  empty = read.empty;
+  overflow_is = read.overflow_is;
 }
 
 -- a cell that is not readable
 pub unpacked_at_unreadable : (v : View) (i : ℕ) (e : CellFault) → i < count v → cell v i ≡ Err e → IsUnpacked v
-unpacked_at_unreadable v i e within h payload greatest unheld first last all =
-    let at = all.whole i within in
-    not_both at.whole e at.readable h
+unpacked_at_unreadable v i e within h payload greatest unheld first last overflow all = not_ok (all.readable i within)
   where
-    not_both : (c : Cell) (e : CellFault) → cell v i ≡ Ok c → cell v i ≡ Err e → ⊥
-    not_both c e p q = cc
-
-same_cell : (v : View) (i : ℕ) (c d : Cell) → cell v i ≡ Ok c → cell v i ≡ Ok d → c ≡ d
-same_cell v i c d p q = cc
-
-none_is_some : (o : Option ℕ) → is_some o ≡ true → o ≡ None → ⊥
-none_is_some o p q = cc
-
--- or one with an overflow page
-pub unpacked_at_overflow : (v : View) (i : ℕ) (c : Cell) → i < count v → cell v i ≡ Ok c → is_some c.overflow ≡ true → IsUnpacked v
-unpacked_at_overflow v i c within readable has payload greatest unheld first last all =
-    let at = all.whole i within in
-    none_is_some c.overflow has (ap (λ (d : Cell). d.overflow) (same_cell v i c at.whole readable at.readable) ∙ at.here)
+    not_ok : IsOk (cell v i) → ⊥
+    not_ok p = cc
 
 some_is_none : (a : ℤ) → Some a ≡ None → ⊥
 some_is_none a h = cc
 
 -- or one whose key does not rise
-pub unpacked_at_key : (v : View) (i payload greatest : ℕ) (last : Option ℤ) (c : Cell) → AreRead v i payload greatest last → i < count v → cell v i ≡ Ok c
+pub unpacked_at_key : (v : View) (i payload greatest : ℕ) (first last : Option ℤ) (overflow : Bool) (c : Cell) → AreRead v i payload greatest first last overflow → i < count v → cell v i ≡ Ok c
     → (IsRising last c.key → ⊥) → IsUnpacked v
-unpacked_at_key v i payload greatest last c was within readable falls payload' greatest' unheld first' last' all =
+unpacked_at_key v i payload greatest first last overflow c was within readable falls payload' greatest' unheld first' last' overflow' all =
     falls (λ a b p q. rises i refl a b p q)
   where
     rises : (n : ℕ) → n ≡ i → (a b : ℤ) → last ≡ Some a → c.key ≡ Some b → a <ℤ b
-    rises zero h a b p q = absurd (some_is_none a (sym p ∙ was.empty (sym h)))
+    rises zero h a b p q = absurd (some_is_none a (sym p ∙ (was.empty (sym h)).1))
     rises (suc n) h a b p q =
         let at : n + 1 ≡ i = omega arith in
         let key : key_at v i ≡ c.key = rw readable refl in
@@ -153,8 +156,7 @@ unpacked_at_key v i payload greatest last c was within readable falls payload' g
 -- or an item that overlaps
 pub unpacked_at_overlap : (v : View) (k : ℕ) → first_overlap (items v) ≡ Some k → IsUnpacked v
 unfolding coverage
-unpacked_at_overlap v k h payload greatest unheld first last all =
-    not_both unheld (sym (ap (coverage_of v) h) ∙ all.coverage_is)
+unpacked_at_overlap v k h payload greatest unheld first last overflow all = not_both unheld (sym (ap (coverage_of v) h) ∙ all.coverage_is)
   where
     not_both : (unheld : ℕ) → Overlap k ≡ Unheld unheld → ⊥
     not_both unheld h = cc

@@ -1,5 +1,5 @@
 -- A table some of whose bits are set.
-use Rattle.std.proofs.Common.{◌≡◌, ℕ, zero, suc, ◌+◌, ◌-◌, ◌*◌, ◌/◌, ◌%◌, ◌^◌, ◌<◌, ◌≤◌, min, max, ◌⊎◌, inl, inr, Bool, true, false, not, List, ◌++◌, length, length-append, length-drop, take, drop, get_or, w64, refl, sym, ap, ◌∙◌, arith}
+use Rattle.std.proofs.Common.{◌≡◌, ℕ, zero, suc, ◌+◌, ◌-◌, ◌*◌, ◌/◌, ◌%◌, ◌^◌, ◌<◌, ◌≤◌, min, max, ◌⊎◌, inl, inr, Bool, true, false, not, List, ◌++◌, length, length-append, length-drop, take, drop, get_or, w64, sym, ap, ◌∙◌, arith}
 use Rattle.std.specs.Prelude.{◌==◌, MatchBool}
 use Rattle.std.specs.Int.{bit_at, trailing_zeros}
 use Rattle.std.specs.Int.Bits.{bit_and, bit_or}
@@ -7,7 +7,7 @@ use Rattle.std.specs.List.{between}
 use borrow.Rule.Slice.PartMut.{put_mid}
 use Rattle.std.proofs.lemmas.Bool.{cases_lt}
 use Rattle.std.proofs.lemmas.Bool.Decides.{nat_tests}
-use Rattle.std.proofs.lemmas.Nat.{and_le_l, one_shl}
+use Rattle.std.proofs.lemmas.Nat.{and_le_l}
 use Rattle.std.proofs.lemmas.Nat.Bits.{bit_at-zero, bit_at_and, bit_at_or, bit_at_cat_low, bit_at_cat_high, bit_at-trailing_zeros, bit_at_mask_inside, bit_at_mask_below, bit_at_mask_above}
 use Rattle.std.proofs.lemmas.List.{length-take-le, get_or_append_left, get_or-append_right, get_or-take, get_or-drop, get_or_past}
 use Rattle.std.proofs.lemmas.List.Edits.{length-between, get_or-between}
@@ -176,36 +176,30 @@ module _ (table : List ℕ) (start : ℕ) (room : start + 8 ≤ length table) wh
         ])
 
 -- `len` bits from that of a byte on, beside a number whose bits are marks
-module _ (table : List ℕ) (from len : ℕ) (few : len ≤ 56) (old : ℕ)
+module _ (table : List ℕ) (from len : ℕ) (few : from % 8 + len ≤ 64) (bits : ℕ) (bits_is : bits ≡ 2 ^ (from % 8 + len) - 2 ^ (from % 8)) (old : ℕ)
     (old_bit : (byte : ℕ) → 8 * (from / 8) ≤ byte → byte < 8 * (from / 8) + 64 → bit_at old (byte - 8 * (from / 8)) ≡ mark_bit table byte) where
-  abbrev pub bits_at : ℕ
-  bits_at = 1 * 2 ^ (from % 8 + len) % 18446744073709551616 - 1 * 2 ^ (from % 8) % 18446744073709551616
-
-  bits_is : bits_at ≡ 2 ^ (from % 8 + len) - 2 ^ (from % 8)
-  bits_is = rw (one_shl (from % 8 + len) 64 (omega arith), one_shl (from % 8) 64 (omega arith)) refl
-
-  in_bits : (i : ℕ) → from % 8 ≤ i → i < from % 8 + len → bit_at bits_at i ≡ 1
+  in_bits : (i : ℕ) → from % 8 ≤ i → i < from % 8 + len → bit_at bits i ≡ 1
   in_bits i low high = ap (λ (n : ℕ). bit_at n i) bits_is ∙ bit_at_mask_inside (from % 8) (from % 8 + len) i low high
 
-  out_of_bits : (i : ℕ) → (i < from % 8) ⊎ (from % 8 + len ≤ i) → bit_at bits_at i ≡ 0
+  out_of_bits : (i : ℕ) → (i < from % 8) ⊎ (from % 8 + len ≤ i) → bit_at bits i ≡ 0
   out_of_bits i h = ap (λ (n : ℕ). bit_at n i) bits_is ∙ elim h [
     | inl below ↦ bit_at_mask_below (from % 8) (from % 8 + len) i below
     | inr above ↦ bit_at_mask_above (from % 8) (from % 8 + len) i above
   ]
 
   -- where they have no bit in common, none of the bytes is marked
-  free_of_none_common : bit_and old bits_at ≡ 0 → (byte : ℕ) → from ≤ byte → byte < from + len → mark_bit table byte ≡ 0
+  free_of_none_common : bit_and old bits ≡ 0 → (byte : ℕ) → from ≤ byte → byte < from + len → mark_bit table byte ≡ 0
   free_of_none_common none byte low high =
       let i : ℕ = byte - 8 * (from / 8) in
-      let both : min (bit_at old i) (bit_at bits_at i) ≡ 0 = sym (bit_at_and old bits_at i) ∙ ap (λ (n : ℕ). bit_at n i) none ∙ bit_at-zero i in
+      let both : min (bit_at old i) (bit_at bits i) ≡ 0 = sym (bit_at_and old bits i) ∙ ap (λ (n : ℕ). bit_at n i) none ∙ bit_at-zero i in
       omega (arith, both, in_bits i (omega arith) (omega arith), old_bit byte (omega arith) (omega arith))
 
   -- and else one is
-  pub marked_of_common : 0 < bit_and old bits_at → old < 18446744073709551616 → HasMarked table from (from + len)
+  pub marked_of_common : 0 < bit_and old bits → old < 18446744073709551616 → HasMarked table from (from + len)
   marked_of_common some fits =
-      let i : ℕ = trailing_zeros w64 (bit_and old bits_at) in
-      let lowest = bit_at-trailing_zeros w64 (bit_and old bits_at) some (omega (arith, and_le_l old bits_at)) in
-      let both : min (bit_at old i) (bit_at bits_at i) ≡ 1 = sym (bit_at_and old bits_at i) ∙ lowest.1 in
+      let i : ℕ = trailing_zeros w64 (bit_and old bits) in
+      let lowest = bit_at-trailing_zeros w64 (bit_and old bits) some (omega (arith, and_le_l old bits)) in
+      let both : min (bit_at old i) (bit_at bits i) ≡ 1 = sym (bit_at_and old bits i) ∙ lowest.1 in
       let low : from % 8 ≤ i = elim (cases_lt i (from % 8)) [ inl below ↦ absurd (omega (arith, both, out_of_bits i (inl below))) | inr on ↦ on ] in
       let high : i < from % 8 + len = elim (cases_lt i (from % 8 + len)) [ inl inside ↦ inside | inr above ↦ absurd (omega (arith, both, out_of_bits i (inr above))) ] in
       let byte : ℕ = 8 * (from / 8) + i in
@@ -215,11 +209,11 @@ module _ (table : List ℕ) (from len : ℕ) (few : len ≤ 56) (old : ℕ)
 
   -- the table where they are set beside the others
   module _ (new : List ℕ)
-      (inside : (byte : ℕ) → 8 * (from / 8) ≤ byte → byte < 8 * (from / 8) + 64 → mark_bit new byte ≡ bit_at (bit_or old bits_at) (byte - 8 * (from / 8)))
+      (inside : (byte : ℕ) → 8 * (from / 8) ≤ byte → byte < 8 * (from / 8) + 64 → mark_bit new byte ≡ bit_at (bit_or old bits) (byte - 8 * (from / 8)))
       (outside : (byte : ℕ) → (byte < 8 * (from / 8)) ⊎ (8 * (from / 8) + 64 ≤ byte) → mark_bit new byte ≡ mark_bit table byte) where
     bit_of : (byte : ℕ) → 8 * (from / 8) ≤ byte → byte < 8 * (from / 8) + 64
-        → mark_bit new byte ≡ max (bit_at old (byte - 8 * (from / 8))) (bit_at bits_at (byte - 8 * (from / 8)))
-    bit_of byte low high = inside byte low high ∙ bit_at_or old bits_at (byte - 8 * (from / 8))
+        → mark_bit new byte ≡ max (bit_at old (byte - 8 * (from / 8))) (bit_at bits (byte - 8 * (from / 8)))
+    bit_of byte low high = inside byte low high ∙ bit_at_or old bits (byte - 8 * (from / 8))
 
     other : (byte : ℕ) → (byte < from) ⊎ (from + len ≤ byte) → mark_bit new byte ≡ mark_bit table byte
     other byte h =
@@ -229,12 +223,12 @@ module _ (table : List ℕ) (from len : ℕ) (few : len ≤ 56) (old : ℕ)
             | inr above ↦ outside byte (inr above)
             | inl within ↦
                 let i : ℕ = byte - 8 * (from / 8) in
-                let unset : bit_at bits_at i ≡ 0 = out_of_bits i (elim h [ inl below ↦ inl (omega arith) | inr above ↦ inr (omega arith) ]) in
+                let unset : bit_at bits i ≡ 0 = out_of_bits i (elim h [ inl below ↦ inl (omega arith) | inr above ↦ inr (omega arith) ]) in
                 omega (arith, bit_of byte on within, unset, old_bit byte on within)
           ]
         ]
 
-    pub Marks-set : bit_and old bits_at ≡ 0 → Marks table from (from + len) new
+    pub Marks-set : bit_and old bits ≡ 0 → Marks table from (from + len) new
     Marks-set none = record {
       were_free = λ byte low high. unset_is (mark_bit table byte) (free_of_none_common none byte low high);
       are_marked = λ byte low high. set_is (mark_bit new byte) (omega (arith, bit_of byte (omega arith) (omega arith), in_bits (byte - 8 * (from / 8)) (omega arith) (omega arith)));

@@ -1,3 +1,4 @@
+pub mod Beginning
 pub mod Freeblocks
 pub mod Head
 pub mod Marking

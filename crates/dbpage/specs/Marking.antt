@@ -1,5 +1,5 @@
 -- What the marks of a table say of the items that were marked in it.
-use Rattle.std.specs.Prelude.{◌≡◌, ℕ, ◌+◌, ◌-◌, ◌/◌, ◌%◌, ◌<◌, ◌≤◌, Bool, true, false, not, ◌&&◌, List, length, map, count_by, slice_index, nat_lt, nat_le, ◌==◌}
+use Rattle.std.specs.Prelude.{◌≡◌, ℕ, ◌+◌, ◌-◌, ◌/◌, ◌%◌, ◌<◌, ◌≤◌, ◌⊎◌, Bool, true, false, not, ◌&&◌, List, length, map, count_by, slice_index, nat_lt, nat_le, ◌==◌}
 use Rattle.std.specs.Int.{bit_at}
 use Rattle.std.specs.List.{range_with_len}
 use Rattle.dbformat.specs.Head.{View, content_start}
@@ -53,6 +53,11 @@ pub record AreMarked (spans : List Span) (start end : ℕ) (table : List ℕ) (h
   pub marked : (byte : ℕ) → start ≤ byte → byte < end → is_marked table byte ≡ is_held spans byte
   pub apart : (k : ℕ) → k < length spans → is_overlapping spans k ≡ false
   pub counted : held + unheld_by spans start end ≡ end - start
+
+-- a span right below or right above some bytes, and all of them together
+abbrev pub AreAdjoining : ℕ → ℕ → ℕ → ℕ → ℕ → ℕ → Type 0
+AreAdjoining from to offset len first last =
+    ((offset + len ≡ from) × (first ≡ offset) × (last ≡ to)) ⊎ ((offset ≡ to) × (first ≡ from) × (last ≡ offset + len))
 
 -- what the first n cells hold
 abbrev pub cells_upto : View → ℕ → List Span

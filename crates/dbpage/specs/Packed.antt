@@ -1,5 +1,5 @@
 -- Packed pages: those of which one reading of the cells tells all.
-use Rattle.std.specs.Prelude.{◌≡◌, ℕ, ◌+◌, ◌*◌, ◌<◌, ◌≤◌, List, length, map, max, fold, filter_map, Option, Some, None, option_and_then, option_map, Ok, ℤ, ◌<ℤ◌, sum_by}
+use Rattle.std.specs.Prelude.{◌≡◌, ℕ, ◌+◌, ◌*◌, ◌<◌, ◌≤◌, Bool, true, List, length, map, max, fold, filter_map, Option, Some, None, is_some, option_and_then, option_map, Ok, IsOk, ℤ, ◌<ℤ◌, sum_by, MatchBool}
 use Rattle.std.specs.List.{range_with_len}
 use Rattle.std.specs.Result.{result_ok}
 use Rattle.dbformat.specs.Head.{View}
@@ -25,6 +25,14 @@ pub record IsWhole (v : View) (i : ℕ) : Type 0 where
   pub readable : cell v i ≡ Ok whole
   pub here : whole.overflow ≡ None
 
+-- one of the first n cells is readable, and has an overflow page
+pub record HasOverflow (v : View) (n : ℕ) : Type 0 where
+  pub place : ℕ
+  pub within : place < n
+  pub found : Cell
+  pub readable : cell v place ≡ Ok found
+  pub some : is_some found.overflow ≡ true
+
 -- the key of cell i, where it is readable and has one
 abbrev pub key_at : View → ℕ → Option ℤ
 key_at v i = option_and_then (λ c. c.key) (result_ok (cell v i))
@@ -37,19 +45,21 @@ AreRising v n = (i : ℕ) (a b : ℤ) → i + 1 < n → key_at v i ≡ Some a �
 abbrev pub IsRising : Option ℤ → Option ℤ → Type 0
 IsRising last key = (a b : ℤ) → last ≡ Some a → key ≡ Some b → a <ℤ b
 
--- the first n cells are readable and whole, and their keys rise; their numbers, and the key of the last
-pub record AreRead (v : View) (n payload greatest : ℕ) (last : Option ℤ) : Type 0 where
-  pub whole : (i : ℕ) → i < n → IsWhole v i
+-- the first n cells are readable, and their keys rise; their numbers, the first and the last key, and whether one has an overflow page
+pub record AreRead (v : View) (n payload greatest : ℕ) (first last : Option ℤ) (overflow : Bool) : Type 0 where
+  pub readable : (i : ℕ) → i < n → IsOk (cell v i)
   pub rising : AreRising v n
+  pub first_is : 0 < n → key_at v 0 ≡ first
   pub last_is : (i : ℕ) → i + 1 ≡ n → key_at v i ≡ last
-  pub empty : n ≡ 0 → last ≡ None
+  pub empty : n ≡ 0 → (first ≡ None) × (last ≡ None)
   pub payload_is : payload ≡ payload_of (first_cells v n)
   pub greatest_is : greatest ≡ greatest_of (first_cells v n)
+  pub overflow_is : MatchBool overflow (HasOverflow v n) ((i : ℕ) → i < n → IsWhole v i)
   pub few : payload ≤ n * 65536
 
--- all cells are readable and whole, with rising keys, and no two items share a byte; the numbers of the page, and its first and last key
-pub record IsPacked (v : View) (payload greatest unheld : ℕ) (first last : Option ℤ) : Type 0 where
-  pub whole : (i : ℕ) → i < count v → IsWhole v i
+-- all cells are readable, with rising keys, and no two items share a byte; the numbers of the page, its first and last key, and whether a cell has an overflow page
+pub record IsPacked (v : View) (payload greatest unheld : ℕ) (first last : Option ℤ) (overflow : Bool) : Type 0 where
+  pub readable : (i : ℕ) → i < count v → IsOk (cell v i)
   pub rising : AreRising v (count v)
   pub payload_is : payload ≡ payload_of (cells v)
   pub greatest_is : greatest ≡ greatest_of (cells v)
@@ -57,7 +67,8 @@ pub record IsPacked (v : View) (payload greatest unheld : ℕ) (first last : Opt
   pub first_is : 0 < count v → key_at v 0 ≡ first
   pub last_is : (i : ℕ) → i + 1 ≡ count v → key_at v i ≡ last
   pub empty : count v ≡ 0 → (first ≡ None) × (last ≡ None)
+  pub overflow_is : MatchBool overflow (HasOverflow v (count v)) ((i : ℕ) → i < count v → IsWhole v i)
 
--- no numbers are such: a cell is not readable or has an overflow page, or keys do not rise, or two items share a byte
+-- no numbers are such: a cell is not readable, or keys do not rise, or two items share a byte
 abbrev pub IsUnpacked : View → Type 0
-IsUnpacked v = (payload greatest unheld : ℕ) (first last : Option ℤ) → IsPacked v payload greatest unheld first last → ⊥
+IsUnpacked v = (payload greatest unheld : ℕ) (first last : Option ℤ) (overflow : Bool) → IsPacked v payload greatest unheld first last overflow → ⊥

@@ -70,7 +70,7 @@ impl<'a> PageView<'a> {
         if i == self.cells {
             return self.right_child();
         }
-        match self.cell(i) {
+        match self.read_cell(self.kind, i) {
             Ok(cell) => cell.left,
             Err(_) => None,
         }

@@ -6,7 +6,6 @@ ghost use Rattle.dbformat.specs.Coverage.{coverage, first_overlap, freeblocks, i
 ghost use Rattle.dbpage.specs.Marking.{AreApart, AreMarked, Holds, HoldsNothing, cell_items, is_marked};
 ghost use Rattle.dbformat.specs.declared.Coverage.TheVariants.{Unheld};
 
-use crate::order::Stack;
 use crate::steps::Steps;
 use crate::table::{claim, clear};
 use crate::view::{PageView, by_kind};
@@ -18,8 +17,7 @@ use std::sync::ledger::{Blank, Ledger};
 /// content area are in none. Items are the cells, readable or not, and then the good freeblocks.
 ///
 /// `table` is room to work in, a byte for each usable byte of the page. What it holds does not matter, and is open
-/// afterwards. `steps` counts each byte that is marked for an item, and the finding that an item's byte is marked. Bytes
-/// for which the order of the cells shows that no item before holds them are counted, though no mark is written.
+/// afterwards. `steps` counts each byte that is marked for an item, and the finding that an item's byte is marked.
 pub fn coverage<L: Ledger>(view: &PageView<'_>, table: &mut [u8], steps: &mut Steps<L>) -> Coverage
     requires { view.now.usable ≤ length table.old }
     ensures items { result ≡ coverage view.now }
@@ -28,12 +26,15 @@ pub fn coverage<L: Ledger>(view: &PageView<'_>, table: &mut [u8], steps: &mut St
     // Each held byte is marked.
     ensures each { (n : ℕ) → result ≡ Unheld n → steps.new + n + content_start view.now.number view.now.bytes ≡ steps.old + view.now.usable }
 {
-    match held_in_order(view) {
-        Some(held) => {
-            steps.add(held);
-            Coverage::Unheld(view.usable - view.start - held)
-        }
-        None => marked_coverage(view, table, steps),
+    let content = view.usable - view.start;
+    clear(table, view.usable);
+    let in_cells = match mark_cells(view, table, steps) {
+        Ok(held) => held,
+        Err(overlap) => return Coverage::Overlap(overlap.item),
+    };
+    match mark_freeblocks(view, in_cells, table, steps) {
+        Ok(held) => Coverage::Unheld(content - held),
+        Err(overlap) => Coverage::Overlap(overlap.item),
     }
 }
 
@@ -56,60 +57,6 @@ fn coverage_from<L: Ledger>(view: &PageView<'_>, table: &mut [u8], blank: Blank)
 {
     let mut steps = Steps::<L>::new(blank);
     coverage(view, table, &mut steps)
-}
-
-// How many bytes the items hold, where they are cells alone and each stands below or above all before it. SQLite packs the
-// cells of a page from its end downwards, so that this is so for most. No byte is marked, since none is held twice.
-#[inline(never)]
-fn held_in_order(view: &PageView<'_>) -> Option<u32>
-    ensures { IfSome result (AreApart (items view.now) (content_start view.now.number view.now.bytes) view.now.usable) }
-{
-    match view.freeblocks().next() {
-        Some(_) => None,
-        None => by_kind!(view.kind, kind => held_in_order_of(view, kind)),
-    }
-}
-
-// `held_in_order` of a page of this kind without freeblocks.
-#[inline(always)]
-fn held_in_order_of(view: &PageView<'_>, kind: PageKind) -> Option<u32>
-    requires kind { kind ≡ view.now.kind }
-    requires cells_alone { freeblocks view.now ≡ [] }
-    ensures { IfSome result (AreApart (items view.now) (content_start view.now.number view.now.bytes) view.now.usable) }
-{
-    let mut stack = Stack::new(view.usable);
-    for i in 0..view.cells {
-        if let Some((offset, len)) = held_by_cell(view, kind, i) {
-            if !stack.add(offset, len) {
-                return None;
-            }
-        }
-    }
-    Some(stack.held)
-}
-
-// `coverage`, by marks of all items.
-#[inline(never)]
-fn marked_coverage<L: Ledger>(
-    view: &PageView<'_>,
-    table: &mut [u8],
-    steps: &mut Steps<L>,
-) -> Coverage
-    requires { view.now.usable ≤ length table.old }
-    ensures items { result ≡ coverage view.now }
-    ensures few { steps.new ≤ steps.old + view.now.usable + 1 }
-    ensures each { (n : ℕ) → result ≡ Unheld n → steps.new + n + content_start view.now.number view.now.bytes ≡ steps.old + view.now.usable }
-{
-    let content = view.usable - view.start;
-    clear(table, view.usable);
-    let in_cells = match mark_cells(view, table, steps) {
-        Ok(held) => held,
-        Err(overlap) => return Coverage::Overlap(overlap.item),
-    };
-    match mark_freeblocks(view, in_cells, table, steps) {
-        Ok(held) => Coverage::Unheld(content - held),
-        Err(overlap) => Coverage::Overlap(overlap.item),
-    }
 }
 
 // The number of an item that shares a byte with one before it.

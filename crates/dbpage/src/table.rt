@@ -51,7 +51,8 @@ fn claim_many(table: &mut [u8], from: u32, len: u32) -> bool
     }
 }
 
-// `claim` by windows of 56 marks.
+// `claim` by windows of 64 marks. Each but the last ends where the next begins in the table: a read that has but a part of
+// what was just written waits for it.
 #[inline(always)]
 pub(crate) fn claim_plain(table: &mut [u8], from: u32, len: u32) -> bool
     requires room { from + len ≤ length table.old }
@@ -61,27 +62,26 @@ pub(crate) fn claim_plain(table: &mut [u8], from: u32, len: u32) -> bool
 {
     let end = from + len;
     let mut at = from;
-    while at < end {
-        let few = (end - at).min(56);
-        if !claim_few(table, at, few) {
+    while end - at >= 64 - at % 8 {
+        if !claim_few(table, at, 64 - at % 8) {
             return false;
         }
-        at += few;
+        at += 64 - at % 8;
     }
-    true
+    claim_few(table, at, end - at)
 }
 
-// `claim` of eight bytes or more: up to a whole byte of the table, by lanes of 256 marks, and what is left.
+// `claim` of 64 bytes or more: by a window that ends at a whole byte of the table, by lanes of 256 marks, and what is left.
 #[inline(always)]
 pub(crate) fn claim_long(table: &mut [u8], from: u32, len: u32) -> bool
     requires room { from + len ≤ length table.old }
     requires least { 16 ≤ length table.old }
     requires fits { from + len < 2 ^ 32 }
-    requires long { 8 ≤ len }
+    requires long { 64 ≤ len }
     ensures { MatchBool result (Marks table.old from (from + len) table.new) (HasMarked table.old from (from + len)) }
 {
     let end = from + len;
-    let mut at = (from + 7) / 8 * 8;
+    let mut at = from + (64 - from % 8);
     if !claim_few(table, from, at - from) {
         return false;
     }
@@ -119,24 +119,33 @@ fn has_any(table: &[u8], start: usize) -> bool
     lanes.simd_ne(u8x32::splat(0)).to_bitmask() != 0
 }
 
-// Marks `len` bytes from `from` on, unless one of them is marked. They are 56 at most, so that their bits stand in eight
-// bytes of the table, and are read and written as one number.
+// Marks `len` bytes from `from` on, unless one of them is marked. Their bits stand in eight bytes of the table, and are read
+// and written as one number.
 #[inline(always)]
 fn claim_few(table: &mut [u8], from: u32, len: u32) -> bool
     requires room { from + len ≤ length table.old }
     requires least { 16 ≤ length table.old }
-    requires few { len ≤ 56 }
+    requires few { from % 8 + len ≤ 64 }
     ensures marked { MatchBool result (Marks table.old from (from + len) table.new) (HasMarked table.old from (from + len)) }
 {
     let start = from / 8;
-    let bit = from % 8;
     let old = eight_at(table, start);
-    let bits = (1u64 << (bit + len)) - (1u64 << bit);
+    let bits = ones(from % 8, from % 8 + len);
     if old & bits != 0 {
         return false;
     }
     set_eight(table, start, old | bits);
     true
+}
+
+// The number whose bits from `from` on are ones up to `to`.
+#[inline(always)]
+fn ones(from: u32, to: u32) -> u64
+    requires { (from ≤ to) × (from < 64) × (to ≤ 64) }
+    ensures { result ≡ 2 ^ to - 2 ^ from }
+{
+    let end = if to == 64 { 0 } else { 1u64 << to };
+    end.wrapping_sub(1 << from)
 }
 
 // Eight bytes of the table as a number: the marks of 64 bytes.

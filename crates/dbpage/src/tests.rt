@@ -97,6 +97,8 @@ fn packed(rt: &impl Abort, page: &[u8]) -> Option<Packed> {
 #[test]
 fn packed_pages(rt: HostRuntime) {
     let two = b"\x0d\x00\x00\x00\x02\x01\xf0\x00\x01\xfc\x01\xf7\x00\x00";
+    let rising = b"\x0d\x00\x00\x00\x02\x01\xf0\x00\x01\xf7\x01\xfc\x00\x00";
+    let within = b"\x0d\x00\x00\x00\x02\x01\xf0\x00\x01\xf7\x01\xf9\x00\x00";
     let three = b"\x0d\x00\x00\x00\x03\x01\xf0\x00\x01\xfc\x01\xf0\x01\xf7";
     let freeblock = b"\x0d\x01\xf0\x00\x02\x01\xf0\x00\x01\xfc\x01\xf7\x00\x00";
     let cases = [
@@ -108,6 +110,14 @@ fn packed_pages(rt: HostRuntime) {
         ),
         // A rowid comes twice.
         (two, b"\0\0\0\0\0\0\0\x03\x01abc\x02\x01AB", None),
+        // The second cell stands behind the first.
+        (
+            rising,
+            b"\0\0\0\0\0\0\0\x03\x01abc\x02\x02AB",
+            Some((5, 3, 7, 1, 2)),
+        ),
+        // It begins within the first.
+        (within, b"\0\0\0\0\0\0\0\x03\x01\x02\x05c\x02\x02AB", None),
         // The third cell stands between the others.
         (
             three,
@@ -133,6 +143,25 @@ fn packed_pages(rt: HostRuntime) {
         ));
         assert_eq!(rt; numbers, want, "{head:?} {cells:?}");
     }
+}
+
+// A leaf of two cells. Of the 478 bytes of the first payload 39 stand in its cell, and all two of the other.
+#[test]
+fn packed_with_an_overflow_page(rt: HostRuntime) {
+    let page = page_of(&[
+        (0, b"\x0d\x00\x00\x00\x02\x01\xce\x00\x01\xd2\x01\xce"),
+        (462, b"\x02\x07AB\x83\x5e\x06"),
+        (508, b"\x00\x00\x00\x05"),
+    ]);
+    let want = Packed {
+        payload: 41,
+        greatest: 478,
+        unheld: 0,
+        first: Some(6),
+        last: Some(7),
+        has_overflow: true,
+    };
+    assert_eq!(rt; packed(&rt, &page), Some(want));
 }
 
 #[test]

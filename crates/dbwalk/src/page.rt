@@ -66,8 +66,7 @@ fn is_of_tree(page: PageKind, tree: TreeKind) -> bool
     }
 }
 
-/// Tells the faults within an undamaged page, of which it is known that its cells are all readable, or not known. `uses` is
-/// room to work in, a byte for each usable byte of the page.
+/// Tells the faults within an undamaged page. `uses` is room to work in, a byte for each usable byte of the page.
 ///
 /// # Errors
 ///
@@ -78,18 +77,13 @@ pub fn tell_inner<K: Sink>(
     view: &PageView<'_>,
     number: u32,
     is_child: bool,
-    are_readable: bool,
     uses: &mut [u8],
     sink: &mut K,
 ) -> Result<(), WriteFailed>
     requires number { number ≡ view.now.number }
     requires room { view.now.usable ≤ length uses.old }
-    requires cells { IsTrue are_readable → (i : ℕ) → i < count view.now → IsOk (cell view.now i) }
     ensures { IsTold K.takes K.drops K.held result sink.old (findings (inner_faults view.now is_child)) sink.new }
 {
-    if are_readable {
-        return tell_readable(view, number, is_child, None, uses, sink);
-    }
     tell_fragments(view, number, sink)?;
     let are_cells_good = tell_cells(view, number, sink)?;
     let are_freeblocks_good = tell_freeblock(view, number, sink)?;
@@ -103,8 +97,8 @@ pub fn tell_inner<K: Sink>(
     tell_empty(view, number, is_child, sink)
 }
 
-/// Tells the faults within an undamaged page whose cells are all readable, and so have none. `unheld` has its number of bytes
-/// that nothing holds, where it is known that nothing holds a byte twice.
+/// Tells the faults within an undamaged page whose cells are all readable, and so have none, and of which nothing holds a byte
+/// twice. `unheld` is how many bytes nothing holds.
 ///
 /// # Errors
 ///
@@ -113,19 +107,17 @@ pub fn tell_readable<K: Sink>(
     view: &PageView<'_>,
     number: u32,
     is_child: bool,
-    unheld: Option<u32>,
-    uses: &mut [u8],
+    unheld: u32,
     sink: &mut K,
 ) -> Result<(), WriteFailed>
     requires number { number ≡ view.now.number }
-    requires room { view.now.usable ≤ length uses.old }
     requires cells { (i : ℕ) → i < count view.now → IsOk (cell view.now i) }
-    requires unheld { IfSome unheld (λ n. coverage view.now ≡ Coverage.Unheld n) }
+    requires unheld { coverage view.now ≡ Coverage.Unheld unheld }
     ensures { IsTold K.takes K.drops K.held result sink.old (findings (inner_faults view.now is_child)) sink.new }
 {
     tell_fragments(view, number, sink)?;
     let are_freeblocks_good = tell_freeblock(view, number, sink)?;
-    tell_free_bytes(view, number, are_freeblocks_good, unheld, uses, sink)?;
+    tell_unheld(view, number, are_freeblocks_good, unheld, sink)?;
     tell_empty(view, number, is_child, sink)
 }
 
@@ -219,26 +211,6 @@ fn tell_coverage<K: Sink>(
             view.item_offset(item),
         )),
         Coverage::Unheld(unheld) => tell_unheld(view, number, is_good, unheld, sink),
-    }
-}
-
-// What `tell_coverage` tells, with no look at the page where it is known how many bytes nothing holds.
-fn tell_free_bytes<K: Sink>(
-    view: &PageView<'_>,
-    number: u32,
-    is_good: bool,
-    unheld: Option<u32>,
-    uses: &mut [u8],
-    sink: &mut K,
-) -> Result<(), WriteFailed>
-    requires number { number ≡ view.now.number }
-    requires room { view.now.usable ≤ length uses.old }
-    requires unheld { IfSome unheld (λ n. coverage view.now ≡ Coverage.Unheld n) }
-    ensures { IsTold K.takes K.drops K.held result sink.old (findings (coverage_fault view.now is_good)) sink.new }
-{
-    match unheld {
-        Some(unheld) => tell_unheld(view, number, is_good, unheld, sink),
-        None => tell_coverage(view, number, is_good, uses, sink),
     }
 }
 

@@ -32,8 +32,8 @@ pub fn is_interior(kind: PageKind) -> bool
     }
 }
 
-/// Tells the row of an undamaged page, and then the faults within it; and answers with the span of its keys, where one reading
-/// of its cells told all of them. `uses` is room to work in, a byte for each usable byte of the page.
+/// Tells the row of an undamaged page, and then the faults within it; and answers with the span of its keys, where these rise
+/// and no cell has an overflow page. `uses` is room to work in, a byte for each usable byte of the page.
 ///
 /// # Errors
 ///
@@ -56,7 +56,6 @@ pub fn tell_undamaged<K: Sink>(
         Some(page) => CellSums {
             payload: u64::from(page.payload),
             greatest: u64::from(page.greatest),
-            are_readable: true,
         },
         None => cell_sums(view),
     };
@@ -77,10 +76,13 @@ pub fn tell_undamaged<K: Sink>(
         mx_payload: sums.greatest,
     })?;
     let Some(page) = packed else {
-        tell_inner(view, place.page, is_child, sums.are_readable, uses, sink)?;
+        tell_inner(view, place.page, is_child, uses, sink)?;
         return Ok(None);
     };
-    tell_readable(view, place.page, is_child, Some(page.unheld), uses, sink)?;
+    tell_readable(view, place.page, is_child, page.unheld, sink)?;
+    if page.has_overflow {
+        return Ok(None);
+    }
     Ok(Some(KeySpan {
         first: page.first,
         last: page.last,

@@ -64,41 +64,52 @@ fn covers_pages_of_each_size(rt: HostRuntime) {
     }
 }
 
-// Long ranges are marked by lanes as they are by windows, beside a mark of one byte or on it.
+// A range of `len` bytes is marked by windows and by lanes as byte by byte, beside a mark of one byte or on it.
+fn compare(rt: &impl Abort, from: u32, len: u32, one: u32) {
+    let mut by_windows = [0u8; 2048];
+    let mut by_lanes = [0u8; 2048];
+    let mut by_bytes = [0u8; 2048];
+    assert!(rt; one < 2000 && from < 1000 && len < 1001);
+    assert!(rt; claim_plain(&mut by_windows, one, 1));
+    assert!(rt; claim_plain(&mut by_lanes, one, 1));
+    assert!(rt; claim_plain(&mut by_bytes, one, 1));
+    let is_free = one < from || one >= from + len;
+    assert_eq!(rt;
+        claim_plain(&mut by_windows, from, len),
+        is_free,
+        "{from} {len} {one}"
+    );
+    assert_eq!(rt;
+        len < 64 || claim_long(&mut by_lanes, from, len) == is_free,
+        true,
+        "{from} {len} {one}"
+    );
+    if is_free {
+        for byte in from..from + len {
+            assert!(rt; claim_plain(&mut by_bytes, byte, 1));
+        }
+        assert!(rt; by_windows == by_bytes, "{from} {len} {one}");
+        assert!(rt; len < 64 || by_lanes == by_bytes, "{from} {len} {one}");
+    }
+}
+
+// `compare`, with the one mark beside the range, at its ends and within it.
+fn compare_all(rt: &impl Abort, from: u32, len: u32) {
+    assert!(rt; from > 0 && from < 1000 && len > 0 && len < 1001);
+    for one in [from - 1, from, from + len / 2, from + len - 1, from + len] {
+        compare(rt, from, len, one);
+    }
+}
+
+// From each bit of a byte on, ranges of each length up to five windows, and some of more lanes than one.
 #[test]
-fn lanes_mark_as_windows_do(rt: HostRuntime) {
-    for from in 64..73 {
-        for len in [264, 295, 512, 519, 776, 1000] {
-            for one in [
-                from - 1,
-                from,
-                from + 7,
-                from + 260,
-                from + len - 1,
-                from + len,
-            ] {
-                let mut by_lanes = [0u8; 2048];
-                let mut by_windows = [0u8; 2048];
-                assert!(rt; one < 2000 && from + len < 2000 && len > 8);
-                assert_eq!(rt;
-                    claim_plain(&mut by_lanes, one, 1),
-                    claim_plain(&mut by_windows, one, 1)
-                );
-                let is_free = claim_long(&mut by_lanes, from, len);
-                assert_eq!(rt;
-                    is_free,
-                    one < from || one >= from + len,
-                    "{from} {len} {one}"
-                );
-                assert_eq!(rt;
-                    claim_plain(&mut by_windows, from, len),
-                    is_free,
-                    "{from} {len} {one}"
-                );
-                if is_free {
-                    assert!(rt; by_lanes == by_windows, "{from} {len} {one}");
-                }
-            }
+fn lanes_and_windows_mark_as_bytes_do(rt: HostRuntime) {
+    for from in 64..72 {
+        for len in 1..332 {
+            compare_all(&rt, from, len);
+        }
+        for len in [512, 519, 776, 1000] {
+            compare_all(&rt, from, len);
         }
     }
 }

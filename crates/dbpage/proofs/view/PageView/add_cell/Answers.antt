@@ -1,27 +1,24 @@
-use Rattle.std.proofs.Common.{◌+◌, max, length, sym, ap, ◌∙◌, arith}
+use Rattle.std.proofs.Common.{◌+◌, ◌||◌, max, length, refl, sym, ap, ◌∙◌, arith}
+use Rattle.std.specs.Prelude.{is_some}
 use Rattle.dbformat.specs.Head.{View, cell_count}
 use Rattle.dbformat.specs.Cell.{Cell}
 use Rattle.dbpage.proofs.CellLemmas.{cell_local}
 use Rattle.dbpage.proofs.Items.{Holds-from_read}
-use Rattle.dbpage.proofs.PackedLemmas.{one_more_read, read_as, not_some, unpacked_at_unreadable, unpacked_at_overflow, unpacked_at_key}
+use Rattle.dbpage.proofs.PackedLemmas.{one_more_read, read_as, unpacked_at_unreadable, unpacked_at_key}
+use Rattle.dbpage.specs.declared.scan.Sums.{Sums}
 use Rattle.dbpage.proofs.view.PageView.add_cell.Goals as goal
-use Rattle.dbpage.proofs.view.PageView.add_cell.Goals.{then-is_some-via-then-is_some, then-is_some-via-else-is_some+then-not-is_rising}
+use Rattle.dbpage.proofs.view.PageView.add_cell.Goals.{then-i-eq0, else-i-eq0}
 
 pub returns-in_default : goal.returns-in_default
 returns-in_default c = unpacked_at_unreadable c.args.self.now c.args.i c.in_default.field-0 c.requires.within (sym c.read_cell.ensures ∙ c.in_default.is)
 
-pub returns-then-is_some : goal.returns-then-is_some
-returns-then-is_some c =
+pub returns-then-not-is_rising : goal.returns-then-not-is_rising
+returns-then-not-is_rising c =
     let v = c.args.self.now in
     let i = c.args.i in
     let d = c.in-Ok.cell in
     let readable = sym c.read_cell.ensures ∙ c.in-Ok.is in
-    let same = c.cell.view_is in
-    elim c.then-is_some.branch [
-      | then-is_some-via-then-is_some w ↦ unpacked_at_overflow v i d c.requires.within readable (rw (← ap (λ (e : Cell). e.overflow) same) (sym w.if-is_some.ensures))
-      | then-is_some-via-else-is_some+then-not-is_rising w ↦
-          unpacked_at_key v i _ _ _ d c.requires.before c.requires.within readable (λ rises. w.if-not-is_rising.ensures (λ a b p q. rises a b p (sym (ap (λ (e : Cell). e.key) same) ∙ q)))
-    ]
+    unpacked_at_key v i _ _ _ _ _ d c.requires.before c.requires.within readable (λ rises. c.if-not-is_rising.ensures (λ a b p q. rises a b p (sym (ap (λ (e : Cell). e.key) c.cell.view_is) ∙ q)))
 
 pub overflow_cast-sums : goal.overflow_cast-sums
 overflow_cast-sums c =
@@ -51,9 +48,20 @@ returns c =
     let same = c.cell.view_is in
     let has = Holds-from_read v i d c.cell.inside.offset c.max.result readable (sym (ap (λ (e : Cell). e.offset) same)) (sym (c.max.ensures ∙ ap (λ (e : Cell). max e.len 4) same)) in
     let fits = cell_local v i d readable in
-    let here = sym (ap (λ (e : Cell). e.overflow) same) ∙ not_some c.cell.inside.overflow (sym c.if-is_some.ensures) in
     let key = ap (λ (e : Cell). e.key) same in
     let sums = c.args.sums.now in
-    let read = one_more_read v i sums.payload sums.greatest sums.last c.requires.before d readable here (omega (arith, fits, ap (λ (w : View). w.usable) c.self.view_is, c.self.invariant.most))
-    (λ a b p q. c.if-not-is_rising.ensures a b p (key ∙ q)) in
-    (has, read_as read (ap (λ (e : Cell). sums.payload + length e.local) same) (c.max-sums.ensures ∙ ap (λ (e : Cell). max sums.greatest e.size) same) key)
+    let read = one_more_read v i sums.payload sums.greatest sums.first sums.last sums.has_overflow c.requires.before d readable
+    (omega (arith, fits, ap (λ (w : View). w.usable) c.self.view_is, c.self.invariant.most)) (λ a b p q. c.if-not-is_rising.ensures a b p (key ∙ q)) in
+    let payload = ap (λ (e : Cell). sums.payload + length e.local) same in
+    let greatest = c.max-sums.ensures ∙ ap (λ (e : Cell). max sums.greatest e.size) same in
+    let overflow = ap (λ b. sums.has_overflow || b) (c.is_some.ensures ∙ ap (λ (e : Cell). is_some e.overflow) same) in (
+      has,
+      elim c.if-i-eq0.branch [
+        | then-i-eq0 w ↦
+            read_as (read d.key (λ h. refl) (λ h. absurd (omega (arith, h, w.if-i-eq0.true)))) (ap (λ (s : Sums). s.payload) w.sums-is ∙ payload) (ap (λ (s : Sums). s.greatest) w.sums-is ∙ greatest)
+            (ap (λ (s : Sums). s.first) w.sums-is ∙ key) key (ap (λ (s : Sums). s.has_overflow || c.is_some.result) w.sums-is ∙ overflow)
+        | else-i-eq0 w ↦
+            read_as (read sums.first (λ h. absurd (omega (arith, h, w.if-i-eq0.false))) (λ h. refl)) (ap (λ (s : Sums). s.payload) w.sums-is ∙ payload) (ap (λ (s : Sums). s.greatest) w.sums-is ∙ greatest)
+            (ap (λ (s : Sums). s.first) w.sums-is) key (ap (λ (s : Sums). s.has_overflow || c.is_some.result) w.sums-is ∙ overflow)
+      ],
+    )

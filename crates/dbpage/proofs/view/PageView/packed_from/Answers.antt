@@ -11,5 +11,5 @@ returns c =
     let start = ap (λ (w : View). content_start w.number w.bytes) c.self.view_is in
     let usable = ap (λ (w : View). w.usable) c.self.view_is in
     let left : c.self.inside.usable - c.self.inside.start - c.args.held ≡ v.usable - content_start v.number v.bytes - c.args.held = omega (arith, start, usable, c.self.invariant.start_is) in
-    subst (λ (n : ℕ). IsPacked v sums.payload sums.greatest n c.first_key.result sums.last) (sym left)
-    (all_packed v sums.payload sums.greatest c.args.held c.first_key.result sums.last c.requires.read c.requires.apart c.first_key.ensures.some c.first_key.ensures.none)
+    subst (λ (n : ℕ). IsPacked v sums.payload sums.greatest n sums.first sums.last sums.has_overflow) (sym left)
+    (all_packed v sums.payload sums.greatest c.args.held sums.first sums.last sums.has_overflow c.requires.read c.requires.apart)

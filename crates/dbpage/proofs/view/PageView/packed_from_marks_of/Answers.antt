@@ -2,15 +2,10 @@ use Rattle.std.proofs.Common.{◌≡◌, ℕ, ◌<◌, subst, ap, arith}
 use Rattle.dbformat.specs.Head.{View, cell_count, content_start}
 use Rattle.dbformat.specs.Cell.{count}
 use Rattle.dbpage.specs.Marking.{AreMarked, cells_upto}
-use Rattle.dbpage.proofs.Items.{AreMarked_none, cell_marked, cell_overlaps}
-use Rattle.dbpage.proofs.PackedLemmas.{none_read, read_as, unpacked_at_overlap}
-use Rattle.dbpage.proofs.view.PageView.packed_by_marks_of.Goals as goal
-
-pub loop-i-init : goal.loop-i-init
-loop-i-init g c =
-    let v = c.args.self.now in
-    let sums = c.new-sums.ensures in
-    record { read = read_as (none_read v) (cc sums) (cc sums) (cc sums); marked = AreMarked_none v c.args.table.now c.requires.free }
+use Rattle.dbpage.specs.Packed.{AreRead}
+use Rattle.dbpage.proofs.Items.{cell_marked, cell_overlaps}
+use Rattle.dbpage.proofs.PackedLemmas.{unpacked_at_overlap}
+use Rattle.dbpage.proofs.view.PageView.packed_from_marks_of.Goals as goal
 
 pub returns-then-not-claim : goal.returns-then-not-claim
 returns-then-not-claim g c =
@@ -31,8 +26,15 @@ loop-i-preserved g c =
 pub mark_freeblocks-requires-clause-cells : goal.mark_freeblocks-requires-clause-cells
 mark_freeblocks-requires-clause-cells g c =
     let v = c.args.self.now in
-    let all : c.loop-i.i ≡ count v = omega (arith, c.loop-i-test.false, c.loop-i.auto.i-end, c.self.invariant.cells_is, ap (λ (w : View). cell_count w.number w.bytes) c.self.view_is) in
+    let all : c.loop-i.i ≡ count v = omega (arith, c.loop-i-test.false, c.loop-i.auto.i-end, c.requires.begun.few, c.self.invariant.cells_is, ap (λ (w : View). cell_count w.number w.bytes) c.self.view_is) in
     subst (λ (n : ℕ). AreMarked (cells_upto v n) (content_start v.number v.bytes) v.usable c.loop-i.table c.loop-i.held) all c.loop-i.invariant.marked
 
 pub returns-in-Err : goal.returns-in-Err
 returns-in-Err g c = unpacked_at_overlap c.args.self.now c.in-Err.field-0.item c.in-Err.ensures.marked.1
+
+pub packed_from-requires-clause-read : goal.packed_from-requires-clause-read
+packed_from-requires-clause-read g c =
+    let v = c.args.self.now in
+    let sums = c.loop-i.sums in
+    let all : c.loop-i.i ≡ count v = omega (arith, c.loop-i-test.false, c.loop-i.auto.i-end, c.requires.begun.few, c.self.invariant.cells_is, ap (λ (w : View). cell_count w.number w.bytes) c.self.view_is) in
+    subst (λ (n : ℕ). AreRead v n sums.payload sums.greatest sums.first sums.last sums.has_overflow) all c.loop-i.invariant.read
