@@ -90,7 +90,7 @@ least() {
 
 # ratio NAME NAME: of two times, with two decimals.
 ratio() {
-    local hundredths=$((time[$1] * 100 / time[$2]))
+    local hundredths=$(((time[$1] * 100 + time[$2] / 2) / time[$2]))
     printf '%d.%02d' $((hundredths / 100)) $((hundredths % 100))
 }
 
