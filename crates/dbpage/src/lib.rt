@@ -31,6 +31,6 @@ mod view;
 pub use cell::Cell;
 pub use freeblocks::{Freeblock, Freeblocks};
 pub use marks::{coverage, uncounted_coverage};
-pub use scan::Packed;
+pub use scan::{Packed, is_rising};
 pub use steps::Steps;
 pub use view::{PageView, content_start, type_byte};

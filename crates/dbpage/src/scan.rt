@@ -1,5 +1,5 @@
 // Packed pages: one reading of the cells tells all of them.
-ghost use Rattle.std.specs.Prelude.{◌≡◌, ℕ, [], None, false, ◌+◌, ◌<◌, ◌≤◌, length, MatchBool, MatchOption};
+ghost use Rattle.std.specs.Prelude.{◌≡◌, ℕ, None, false, ◌+◌, ◌<◌, ◌≤◌, length, MatchBool, MatchOption};
 ghost use Rattle.dbformat.specs.Head.{content_start};
 ghost use Rattle.dbformat.specs.Cell.{count};
 ghost use Rattle.dbformat.specs.Coverage.{items};
@@ -275,9 +275,9 @@ impl Sums {
     }
 }
 
-// Whether a key is greater than the last, as far as there are both.
+/// Whether a key is greater than the last, as far as there are both.
 #[inline(always)]
-fn is_rising(last: Option<i64>, key: Option<i64>) -> bool
+pub fn is_rising(last: Option<i64>, key: Option<i64>) -> bool
     ensures { MatchBool result (IsRising last key) (IsRising last key → ⊥) }
 {
     match (last, key) {

@@ -6,9 +6,9 @@ ghost use Rattle.dbwalk.specs.LeafCells.{HasCell, HasCells};
 ghost use Rattle.dbwalk.specs.Standing.{IsSameButGreatest};
 
 use crate::page::undamaged;
-use crate::state::{Tree, is_above};
+use crate::state::Tree;
 use dbformat::TreeKind;
-use dbpage::PageView;
+use dbpage::{PageView, is_rising};
 use dbsource::Bench;
 use std::alloc::Allocator;
 
@@ -117,7 +117,7 @@ fn rise_from(view: &PageView<'_>, from: u32, mut greatest: Option<i64>) -> Rise
         let Ok(cell) = view.cell(i) else {
             return Rise { end: i, greatest };
         };
-        if cell.overflow.is_some() || !is_above(greatest, cell.key) {
+        if cell.overflow.is_some() || !is_rising(greatest, cell.key) {
             return Rise { end: i, greatest };
         }
         greatest = cell.key.or(greatest);

@@ -1,6 +1,5 @@
 // What the walk over one tree keeps beside marks, buffers and frames.
 ghost use Rattle.std.specs.Prelude.{◌≡◌, [], Some, None, false, IsTrue, IsSomeAnd};
-ghost use Rattle.dbpage.specs.Packed.{IsRising};
 ghost use Rattle.dbwalk.specs.KeySpans.{ArePassed};
 ghost use Rattle.dbwalk.specs.Running.{greater_key};
 ghost use Rattle.dbwalk.specs.Standing.{IsSameButGreatest, IsSameButLeaf};
@@ -10,6 +9,7 @@ ghost use Rattle.dbwalk.specs.LeafCells.{depth_faults, first_depth, order_faults
 use crate::Sink;
 use arrayvec::ArrayVec;
 use dbformat::{Fault, FaultCode, TreeKind};
+use dbpage::is_rising;
 use dbsource::WriteFailed;
 
 /// The keys of a leaf whose cells are all readable, without overflow pages and in the order of their keys: that of its first
@@ -89,7 +89,7 @@ impl Tree {
         let Some(keys) = keys else {
             return false;
         };
-        if self.start == 0 || !is_above(self.greatest, keys.first) {
+        if self.start == 0 || !is_rising(self.greatest, keys.first) {
             return false;
         }
         self.greatest = keys.last.or(self.greatest);
@@ -118,16 +118,5 @@ impl Tree {
             item: 0,
             value: i64::from(depth),
         })
-    }
-}
-
-/// Whether a key is greater than the greatest so far, as far as there are both.
-#[inline(always)]
-pub fn is_above(greatest: Option<i64>, key: Option<i64>) -> bool
-    ensures { IsTrue result → IsRising greatest key }
-{
-    match (greatest, key) {
-        (Some(top), Some(key)) => top < key,
-        _ => true,
     }
 }
