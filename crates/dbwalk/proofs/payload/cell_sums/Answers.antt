@@ -1,7 +1,9 @@
 use Rattle.std.proofs.Common.{◌≡◌, ◌+◌, length, max, sym, ap, ◌∙◌, arith, Ok, Err}
 use Rattle.dbformat.specs.Cell.{Cell, cell, count}
-use Rattle.dbpage.specs.Packed.{payload_of, greatest_of}
-use Rattle.dbwalk.proofs.Pages.Sums.{cell_short, cells_upto, cells_all, cells_ok, cells_err, local_more, greatest_more, ord_max-max}
+use Rattle.dbpage.specs.Packed.{first_cells, payload_of, greatest_of}
+use Rattle.dbpage.proofs.CellLemmas.{cell_local}
+use Rattle.dbpage.proofs.PackedLemmas.{first_cells_more}
+use Rattle.dbwalk.proofs.Pages.Sums.{cells_all, cells_err, local_more, greatest_more, ord_max-max}
 use Rattle.dbwalk.proofs.payload.cell_sums.Goals as goal
 use Rattle.dbwalk.proofs.payload.cell_sums.Goals.{in-Ok, in_default}
 
@@ -14,12 +16,12 @@ loop-i-preserved c = elim c.match-cell.branch [
       let read : cell v n ≡ Ok x = sym c.cell.ensures ∙ w.in-Ok.is in
       let len : length w.cell-in-Ok.inside.local.now ≡ length x.local = ap (λ (c : Cell). length c.local) w.cell-in-Ok.view_is in
       let size : w.cell-in-Ok.inside.size ≡ x.size = ap (λ (c : Cell). c.size) w.cell-in-Ok.view_is in
-      let short = cell_short v n x read in
+      let short = cell_local v n x read in
       let most = c.requires in
       record {
-        local = w.local-is ∙ ap (λ m. c.loop-i.local + m) len ∙ ap (λ m. m + length x.local) c.loop-i.invariant.local ∙ sym (local_more (cells_upto v n) n x) ∙ ap payload_of (sym (cells_ok v n x read));
+        local = w.local-is ∙ ap (λ m. c.loop-i.local + m) len ∙ ap (λ m. m + length x.local) c.loop-i.invariant.local ∙ sym (local_more (first_cells v n) n x) ∙ ap payload_of (sym (first_cells_more v n x read));
         greatest = w.greatest-is ∙ w.max-greatest.ensures ∙ ord_max-max c.loop-i.greatest w.from.result ∙ ap (λ m. max c.loop-i.greatest m) (w.from.ensures ∙ size) ∙ ap (λ m. max m x.size) c.loop-i.invariant.greatest
-            ∙ sym (greatest_more (cells_upto v n) n x) ∙ ap greatest_of (sym (cells_ok v n x read));
+            ∙ sym (greatest_more (first_cells v n) n x) ∙ ap greatest_of (sym (first_cells_more v n x read));
         small = omega arith;
       })
   | in_default w ↦ (
@@ -34,7 +36,7 @@ loop-i-preserved c = elim c.match-cell.branch [
 ]
 
 pub returns-clause-local : goal.returns-clause-local
-returns-clause-local c = let e : c.loop-i.i ≡ count c.args.view.now = omega arith in c.loop-i.invariant.local ∙ ap (λ n. payload_of (cells_upto c.args.view.now n)) e ∙ ap payload_of (sym (cells_all c.args.view.now))
+returns-clause-local c = let e : c.loop-i.i ≡ count c.args.view.now = omega arith in c.loop-i.invariant.local ∙ ap (λ n. payload_of (first_cells c.args.view.now n)) e ∙ ap payload_of (sym (cells_all c.args.view.now))
 
 pub returns-clause-greatest : goal.returns-clause-greatest
-returns-clause-greatest c = let e : c.loop-i.i ≡ count c.args.view.now = omega arith in c.loop-i.invariant.greatest ∙ ap (λ n. greatest_of (cells_upto c.args.view.now n)) e ∙ ap greatest_of (sym (cells_all c.args.view.now))
+returns-clause-greatest c = let e : c.loop-i.i ≡ count c.args.view.now = omega arith in c.loop-i.invariant.greatest ∙ ap (λ n. greatest_of (first_cells c.args.view.now n)) e ∙ ap greatest_of (sym (cells_all c.args.view.now))
