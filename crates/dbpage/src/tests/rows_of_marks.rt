@@ -93,10 +93,18 @@ fn compare(rt: &impl Abort, from: u32, len: u32, one: u32) {
     }
 }
 
-// `compare`, with the one mark beside the range, at its ends and within it.
+// `compare`, with the one mark at the ends of the range and of its windows and lanes, within it and beside it.
 fn compare_all(rt: &impl Abort, from: u32, len: u32) {
     assert!(rt; from > 0 && from < 1000 && len > 0 && len < 1001);
-    for one in [from - 1, from, from + len / 2, from + len - 1, from + len] {
+    for one in [
+        from - 1,
+        from,
+        from + 7,
+        from + len / 2,
+        from + 260,
+        from + len - 1,
+        from + len,
+    ] {
         compare(rt, from, len, one);
     }
 }
