@@ -1,9 +1,9 @@
 // What the cells and freeblocks of a page hold of it (Database File Format, 1.6).
-ghost use Rattle.std.specs.Prelude.{◌≡◌, ℕ, false, [], Some, ◌+◌, ◌<◌, ◌≤◌, length, IfSome, MatchOption, MatchResult};
+ghost use Rattle.std.specs.Prelude.{◌≡◌, ℕ, false, Some, ◌+◌, ◌<◌, ◌≤◌, length, MatchOption, MatchResult};
 ghost use Rattle.dbformat.specs.Head.{content_start};
 ghost use Rattle.dbformat.specs.Cell.{count};
-ghost use Rattle.dbformat.specs.Coverage.{coverage, first_overlap, freeblocks, items};
-ghost use Rattle.dbpage.specs.Marking.{AreApart, AreMarked, Holds, HoldsNothing, cell_items, is_marked};
+ghost use Rattle.dbformat.specs.Coverage.{coverage, first_overlap, items};
+ghost use Rattle.dbpage.specs.Marking.{AreMarked, Holds, HoldsNothing, cell_items, is_marked};
 ghost use Rattle.dbformat.specs.declared.Coverage.TheVariants.{Unheld};
 
 use crate::steps::Steps;

@@ -1,5 +1,5 @@
 // The faults of one page of a tree, apart from other pages (Database File Format, 1.6).
-ghost use Rattle.std.specs.Prelude.{◌≡◌, ℕ, ◌≤◌, ◌<◌, ◌==◌, ◌&&◌, length, None, Some, [], ◌∷◌, Bool, IsTrue, IsOk, IfOk, IfSome, MatchResult};
+ghost use Rattle.std.specs.Prelude.{◌≡◌, ℕ, ◌≤◌, ◌<◌, ◌==◌, length, None, Some, [], ◌∷◌, Bool, IsOk, IfOk, MatchResult};
 ghost use Rattle.dbformat.specs.Cell.{cell, count};
 ghost use Rattle.dbformat.specs.Coverage.{coverage};
 ghost use Rattle.dbformat.specs.Head.{tree_of, is_same_tree, undamaged};
