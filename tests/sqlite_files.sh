@@ -1,7 +1,6 @@
 #!/bin/sh
 # Makes small databases by the sqlite3 program (3.37 or later), one of each kind, in the folder that it is given. Each is
-# sound, so `dbck check` has to say `ok` of each. NAME.args beside NAME has the words of that command, and NAME.stdout what it
-# writes, so that `rt try --cases FOLDER` in crates/dbck tries them all.
+# sound, so `dbck check` has to say `ok` of each (program.sh).
 set -eu
 folder=${1:?give a folder}
 mkdir -p "$folder"
@@ -12,8 +11,6 @@ make() {
     rm -f "$1"
     sqlite3 "$1" > /dev/null
     [ "$(sqlite3 "$1" 'PRAGMA integrity_check')" = ok ]
-    printf 'check\n{}\n' > "$1.args"
-    printf 'ok\n' > "$1.stdout"
 }
 
 # rows COUNT TABLE VALUE: puts so many rows into a table of the columns a and b.
@@ -30,17 +27,17 @@ $(rows 300 t "'row ' || i")
 SQL
 done
 
-for encoding in UTF-16le UTF-16be; do
-    make "$encoding.db" <<SQL
+for order in le be; do
+    make "utf-16$order.db" <<SQL
 PRAGMA page_size = 512;
-PRAGMA encoding = '$encoding';
+PRAGMA encoding = 'UTF-16$order';
 CREATE TABLE "täble"(a, b);
 CREATE INDEX "ïndex" ON "täble"(a);
 $(rows 50 '"täble"' "'wörd ' || i")
 SQL
 done
 
-for mode in FULL INCREMENTAL; do
+for mode in full incremental; do
     make "autovacuum-$mode.db" <<SQL
 PRAGMA page_size = 512;
 PRAGMA auto_vacuum = $mode;

@@ -85,10 +85,6 @@ put_all h e =
     let all = sym (append-nil h.done) ∙ rw e at h.split in
     rw all at h.put
 
--- where a text ends nothing is left
-pub rest_none : (xs : List ℕ) (at : ℕ) → length xs ≤ at → flat_map escape_byte (drop at xs) ≡ []
-rest_none xs at h = rw (drop_all at xs h) refl
-
 -- what is left of a text in UTF-16, by what is put of it next
 pub rest_text : (order : Order) (name text : List ℕ) (at taken : ℕ) → text_of order (drop at name) ≡ text ++ text_of order (drop taken (drop at name))
     → flat_map escape_byte (text_of order (drop at name)) ≡ flat_map escape_byte text ++ flat_map escape_byte (text_of order (drop (at + taken) name))

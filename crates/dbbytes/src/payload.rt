@@ -1,6 +1,6 @@
 // How a payload is divided between its cell and overflow pages (Database File Format, 1.6).
 ghost use Rattle.std.specs.Prelude.{◌≡◌, ◌+◌, ◌≤◌};
-ghost use Rattle.dbformat.specs.Payload.{most_local, local_len};
+ghost use Rattle.dbformat.specs.Payload.{most_payload, most_local, local_len};
 
 use dbformat::PayloadKind;
 
@@ -25,7 +25,7 @@ pub fn most_local(kind: PayloadKind, usable: u32) -> u32
 pub fn local_len(kind: PayloadKind, usable: u32, p: u32) -> u32
     requires usable_low { 480 ≤ usable }
     requires usable_high { usable ≤ 65536 }
-    requires p { p ≤ 2147483647 }
+    requires p { p ≤ most_payload }
     ensures value { result ≡ local_len kind usable p }
     // No more than there is, and a page has room for it beside a cell's other parts.
     ensures within { result ≤ p }

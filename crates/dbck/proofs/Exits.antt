@@ -18,7 +18,7 @@ use Rattle.dbsource.proofs.Beginnings.{all_begun}
 use Rattle.dbsource.specs.Outs.{Begins, OutState, Writes}
 use Rattle.dbsource.specs.declared.error.RunError.{RunError}
 use Rattle.dbsource.specs.declared.error.RunError.TheVariants.{Refused, ReadFailed, OutOfMemory, WriteFailed}
-use Rattle.dbck.specs.Exit.{BeginsThenLine, IsExit, IsExitOf, IsOkIfSound, IsStatusOf, PutsLine}
+use Rattle.dbck.specs.Exit.{BeginsThenLine, IsExit, IsExitOf, IsKnown, IsOkIfSound, IsStatusOf, PutsLine}
 use Rattle.dbck.specs.Status.{exit_status}
 
 -- the report of a refused file
@@ -114,16 +114,25 @@ exits command outcome (Some file) out out' err mid err' answer written second ve
 
 -- no line was put
 pub puts_none : (s : OutState) → PutsLine s s
-puts_none s = record { line = []; short = omega arith; added = Appends-nil s.bytes; failed = 0; once = omega arith; count = ap (λ k. k % 2 ^ 64) (let q : s.failures ≡ s.failures + 0 = omega arith in q) }
+puts_none s = record { line = []; short = omega arith; added = Appends-nil s.bytes }
 
 -- a status by its outcome
 status_by : (outcome : Result Verdict RunError) (file : List ℕ) → IsAnswerOf outcome file → IsStatusOf (exit_status outcome) file
-status_by (Ok Clean) file answer = record { memory = λ e. absurd (omega arith); unwritable = λ e. absurd (omega arith); known = inl (omega arith) }
-status_by (Ok (Faulty n)) file answer = record { memory = λ e. absurd (omega arith); unwritable = λ e. absurd (omega arith); known = inl (omega arith) }
-status_by (Err (Refused e)) file answer = record { memory = λ e. absurd (omega arith); unwritable = λ e. absurd (omega arith); known = inr (omega arith, omega arith) }
-status_by (Err ReadFailed) file answer = record { memory = λ e. absurd (omega arith); unwritable = λ e. absurd (omega arith); known = inr (omega arith, omega arith) }
-status_by (Err OutOfMemory) file answer = record { memory = λ e. answer; unwritable = λ e. absurd (omega arith); known = inr (omega arith, omega arith) }
-status_by (Err WriteFailed) file answer = record { memory = λ e. absurd (omega arith); unwritable = λ e. answer; known = inr (omega arith, omega arith) }
+status_by (Ok Clean) file answer = record { memory = λ e. absurd (omega arith); unwritable = λ e. absurd (omega arith) }
+status_by (Ok (Faulty n)) file answer = record { memory = λ e. absurd (omega arith); unwritable = λ e. absurd (omega arith) }
+status_by (Err (Refused e)) file answer = record { memory = λ e. absurd (omega arith); unwritable = λ e. absurd (omega arith) }
+status_by (Err ReadFailed) file answer = record { memory = λ e. absurd (omega arith); unwritable = λ e. absurd (omega arith) }
+status_by (Err OutOfMemory) file answer = record { memory = λ e. answer; unwritable = λ e. absurd (omega arith) }
+status_by (Err WriteFailed) file answer = record { memory = λ e. absurd (omega arith); unwritable = λ e. answer }
+
+-- the statuses that there are
+pub known : (outcome : Result Verdict RunError) → IsKnown (exit_status outcome)
+known (Ok Clean) = inl (omega arith)
+known (Ok (Faulty n)) = inl (omega arith)
+known (Err (Refused e)) = inr (omega arith, omega arith)
+known (Err ReadFailed) = inr (omega arith, omega arith)
+known (Err OutOfMemory) = inr (omega arith, omega arith)
+known (Err WriteFailed) = inr (omega arith, omega arith)
 
 -- the same where bytes are told, if they are
 pub statuses : (outcome : Result Verdict RunError) (told : Option (List ℕ)) → IfSome told (IsAnswerOf outcome) → IfSome told (IsStatusOf (exit_status outcome))
@@ -145,11 +154,19 @@ pub ok_if_sound : (outcome : Result Verdict RunError) (told : Option (List ℕ))
 ok_if_sound outcome None h = tt
 ok_if_sound outcome (Some file) h = sound_by outcome file h
 
--- at a refusal nothing is written
-pub unwritten_at_3 : (outcome : Result Verdict RunError) (old new : OutState) → IsUnwritten outcome old.bytes new.bytes → exit_status outcome ≡ 3 → new.bytes ≡ old.bytes
+-- at a refusal it is as it was
+pub unwritten_at_3 : {X : Type 0} (outcome : Result Verdict RunError) (old new : X) → IsUnwritten outcome old new → exit_status outcome ≡ 3 → new ≡ old
 unwritten_at_3 (Ok Clean) old new u k = absurd (omega arith)
 unwritten_at_3 (Ok (Faulty n)) old new u k = absurd (omega arith)
 unwritten_at_3 (Err (Refused e)) old new u k = u
 unwritten_at_3 (Err ReadFailed) old new u k = absurd (omega arith)
 unwritten_at_3 (Err OutOfMemory) old new u k = absurd (omega arith)
 unwritten_at_3 (Err WriteFailed) old new u k = absurd (omega arith)
+
+-- and what is told of it
+pub untold : {X Y : Type 0} (f : X → Y) (outcome : Result Verdict RunError) (old new : X) → IsUnwritten outcome old new → IsUnwritten outcome (f old) (f new)
+untold f (Ok v) old new u = tt
+untold f (Err (Refused e)) old new u = ap f u
+untold f (Err ReadFailed) old new u = tt
+untold f (Err OutOfMemory) old new u = tt
+untold f (Err WriteFailed) old new u = tt

@@ -1,5 +1,5 @@
 -- What an exit status says of the report of a file, and of what was written of it.
-use Rattle.std.specs.Prelude.{◌≡◌, ◌≢◌, ◌≤◌, ◌⊎◌, ◌↔◌, ℕ, ◌+◌, ◌%◌, ◌^◌, ◌==◌, nat_lt, if◌then◌else◌, List, [], ◌++◌, length, Option, Ok, Err, None}
+use Rattle.std.specs.Prelude.{◌≡◌, ◌≢◌, ◌≤◌, ◌⊎◌, ◌↔◌, ℕ, ◌+◌, ◌%◌, ◌^◌, ◌==◌, if◌then◌else◌, List, [], ◌++◌, length, Option, Ok, Err, None}
 use Rattle.dbformat.specs.File.{refusal}
 use Rattle.std.specs.Io.KnownBytes.{Appends}
 use Rattle.dbformat.specs.Reference.{Reference}
@@ -9,6 +9,7 @@ use Rattle.dbformat.specs.Survey.{Survey}
 use Rattle.dbformat.specs.declared.Command.{Command}
 use Rattle.dbformat.specs.declared.Refusal.{Refusal}
 use Rattle.dbformat.specs.declared.Verdict.TheVariants.{Clean, Faulty}
+use Rattle.dbsource.specs.Failures.{one_more}
 use Rattle.dbsource.specs.Outs.{Begins, OutState}
 
 -- all of a report was written, to the one Out and to the other
@@ -16,14 +17,11 @@ pub record IsWritten (r : Report) (out out' err err' : OutState) : Type 0 where
   pub first : Appends out.bytes out'.bytes r.out
   pub second : Appends err.bytes err'.bytes r.err
 
--- A line of at most 96 bytes was put, or a beginning of it, perhaps nothing; and at most one put failed.
+-- a line of at most 96 bytes was put, or a beginning of it, perhaps nothing
 pub record PutsLine (old new : OutState) : Type 0 where
   pub line : List ℕ
   pub short : length line ≤ 96
   pub added : Appends old.bytes new.bytes line
-  pub failed : ℕ
-  pub once : failed ≤ 1
-  pub count : new.failures % 2 ^ 64 ≡ (old.failures + failed) % 2 ^ 64
 
 -- told bytes grew by a beginning of these, and then by a line of at most 96 bytes, or a beginning of it, perhaps nothing
 pub record BeginsThenLine (old new : Option (List ℕ)) (bytes : List ℕ) : Type 0 where
@@ -34,22 +32,37 @@ pub record BeginsThenLine (old new : Option (List ℕ)) (bytes : List ℕ) : Typ
   pub short : length line ≤ 96
   pub added : Appends old new (part ++ line)
 
--- behind each error its line is put
-abbrev pub error_lines : ℕ → ℕ
-error_lines status = if nat_lt 1 status then 1 else 0
+-- nothing of an Out is pending, and no call of it failed
+pub record IsHandedOn (old new : OutState) : Type 0 where
+  pub all : new.pending ≡ []
+  pub unfailed : new.failures ≡ old.failures
 
--- How many calls of Outs failed: at 6 a put that ended the run, or the handing on behind it; behind another error perhaps the
--- handing on; and so many lines at most. Where handing on did not fail nothing stays gathered, but for a refusal.
-pub record CountsFailures (lines status before after : ℕ) (gathered : List ℕ) : Type 0 where
-  pub put : ℕ
-  pub handing : ℕ
-  pub line : ℕ
-  pub puts : put ≤ (if status == 6 then 1 else 0)
-  pub handings : handing ≤ (if nat_lt 3 status then 1 else 0)
-  pub lines_put : line ≤ lines
-  pub ends : status ≡ 6 → 1 ≤ put + handing
-  pub rest : handing ≡ 0 → status ≢ 3 → gathered ≡ []
-  pub count : after % 2 ^ 64 ≡ (before + put + (handing + line)) % 2 ^ 64
+-- Behind an error: at most so many calls of an Out failed, and if none did, nothing of it is pending.
+pub record IsHandedOnOrFailed (most : ℕ) (old new : OutState) : Type 0 where
+  pub failed : ℕ
+  pub bound : failed ≤ most
+  pub count : new.failures % 2 ^ 64 ≡ (old.failures + failed) % 2 ^ 64
+  pub all : failed ≡ 0 → new.pending ≡ []
+
+-- how many calls of the first Out fail at most: the last handing on, and at 6 one that ended the run
+abbrev pub first_most : ℕ → ℕ
+first_most status = if status == 6 then 2 else 1
+
+-- how many of the second do: these, and the line of the error
+abbrev pub second_most : ℕ → ℕ
+second_most status = if status == 6 then 3 else 2
+
+-- its count of failures has moved
+abbrev pub HasFailed : OutState → OutState → Type 0
+HasFailed old new = new.failures ≢ old.failures
+
+-- how many calls of the source failed: one more at 4, and no more at another status
+abbrev pub failures_at_4 : ℕ → ℕ → ℕ
+failures_at_4 status count = if status == 4 then one_more count else count
+
+-- there is no other status
+abbrev pub IsKnown : ℕ → Type 0
+IsKnown status = (status ≤ 1) ⊎ ((3 ≤ status) × (status ≤ 6))
 
 -- Whatever the status, what the first Out got is a beginning of its part of the report, and what the second got one of its
 -- own, and then perhaps the line of an error. 0 is answered only where no fault was found,
@@ -66,11 +79,10 @@ abbrev pub IsExitOf : ℕ → Command → List ℕ → OutState → OutState →
 IsExitOf status command file out out' err err' =
     (V : List Reference) → Survey file V → IsExit status (report command file V) out out' err err'
 
--- Want of memory and a failed write come only where the file is not refused; and there is no other status.
+-- Want of memory and a failed write come only where the file is not refused.
 pub record IsStatusOf (status : ℕ) (file : List ℕ) : Type 0 where
   pub memory : status ≡ 5 → refusal file ≡ None
   pub unwritable : status ≡ 6 → refusal file ≡ None
-  pub known : (status ≤ 1) ⊎ ((3 ≤ status) × (status ≤ 6))
 
 -- of the two statuses of a verdict 0 is that of a sound file
 abbrev pub IsOkIfSound : ℕ → List ℕ → Type 0

@@ -1,8 +1,12 @@
 // The command line of the program.
-ghost use Rattle.std.specs.Prelude.{◌≡◌, IfOk, IfSome, codes, map, false};
-ghost use Rattle.clap.specs.Words.{app_of, found_of, new_app, rows_of, rule_of, subcommand_of};
+ghost use Rattle.std.specs.Prelude.{◌≡◌, ℕ, [], IfOk, IfErr, IfSome, IfNone, codes, map, false};
+ghost use Rattle.clap.specs.Words.{app_of, fault_of, found_of, kind_of, new_app, rows_of, rule_of, subcommand_of};
+ghost use Rattle.clap.specs.declared.error.kind.ErrorKind.TheVariants as error_kind;
 ghost use Rattle.clap.specs.declared.builder.command.Command.TheViews.{out-Command as fields_of};
-ghost use Rattle.dbck.specs.CommandLine.{dbck_app, check_app, stat_app, file_rule, flag_rule, limit_rule, name_of, Says, HasFlags, HasLimit};
+ghost use Rattle.dbck.specs.CommandLine.{dbck_app, check_app, stat_app, file_rule, flag_rule, limit_rule, name_of};
+ghost use Rattle.dbck.specs.CommandLine.{AsksFor, HasFlags, HasLimit, IsErrorOf, IsLimitOf};
+ghost use Rattle.dbformat.specs.declared.Command.{Command as command_type};
+ghost use Rattle.dbformat.specs.declared.Command.TheVariants.{Check as check};
 
 use clap::{Arg, ArgAction, ArgMatches, Command as Words, value_parser};
 use dbreport::Command;
@@ -23,13 +27,24 @@ pub struct Line<'a> {
 pub enum LineError {
     /// What the parser of the words says.
     #[error(transparent)]
-    Words(#[from] clap::Error),
+    Words(clap::Error),
     /// The limit passed the parser, and is no number from 1 to 1000000 all the same.
     #[error("error: the limit is not a number from 1 to 1000000")]
     Limit,
     /// A word is not UTF-8.
     #[error("error: a word of the command line is not UTF-8")]
     NotText,
+}
+
+impl From<clap::Error> for LineError {
+    ghost use Rattle.std.specs.Prelude.{◌≡◌};
+    ghost use Rattle.dbck.specs.declared.command_line.LineError.TheVariants.{Words};
+
+    ghost from_gives = { λ e error. error ≡ Words e };
+
+    fn from(error: clap::Error) -> LineError {
+        LineError::Words(error)
+    }
 }
 
 /// The version of the program: it stands here alone.
@@ -130,7 +145,8 @@ fn stat_command<'a>(alloc: Global) -> Result<Words<'a>, AllocError>
 }
 
 fn dbck_command<'a>(alloc: Global) -> Result<Words<'a>, clap::Error>
-    ensures { IfOk result (λ c. app_of c ≡ dbck_app) }
+    ensures app { IfOk result (λ c. app_of c ≡ dbck_app) }
+    ensures memory { IfErr result (λ e. kind_of e ≡ error_kind.OutOfMemory) }
 {
     let command = described(alloc, "dbck", ABOUT, STATUSES)
         .version(VERSION)
@@ -144,6 +160,8 @@ fn dbck_command<'a>(alloc: Global) -> Result<Words<'a>, clap::Error>
 fn check_of(given: &ArgMatches<'_>) -> Option<Command>
     ensures named { IfSome result (λ command. name_of command ≡ codes "check") }
     ensures limit { IfSome result HasLimit }
+    ensures value { IfSome result (λ command. IsLimitOf command (rows_of (found_of given.now))) }
+    ensures none { IfNone result ((limit : ℕ) → HasLimit (check limit) → IsLimitOf (check limit) (rows_of (found_of given.now)) → ⊥) }
     ensures flags { IfSome result (λ command. HasFlags command (rows_of (found_of given.now))) }
 {
     let limit = given.get_one::<u32>("N")?;
@@ -157,6 +175,7 @@ fn check_of(given: &ArgMatches<'_>) -> Option<Command>
 fn stat_of(given: &ArgMatches<'_>) -> Command
     ensures named { name_of result ≡ codes "stat" }
     ensures limit { HasLimit result }
+    ensures value { IsLimitOf result (rows_of (found_of given.now)) }
     ensures flags { HasFlags result (rows_of (found_of given.now)) }
 {
     Command::Stat {
@@ -169,6 +188,9 @@ fn stat_of(given: &ArgMatches<'_>) -> Command
 fn command_of(name: &str, given: &ArgMatches<'_>) -> Option<Command>
     ensures named { IfSome result (λ command. name.now ≡ name_of command) }
     ensures limit { IfSome result HasLimit }
+    ensures value { IfSome result (λ command. IsLimitOf command (rows_of (found_of given.now))) }
+    ensures none { IfNone result ((command : command_type) → HasLimit command → name.now ≡ name_of command
+        → IsLimitOf command (rows_of (found_of given.now)) → ⊥) }
     ensures flags { IfSome result (λ command. HasFlags command (rows_of (found_of given.now))) }
 {
     match name {
@@ -185,8 +207,11 @@ fn command_of(name: &str, given: &ArgMatches<'_>) -> Option<Command>
 /// [`LineError::Words`] where they ask for help or the version, where they are no command line of the program, or for want
 /// of memory; its kind says which.
 pub fn line_of<'a>(alloc: Global, words: &'a [&'a str]) -> Result<Line<'a>, LineError>
-    ensures says { IfOk result (λ line. Says line.command line.file.now (subcommand_of dbck_app (map (λ word. word.now) words.entry.now))) }
+    ensures asks { IfOk result (λ line. AsksFor (subcommand_of dbck_app (map (λ word. word.now) words.entry.now)) line.command line.file.now) }
     ensures limit { IfOk result (λ line. HasLimit line.command) }
+    // Only words in which the parser finds no fault are taken, and its fault is why others are not.
+    ensures taken { IfOk result (λ line. fault_of dbck_app (map (λ word. word.now) words.entry.now) ≡ []) }
+    ensures refused { IfErr result (λ error. IsErrorOf error (map (λ word. word.now) words.entry.now)) }
 {
     let command = dbck_command(alloc)?;
     let matches = command.try_get_matches_from(words)?;

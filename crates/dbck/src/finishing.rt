@@ -1,35 +1,39 @@
 // From an opened file to an exit status.
-ghost use Rattle.std.specs.Prelude.{◌≡◌, ◌≤◌, [], OnOk, IfOk, IfSome, IsErr};
-ghost use Rattle.dbreport.specs.Runs.{IsCheck};
-ghost use Rattle.dbreport.specs.StatSink.{failures_of_both};
-ghost use Rattle.dbsource.specs.Gathers.{told};
-ghost use Rattle.dbck.specs.Exit.{CountsFailures, IsExitOf, IsOkIfSound, IsStatusOf, PutsLine, error_lines};
+ghost use Rattle.std.specs.Prelude.{◌≡◌, ◌≤◌, ◌⊎◌, IsErr, IsOk, IfOk, IfSome, OnErr, OnOk};
+ghost use Rattle.std.specs.Io.KnownBytes.{Keeps};
+ghost use Rattle.dbformat.specs.File.{geometry};
+ghost use Rattle.dbformat.specs.Log.{HasLog, IsRunLog, IsSomeRunLog};
+ghost use Rattle.dbreport.specs.Runs.{IsCheck, IsUnwritten};
+ghost use Rattle.dbck.specs.Exit.{HasFailed, IsExitOf, IsHandedOn, IsHandedOnOrFailed, IsKnown, IsOkIfSound, IsStatusOf, PutsLine};
+ghost use Rattle.dbck.specs.Exit.{failures_at_4, first_most, second_most};
 ghost use Rattle.dbck.specs.Handing.{IsHanded};
 ghost use Rattle.dbck.specs.Status.{exit_status};
 
 use crate::status::status_of;
 use arrayvec::ArrayString;
 use dbreport::{Command, Verdict, run};
-use dbsource::{BufferedOut, Out, ReadFailed, RunError, Source};
+use dbsource::{Out, ReadFailed, RunError, Source};
 use std::alloc::Global;
-use std::fmt::Write as WriteText;
-use std::io::Write;
+use std::fmt::Write;
 
-// Tries to put the line of an error. That this fails changes nothing.
+// Tries to put the line of an error, and to hand it on. That this fails changes nothing.
 fn put_error<E: Out>(err: &mut E, error: RunError)
-    ensures { PutsLine (E.held err.old) (E.held err.new) }
+    ensures line { PutsLine (E.held err.old) (E.held err.new) }
+    ensures tried { IsHandedOnOrFailed 2 (E.held err.old) (E.held err.new) }
 {
     let mut line: ArrayString<96> = ArrayString::new();
     if writeln!(line, "dbck: {error}").is_ok() {
         let _ = err.put(line.as_str().as_bytes());
     }
+    let _ = err.flush();
 }
 
 // Tells an error, and answers the status of the outcome.
-fn end<E: Out>(err: &mut E, outcome: Result<Verdict, RunError>) -> u8
+pub(crate) fn end<E: Out>(err: &mut E, outcome: Result<Verdict, RunError>) -> u8
     ensures status { result ≡ exit_status outcome }
     ensures quiet { OnOk outcome (E.held err.new ≡ E.held err.old) }
     ensures line { PutsLine (E.held err.old) (E.held err.new) }
+    ensures tried { OnErr outcome (IsHandedOnOrFailed 2 (E.held err.old) (E.held err.new)) }
 {
     if let Err(error) = outcome {
         put_error(err, error);
@@ -37,17 +41,20 @@ fn end<E: Out>(err: &mut E, outcome: Result<Verdict, RunError>) -> u8
     status_of(&outcome)
 }
 
-// Hands on what is gathered of the output. That this fails is an error behind a verdict, and changes nothing behind another
-// error. At a refusal nothing was written.
-fn hand_on<W: Write>(
-    out: &mut BufferedOut<W>,
+// Hands on what is pending: behind a verdict of both Outs, and that this fails is an error then; behind another error of the
+// first, and that this fails changes nothing. At a refusal nothing was written.
+pub(crate) fn hand_on<O: Out, E: Out>(
+    out: &mut O,
+    err: &mut E,
     outcome: Result<Verdict, RunError>,
 ) -> Result<Verdict, RunError>
-    ensures { IsHanded outcome result out.old out.new }
+    ensures handed { IsHanded outcome result (O.held out.old) (O.held out.new) (E.held err.old) (E.held err.new) }
+    ensures refused { IsUnwritten outcome out.old out.new }
 {
     match outcome {
         Ok(verdict) => {
             out.flush()?;
+            err.flush()?;
             Ok(verdict)
         }
         Err(RunError::Refused(_)) => outcome,
@@ -58,55 +65,71 @@ fn hand_on<W: Write>(
     }
 }
 
-// Runs `command` on the file that was opened.
-fn finish_opened<S: Source, W: Write, E: Out>(
+/// Runs `command` on the source, and answers the exit status. What was put to `out` and then what was put to `err` is handed
+/// on before the status is decided. After an error that is tried of `out`, unless the file is refused; then the line of the
+/// error is put to `err`, if that can be, and handed on, if that can be.
+pub fn finish_opened<S: Source, O: Out, E: Out>(
     alloc: Global,
     command: Command,
     source: &mut S,
-    out: &mut BufferedOut<W>,
+    out: &mut O,
     err: &mut E,
 ) -> u8
+    // Where the source tells its bytes: what the status says of their report, and of what was written of it; 0 for a sound
+    // file, and 1 for any other that is checked to its end; and each page is asked for once at most.
     ensures exit { IfSome (S.held source.old).bytes (λ file.
-        IsExitOf result command file (told out.old) (told out.new) (E.held err.old) (E.held err.new)) }
+        IsExitOf result command file (O.held out.old) (O.held out.new) (E.held err.old) (E.held err.new)) }
     ensures status { IfSome (S.held source.old).bytes (IsStatusOf result) }
     ensures sound { IfSome (S.held source.old).bytes (IsOkIfSound result) }
-    ensures whole { result ≤ 1 → out.new.gathered ≡ [] }
-    ensures unwritten { result ≡ 3 → (told out.new).bytes ≡ (told out.old).bytes }
-    ensures failed { IsCheck command → CountsFailures 0 result out.old.failures out.new.failures out.new.gathered }
-    ensures counted { CountsFailures (error_lines result) result
-        (failures_of_both (told out.old) (E.held err.old)) (failures_of_both (told out.new) (E.held err.new)) out.new.gathered }
+    ensures own_log { IfSome (S.held source.old).bytes (λ file.
+        HasLog S.step (IsRunLog (geometry file)) (S.held source.old).trail (S.held source.new).trail) }
+    // For every source: what it is asked for, and that it failed, once, exactly where the status is 4.
+    ensures log { HasLog S.step IsSomeRunLog (S.held source.old).trail (S.held source.new).trail }
+    ensures unread { (S.held source.new).failures ≡ failures_at_4 result (S.held source.old).failures }
+    ensures statuses { IsKnown result }
+    // At 0 and 1 all was handed on, and neither Out failed.
+    ensures whole { result ≤ 1
+        → IsHandedOn (O.held out.old) (O.held out.new) × IsHandedOn (E.held err.old) (E.held err.new) }
+    // At 3 the first Out is as it was. Behind the other errors what is pending is handed on, if that can be. At 6 one failed.
+    ensures unwritten { result ≡ 3 → out.new ≡ out.old }
+    ensures first { 4 ≤ result → IsHandedOnOrFailed (first_most result) (O.held out.old) (O.held out.new) }
+    ensures second { 3 ≤ result → IsHandedOnOrFailed (second_most result) (E.held err.old) (E.held err.new) }
+    ensures failed { result ≡ 6 → HasFailed (O.held out.old) (O.held out.new) ⊎ HasFailed (E.held err.old) (E.held err.new) }
+    // Of a check the second Out gets the line of an error at most, and nothing beside a verdict.
+    ensures line { IsCheck command → PutsLine (E.held err.old) (E.held err.new) }
+    ensures quiet { IsCheck command → result ≤ 1 → Keeps (E.held err.old).bytes (E.held err.new).bytes }
 {
     let outcome = run(alloc, command, source, out, err);
-    let outcome = hand_on(out, outcome);
+    let outcome = hand_on(out, err, outcome);
     end(err, outcome)
 }
 
-/// Runs `command` on the file that was opened, or that could not be, and answers the exit status. All that was put to `out`
-/// is handed on before the status is decided; after an error, as far as that can be. After an error its line is put to
-/// `err`, if that can be.
-pub fn finish<S: Source + Drop, W: Write, E: Out>(
+/// Runs `command` on the file that was opened, as [`finish_opened`], or that could not be, and answers the exit status. Where
+/// it could not be opened the line of the error is put to `err`, and `out` is left alone.
+pub fn finish<S: Source + Drop, O: Out, E: Out>(
     alloc: Global,
     command: Command,
     opened: Result<S, ReadFailed>,
-    out: &mut BufferedOut<W>,
+    out: &mut O,
     err: &mut E,
 ) -> u8
-    requires fresh { out.old.gathered ≡ [] }
-    // Where the source tells its bytes: what the status says of their report, and of what was written of it.
+    // Where the source tells its bytes.
     ensures opened { IfOk opened (λ source. IfSome (S.held source).bytes (λ file.
-        IsExitOf result command file (told out.old) (told out.new) (E.held err.old) (E.held err.new))) }
+        IsExitOf result command file (O.held out.old) (O.held out.new) (E.held err.old) (E.held err.new))) }
     ensures status { IfOk opened (λ source. IfSome (S.held source).bytes (IsStatusOf result)) }
-    // 0 for a sound file, and 1 for any other that is checked to its end.
     ensures sound { IfOk opened (λ source. IfSome (S.held source).bytes (IsOkIfSound result)) }
-    // For every source: at 0 and 1 the writer was handed all of it.
-    ensures whole { result ≤ 1 → out.new.gathered ≡ [] }
-    // Nothing written at 3, 6 exactly where an Out failed, and 4 where the file could not be opened. What a check writes goes
-    // to the first Out alone, and the line of an error to the second. Only a failure leaves a rest that is not handed on.
-    ensures unwritten { result ≡ 3 → (told out.new).bytes ≡ (told out.old).bytes }
-    ensures failed { IsCheck command → CountsFailures 0 result out.old.failures out.new.failures out.new.gathered }
-    ensures counted { CountsFailures (error_lines result) result
-        (failures_of_both (told out.old) (E.held err.old)) (failures_of_both (told out.new) (E.held err.new)) out.new.gathered }
-    ensures unopened { IsErr opened → (result ≡ 4) × (out.new ≡ out.old) }
+    // For every source.
+    ensures statuses { IsKnown result }
+    ensures whole { result ≤ 1
+        → IsHandedOn (O.held out.old) (O.held out.new) × IsHandedOn (E.held err.old) (E.held err.new) }
+    ensures unwritten { result ≡ 3 → out.new ≡ out.old }
+    ensures first { IsOk opened → 4 ≤ result → IsHandedOnOrFailed (first_most result) (O.held out.old) (O.held out.new) }
+    ensures second { 3 ≤ result → IsHandedOnOrFailed (second_most result) (E.held err.old) (E.held err.new) }
+    ensures failed { result ≡ 6 → HasFailed (O.held out.old) (O.held out.new) ⊎ HasFailed (E.held err.old) (E.held err.new) }
+    ensures line { IsCheck command → PutsLine (E.held err.old) (E.held err.new) }
+    ensures quiet { IsCheck command → result ≤ 1 → Keeps (E.held err.old).bytes (E.held err.new).bytes }
+    // Where no file was opened.
+    ensures unopened { IsErr opened → (result ≡ 4) × (out.new ≡ out.old) × PutsLine (E.held err.old) (E.held err.new) }
 {
     match opened {
         Ok(mut source) => finish_opened(alloc, command, &mut source, out, err),

@@ -2,6 +2,7 @@
 use dbsource::Out;
 use std::alloc::{AllocError, Global};
 use std::fmt::Write;
+use std::rt::Files;
 use std::{fs, io};
 
 // What a log's name has behind that of its database, and what SQLite has to do with it.
@@ -22,7 +23,7 @@ fn shown(alloc: Global, path: &str) -> Result<String, AllocError> {
 }
 
 // Where the database itself lies, if `file` is a link to it: there SQLite looks for the logs.
-fn behind_links(rt: &HostRuntime, file: &str) -> io::Result<String> {
+fn behind_links<R: Files + AllocGlobal>(rt: &R, file: &str) -> io::Result<String> {
     if fs::symlink_metadata(rt, file)?.is_symlink() {
         Ok(fs::canonicalize(rt, file)?.into_string())
     } else {
@@ -31,7 +32,12 @@ fn behind_links(rt: &HostRuntime, file: &str) -> io::Result<String> {
 }
 
 // Puts the line of a log that lies at `path` and is not empty.
-fn put_note<E: Out>(rt: &HostRuntime, path: &str, duty: &str, err: &mut E) -> io::Result<()> {
+fn put_note<R: Files + AllocGlobal, E: Out>(
+    rt: &R,
+    path: &str,
+    duty: &str,
+    err: &mut E,
+) -> io::Result<()> {
     let metadata = fs::metadata(rt, path)?;
     if metadata.is_file() && metadata.len() > 0 {
         let name = shown(rt.alloc(), path)?;
@@ -43,7 +49,11 @@ fn put_note<E: Out>(rt: &HostRuntime, path: &str, duty: &str, err: &mut E) -> io
     Ok(())
 }
 
-fn put_each_note<E: Out>(rt: &HostRuntime, file: &str, err: &mut E) -> io::Result<()> {
+fn put_each_note<R: Files + AllocGlobal, E: Out>(
+    rt: &R,
+    file: &str,
+    err: &mut E,
+) -> io::Result<()> {
     let database = behind_links(rt, file)?;
     for (suffix, duty) in LOGS {
         let path = format!(in rt.alloc(); "{database}{suffix}")?;
@@ -54,6 +64,6 @@ fn put_each_note<E: Out>(rt: &HostRuntime, file: &str, err: &mut E) -> io::Resul
 
 /// Puts a line to `err` for each log of SQLite that lies beside the database at `file` and is not empty, if that can be.
 /// An error while one is looked for is ignored.
-pub fn put_notes<E: Out>(rt: &HostRuntime, file: &str, err: &mut E) {
+pub fn put_notes<R: Files + AllocGlobal, E: Out>(rt: &R, file: &str, err: &mut E) {
     let _ = put_each_note(rt, file, err);
 }

@@ -4,16 +4,14 @@
 mod command_line;
 mod finishing;
 mod logs;
+mod running;
 mod status;
 #[cfg(test)]
 mod tests;
 
-use clap::error::ErrorKind as WordsErrorKind;
-use command_line::{Line, LineError, line_of};
-use dbsource::{BufferedOut, FileSource, StreamOut};
-use finishing::finish;
-use logs::put_notes;
-use status::line_status;
+use command_line::LineError;
+use dbsource::{BufferedOut, StreamOut};
+use running::{run_words, tell};
 use std::alloc::AllocError;
 use std::env;
 use std::io::ErrorKind;
@@ -35,42 +33,20 @@ fn words_of(rt: &HostRuntime) -> Result<Vec<String>, LineError> {
     }
 }
 
-// Runs what a line asks for, on the file alone: of a log beside it there is a note.
-fn run_line(rt: &HostRuntime, line: Line<'_>) -> Result<u8, LineError> {
-    let mut out = BufferedOut::new(rt.alloc(), rt.stdout()).map_err(clap::Error::from)?;
-    let mut err = StreamOut::new(rt.stderr());
-    let opened = FileSource::open(rt, line.file);
-    if opened.is_ok() {
-        put_notes(rt, line.file, &mut err);
-    }
-    Ok(finish(rt.alloc(), line.command, opened, &mut out, &mut err))
-}
-
-// Runs what the words ask for.
-fn run_words(rt: &HostRuntime) -> Result<u8, LineError> {
+// Runs what the words ask for, from standard output and standard error on.
+fn run(rt: &HostRuntime) -> Result<u8, LineError> {
     let words = words_of(rt)?;
     let mut texts: Vec<&str> = Vec::new(rt.alloc());
     for word in words.iter() {
         texts.push(word.as_str()).map_err(clap::Error::from)?;
     }
-    let line = line_of(rt.alloc(), texts.as_slice())?;
-    run_line(rt, line)
-}
-
-// Tells why the words are no command line, or the help that they ask for, and answers the status.
-fn tell(rt: &HostRuntime, error: &LineError) -> u8 {
-    let _ = match error {
-        LineError::Words(words) => match words.kind() {
-            WordsErrorKind::OutOfMemory => rt.eprintln("dbck: E9 out of memory"),
-            _ => words.print(rt),
-        },
-        _ => rt.eprintln(error),
-    };
-    line_status(error)
+    let mut out = BufferedOut::new(rt.alloc(), rt.stdout()).map_err(clap::Error::from)?;
+    let mut err = StreamOut::new(rt.stderr());
+    run_words(rt, texts.as_slice(), &mut out, &mut err)
 }
 
 fn main(rt: HostRuntime) -> ExitCode {
-    let status = match run_words(&rt) {
+    let status = match run(&rt) {
         Ok(status) => status,
         Err(error) => tell(&rt, &error),
     };

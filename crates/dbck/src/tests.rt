@@ -3,9 +3,14 @@ use dbsource::{Refusal, RunError};
 use std::test::Fail;
 
 mod exits;
+mod fake_files;
+mod files;
+mod flushes;
 mod lines;
 mod logs;
-mod odd_files;
+mod one_log;
+mod runs;
+mod small_files;
 
 // The text of each error, which its line shows behind the program's name.
 #[test]

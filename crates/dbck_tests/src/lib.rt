@@ -1,51 +1,16 @@
-//! Tests of the crates below the program, on whole files.
+//! Tests of the crates below the program, on whole files: [`check`], [`stat`], what is refused to a run, a slow checker beside
+//! it, and the parts of a run. Those of the walk alone stand in `dbwalk_tests`.
 #![tactic(auto)]
 
 #[cfg(test)]
-mod buffered_outs;
+mod check;
 #[cfg(test)]
-mod desks;
-#[cfg(test)]
-mod fakes;
-#[cfg(test)]
-mod files;
-#[cfg(test)]
-mod freelists;
-#[cfg(test)]
-mod headers;
-#[cfg(test)]
-mod outs;
+mod parts;
 #[cfg(test)]
 mod refusals;
 #[cfg(test)]
-mod root_list;
+mod slow;
 #[cfg(test)]
-mod runs;
+mod stat;
 #[cfg(test)]
-mod schemas;
-#[cfg(test)]
-mod slow_file;
-#[cfg(test)]
-mod slow_page;
-#[cfg(test)]
-mod slow_row;
-#[cfg(test)]
-mod slow_sound;
-#[cfg(test)]
-mod soundness;
-#[cfg(test)]
-mod stat_forms;
-#[cfg(test)]
-mod stat_names;
-#[cfg(test)]
-mod stat_refusals;
-#[cfg(test)]
-mod stat_sizes;
-#[cfg(test)]
-mod stat_tables;
-#[cfg(test)]
-mod statistics;
-#[cfg(test)]
-mod tables;
-#[cfg(test)]
-mod trees;
+mod support;

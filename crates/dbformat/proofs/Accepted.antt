@@ -3,7 +3,7 @@ use Rattle.std.proofs.Common.{◌≡◌, ℕ, ◌≤◌, Bool, true, false, cond
 use Rattle.std.specs.Prelude.{nat_lt, ◌==◌}
 use Rattle.std.specs.List.{list_any}
 use Rattle.std.proofs.lemmas.Bool.Decides.{nat_tests}
-use Rattle.dbformat.specs.FixedPages.{geometry_of, IsInRange}
+use Rattle.dbformat.specs.FixedPages.{most_pages, geometry_of, IsInRange}
 use Rattle.dbformat.specs.Numbers.{u16_at}
 use Rattle.dbformat.specs.Header.{page_size, usable_size, page_count, stored_page_sizes}
 use Rattle.dbformat.specs.File.{refusal_of, refusal_tests}
@@ -49,6 +49,6 @@ is_accepted bytes len e =
       range = record {
         page_size = size;
         usable = (not_below (usable_size bytes) 480 tests.1.1.1.0, usable_within bytes);
-        pages = (not_zero (page_count bytes len) tests.1.1.1.1.0, not_below 67108864 (page_count bytes len) tests.1.1.1.1.1.0);
+        pages = (not_zero (page_count bytes len) tests.1.1.1.1.0, not_below most_pages (page_count bytes len) tests.1.1.1.1.1.0);
       };
     }

@@ -9,7 +9,7 @@ use Rattle.dbformat.specs.Numbers.{u32_at}
 use Rattle.dbformat.specs.Header.{usable_size}
 use Rattle.dbformat.specs.File.{page_bytes}
 use Rattle.dbformat.specs.Varint.{varint, signed}
-use Rattle.dbformat.specs.Payload.{local_len, least_local, even_local}
+use Rattle.dbformat.specs.Payload.{most_payload, local_len, least_local, even_local}
 use Rattle.dbformat.specs.Head.{View, view, view_of_kind, page_kind, type_byte, is_interior, tree_of, pointers_end, content_start}
 use Rattle.dbformat.specs.Cell.{Cell, cell_at, payload_cell, bytes_from}
 use Rattle.dbformat.specs.Terms.{cells_of}
@@ -80,9 +80,9 @@ payload_sized v offset before size left key c wide long e =
         all true f g h = cc
         all false f g h = grind (arith, nat_tests)
 
-    by_case : (b : Bool) (d : Cell) → cond b (Some d) None ≡ Some c → (nat_le size 2147483647 && nat_le (offset + (before + here + cond (nat_lt here size) 4 0)) v.usable) ≡ b
+    by_case : (b : Bool) (d : Cell) → cond b (Some d) None ≡ Some c → (nat_le size most_payload && nat_le (offset + (before + here + cond (nat_lt here size) 4 0)) v.usable) ≡ b
         → d.size ≡ size → d.local ≡ take here (drop (offset + before) v.bytes) → (d.overflow ≡ cond (nat_lt here size) (Some (u32_at (offset + before + here) v.bytes)) None) → IsSized c
-    by_case true d e f s l o = let same : d ≡ c = cc in subst IsSized same (sized d s l o (and_parts (nat_le size 2147483647) (nat_le (offset + (before + here + cond (nat_lt here size) 4 0)) v.usable) f).1)
+    by_case true d e f s l o = let same : d ≡ c = cc in subst IsSized same (sized d s l o (and_parts (nat_le size most_payload) (nat_le (offset + (before + here + cond (nat_lt here size) 4 0)) v.usable) f).1)
     by_case false d e f s l o = cc
 
 cell_sized : (v : View) (offset : ℕ) (c : Cell) → 480 ≤ v.usable → v.usable ≤ length v.bytes → cell_at LeafTable v offset ≡ Some c → IsSized c

@@ -8,7 +8,7 @@ use Rattle.byteorder.specs.Endian.{big_number}
 use Rattle.byteorder.specs.Numbers.{big_from-take}
 use Rattle.dbformat.specs.Numbers.{u16_at}
 use Rattle.dbformat.specs.Header.{page_size, reserved_bytes, usable_size, change_counter, stated_pages, first_trunk, freelist_count, schema_format, greatest_root, encoding_number, incremental_vacuum, version_valid_for, has_pointer_map, is_size_valid, whole_pages, page_count}
-use Rattle.dbformat.specs.FixedPages.{geometry_of}
+use Rattle.dbformat.specs.FixedPages.{most_pages, geometry_of}
 use Rattle.dbformat.specs.File.{refusal_of}
 use Rattle.dbformat.specs.FixedPages.{lock_page, is_map_position}
 use Rattle.dbformat.specs.Header.{magic, stored_page_sizes}
@@ -98,7 +98,7 @@ refusal_by begins stored g len = first_true (
     ∷ (not (list_any (λ size. stored == size) stored_page_sizes), PageSize)
     ∷ (nat_lt g.usable 480, Usable)
     ∷ (g.pages == 0, NoPage)
-    ∷ (nat_lt 67108864 g.pages, TooManyPages)
+    ∷ (nat_lt most_pages g.pages, TooManyPages)
     ∷ (g.has_map && nat_le (lock_page g.page_size) g.pages && is_map_position g (lock_page g.page_size), MapAtLock) ∷ [])
 
 refusal_is : (bytes : List ℕ) (len : ℕ) → refusal_of bytes len ≡ refusal_by (take 16 bytes) (u16_at 16 bytes) (geometry_of bytes len) len

@@ -3,8 +3,13 @@ use Rattle.std.proofs.Common.{◌≡◌, ◌≢◌, ℕ, suc, ◌+◌, ◌-◌, 
 use Rattle.std.specs.Prelude.{◌==◌, nat_lt, max, min}
 use Rattle.std.proofs.Math.Nat.{mul-le-mul_right, le-max_right, le-max_left, min-le_left, min-le_right}
 use Rattle.std.proofs.lemmas.Bool.{cases_Bool}
+use Rattle.std.proofs.lemmas.List.{length-map}
 use Rattle.std.proofs.lemmas.Bool.Decides.{nat_tests}
+use Rattle.std.specs.List.{range_with_len}
+use Rattle.std.proofs.lemmas.List.FromFn.{length-range_with_len}
 use Rattle.dbsurvey.specs.Address.{IsIn, EachPair}
+use Rattle.dbsurvey.proofs.Elements.{IsIn-range}
+use Rattle.dbsurvey.proofs.Rearranged.{no_longer}
 use Rattle.dbformat.specs.FixedPages.{IsInRange}
 use Rattle.dbformat.specs.Log.{page_range, header_range, is_sharing, reads, IsReadable, IsRunLog, IsReadOnce}
 use Rattle.dbformat.specs.declared.ByteRange.{ByteRange}
@@ -76,11 +81,21 @@ one_more_read : (b : Bool) (r : ByteRange) (rs : List ByteRange) (n : ℕ) → l
 one_more_read true r rs n h = omega arith
 one_more_read false r rs n h = omega arith
 
+-- pages of the file, none twice, are no more than it has
+bounded : (g : Geometry) (pages : List ℕ) → ((p : ℕ) → IsIn p pages → IsReadable g p) → EachPair (λ p q. p ≢ q) pages
+    → length (map (page_range g.page_size) pages) ≤ g.pages
+bounded g pages readable distinct =
+    let fit = no_longer pages (range_with_len 1 g.pages) distinct
+    (λ p i. let r = readable p i in IsIn-range 1 g.pages p r.from_one (omega (arith, r.within))) in
+    omega (arith, fit, length-map pages (page_range g.page_size), length-range_with_len 1 g.pages)
+
 pub read_once : (g : Geometry) (log : List ByteRange) → IsInRange g → IsRunLog g log → IsReadOnce g log
-read_once g log range (inl e) = rw e (record { first = omega arith; others = λ p h. omega arith })
+read_once g log range (inl e) = rw e (record { bounded = omega arith; first = omega arith; others = λ p h. omega arith })
 read_once g log range (inr h) =
     let once : (p : ℕ) → 1 ≤ p → reads g.page_size p h.0 ≤ 1 = λ p one. rw h.2.ranges (once_read g p h.2.pages one h.2.readable h.2.distinct) in
+    let most : length h.0 ≤ g.pages = rw h.2.ranges (bounded g h.2.pages h.2.readable h.2.distinct) in
     rw h.1 (record {
+      bounded = omega (arith, most);
       first = one_more_read _ _ _ 1 (once 1 (omega arith));
       others = λ p two. (let away = header_apart g.page_size p range.page_size.0 two in rw away (once p (omega arith)));
     })

@@ -19,6 +19,24 @@ use Rattle.dbformat.specs.Survey.{rules_of}
 use Rattle.dbformat.specs.declared.TreeKind.{TreeKind}
 use Rattle.dbsurvey.proofs.Lists.{filter-none}
 
+-- roots are off the freelist
+pub root_off : (role : Role) → is_root role ≡ true → is_on_freelist role ≡ false
+root_off (root kind) e = refl
+root_off (child kind) e = cc
+root_off (first_overflow left) e = cc
+root_off (later_overflow left) e = cc
+root_off trunk e = cc
+root_off free_leaf e = cc
+
+-- and nothing on the freelist is a root
+pub no_root_on : (role : Role) → is_on_freelist role ≡ true → is_root role ≡ false
+no_root_on (root kind) e = cc
+no_root_on (child kind) e = refl
+no_root_on (first_overflow left) e = refl
+no_root_on (later_overflow left) e = refl
+no_root_on trunk e = refl
+no_root_on free_leaf e = refl
+
 -- a link that leads to no root, on or off the freelist
 abbrev LeadsOn : Bool → Link Way → Type 0
 LeadsOn on l = (is_root l.role.role ≡ false) × (is_on_freelist l.role.role ≡ on)

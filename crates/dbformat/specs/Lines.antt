@@ -1,14 +1,15 @@
 -- The lines of a report, as bytes (own; the columns are those of The DBSTAT Virtual Table).
-use Rattle.std.specs.Prelude.{ℕ, zero, suc, ◌-◌, ◌*◌, ◌^◌, List, [], ◌∷◌, ◌++◌, length, map, flat_map, fold, max, min, sum_by, Option, Some, None, codes, decimal, slice_get}
+use Rattle.std.specs.Prelude.{◌≡◌, ℕ, zero, suc, ◌-◌, ◌*◌, ◌^◌, List, [], ◌∷◌, ◌++◌, length, map, flat_map, fold, max, min, sum_by, Option, Some, None, codes, decimal, slice_get}
 use Rattle.std.specs.List.{join_with_byte}
 use Rattle.std.specs.Option.{option_map_or}
 use Rattle.std.specs.Fmt.{signed_decimal}
+use Rattle.dbformat.specs.File.{geometry}
 use Rattle.dbformat.specs.Header.{encoding, page_size}
 use Rattle.dbformat.specs.SchemaRow.{SchemaRow}
 use Rattle.dbformat.specs.Text.{hex_text, shown_name}
 use Rattle.dbformat.specs.Reference.{Reference}
 use Rattle.dbformat.specs.Schema.{schema, rooted_rows}
-use Rattle.dbformat.specs.Rows.{StatRow, OtherPage, trunk_page, leaf_page, map_page, lock_page, unowned_page, FormRow, page_row, tree_row, other_row}
+use Rattle.dbformat.specs.Rows.{StatRow, OtherPage, trunk_page, leaf_page, map_page, lock_page, unowned_page, FormRow, page_row, tree_row, other_row, StatForm, form_rows}
 use Rattle.dbformat.specs.declared.Fault.{Fault}
 use Rattle.dbformat.specs.declared.FaultCode.{FaultCode}
 use Rattle.dbformat.specs.declared.FaultCode.TheVariants.{H01, H02, H03, H04, H05, H06, H07, H08, H09, H10, P01, P02, P03, P04, P05, P06, P07, P08, P09, P10, R01, R02, R03, T04, T05, T06, O01, L01, S01, S02, S03, S04, N01, M01, M02}
@@ -142,6 +143,16 @@ tree_name file V (suc k) = option_map_or (row_name_text file) (slice_get (rooted
 abbrev pub columns : List (List ℕ) → List ℕ
 columns texts = join_with_byte tab texts ++ line_feed ∷ []
 
+-- a count that stops at the greatest number of 64 bits
+abbrev pub counted : ℕ → ℕ
+counted n = min n (2 ^ 64 - 1)
+
+-- the last column of a row, `pgsize`: the bytes of the pages that it counts, by the page size
+abbrev pub pgsize : ℕ → FormRow → ℕ
+pgsize size (page_row row) = size
+pgsize size (tree_row k rows) = counted (length rows * size)
+pgsize size (other_row p what) = size
+
 -- the line of a page's row, by the name of its tree and the page size
 abbrev pub page_line : List ℕ → ℕ → StatRow → List ℕ
 page_line name size row = columns (
@@ -154,7 +165,7 @@ page_line name size row = columns (
     ∷ decimal row.unused
     ∷ decimal row.mx_payload
     ∷ decimal ((row.page - 1) * size)
-    ∷ decimal size ∷ [])
+    ∷ decimal (pgsize size (page_row row)) ∷ [])
 
 -- the text of what another page is (own)
 abbrev pub other_text : OtherPage → List ℕ
@@ -167,10 +178,6 @@ other_text unowned_page = codes "unowned"
 -- a column that says nothing in a row
 abbrev pub no_text : List ℕ
 no_text = codes "-"
-
--- a count that stops at the greatest number of 64 bits
-abbrev pub counted : ℕ → ℕ
-counted n = min n (2 ^ 64 - 1)
 
 -- The line of a tree: the number of its page rows in place of a page, their sums, each of which stops at the greatest
 -- number of 64 bits, and the greatest payload among them.
@@ -185,7 +192,7 @@ tree_line name size rows = columns (
     ∷ decimal (counted (sum_by (λ row. row.unused) rows))
     ∷ decimal (fold max 0 (map (λ row. row.mx_payload) rows))
     ∷ no_text
-    ∷ decimal (counted (length rows * size)) ∷ [])
+    ∷ decimal (pgsize size (tree_row 0 rows)) ∷ [])
 
 -- the line of another page
 abbrev pub other_line : ℕ → ℕ → OtherPage → List ℕ
@@ -199,10 +206,14 @@ other_line size p what = columns (
     ∷ decimal 0
     ∷ decimal 0
     ∷ decimal ((p - 1) * size)
-    ∷ decimal size ∷ [])
+    ∷ decimal (pgsize size (other_row p what)) ∷ [])
 
 -- the line of a row of a form
 unfoldable pub form_line : List ℕ → List Reference → FormRow → List ℕ
 form_line file V (page_row row) = page_line (tree_name file V row.start) (page_size file) row
 form_line file V (tree_row k rows) = tree_line (tree_name file V k) (page_size file) rows
 form_line file V (other_row p what) = other_line (page_size file) p what
+
+-- the column `pgsize` of the rows of a form adds up to the size of all pages
+abbrev pub AddsUpToAllPages : StatForm → List ℕ → List Reference → Type 0
+AddsUpToAllPages form file V = sum_by (pgsize (page_size file)) (form_rows form file V) ≡ (geometry file).pages * page_size file

@@ -6,7 +6,7 @@ use crate::{Fixed, Geometry};
 
 impl Geometry {
     /// The page that holds the byte at 2^30, which no structure uses, whether the file has so many pages or not (1.4).
-    pub fn lock_page(self) -> u32
+    pub(crate) fn lock_page(self) -> u32
         requires { 0 < self.page_size }
         ensures { result ≡ lock_page self.page_size }
     {

@@ -9,8 +9,10 @@
 ghost use Rattle.std.specs.Prelude.{◌≡◌, ℕ, List, pos};
 ghost use Rattle.dbformat.specs.Coverage.{AreFreeblocksAll};
 ghost use Rattle.dbformat.specs.Faults.{fault};
-ghost use Rattle.dbformat.specs.Head.{View};
-ghost use Rattle.dbformat.specs.Errands.{IsByCell, IsNoneAtDamage, IsOneCellMore, IsByReading, IsByChain, IsByLeaf, IsOneLeafMore, IsNoneAtFreeLeaf, AreAllQuiet, AreCellsApart};
+ghost use Rattle.dbformat.specs.Head.{View, is_interior};
+ghost use Rattle.dbformat.specs.Errands.{IsByCell, IsNoneAtDamage, IsOneCellMore, IsByReading, IsByChain};
+ghost use Rattle.dbformat.specs.Errands.{IsByLeaf, IsOneLeafMore, IsNoneAtFreeLeaf, AreAllQuiet};
+ghost use Rattle.dbformat.specs.Errands.{AreCellsApart};
 ghost use Rattle.dbformat.specs.Laws.{HasOneSurvey, FollowsTheUnrefused, IsRefusedByMarks, IsInTheTheory, IsToldInOrder, LooksBackAlone};
 ghost use Rattle.dbformat.specs.Laws.{IsByStarts, IsSchemaBelowItsStart, FollowsAllWhereFaultless, HasWholeChains};
 ghost use Rattle.dbformat.specs.Log.{RunsReadOnce};
@@ -196,6 +198,19 @@ pub enum PageKind {
     InteriorTable,
     LeafIndex,
     LeafTable,
+}
+
+impl PageKind {
+    /// Whether pages of this kind have children.
+    #[inline(always)]
+    pub fn is_interior(self) -> bool
+        ensures { result ≡ is_interior self }
+    {
+        match self {
+            PageKind::InteriorIndex | PageKind::InteriorTable => true,
+            PageKind::LeafIndex | PageKind::LeafTable => false,
+        }
+    }
 }
 
 /// The two rules for how much of a payload stands in its cell.

@@ -4,7 +4,7 @@ use Rattle.std.specs.Prelude.{Result, ◌==◌, nat_le, nat_lt, ok_or, option_an
 use Rattle.std.proofs.lemmas.List.{length-take}
 use Rattle.dbbytes.proofs.VarintLemmas.{varint-within}
 use Rattle.dbformat.specs.Numbers.{u16_at, u32_at}
-use Rattle.dbformat.specs.Payload.{local_len}
+use Rattle.dbformat.specs.Payload.{most_payload, local_len}
 use Rattle.dbformat.specs.declared.PayloadKind.TheVariants.{TableLeaf, Index}
 use Rattle.std.proofs.lemmas.Bool.{cases_lt}
 use Rattle.std.proofs.lemmas.Bool.Decides.{nat_tests}
@@ -42,7 +42,7 @@ if_some : {B : Type 0} (t : Bool) (x b : B) → (if t then Some x else None) ≡
 if_some true x b h = (refl, cc)
 if_some false x b h = cc
 
-both_fit : (size end usable : ℕ) → (nat_le size 2147483647 && nat_le end usable) ≡ true → end ≤ usable
+both_fit : (size end usable : ℕ) → (nat_le size most_payload && nat_le end usable) ≡ true → end ≤ usable
 both_fit size end usable h = grind (arith, nat_tests)
 
 -- where a cell stands
@@ -55,7 +55,7 @@ payload_inside : (v : View) (kind : PayloadKind) (offset before size : ℕ) (lef
 payload_inside v kind offset before size left key c h =
     let here = local_len kind v.usable size in
     let len : ℕ = before + here + (if nat_lt here size then 4 else 0) in
-    let p = if_some (nat_le size 2147483647 && nat_le (offset + len) v.usable) _ c h in
+    let p = if_some (nat_le size most_payload && nat_le (offset + len) v.usable) _ c h in
     let fits : offset + len ≤ v.usable = both_fit size (offset + len) v.usable p.0 in
     record { place = sym (ap (λ (d : Cell). d.offset) p.1); ends = omega (arith, fits, ap (λ (d : Cell). d.offset) p.1, ap (λ (d : Cell). d.len) p.1) }
 
@@ -127,7 +127,7 @@ payload_local : (v : View) (kind : PayloadKind) (offset before size : ℕ) (left
 payload_local v kind offset before size left key c h =
     let here = local_len kind v.usable size in
     let len : ℕ = before + here + (if nat_lt here size then 4 else 0) in
-    let p = if_some (nat_le size 2147483647 && nat_le (offset + len) v.usable) _ c h in
+    let p = if_some (nat_le size most_payload && nat_le (offset + len) v.usable) _ c h in
     let fits : offset + len ≤ v.usable = both_fit size (offset + len) v.usable p.0 in
     omega (arith, fits, ap (λ (d : Cell). length d.local) p.1, length-take here (drop (offset + before) v.bytes))
 

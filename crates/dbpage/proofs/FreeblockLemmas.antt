@@ -1,10 +1,10 @@
 -- The freeblocks of a page, one after another.
-use Rattle.std.proofs.Common.{◌≡◌, ℕ, zero, suc, ◌+◌, ◌*◌, ◌<◌, ◌≤◌, Bool, true, false, if◌then◌else◌, List, [], ◌∷◌, ◌++◌, length, take, Some, None, refl, sym, subst, ap, ◌∙◌, arith, length-append}
-use Rattle.std.specs.Prelude.{sum_by, ◌==◌}
-use Rattle.std.proofs.lemmas.List.{append-nil, append_assoc, take_at, length_push, length-take-le}
+use Rattle.std.proofs.Common.{◌≡◌, ℕ, zero, suc, ◌+◌, ◌*◌, ◌<◌, ◌≤◌, Bool, true, false, List, [], ◌∷◌, ◌++◌, length, take, refl, sym, subst, ap, ◌∙◌, arith, length-append}
+use Rattle.std.specs.Prelude.{sum_by}
+use Rattle.std.proofs.lemmas.List.{append_assoc, take_at, length_push, length-take-le}
 use Rattle.std.proofs.lemmas.List.Sums.{sum_by-cons}
 use Rattle.dbformat.specs.Head.{View, content_start, first_freeblock, fragmented_bytes}
-use Rattle.dbformat.specs.Coverage.{Span, freeblocks, freeblocks_from, freeblock_at, next_freeblock, is_good_freeblock, offset_behind, bad_freeblock, unused}
+use Rattle.dbformat.specs.Coverage.{Span, freeblocks, freeblocks_from, freeblock_at, next_freeblock, is_good_freeblock, offset_behind, unused}
 use Rattle.dbpage.specs.Freeblocks.{IsPlace}
 use Rattle.dbformat.proofs.Freeblocks.{good_parts, good_ends, none_past_end, from_good, from_bad}
 
@@ -115,14 +115,6 @@ module _ (v : View) (number end offset : ℕ) (place : IsPlace v number end offs
         behind = ap (offset_behind v) taken ∙ offset_behind_push v done (freeblock_at v offset);
         few = omega (arith, one_more good);
       }
-
-  -- at its end it stands at the first that is not good, or behind the last
-  pub bad_at_end : freeblocks_from v.usable v end offset ≡ [] → bad_freeblock v ≡ (if offset == 0 then None else Some (number, offset))
-  bad_at_end ended =
-      let all : take number (freeblocks v) ≡ freeblocks v = sym (append-nil done) ∙ ap (λ (fs : List Span). done ++ fs) (sym ended) ∙ place.whole in
-      let at : offset_behind v (freeblocks v) ≡ offset = ap (offset_behind v) (sym all) ∙ place.behind in
-      let len : length (freeblocks v) ≡ number = ap length (sym all) ∙ count_taken in
-      rw (at, len) refl
 
 pub place_at : (v : View) (n e o e' o' : ℕ) → IsPlace v n e o → e ≡ e' → o ≡ o' → IsPlace v n e' o'
 place_at v n e o e' o' place p q = subst (λ (b : ℕ). IsPlace v n e' b) q (subst (λ (a : ℕ). IsPlace v n a o) p place)

@@ -5,12 +5,12 @@ use Rattle.std.proofs.lemmas.List.FromFn.{length-map-range_with_len, take-map-ra
 use Rattle.dbformat.specs.Head.{View, content_start, first_freeblock}
 use Rattle.dbformat.specs.Cell.{Cell, cell, cell_pointer, count}
 use Rattle.dbformat.specs.Coverage.{Span, held_by, items, freeblocks, freeblocks_from, freeblock_at, next_freeblock, is_good_freeblock, first_overlap}
-use Rattle.dbpage.specs.Marking.{is_marked, AreMarked, HasMarked, Holds, HoldsNothing, Marks, cells_upto, cell_items}
+use Rattle.dbpage.specs.Marking.{is_claimed, AreMarked, HasMarked, Holds, HoldsNothing, Marks, cells_upto, cell_spans}
 use Rattle.dbformat.proofs.Freeblocks.{good_parts, from_good, from_bad}
 use Rattle.dbpage.proofs.FreeblockLemmas.{length-freeblocks}
 use Rattle.dbpage.proofs.CellLemmas.{cell_within, offset-held_by}
 use Rattle.dbpage.proofs.Unheld.{none_held}
-use Rattle.dbpage.proofs.Overlaps.{AreMarked_push, AreMarked_push_empty, first_overlap_at}
+use Rattle.dbpage.proofs.Overlaps.{no_span, AreMarked_push, AreMarked_push_empty, first_overlap_at}
 
 abbrev item : View → ℕ → Span
 item v i = held_by v i (cell v i)
@@ -24,14 +24,11 @@ cells_upto_more v n = map-range_with_len_more (item v) 0 n n (omega arith)
 pub length-cells_upto : (v : View) (n : ℕ) → length (cells_upto v n) ≡ n
 length-cells_upto v n = length-map-range_with_len (item v) 0 n
 
-abbrev pub no_span : Span
-no_span = record { offset = 0; len = 0 }
-
 -- the items are those of the cells before one, its own, and others
 pub items_at : (v : View) (i : ℕ) → i < count v → (rest : List Span) × (items v ≡ cells_upto v i ++ item v i ∷ rest)
 unfolding items
 items_at v i h =
-    let all = cell_items v in
+    let all = cell_spans v in
     let rest = drop (i + 1) all in
     let front : take i all ≡ cells_upto v i = take-map-range_with_len (item v) 0 (count v) i (omega arith) in
     let back : drop i all ≡ item v i ∷ rest =
@@ -51,7 +48,7 @@ Holds-from_read v i c offset len readable place size =
     span : ℕ → ℕ → Span
     span o l = record { offset = o; len = l }
 
-pub AreMarked_none : (v : View) (table : List ℕ) → ((byte : ℕ) → byte < v.usable → is_marked table byte ≡ false)
+pub AreMarked_none : (v : View) (table : List ℕ) → ((byte : ℕ) → byte < v.usable → is_claimed table byte ≡ false)
     → AreMarked [] (start_of v) v.usable table 0
 AreMarked_none v table free = record { marked = λ byte from below. free byte below; apart = λ k none. absurd (omega arith); counted = omega (arith, none_held (start_of v) (v.usable - start_of v)) }
 
@@ -110,27 +107,27 @@ unfolding freeblocks
 freeblock_inside v done rest f h = inside_from v.usable v 0 (first_freeblock v.number v.bytes) done rest f h
 
 -- behind the marked cells, some freeblocks are marked, and others follow
-module _ (v : View) (done rest : List Span) (f : Span) (table : List ℕ) (held : ℕ) (was : AreMarked (cell_items v ++ done) (start_of v) v.usable table held) (whole : done ++ f ∷ rest ≡ freeblocks v) where
-  pub freeblock_marked : (new : List ℕ) → Marks table f.offset (f.offset + f.len) new → AreMarked (cell_items v ++ (done ++ f ∷ [])) (start_of v) v.usable new (held + f.len)
+module _ (v : View) (done rest : List Span) (f : Span) (table : List ℕ) (held : ℕ) (was : AreMarked (cell_spans v ++ done) (start_of v) v.usable table held) (whole : done ++ f ∷ rest ≡ freeblocks v) where
+  pub freeblock_marked : (new : List ℕ) → Marks table f.offset (f.offset + f.len) new → AreMarked (cell_spans v ++ (done ++ f ∷ [])) (start_of v) v.usable new (held + f.len)
   freeblock_marked new marks =
       let inside = freeblock_inside v done rest f whole in
-      subst (λ (spans : List Span). AreMarked spans (start_of v) v.usable new (held + f.len)) (append_assoc (cell_items v) done (f ∷ []))
-      (AreMarked_push (cell_items v ++ done) f (start_of v) v.usable table held was new inside.0 inside.1 marks)
+      subst (λ (spans : List Span). AreMarked spans (start_of v) v.usable new (held + f.len)) (append_assoc (cell_spans v) done (f ∷ []))
+      (AreMarked_push (cell_spans v ++ done) f (start_of v) v.usable table held was new inside.0 inside.1 marks)
 
   pub freeblock_overlaps : HasMarked table f.offset (f.offset + f.len) → first_overlap (items v) ≡ Some (count v + length done)
   unfolding items
   freeblock_overlaps hit =
       let inside = freeblock_inside v done rest f whole in
-      let all : items v ≡ (cell_items v ++ done) ++ f ∷ rest = ap (λ (fs : List Span). cell_items v ++ fs) (sym whole) ∙ sym (append_assoc (cell_items v) done (f ∷ rest)) in
-      let len : length (cell_items v ++ done) ≡ count v + length done = omega (arith, length-append (cell_items v) done, length-cells_upto v (count v)) in
+      let all : items v ≡ (cell_spans v ++ done) ++ f ∷ rest = ap (λ (fs : List Span). cell_spans v ++ fs) (sym whole) ∙ sym (append_assoc (cell_spans v) done (f ∷ rest)) in
+      let len : length (cell_spans v ++ done) ≡ count v + length done = omega (arith, length-append (cell_spans v) done, length-cells_upto v (count v)) in
       ap first_overlap all
-      ∙ first_overlap_at (cell_items v ++ done) f (start_of v) v.usable table held was rest inside.0 inside.1 hit
+      ∙ first_overlap_at (cell_spans v ++ done) f (start_of v) v.usable table held was rest inside.0 inside.1 hit
       ∙ ap (λ (n : ℕ). Some n) len
 
-pub all_marked : (v : View) (done : List Span) (table : List ℕ) (held : ℕ) → AreMarked (cell_items v ++ done) (start_of v) v.usable table held → done ≡ freeblocks v
+pub all_marked : (v : View) (done : List Span) (table : List ℕ) (held : ℕ) → AreMarked (cell_spans v ++ done) (start_of v) v.usable table held → done ≡ freeblocks v
     → AreMarked (items v) (start_of v) v.usable table held
 unfolding items
-all_marked v done table held was whole = subst (λ (fs : List Span). AreMarked (cell_items v ++ fs) (start_of v) v.usable table held) whole was
+all_marked v done table held was whole = subst (λ (fs : List Span). AreMarked (cell_spans v ++ fs) (start_of v) v.usable table held) whole was
 
 -- the next freeblock of a walk stands behind those that came
 pub next_whole : (v : View) (done left rest : List Span) (f g : Span) → done ++ left ≡ freeblocks v → left ≡ f ∷ rest → g ≡ f → done ++ g ∷ rest ≡ freeblocks v
@@ -144,10 +141,10 @@ count_done v done rest f whole = omega (arith, ap length whole, length-append do
 pub offset_of_cell : (v : View) (k : ℕ) → k < count v → (get_or (items v) k no_span).offset ≡ cell_pointer v k
 unfolding items
 offset_of_cell v k h =
-    let front = get_or_append_left (cell_items v) (freeblocks v) no_span k (omega (arith, length-cells_upto v (count v))) in
+    let front = get_or_append_left (cell_spans v) (freeblocks v) no_span k (omega (arith, length-cells_upto v (count v))) in
     let at = get_or-map-range_with_len (item v) 0 (count v) k k no_span h (omega arith) in
     ap (λ (s : Span). s.offset) (front ∙ at) ∙ offset-held_by v k
 
 pub offset_of_freeblock : (v : View) (k : ℕ) → count v ≤ k → get_or (items v) k no_span ≡ get_or (freeblocks v) (k - count v) no_span
 unfolding items
-offset_of_freeblock v k h = get_or-append_right (cell_items v) (freeblocks v) (count v) k no_span (length-cells_upto v (count v)) h
+offset_of_freeblock v k h = get_or-append_right (cell_spans v) (freeblocks v) (count v) k no_span (length-cells_upto v (count v)) h

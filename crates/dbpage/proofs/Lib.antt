@@ -5,6 +5,6 @@ pub mod Lanes
 pub mod Overlaps
 pub mod PackedLemmas
 pub mod Ranges
-pub mod Rows
+pub mod Runs
 pub mod Tables
 pub mod Unheld

@@ -8,11 +8,12 @@ use Rattle.std.proofs.lemmas.List.Folds.{list_any-append}
 use Rattle.dbformat.specs.Head.{View, content_start}
 use Rattle.dbformat.specs.Coverage.{Span, coverage, coverage_of, first_overlap, is_held, is_overlapping, items, unheld}
 use Rattle.dbformat.specs.declared.Coverage.TheVariants.{Unheld}
-use Rattle.dbpage.specs.Marking.{is_marked, is_within, Marks, HasMarked, AreApart, AreMarked}
+use Rattle.dbpage.specs.Marking.{is_claimed, is_within, Marks, HasMarked, ShareNoByte, AreMarked}
 use Rattle.dbpage.proofs.Ranges.{find_first, find_none, any_at, any_none}
+use Rattle.dbpage.proofs.Tables.{outside}
 use Rattle.dbpage.proofs.Unheld.{PassMore, fewer_fail}
 
-abbrev no_span : Span
+abbrev pub no_span : Span
 no_span = record { offset = 0; len = 0 }
 
 -- an item before others stays apart or overlapping
@@ -46,20 +47,17 @@ is_held_outside spans s byte h = is_held_push spans s byte ∙ ap (λ b. is_held
 within : (from to byte : ℕ) → from ≤ byte → byte < to → is_within from to byte ≡ true
 within from to byte low high = grind (arith, nat_tests)
 
-outside : (from to byte : ℕ) → (byte < from) ⊎ (to ≤ byte) → is_within from to byte ≡ false
-outside from to byte h = grind (arith, nat_tests)
-
 from_within : (from to byte : ℕ) → is_within from to byte ≡ true → (from ≤ byte) × (byte < to)
 from_within from to byte h = (grind (arith, nat_tests), grind (arith, nat_tests))
 
 -- an item apart from those before it
 module _ (spans : List Span) (s : Span) (free : (byte : ℕ) → s.offset ≤ byte → byte < s.offset + s.len → is_held spans byte ≡ false) where
   pass_more : PassMore (is_held spans) (is_held (spans ++ s ∷ [])) s.offset (s.offset + s.len)
-  pass_more = record {
-    before = free;
-    now = λ byte from below. is_held_inside spans s byte (within s.offset (s.offset + s.len) byte from below);
-    others = λ byte h. is_held_outside spans s byte (outside s.offset (s.offset + s.len) byte h);
-  }
+  pass_more = (
+    free,
+    (λ byte from below. is_held_inside spans s byte (within s.offset (s.offset + s.len) byte from below)),
+    (λ byte h. is_held_outside spans s byte (outside s.offset (s.offset + s.len) byte h)),
+  )
 
   stay_apart : ((k : ℕ) → k < length spans → is_overlapping spans k ≡ false) → (k : ℕ) → k < length (spans ++ s ∷ []) → is_overlapping (spans ++ s ∷ []) k ≡ false
   stay_apart apart k h =
@@ -71,14 +69,14 @@ module _ (spans : List Span) (s : Span) (free : (byte : ℕ) → s.offset ≤ by
             (is_overlapping_at spans s [] ∙ any_none (is_held spans) s.offset s.len free)
       ]
 
-  pub AreApart_push : (start end held : ℕ) → AreApart spans start end held → start ≤ s.offset → s.offset + s.len ≤ end → AreApart (spans ++ s ∷ []) start end (held + s.len)
-  AreApart_push start end held was low high =
+  pub ShareNoByte_push : (start end held : ℕ) → ShareNoByte spans start end held → start ≤ s.offset → s.offset + s.len ≤ end → ShareNoByte (spans ++ s ∷ []) start end (held + s.len)
+  ShareNoByte_push start end held was low high =
       let fewer = fewer_fail (is_held spans) (is_held (spans ++ s ∷ [])) s.offset (s.offset + s.len) start (end - start) pass_more in
       record { apart = stay_apart was.apart; counted = omega (arith, fewer, was.counted) }
 
 module _ (spans : List Span) (s : Span) (start end : ℕ) (table : List ℕ) (held : ℕ) (was : AreMarked spans start end table held) where
   -- an item whose bytes are free is apart from those before it
-  pub apart_from : start ≤ s.offset → s.offset + s.len ≤ end → ((byte : ℕ) → s.offset ≤ byte → byte < s.offset + s.len → is_marked table byte ≡ false)
+  pub apart_from : start ≤ s.offset → s.offset + s.len ≤ end → ((byte : ℕ) → s.offset ≤ byte → byte < s.offset + s.len → is_claimed table byte ≡ false)
       → (byte : ℕ) → s.offset ≤ byte → byte < s.offset + s.len → is_held spans byte ≡ false
   apart_from low high free byte from below = sym (was.marked byte (omega arith) (omega arith)) ∙ free byte from below
 
@@ -94,7 +92,7 @@ module _ (spans : List Span) (s : Span) (start end : ℕ) (table : List ℕ) (he
         counted = omega (arith, fewer, was.counted);
       }
     where
-      by_case : (byte : ℕ) → start ≤ byte → byte < end → (b : Bool) → holds s byte ≡ b → is_marked new byte ≡ is_held (spans ++ s ∷ []) byte
+      by_case : (byte : ℕ) → start ≤ byte → byte < end → (b : Bool) → holds s byte ≡ b → is_claimed new byte ≡ is_held (spans ++ s ∷ []) byte
       by_case byte from below true h =
           let in_s = from_within s.offset (s.offset + s.len) byte h in
           marks.are_marked byte in_s.0 in_s.1 ∙ sym (is_held_inside spans s byte h)
@@ -120,17 +118,17 @@ module _ (spans : List Span) (s : Span) (start end : ℕ) (table : List ℕ) (he
       (is_overlapping_at spans s rest ∙ any_at (is_held spans) s.offset s.len hit.byte hit.from_on hit.below
       (sym (was.marked hit.byte (omega (arith, hit.from_on)) (omega (arith, hit.below))) ∙ hit.marked))
 
-pub no_overlap : (spans : List Span) (start end held : ℕ) → AreApart spans start end held → first_overlap spans ≡ None
+pub no_overlap : (spans : List Span) (start end held : ℕ) → ShareNoByte spans start end held → first_overlap spans ≡ None
 no_overlap spans start end held are = find_none (is_overlapping spans) 0 (length spans) (λ k l h. are.apart k (omega arith))
 
-pub AreApart-from_marked : (spans : List Span) (start end : ℕ) (table : List ℕ) (held : ℕ) → AreMarked spans start end table held → AreApart spans start end held
-AreApart-from_marked spans start end table held are = record { apart = are.apart; counted = are.counted }
+pub ShareNoByte-from_marked : (spans : List Span) (start end : ℕ) (table : List ℕ) (held : ℕ) → AreMarked spans start end table held → ShareNoByte spans start end held
+ShareNoByte-from_marked spans start end table held are = record { apart = are.apart; counted = are.counted }
 
 pub first_overlap_none : (spans : List Span) (start end : ℕ) (table : List ℕ) (held : ℕ) → AreMarked spans start end table held → first_overlap spans ≡ None
-first_overlap_none spans start end table held are = no_overlap spans start end held (AreApart-from_marked spans start end table held are)
+first_overlap_none spans start end table held are = no_overlap spans start end held (ShareNoByte-from_marked spans start end table held are)
 
 -- the coverage of a page whose items are apart
-pub coverage-from_apart : (v : View) (held : ℕ) → AreApart (items v) (content_start v.number v.bytes) v.usable held
+pub coverage-from_apart : (v : View) (held : ℕ) → ShareNoByte (items v) (content_start v.number v.bytes) v.usable held
     → coverage v ≡ Unheld (v.usable - content_start v.number v.bytes - held)
 unfolding coverage
 coverage-from_apart v held are =

@@ -1,5 +1,5 @@
 -- The cells of a packed page, one after another.
-use Rattle.std.proofs.Common.{◌≡◌, ℕ, zero, suc, true, Err, ◌+◌, ◌-◌, ◌<◌, ◌≤◌, max, inl, inr, false, List, [], ◌∷◌, ◌++◌, ◌||◌, Bool, length, map, Option, Some, None, Ok, ℤ, refl, sym, subst, ap, ◌∙◌, arith}
+use Rattle.std.proofs.Common.{◌≡◌, ℕ, zero, suc, true, Err, ◌+◌, ◌<◌, ◌≤◌, max, inl, inr, false, List, [], ◌∷◌, ◌++◌, ◌||◌, Bool, length, map, Option, Some, None, Ok, ℤ, refl, sym, subst, ap, ◌∙◌, arith}
 use Rattle.std.specs.Prelude.{fold, filter_map, option_map, is_some, IsOk, MatchBool, ◌<ℤ◌}
 use Rattle.std.specs.List.{range_with_len}
 use Rattle.std.specs.Result.{result_ok}
@@ -8,16 +8,19 @@ use Rattle.std.proofs.lemmas.List.{map-append}
 use Rattle.std.proofs.lemmas.List.FromFn.{map-range_with_len_more}
 use Rattle.std.proofs.lemmas.List.Sums.{sum_by-append, fold-append}
 use Rattle.std.proofs.lemmas.List.Elements.{filter_map-append}
-use Rattle.dbformat.specs.Head.{View, content_start}
-use Rattle.dbformat.specs.Cell.{Cell, cell, cells, count}
+use Rattle.dbformat.specs.Head.{View}
+use Rattle.dbformat.specs.Cell.{Cell, cell, count}
 use Rattle.dbformat.specs.Coverage.{coverage, coverage_of, first_overlap, items}
 use Rattle.dbformat.specs.declared.CellFault.{CellFault}
 use Rattle.dbformat.specs.declared.Coverage.TheVariants.{Overlap, Unheld}
-use Rattle.dbpage.specs.Packed.{first_cells, payload_of, greatest_of, AreRead, HasOverflow, IsRising, IsWhole, IsPacked, IsUnpacked, key_at}
-use Rattle.dbpage.specs.Marking.{AreApart}
-use Rattle.dbpage.proofs.Overlaps.{coverage-from_apart}
+use Rattle.dbpage.specs.Packed.{first_cells, payload_of, greatest_of, AddUpTo, HasOverflow, IsAbove, IsAllLocal, IsUnpacked, key_at}
+use Rattle.dbpage.specs.declared.packed.CellSums.{CellSums}
 
-pub none_read : (v : View) → AreRead v 0 0 0 None None false
+-- of no cell
+abbrev pub no_sums : CellSums
+no_sums = record { payload = 0; greatest = 0; first = None; last = None; has_overflow = false }
+
+pub none_read : (v : View) → AddUpTo v 0 no_sums
 none_read v = record {
   readable = λ i h. absurd (omega arith);
   rising = λ i a b h p q. absurd (omega arith);
@@ -52,11 +55,11 @@ first_cells_more v n c readable =
     one : (take : ℕ → Option (ℕ × Cell)) → take n ≡ Some (n, c) → filter_map take (n ∷ []) ≡ (n, c) ∷ []
     one take h = rw h refl
 
-module _ (v : View) (n payload greatest : ℕ) (first last : Option ℤ) (overflow : Bool) (was : AreRead v n payload greatest first last overflow) where
-  pub one_more_read : (c : Cell) → cell v n ≡ Ok c → length c.local ≤ 65536 → ((a b : ℤ) → last ≡ Some a → c.key ≡ Some b → a <ℤ b)
-      → (now : Option ℤ) → (n ≡ 0 → now ≡ c.key) → (0 < n → now ≡ first)
-      → AreRead v (n + 1) (payload + length c.local) (max greatest c.size) now c.key (overflow || is_some c.overflow)
-  one_more_read c readable fits greater now at_first later =
+module _ (v : View) (n : ℕ) (sums : CellSums) (was : AddUpTo v n sums) where
+  pub one_more_read : (c : Cell) → cell v n ≡ Ok c → length c.local ≤ 65536 → IsAbove sums.last c.key
+      → (now : CellSums) → now.payload ≡ sums.payload + length c.local → now.greatest ≡ max sums.greatest c.size → (n ≡ 0 → now.first ≡ c.key) → (0 < n → now.first ≡ sums.first)
+      → now.last ≡ c.key → now.has_overflow ≡ (sums.has_overflow || is_some c.overflow) → AddUpTo v (n + 1) now
+  one_more_read c readable fits greater now payload greatest at_first later last overflow =
       let all = first_cells_more v n c readable in
       let key : key_at v n ≡ c.key = rw readable refl in
       record {
@@ -72,12 +75,12 @@ module _ (v : View) (n payload greatest : ℕ) (first last : Option ℤ) (overfl
           | inl some ↦ was.first_is some ∙ sym (later some)
           | inr none ↦ ap (key_at v) (first_at none) ∙ key ∙ sym (at_first (omega arith))
         ];
-        last_is = λ i h. ap (key_at v) (at_is i h) ∙ key;
+        last_is = λ i h. ap (key_at v) (at_is i h) ∙ key ∙ sym last;
         empty = λ h. absurd (omega (arith, h));
-        payload_is = omega (arith, was.payload_is, ap payload_of all, sum_by-append (λ (i, c). length c.local) (first_cells v n) ((n, c) ∷ []));
-        greatest_is = greatest_more all;
-        overflow_is = overflow_more overflow was.overflow_is c.overflow refl;
-        few = omega (arith, was.few);
+        payload_is = omega (arith, payload, was.payload_is, ap payload_of all, sum_by-append (λ (i, c). length c.local) (first_cells v n) ((n, c) ∷ []));
+        greatest_is = greatest ∙ greatest_more all;
+        overflow_is = subst (λ b. MatchBool b (HasOverflow v (n + 1)) ((i : ℕ) → i < n + 1 → IsAllLocal v i)) (sym overflow) (overflow_more sums.has_overflow was.overflow_is c.overflow refl);
+        few = omega (arith, payload, was.few);
       }
     where
       n_is : (i : ℕ) → i < n + 1 → n ≤ i → n ≡ i
@@ -92,47 +95,24 @@ module _ (v : View) (n payload greatest : ℕ) (first last : Option ℤ) (overfl
       at_is : (i : ℕ) → i + 1 ≡ n + 1 → i ≡ n
       at_is i h = omega arith
 
-      overflow_more : (b : Bool) → MatchBool b (HasOverflow v n) ((i : ℕ) → i < n → IsWhole v i) → (o : Option ℕ) → c.overflow ≡ o
-          → MatchBool (b || is_some o) (HasOverflow v (n + 1)) ((i : ℕ) → i < n + 1 → IsWhole v i)
+      overflow_more : (b : Bool) → MatchBool b (HasOverflow v n) ((i : ℕ) → i < n → IsAllLocal v i) → (o : Option ℕ) → c.overflow ≡ o
+          → MatchBool (b || is_some o) (HasOverflow v (n + 1)) ((i : ℕ) → i < n + 1 → IsAllLocal v i)
       overflow_more true has o e = record { place = has.place; within = omega (arith, has.within); found = has.found; readable = has.readable; some = has.some }
       overflow_more false whole (Some p) e = record { place = n; within = omega arith; found = c; readable = readable; some = ap is_some e }
       overflow_more false whole None e = λ i h. elim (cases_lt i n) [
         | inl before ↦ whole i before
-        | inr same ↦ subst (λ (k : ℕ). IsWhole v k) (n_is i h same) (record { whole = c; readable = readable; here = e })
+        | inr same ↦ subst (λ (k : ℕ). IsAllLocal v k) (n_is i h same) (record { whole = c; readable = readable; here = e })
       ]
 
-      greatest_more : first_cells v (n + 1) ≡ first_cells v n ++ (n, c) ∷ [] → max greatest c.size ≡ greatest_of (first_cells v (n + 1))
+      greatest_more : first_cells v (n + 1) ≡ first_cells v n ++ (n, c) ∷ [] → max sums.greatest c.size ≡ greatest_of (first_cells v (n + 1))
       greatest_more all =
           let size : ℕ × Cell → ℕ = λ (i, c). c.size in
           ap (λ (g : ℕ). max g c.size) was.greatest_is
           ∙ sym (ap greatest_of all ∙ ap (fold max 0) (map-append size (first_cells v n) ((n, c) ∷ [])) ∙ fold-append max 0 (map size (first_cells v n)) (c.size ∷ []))
 
-pub read_as : {v : View} {n payload greatest payload' greatest' : ℕ} {first first' last last' : Option ℤ} {overflow overflow' : Bool}
-    → AreRead v n payload greatest first last overflow → payload' ≡ payload → greatest' ≡ greatest → first' ≡ first → last' ≡ last → overflow' ≡ overflow → AreRead v n payload' greatest' first' last' overflow'
-read_as {v} {n} {payload} {greatest} {payload'} {greatest'} {first} {first'} {last} {last'} {overflow} {overflow'} are p g f l o =
-    subst (λ (a : ℕ). AreRead v n a greatest' first' last' overflow') (sym p) (subst (λ (a : ℕ). AreRead v n payload a first' last' overflow') (sym g)
-    (subst (λ (a : Option ℤ). AreRead v n payload greatest a last' overflow') (sym f) (subst (λ (a : Option ℤ). AreRead v n payload greatest first a overflow') (sym l)
-    (subst (λ (a : Bool). AreRead v n payload greatest first last a) (sym o) are))))
-
--- where all cells were read, and all items are apart
-pub all_packed : (v : View) (payload greatest held : ℕ) (first last : Option ℤ) (overflow : Bool) → AreRead v (count v) payload greatest first last overflow
-    → AreApart (items v) (content_start v.number v.bytes) v.usable held → IsPacked v payload greatest (v.usable - content_start v.number v.bytes - held) first last overflow
-unfolding cells
-all_packed v payload greatest held first last overflow read apart = record {
-  readable = read.readable;
-  rising = read.rising;
-  payload_is = read.payload_is;
-  greatest_is = read.greatest_is;
-  coverage_is = coverage-from_apart v held apart;
-  first_is = read.first_is;
-  last_is = read.last_is;
-  empty = read.empty;
-  overflow_is = read.overflow_is;
-}
-
 -- a cell that is not readable
 pub unpacked_at_unreadable : (v : View) (i : ℕ) (e : CellFault) → i < count v → cell v i ≡ Err e → IsUnpacked v
-unpacked_at_unreadable v i e within h payload greatest unheld first last overflow all = not_ok (all.readable i within)
+unpacked_at_unreadable v i e within h p all = not_ok (all.read.readable i within)
   where
     not_ok : IsOk (cell v i) → ⊥
     not_ok p = cc
@@ -141,22 +121,21 @@ some_is_none : (a : ℤ) → Some a ≡ None → ⊥
 some_is_none a h = cc
 
 -- or one whose key does not rise
-pub unpacked_at_key : (v : View) (i payload greatest : ℕ) (first last : Option ℤ) (overflow : Bool) (c : Cell) → AreRead v i payload greatest first last overflow → i < count v → cell v i ≡ Ok c
-    → (IsRising last c.key → ⊥) → IsUnpacked v
-unpacked_at_key v i payload greatest first last overflow c was within readable falls payload' greatest' unheld first' last' overflow' all =
+pub unpacked_at_key : (v : View) (i : ℕ) (sums : CellSums) (c : Cell) → AddUpTo v i sums → i < count v → cell v i ≡ Ok c → (IsAbove sums.last c.key → ⊥) → IsUnpacked v
+unpacked_at_key v i sums c was within readable falls page all =
     falls (λ a b p q. rises i refl a b p q)
   where
-    rises : (n : ℕ) → n ≡ i → (a b : ℤ) → last ≡ Some a → c.key ≡ Some b → a <ℤ b
+    rises : (n : ℕ) → n ≡ i → (a b : ℤ) → sums.last ≡ Some a → c.key ≡ Some b → a <ℤ b
     rises zero h a b p q = absurd (some_is_none a (sym p ∙ (was.empty (sym h)).1))
     rises (suc n) h a b p q =
         let at : n + 1 ≡ i = omega arith in
         let key : key_at v i ≡ c.key = rw readable refl in
-        all.rising n a b (omega arith) (was.last_is n at ∙ p) (ap (key_at v) at ∙ key ∙ q)
+        all.read.rising n a b (omega arith) (was.last_is n at ∙ p) (ap (key_at v) at ∙ key ∙ q)
 
 -- or an item that overlaps
 pub unpacked_at_overlap : (v : View) (k : ℕ) → first_overlap (items v) ≡ Some k → IsUnpacked v
 unfolding coverage
-unpacked_at_overlap v k h payload greatest unheld first last overflow all = not_both unheld (sym (ap (coverage_of v) h) ∙ all.coverage_is)
+unpacked_at_overlap v k h page all = not_both page.unheld (sym (ap (coverage_of v) h) ∙ all.coverage_is)
   where
     not_both : (unheld : ℕ) → Overlap k ≡ Unheld unheld → ⊥
     not_both unheld h = cc

@@ -42,7 +42,7 @@ unset_is n h = grind (arith, nat_tests)
 pub set_is : (n : ℕ) → 0 < n → not (n == 0) ≡ true
 set_is n h = grind (arith, nat_tests)
 
-outside : (from to byte : ℕ) → (byte < from) ⊎ (to ≤ byte) → is_within from to byte ≡ false
+pub outside : (from to byte : ℕ) → (byte < from) ⊎ (to ≤ byte) → is_within from to byte ≡ false
 outside from to byte h = grind (arith, nat_tests)
 
 -- a byte that is not within a range is below or above it

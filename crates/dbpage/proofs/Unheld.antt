@@ -6,10 +6,9 @@ use Rattle.std.proofs.lemmas.Bool.{cases_lt}
 use Rattle.std.proofs.lemmas.List.Sums.{sum_by-cons}
 
 -- the numbers from f up to e pass now, and did not before; the others answer as before
-pub record PassMore (old new : ℕ → Bool) (f e : ℕ) : Type 0 where
-  pub before : (k : ℕ) → f ≤ k → k < e → old k ≡ false
-  pub now : (k : ℕ) → f ≤ k → k < e → new k ≡ true
-  pub others : (k : ℕ) → (k < f) ⊎ (e ≤ k) → new k ≡ old k
+abbrev pub PassMore : (ℕ → Bool) → (ℕ → Bool) → ℕ → ℕ → Type 0
+PassMore old new f e =
+    ((k : ℕ) → f ≤ k → k < e → old k ≡ false) × ((k : ℕ) → f ≤ k → k < e → new k ≡ true) × ((k : ℕ) → (k < f) ⊎ (e ≤ k) → new k ≡ old k)
 
 abbrev one_unless : Bool → ℕ
 one_unless b = cond (not b) 1 0
@@ -25,10 +24,10 @@ fewer_fail old new f e a (suc n) h =
     let was = count_by-cons old a (range_with_len (a + 1) n) in
     let rest = fewer_fail old new f e (a + 1) n h in
     elim (cases_lt a f) [
-      | inl below ↦ omega (arith, now, was, rest, ap one_unless (h.others a (inl below)))
+      | inl below ↦ omega (arith, now, was, rest, ap one_unless (h.2 a (inl below)))
       | inr from ↦ elim (cases_lt a e) [
-        | inl within ↦ omega (arith, now, was, rest, ap one_unless (h.before a from within), ap one_unless (h.now a from within))
-        | inr past ↦ omega (arith, now, was, rest, ap one_unless (h.others a (inr past)))
+        | inl within ↦ omega (arith, now, was, rest, ap one_unless (h.0 a from within), ap one_unless (h.1 a from within))
+        | inr past ↦ omega (arith, now, was, rest, ap one_unless (h.2 a (inr past)))
       ]
     ]
 

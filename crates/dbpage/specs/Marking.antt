@@ -11,8 +11,8 @@ abbrev pub mark_bit : List ℕ → ℕ → ℕ
 mark_bit table byte = bit_at (slice_index table (byte / 8)) (byte % 8)
 
 -- whether the byte is marked
-abbrev pub is_marked : List ℕ → ℕ → Bool
-is_marked table byte = not (mark_bit table byte == 0)
+abbrev pub is_claimed : List ℕ → ℕ → Bool
+is_claimed table byte = not (mark_bit table byte == 0)
 
 -- whether the byte is one of these
 abbrev pub is_within : ℕ → ℕ → ℕ → Bool
@@ -20,16 +20,16 @@ is_within from to byte = nat_le from byte && nat_lt byte to
 
 -- the bytes from one offset up to another were free and are marked now, and no other byte has changed
 pub record Marks (old : List ℕ) (from to : ℕ) (new : List ℕ) : Type 0 where
-  pub were_free : (byte : ℕ) → from ≤ byte → byte < to → is_marked old byte ≡ false
-  pub are_marked : (byte : ℕ) → from ≤ byte → byte < to → is_marked new byte ≡ true
-  pub others : (byte : ℕ) → is_within from to byte ≡ false → is_marked new byte ≡ is_marked old byte
+  pub were_free : (byte : ℕ) → from ≤ byte → byte < to → is_claimed old byte ≡ false
+  pub are_marked : (byte : ℕ) → from ≤ byte → byte < to → is_claimed new byte ≡ true
+  pub others : (byte : ℕ) → is_within from to byte ≡ false → is_claimed new byte ≡ is_claimed old byte
 
 -- one of the bytes is marked
 pub record HasMarked (table : List ℕ) (from to : ℕ) : Type 0 where
   pub byte : ℕ
   pub from_on : from ≤ byte
   pub below : byte < to
-  pub marked : is_marked table byte ≡ true
+  pub marked : is_claimed table byte ≡ true
 
 -- one of these bytes of a table has marks
 pub record HasByte (table : List ℕ) (from to : ℕ) : Type 0 where
@@ -44,13 +44,13 @@ abbrev pub unheld_by : List Span → ℕ → ℕ → ℕ
 unheld_by spans start end = count_by (λ byte. not (is_held spans byte)) (range_with_len start (end - start))
 
 -- no two spans share a byte, and they hold so many of the bytes from start up to end
-pub record AreApart (spans : List Span) (start end held : ℕ) : Type 0 where
+pub record ShareNoByte (spans : List Span) (start end held : ℕ) : Type 0 where
   pub apart : (k : ℕ) → k < length spans → is_overlapping spans k ≡ false
   pub counted : held + unheld_by spans start end ≡ end - start
 
 -- the marked bytes of a content area are those that the spans hold, `held` in all, and no two spans share a byte
 pub record AreMarked (spans : List Span) (start end : ℕ) (table : List ℕ) (held : ℕ) : Type 0 where
-  pub marked : (byte : ℕ) → start ≤ byte → byte < end → is_marked table byte ≡ is_held spans byte
+  pub marked : (byte : ℕ) → start ≤ byte → byte < end → is_claimed table byte ≡ is_held spans byte
   pub apart : (k : ℕ) → k < length spans → is_overlapping spans k ≡ false
   pub counted : held + unheld_by spans start end ≡ end - start
 
@@ -64,8 +64,8 @@ abbrev pub cells_upto : View → ℕ → List Span
 cells_upto v n = map (λ i. held_by v i (cell v i)) (range_with_len 0 n)
 
 -- what all cells hold
-abbrev pub cell_items : View → List Span
-cell_items v = cells_upto v (count v)
+abbrev pub cell_spans : View → List Span
+cell_spans v = cells_upto v (count v)
 
 -- cell i is readable, and holds these bytes of the content area
 pub record Holds (v : View) (i offset len : ℕ) : Type 0 where

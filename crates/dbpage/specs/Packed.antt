@@ -1,11 +1,13 @@
 -- Packed pages: those of which one reading of the cells tells all.
-use Rattle.std.specs.Prelude.{◌≡◌, ℕ, ◌+◌, ◌*◌, ◌<◌, ◌≤◌, Bool, true, List, length, map, max, fold, filter_map, Option, Some, None, is_some, option_and_then, option_map, Ok, IsOk, ℤ, ◌<ℤ◌, sum_by, MatchBool}
+use Rattle.std.specs.Prelude.{◌≡◌, ℕ, ◌+◌, ◌*◌, ◌<◌, ◌≤◌, true, List, length, map, max, fold, filter_map, Option, Some, None, is_some, option_and_then, option_map, Ok, IsOk, ℤ, ◌<ℤ◌, sum_by, MatchBool}
 use Rattle.std.specs.List.{range_with_len}
 use Rattle.std.specs.Result.{result_ok}
 use Rattle.dbformat.specs.Head.{View}
 use Rattle.dbformat.specs.Cell.{Cell, cell, cells, count}
 use Rattle.dbformat.specs.Coverage.{coverage}
 use Rattle.dbformat.specs.declared.Coverage.TheVariants.{Unheld}
+use Rattle.dbpage.specs.declared.packed.CellSums.{CellSums}
+use Rattle.dbpage.specs.declared.packed.Packed.{Packed}
 
 -- the readable cells of the first n, each behind its number
 abbrev pub first_cells : View → ℕ → List (ℕ × Cell)
@@ -20,7 +22,7 @@ abbrev pub greatest_of : List (ℕ × Cell) → ℕ
 greatest_of cells = fold max 0 (map (λ (i, c). c.size) cells)
 
 -- cell i is readable, and has no overflow page
-pub record IsWhole (v : View) (i : ℕ) : Type 0 where
+pub record IsAllLocal (v : View) (i : ℕ) : Type 0 where
   pub whole : Cell
   pub readable : cell v i ≡ Ok whole
   pub here : whole.overflow ≡ None
@@ -38,37 +40,32 @@ abbrev pub key_at : View → ℕ → Option ℤ
 key_at v i = option_and_then (λ c. c.key) (result_ok (cell v i))
 
 -- the keys of the first n cells rise
-abbrev pub AreRising : View → ℕ → Type 0
-AreRising v n = (i : ℕ) (a b : ℤ) → i + 1 < n → key_at v i ≡ Some a → key_at v (i + 1) ≡ Some b → a <ℤ b
+abbrev pub HasRisingKeys : View → ℕ → Type 0
+HasRisingKeys v n = (i : ℕ) (a b : ℤ) → i + 1 < n → key_at v i ≡ Some a → key_at v (i + 1) ≡ Some b → a <ℤ b
 
 -- a key is greater than the last, as far as there are both
-abbrev pub IsRising : Option ℤ → Option ℤ → Type 0
-IsRising last key = (a b : ℤ) → last ≡ Some a → key ≡ Some b → a <ℤ b
+abbrev pub IsAbove : Option ℤ → Option ℤ → Type 0
+IsAbove last key = (a b : ℤ) → last ≡ Some a → key ≡ Some b → a <ℤ b
 
--- the first n cells are readable, and their keys rise; their numbers, the first and the last key, and whether one has an overflow page
-pub record AreRead (v : View) (n payload greatest : ℕ) (first last : Option ℤ) (overflow : Bool) : Type 0 where
+-- the first n cells are readable, and their keys rise; these are their sums
+pub record AddUpTo (v : View) (n : ℕ) (sums : CellSums) : Type 0 where
   pub readable : (i : ℕ) → i < n → IsOk (cell v i)
-  pub rising : AreRising v n
-  pub first_is : 0 < n → key_at v 0 ≡ first
-  pub last_is : (i : ℕ) → i + 1 ≡ n → key_at v i ≡ last
-  pub empty : n ≡ 0 → (first ≡ None) × (last ≡ None)
-  pub payload_is : payload ≡ payload_of (first_cells v n)
-  pub greatest_is : greatest ≡ greatest_of (first_cells v n)
-  pub overflow_is : MatchBool overflow (HasOverflow v n) ((i : ℕ) → i < n → IsWhole v i)
-  pub few : payload ≤ n * 65536
+  pub rising : HasRisingKeys v n
+  pub first_is : 0 < n → key_at v 0 ≡ sums.first
+  pub last_is : (i : ℕ) → i + 1 ≡ n → key_at v i ≡ sums.last
+  pub empty : n ≡ 0 → (sums.first ≡ None) × (sums.last ≡ None)
+  pub payload_is : sums.payload ≡ payload_of (first_cells v n)
+  pub greatest_is : sums.greatest ≡ greatest_of (first_cells v n)
+  pub overflow_is : MatchBool sums.has_overflow (HasOverflow v n) ((i : ℕ) → i < n → IsAllLocal v i)
+  pub few : sums.payload ≤ n * 65536
 
--- all cells are readable, with rising keys, and no two items share a byte; the numbers of the page, its first and last key, and whether a cell has an overflow page
-pub record IsPacked (v : View) (payload greatest unheld : ℕ) (first last : Option ℤ) (overflow : Bool) : Type 0 where
-  pub readable : (i : ℕ) → i < count v → IsOk (cell v i)
-  pub rising : AreRising v (count v)
-  pub payload_is : payload ≡ payload_of (cells v)
-  pub greatest_is : greatest ≡ greatest_of (cells v)
-  pub coverage_is : coverage v ≡ Unheld unheld
-  pub first_is : 0 < count v → key_at v 0 ≡ first
-  pub last_is : (i : ℕ) → i + 1 ≡ count v → key_at v i ≡ last
-  pub empty : count v ≡ 0 → (first ≡ None) × (last ≡ None)
-  pub overflow_is : MatchBool overflow (HasOverflow v (count v)) ((i : ℕ) → i < count v → IsWhole v i)
+-- all cells are readable, with rising keys, and no two items share a byte; these are the sums of the cells, and how many bytes are unheld
+pub record IsPacked (v : View) (p : Packed) : Type 0 where
+  pub read : AddUpTo v (count v) p.sums
+  pub payload_is : p.sums.payload ≡ payload_of (cells v)
+  pub greatest_is : p.sums.greatest ≡ greatest_of (cells v)
+  pub coverage_is : coverage v ≡ Unheld p.unheld
 
 -- no numbers are such: a cell is not readable, or keys do not rise, or two items share a byte
 abbrev pub IsUnpacked : View → Type 0
-IsUnpacked v = (payload greatest unheld : ℕ) (first last : Option ℤ) (overflow : Bool) → IsPacked v payload greatest unheld first last overflow → ⊥
+IsUnpacked v = (p : Packed) → IsPacked v p → ⊥

@@ -4,7 +4,7 @@ ghost use Rattle.dbformat.specs.Cell.{bytes_from, cell, cell_at, cell_pointer, c
 ghost use Rattle.dbformat.specs.Varint.{varint};
 ghost use Rattle.dbformat.specs.declared.PageKind.TheVariants.{InteriorIndex, InteriorTable, LeafIndex, LeafTable};
 
-use crate::view::{PageView, is_interior};
+use crate::view::PageView;
 use dbbytes::{local_len, most_local, varint};
 use dbformat::{CellFault, PageKind, PayloadKind, u16_at, u32_at};
 use std::marker::Model;
@@ -91,7 +91,7 @@ impl<'a> PageView<'a> {
     fn right_child(&self) -> Option<u32>
         ensures { result ≡ right_child self.now }
     {
-        if is_interior(self.kind) {
+        if self.kind.is_interior() {
             Some(u32_at(self.bytes, self.pointers - 4))
         } else {
             None

@@ -17,13 +17,13 @@
 //! ```
 #![tactic(auto)]
 
+mod byte_use;
 mod cell;
 mod freeblocks;
 mod marks;
-mod row;
-mod scan;
+mod packed;
+mod run;
 mod steps;
-mod table;
 #[cfg(test)]
 mod tests;
 mod view;
@@ -31,6 +31,6 @@ mod view;
 pub use cell::Cell;
 pub use freeblocks::{Freeblock, Freeblocks};
 pub use marks::{coverage, uncounted_coverage};
-pub use scan::{Packed, is_rising};
+pub use packed::{CellSums, Packed, is_rising};
 pub use steps::Steps;
 pub use view::{PageView, content_start, type_byte};

@@ -3,11 +3,11 @@ ghost use Rattle.std.specs.Prelude.{◌≡◌, ℕ, false, Some, ◌+◌, ◌<�
 ghost use Rattle.dbformat.specs.Head.{content_start};
 ghost use Rattle.dbformat.specs.Cell.{count};
 ghost use Rattle.dbformat.specs.Coverage.{coverage, first_overlap, items};
-ghost use Rattle.dbpage.specs.Marking.{AreMarked, Holds, HoldsNothing, cell_items, is_marked};
+ghost use Rattle.dbpage.specs.Marking.{AreMarked, Holds, HoldsNothing, cell_spans, is_claimed};
 ghost use Rattle.dbformat.specs.declared.Coverage.TheVariants.{Unheld};
 
+use crate::byte_use::{claim, clear};
 use crate::steps::Steps;
-use crate::table::{claim, clear};
 use crate::view::{PageView, by_kind};
 use dbformat::{Coverage, PageKind};
 use std::marker::Brand;
@@ -72,10 +72,10 @@ fn mark_cells<L: Ledger>(
     steps: &mut Steps<L>,
 ) -> Result<u32, Overlap>
     requires room { view.now.usable ≤ length table.old }
-    requires free { (byte : ℕ) → byte < view.now.usable → is_marked table.old byte ≡ false }
+    requires free { (byte : ℕ) → byte < view.now.usable → is_claimed table.old byte ≡ false }
     ensures marked { MatchResult result
         (λ held. (steps.new ≡ steps.old + held)
-        × AreMarked (cell_items view.now) (content_start view.now.number view.now.bytes) view.now.usable table.new held)
+        × AreMarked (cell_spans view.now) (content_start view.now.number view.now.bytes) view.now.usable table.new held)
         (λ overlap. (steps.new ≤ steps.old + view.now.usable + 1) × (first_overlap (items view.now) ≡ Some overlap.item)) }
 {
     by_kind!(view.kind, kind => mark_cells_of(view, kind, table, steps))
@@ -91,10 +91,10 @@ fn mark_cells_of<L: Ledger>(
 ) -> Result<u32, Overlap>
     requires kind { kind ≡ view.now.kind }
     requires room { view.now.usable ≤ length table.old }
-    requires free { (byte : ℕ) → byte < view.now.usable → is_marked table.old byte ≡ false }
+    requires free { (byte : ℕ) → byte < view.now.usable → is_claimed table.old byte ≡ false }
     ensures marked { MatchResult result
         (λ held. (steps.new ≡ steps.old + held)
-        × AreMarked (cell_items view.now) (content_start view.now.number view.now.bytes) view.now.usable table.new held)
+        × AreMarked (cell_spans view.now) (content_start view.now.number view.now.bytes) view.now.usable table.new held)
         (λ overlap. (steps.new ≤ steps.old + view.now.usable + 1) × (first_overlap (items view.now) ≡ Some overlap.item)) }
 {
     let mut held = 0;
@@ -130,7 +130,7 @@ pub(crate) fn mark_freeblocks<L: Ledger>(
     steps: &mut Steps<L>,
 ) -> Result<u32, Overlap>
     requires room { view.now.usable ≤ length table.old }
-    requires cells { AreMarked (cell_items view.now) (content_start view.now.number view.now.bytes) view.now.usable table.old held }
+    requires cells { AreMarked (cell_spans view.now) (content_start view.now.number view.now.bytes) view.now.usable table.old held }
     ensures marked { MatchResult result
         (λ all. (steps.new + held ≡ steps.old + all)
         × AreMarked (items view.now) (content_start view.now.number view.now.bytes) view.now.usable table.new all)

@@ -135,11 +135,11 @@ fn packed_pages(rt: HostRuntime) {
     for (head, cells, want) in cases {
         let page = page_of(&[(0, head), (496, cells)]);
         let numbers = packed(&rt, &page).map(|p| (
-            p.payload,
-            p.greatest,
+            p.sums.payload,
+            p.sums.greatest,
             p.unheld,
-            p.first.unwrap_or(0),
-            p.last.unwrap_or(0),
+            p.sums.first.unwrap_or(0),
+            p.sums.last.unwrap_or(0),
         ));
         assert_eq!(rt; numbers, want, "{head:?} {cells:?}");
     }
@@ -154,12 +154,14 @@ fn packed_with_an_overflow_page(rt: HostRuntime) {
         (508, b"\x00\x00\x00\x05"),
     ]);
     let want = Packed {
-        payload: 41,
-        greatest: 478,
+        sums: CellSums {
+            payload: 41,
+            greatest: 478,
+            first: Some(6),
+            last: Some(7),
+            has_overflow: true,
+        },
         unheld: 0,
-        first: Some(6),
-        last: Some(7),
-        has_overflow: true,
     };
     assert_eq!(rt; packed(&rt, &page), Some(want));
 }

@@ -1,6 +1,7 @@
 // Views of b-tree pages (Database File Format, 1.6, "B-tree Page Header Format").
 ghost use Rattle.std.specs.Prelude.{◌≡◌, ◌+◌, ◌*◌, ◌≤◌, length, IfOk};
-ghost use Rattle.dbformat.specs.Head.{view, page_kind, is_interior, header_start, pointers_start, first_freeblock, cell_count, content_start, fragmented_bytes, type_byte};
+ghost use Rattle.dbformat.specs.Head.{view, page_kind, header_start, pointers_start};
+ghost use Rattle.dbformat.specs.Head.{first_freeblock, cell_count, content_start, fragmented_bytes, type_byte};
 ghost use Rattle.dbformat.specs.Cell.{count};
 
 use dbformat::{HeadFault, PageKind, u16_at};
@@ -131,24 +132,13 @@ fn page_kind(type_byte: u8) -> Option<PageKind>
     }
 }
 
-// Whether pages of this kind have children.
-#[inline(always)]
-pub(crate) fn is_interior(kind: PageKind) -> bool
-    ensures { result ≡ is_interior kind }
-{
-    match kind {
-        PageKind::InteriorIndex | PageKind::InteriorTable => true,
-        PageKind::LeafIndex | PageKind::LeafTable => false,
-    }
-}
-
 // Where the cell pointers of page `p` begin: interior pages have a right child before them.
 #[inline(always)]
 fn pointers_start(p: u32, kind: PageKind) -> u32
     ensures value { result ≡ pointers_start p kind }
     ensures low { result ≤ 112 }
 {
-    header_start(p) + if is_interior(kind) { 12 } else { 8 }
+    header_start(p) + if kind.is_interior() { 12 } else { 8 }
 }
 
 /// The type byte of page `p`, also of one whose head is not sound.

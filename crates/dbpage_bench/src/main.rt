@@ -6,6 +6,7 @@
 ghost use Rattle.std.specs.Prelude.{◌≡◌, ◌≤◌, length, IfOk};
 
 use anyhow::{Context, Result, bail};
+use dbfiles::TestFile;
 use dbformat::{Coverage, PageKind};
 use dbpage::{Packed, PageView, type_byte, uncounted_coverage};
 use std::alloc::{AllocError, Global};
@@ -59,7 +60,7 @@ impl Totals {
 
     fn add_packed(&mut self, view: &PageView<'_>, packed: Packed) {
         self.cells = self.cells.wrapping_add(u64::from(view.cells()));
-        self.local = self.local.wrapping_add(u64::from(packed.payload));
+        self.local = self.local.wrapping_add(u64::from(packed.sums.payload));
         self.unheld = self.unheld.wrapping_add(u64::from(packed.unheld));
         if let PageKind::InteriorIndex | PageKind::InteriorTable = view.kind() {
             for i in 0..view.cells() {
@@ -155,27 +156,13 @@ fn totals_of(alloc: Global, file: &[u8], rounds: u32, only: Option<u8>) -> Resul
     Ok(totals)
 }
 
-/// The bytes of a file of one page, a table leaf with one cell.
-fn small_file() -> [u8; 512] {
-    let mut page = [0u8; 512];
-    page[16] = 2;
-    page[100] = 13;
-    page[104] = 1;
-    page[105] = 1;
-    page[106] = 252;
-    page[108] = 1;
-    page[109] = 252;
-    page[508] = 2;
-    page[509] = 1;
-    page[510] = 65;
-    page[511] = 66;
-    page
-}
-
 fn main(rt: HostRuntime) -> Result<()> {
     let mut words = env::args(&rt)?.skip(1);
     let Some(path) = words.next() else {
-        let totals = totals_of(rt.alloc(), &small_file(), 1, None)?;
+        let mut file = TestFile::new(rt.alloc(), 512, 1)?;
+        file.leaf_table(1).cell(1, b"AB");
+        let file = file.into_bytes();
+        let totals = totals_of(rt.alloc(), file.as_slice(), 1, None)?;
         println!(rt; "{totals:?}")?;
         return Ok(());
     };

@@ -231,9 +231,6 @@ module _ {O : Type 0} (held : O → OutState) where
       saw : Saw s found t
       saw = saw_all items s t (omega arith) (omega arith) moved
 
-      pub check_same_out : t.out.ghost_name ≡ s.out.ghost_name
-      check_same_out = saw.same_out
-
       shown_is : t.shown ≡ length (take s.limit found)
       shown_is = let z : 0 + length (take s.limit found) ≡ length (take s.limit found) = omega arith in saw.shown ∙ ap₂ (λ a b. a + length (take b found)) none room ∙ z
 
@@ -254,9 +251,6 @@ module _ {O : Type 0} (held : O → OutState) where
     module _ (e : RunError) (part rest : List Finding) (told : part ++ rest ≡ items) (stopped : StopsBy (Shows held) (Cuts held) e s part t) where
       breaks : Breaks s found t
       breaks = breaks_by e items s t (omega arith) (omega arith) (subst (λ l. StopsBy (Shows held) (Cuts held) e s l t) told (stops_by_first (Shows held) (Cuts held) e s t part rest stopped))
-
-      pub check_stops_same_out : t.out.ghost_name ≡ s.out.ghost_name
-      check_stops_same_out = breaks.0
 
       pub check_begins : Begins (held s.out.now).bytes (held t.out.now).bytes (check_text s.limit found)
       check_begins = begins_more (held s.out.now).bytes (held t.out.now).bytes (lines s.limit found) (end_text (length (take s.limit found)) (counted (length (drop s.limit found)))) (check_text s.limit found)

@@ -2,6 +2,7 @@ pub mod Checked
 pub mod Checks
 pub mod CountedMarks
 pub mod EndItems
+pub mod Flushed
 pub mod Hexes
 pub mod ListedNames
 pub mod MapLogs

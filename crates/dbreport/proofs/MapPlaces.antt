@@ -1,7 +1,6 @@
 -- Where the entry of a page stands in the pointer map, and that the map page which was read last is the one that has it.
-use Rattle.std.proofs.Common.{◌≡◌, ℕ, ◌+◌, ◌-◌, ◌*◌, ◌/◌, ◌%◌, ◌<◌, ◌≤◌, Bool, true, false, cond, not, ◌&&◌, List, length, take, drop, Some, None, Result, Ok, Err, refl, sym, ap, ap₂, ◌∙◌, subst, arith, inl, inr, rules}
+use Rattle.std.proofs.Common.{◌≡◌, ℕ, ◌+◌, ◌-◌, ◌*◌, ◌/◌, ◌%◌, ◌<◌, ◌≤◌, Bool, true, false, cond, not, ◌&&◌, List, length, Some, None, Result, Ok, Err, refl, sym, ap, ap₂, ◌∙◌, subst, arith, inl, inr, rules}
 use Rattle.std.specs.Prelude.{◌==◌, nat_lt, nat_le, option_map, is_some, slice_index, OnOk}
-use Rattle.dbsource.specs.Sources.{IsRangeOf}
 use Rattle.std.proofs.lemmas.Bool.{cases_Bool, and_parts, eqb-true, not-true}
 use Rattle.std.proofs.lemmas.Bool.Decides.{nat_tests}
 use Rattle.std.proofs.lemmas.Nat.{div-mul-add, div-add-mod'}
@@ -161,12 +160,6 @@ next_kept file bytes p h one last k = λ has low high.
 
 pub not_map : (g : Geometry) (p : ℕ) → is_fixed g p ≡ false → fixed_use g p ≡ Some Map → ⊥
 not_map g p h k = let z : is_some (fixed_use g p) ≡ true = ap is_some k in cc
-
--- the bytes that a load leaves are those of the page
-pub page_read : (file bytes : List ℕ) (size p : ℕ) → length bytes ≡ size → IsRangeOf file ((p - 1) * size) bytes → (geometry file).page_size ≡ size → bytes ≡ page_bytes file p
-unfolding page_bytes
-page_read file bytes size p l h e =
-    h.1 ∙ ap (λ n. take n (drop ((p - 1) * size) file)) l ∙ ap (λ n. take n (drop ((p - 1) * n) file)) (sym e)
 
 pub on_ok : {A E : Type 0} {P : Type 0} (r : Result A E) → P → OnOk r P
 on_ok (Ok a) p = p

@@ -1,7 +1,7 @@
 -- The rows of a list of roots, as its fields hold them, where a row is added.
 use Rattle.std.proofs.Common.{◌≡◌, ℕ, ◌-◌, ◌≤◌, List, [], ◌∷◌, ◌++◌, length, take, drop, map, Option, Some, None, refl, ap, ap₂, ◌∙◌, arith, length-drop}
 use Rattle.std.specs.List.{All}
-use Rattle.std.proofs.lemmas.List.Elements.{All-head, All-tail, All-cons, All-nil}
+use Rattle.std.proofs.lemmas.List.Elements.{All-head, All-tail}
 use Rattle.std.proofs.lemmas.List.{take-append-le, drop-append-le, map-append}
 use Rattle.dbformat.specs.SchemaRow.{SchemaRow}
 use Rattle.dbreport.specs.declared.roots.Span.{Span}
@@ -22,17 +22,6 @@ rows_kept names more [] h = refl
 rows_kept names more (e ∷ es) h =
     let one : entry_row (names ++ more) e ≡ entry_row names e = ap (λ n. record { kind = e.kind; root = e.page; name = n }) (name_kept names more e.name (All-head (λ e. IsWithin (length names) e.name) e es h)) in
     ap₂ (λ x xs. x ∷ xs) one (rows_kept names more es (All-tail (λ e. IsWithin (length names) e.name) e es h))
-
-within_more : (n m : ℕ) (span : Option Span) → n ≤ m → IsWithin n span → IsWithin m span
-within_more n m None l h = tt
-within_more n m (Some s) l h = (omega arith, h.1)
-
--- all names stay within, where there are more bytes
-pub names_more : (n m : ℕ) (es : List Entry) → n ≤ m → All (λ e. IsWithin n e.name) es → All (λ e. IsWithin m e.name) es
-names_more n m [] l h = All-nil (λ e. IsWithin m e.name)
-names_more n m (e ∷ es) l h = All-cons (λ e. IsWithin m e.name) e es
-    (within_more n m e.name l (All-head (λ e. IsWithin n e.name) e es h))
-    (names_more n m es l (All-tail (λ e. IsWithin n e.name) e es h))
 
 -- the rows with one more
 pub row_added : (names news : List ℕ) (es fs : List Entry) (e : Entry) (row : SchemaRow) (rows : List SchemaRow) (n : ℕ) → Grows names news

@@ -1,19 +1,29 @@
 -- What the answer of a run says.
-use Rattle.std.proofs.Common.{◌≡◌, ℕ, ◌+◌, ◌%◌, ◌^◌, ◌<◌, List, length, None, Some, Option, Ok, Err, Result, inl, inr, refl, sym, ap, arith, ◌∙◌, subst}
-use Rattle.std.specs.Prelude.{IfErr, IfOk, IfSome}
+use Rattle.std.proofs.Common.{◌≡◌, ℕ, ◌<◌, List, [], ◌∷◌, length, None, Some, Option, Ok, Err, Result, inl, inr, refl, sym, ap, ◌∙◌, subst}
+use Rattle.std.specs.Prelude.{◌↔◌, IfErr, IfOk, IfSome}
 use Rattle.dbformat.specs.File.{refusal}
+use Rattle.dbformat.specs.Log.{HasLog}
+use Rattle.dbformat.specs.declared.ByteRange.{ByteRange}
+use Rattle.dbformat.specs.Reference.{Reference}
+use Rattle.dbformat.specs.Report.{report}
+use Rattle.dbformat.specs.Sound.{Sound}
+use Rattle.dbformat.specs.Survey.{Survey, survey}
+use Rattle.dbformat.specs.declared.Command.{Command}
 use Rattle.dbformat.specs.declared.Verdict.{Verdict}
+use Rattle.dbformat.specs.declared.Verdict.TheVariants.{Clean}
+use Rattle.dbformat.proofs.Theory.{one_survey}
+use Rattle.dbsound.proofs.Soundness.{sound_by_verdict}
 use Rattle.dbformat.specs.declared.Refusal.TheVariants.{Short}
 use Rattle.dbsource.specs.Errors.{run_error, is_out_of_memory, is_write_failed}
-use Rattle.dbsource.specs.Failures.{failures_after, one_more}
-use Rattle.dbsource.specs.Headers.{IsRefusalOf}
+use Rattle.dbsource.specs.Failures.{CountsAfter, failures_after}
+use Rattle.dbsource.specs.Headers.{IsOpenLog, IsRefusalOf}
 use Rattle.dbsource.specs.declared.error.OpenError.{OpenError}
 use Rattle.dbsource.specs.declared.error.OpenError.TheVariants as opening
 use Rattle.dbsource.specs.declared.error.RunError.{RunError}
 use Rattle.dbsource.specs.declared.error.RunError.TheVariants.{Refused, ReadFailed, OutOfMemory, WriteFailed}
 use Rattle.dbsource.proofs.Headers.{too_short}
 use Rattle.dbwalk.specs.Outcomes.{IsReadOrWrite, IsReadWriteOrMemory}
-use Rattle.dbreport.specs.Runs.{IsAnswerOf, IsUnwritten}
+use Rattle.dbreport.specs.Runs.{AsksHeaderAlone, IsAnswerOf, IsUnwritten}
 
 -- the header was not read
 pub refused_answer : (file : List ℕ) (e : OpenError) → IsRefusalOf e file → IsAnswerOf {A = Verdict} (Err (run_error e)) file
@@ -31,6 +41,15 @@ pub refused_failures : (e : OpenError) (n : ℕ) → n ≡ failures_after {A = V
 refused_failures (opening.Refused r) n = refl
 refused_failures opening.ReadFailed n = refl
 
+pub refused_counts : (e : OpenError) (counts : List ℕ) → CountsAfter {A = Verdict} is_write_failed (Err (run_error e)) counts counts
+refused_counts (opening.Refused r) counts = refl
+refused_counts opening.ReadFailed counts = refl
+
+pub refused_log : {step : List ByteRange → ByteRange → List ByteRange} (e : OpenError) (old new : List ByteRange) → HasLog step (IsOpenLog (Err e)) old new
+    → AsksHeaderAlone {A = Verdict} step (Err (run_error e)) old new
+refused_log (opening.Refused r) old new h = h
+refused_log opening.ReadFailed old new h = tt
+
 -- no error of a run over a file that is read is a refusal
 never_refused : (e : RunError) → IsReadWriteOrMemory e → (P : RunError → Type 0) → P ReadFailed → P WriteFailed → P OutOfMemory → P e
 never_refused e (inl (inl h)) P a b c = subst P (sym h) a
@@ -44,6 +63,10 @@ read_answer file (Err e) only read = never_refused e only (λ e. IsAnswerOf {A =
 pub read_unwritten : {X : Type 0} (r : Result Verdict RunError) (old new : X) → IfErr r IsReadWriteOrMemory → IsUnwritten r old new
 read_unwritten (Ok v) old new only = tt
 read_unwritten (Err e) old new only = never_refused e only (λ e. IsUnwritten {A = Verdict} (Err e) old new) tt tt tt
+
+pub read_refused : (step : List ByteRange → ByteRange → List ByteRange) (r : Result Verdict RunError) (old new : List ByteRange) → IfErr r IsReadWriteOrMemory → AsksHeaderAlone step r old new
+read_refused step (Ok v) old new only = tt
+read_refused step (Err e) old new only = never_refused e only (λ e. AsksHeaderAlone {A = Verdict} step (Err e) old new) tt tt tt
 
 -- a file that is read is not too short
 pub not_short : (file : List ℕ) → refusal file ≡ None → length file < 100 → ⊥
@@ -72,13 +95,18 @@ pub if_ok : {P Q : Verdict → Type 0} (r : Result Verdict RunError) → ((v : V
 if_ok (Ok v) f h = f v h
 if_ok (Err e) f h = tt
 
--- the failures of two Outs together, where only the first one's can have changed
-one_of_both : (a b : ℕ) → (one_more a + b) % 2 ^ 64 ≡ one_more ((a + b) % 2 ^ 64)
-one_of_both a b = omega arith
+-- the failures of each of two Outs, where only the first one's can have changed
+pub first_failures : (r : Result Verdict RunError) (a n b : ℕ) → n ≡ failures_after is_write_failed r a → CountsAfter is_write_failed r (a ∷ b ∷ []) (n ∷ b ∷ [])
+first_failures (Ok v) a n b e = ap (λ k. k ∷ b ∷ []) e
+first_failures (Err (Refused r)) a n b e = ap (λ k. k ∷ b ∷ []) e
+first_failures (Err ReadFailed) a n b e = ap (λ k. k ∷ b ∷ []) e
+first_failures (Err OutOfMemory) a n b e = ap (λ k. k ∷ b ∷ []) e
+first_failures (Err WriteFailed) a n b e = inl (e, refl)
 
-pub both_failures : (r : Result Verdict RunError) (a n b : ℕ) → n ≡ failures_after is_write_failed r a → (n + b) % 2 ^ 64 ≡ failures_after is_write_failed r ((a + b) % 2 ^ 64)
-both_failures (Ok v) a n b e = ap (λ k. (k + b) % 2 ^ 64) e
-both_failures (Err (Refused r)) a n b e = ap (λ k. (k + b) % 2 ^ 64) e
-both_failures (Err ReadFailed) a n b e = ap (λ k. (k + b) % 2 ^ 64) e
-both_failures (Err OutOfMemory) a n b e = ap (λ k. (k + b) % 2 ^ 64) e
-both_failures (Err WriteFailed) a n b e = ap (λ k. (k + b) % 2 ^ 64) e ∙ one_of_both a b
+-- where the verdict is that of every survey, it is clean for a sound file alone
+pub sound_as_told : (H : List ℕ → Type 0) (command : Command) (r : Result Verdict RunError) (o : Option (List ℕ))
+    → IfOk r (λ v. IfSome o (λ file. H file → (V : List Reference) → Survey file V → (report command file V).answer ≡ Ok v))
+    → IfOk r (λ v. IfSome o (λ file. H file → v ≡ Clean ↔ Sound file))
+sound_as_told H command (Err e) o told = tt
+sound_as_told H command (Ok v) None told = tt
+sound_as_told H command (Ok v) (Some file) told = λ is. sound_by_verdict file command (survey file) (one_survey file).0 v (told is (survey file) (one_survey file).0)

@@ -5,7 +5,7 @@ use Rattle.dbformat.specs.File.{refusal}
 use Rattle.dbformat.specs.Lines.{fault_line, form_line}
 use Rattle.dbformat.specs.Reference.{Reference}
 use Rattle.dbformat.specs.Report.{Report, report, check_report, check_text, stat_report, verdict, faults}
-use Rattle.dbformat.specs.Rows.{form_rows}
+use Rattle.dbformat.specs.Rows.{StatForm, form_rows}
 use Rattle.dbformat.specs.Survey.{Survey}
 use Rattle.dbformat.specs.declared.Command.{Command}
 use Rattle.dbformat.specs.declared.Command.TheVariants.{Check, Stat}
@@ -14,8 +14,8 @@ use Rattle.dbsource.specs.Outs.{Writes}
 use Rattle.dbsource.specs.declared.error.RunError.{RunError}
 use Rattle.dbsource.proofs.Beginnings.{begins_nothing}
 use Rattle.dbsource.proofs.Puts.{appends_nothing}
-use Rattle.dbsound.proofs.RowCounts.FormRows.{counts_each_page}
-use Rattle.dbreport.specs.Runs.{CountsAllPages}
+use Rattle.dbsound.proofs.RowCounts.FormRows.{adds_up, counts_each_page, counts_no_page_twice}
+use Rattle.dbreport.specs.Runs.{CountsPages}
 use Rattle.dbreport.specs.Statistics.{form_of}
 use Rattle.dbreport.specs.declared.statistics.Form.{Form}
 
@@ -52,8 +52,10 @@ module _ (form : Form) (file : List ℕ) (V : List Reference) (read : refusal fi
   pub stat_answer : (v : Verdict) → v ≡ verdict (faults file V) → (report (Stat form.aggregate form.all) file V).answer ≡ Ok v
   stat_answer v e = ap (λ (r : Report). r.answer) stat_is ∙ ap Ok (sym e)
 
--- the rows of all pages count each once
-pub counts_all : (command : Command) (file : List ℕ) (V : List Reference) → Survey file V → CountsAllPages command file V
-counts_all (Check limit) file V s = tt
-counts_all (Stat aggregate true) file V s = counts_each_page file V s (record { aggregate = aggregate; all = true }) refl
-counts_all (Stat aggregate false) file V s = tt
+-- which pages the rows of a command count
+pub counts_pages : (command : Command) (file : List ℕ) (V : List Reference) → Survey file V → CountsPages command file V
+counts_pages (Check limit) file V s = tt
+counts_pages (Stat aggregate true) file V s =
+    let form : StatForm = record { aggregate = aggregate; all = true } in
+    (counts_each_page file V s form refl, λ read. adds_up file V s form refl read)
+counts_pages (Stat aggregate false) file V s = counts_no_page_twice file V s (record { aggregate = aggregate; all = false })

@@ -1,7 +1,7 @@
 -- What the sink of the statistics has written and counted by the findings that it was told.
-use Rattle.std.proofs.Common.{◌≡◌, ℕ, suc, ◌+◌, Bool, true, false, inl, inr, List, [], ◌∷◌, ◌++◌, length, refl, sym, ap, ◌∙◌, subst, arith, append_assoc, append-nil}
+use Rattle.std.proofs.Common.{◌≡◌, ℕ, suc, ◌+◌, Bool, true, false, inl, inr, not, List, [], ◌∷◌, ◌++◌, length, refl, sym, ap, ◌∙◌, subst, arith, append_assoc, append-nil}
 use Rattle.std.specs.Prelude.{flat_map}
-use Rattle.std.specs.Io.KnownBytes.{Appends}
+use Rattle.std.specs.Io.KnownBytes.{Appends, Keeps}
 use Rattle.dbsurvey.specs.Moves.{Moves, Stops, MovesBySome}
 use Rattle.dbformat.specs.Lines.{counted, fault_line, page_line}
 use Rattle.dbformat.specs.Rows.{StatRow}
@@ -19,6 +19,7 @@ use Rattle.dbreport.specs.StatSink.{pages_text, text_of, IsSameSink, TakesRow, C
 use Rattle.dbreport.specs.Sums.{sums_of}
 use Rattle.dbreport.specs.declared.stat_sink.StatSink.{StatSink}
 use Rattle.dbsource.proofs.Beginnings.{begins_nothing, begins_more, begins_after}
+use Rattle.dbreport.proofs.Flushed.{keeps_begins, kept_appends, kept_begins, kept_if}
 
 pub pages_none : (aggregate : Bool) (name : List ℕ) (size : ℕ) → pages_text aggregate name size [] ≡ []
 pages_none true name size = refl
@@ -63,7 +64,10 @@ module _ {O E : Type 0} (held : O → OutState) (held' : E → OutState) where
   same_then : (s m t : StatSink O E) → IsSameSink s m → IsSameSink m t → IsSameSink s t
   same_then s m t a b = record { out = b.out ∙ a.out; err = b.err ∙ a.err; label = b.label ∙ a.label; aggregate = b.aggregate ∙ a.aggregate }
 
-  counted_row : (s m t : StatSink O E) (r : StatRow) (items : List Finding) → TakesRow held s r m → HasCounted m items t → HasCounted s (told_row r ∷ items) t
+  row_kept : (s m : StatSink O E) (r : StatRow) → TakesRow held held' s r m → Keeps (held' s.err.now).bytes (held' m.err.now).bytes
+  row_kept s m r a = kept_if (not s.aggregate) (held' s.err.now) (held' m.err.now) a.err
+
+  counted_row : (s m t : StatSink O E) (r : StatRow) (items : List Finding) → TakesRow held held' s r m → HasCounted m items t → HasCounted s (told_row r ∷ items) t
   counted_row s m t r items a b = record {
     same = same_then s m t a.same b.same;
     sums = λ rows e. b.sums (rows ++ (r ∷ [])) (a.sums rows e) ∙ ap sums_of (append_assoc rows (r ∷ []) (rows_told items));
@@ -71,15 +75,15 @@ module _ {O E : Type 0} (held : O → OutState) (held' : E → OutState) where
     out = subst (λ l. Appends (held s.out.now).bytes (held t.out.now).bytes l) (pages_more s.aggregate (label_text s.label.now) s.label.now.page_size r (rows_told items))
         (appends_append (held s.out.now).bytes (held m.out.now).bytes (held t.out.now).bytes (text_of s (r ∷ [])) (text_of s (rows_told items)) a.puts.held
         (subst (λ l. Appends (held m.out.now).bytes (held t.out.now).bytes l) (same_text s m a.same (rows_told items)) b.out));
-    err = subst (λ e. Appends (held' e).bytes (held' t.err.now).bytes (flat_map fault_line (faults_in items))) a.err b.err;
+    err = kept_appends (held' s.err.now).bytes (held' m.err.now).bytes (held' t.err.now).bytes (flat_map fault_line (faults_in items)) (row_kept s m r a) b.err;
   }
 
-  counted_fault : (s m t : StatSink O E) (f : Fault) (items : List Finding) → TakesFault held' s f m → HasCounted m items t → HasCounted s (told_fault f ∷ items) t
+  counted_fault : (s m t : StatSink O E) (f : Fault) (items : List Finding) → TakesFault held held' s f m → HasCounted m items t → HasCounted s (told_fault f ∷ items) t
   counted_fault s m t f items a b = record {
     same = same_then s m t a.same b.same;
     sums = λ rows e. b.sums rows (a.sums ∙ e);
     found = λ n e. b.found (n + 1) (a.found ∙ ap (λ k. counted (k + 1)) e ∙ counted_more n) ∙ ap counted (one_and n (length (faults_in items)));
-    out = subst (λ o. Appends (held o).bytes (held t.out.now).bytes (text_of s (rows_told items))) a.out
+    out = kept_appends (held s.out.now).bytes (held m.out.now).bytes (held t.out.now).bytes (text_of s (rows_told items)) a.out.kept
         (subst (λ l. Appends (held m.out.now).bytes (held t.out.now).bytes l) (same_text s m a.same (rows_told items)) b.out);
     err = appends_append (held' s.err.now).bytes (held' m.err.now).bytes (held' t.err.now).bytes (fault_line f) (flat_map fault_line (faults_in items)) a.puts.held b.err;
   }
@@ -98,32 +102,32 @@ module _ {O E : Type 0} (held : O → OutState) (held' : E → OutState) where
   part_none s t items e = subst (λ u. HasPart s items u) e
       (record { out = begins_nothing (held s.out.now).bytes (text_of s (rows_told items)); err = begins_nothing (held' s.err.now).bytes (flat_map fault_line (faults_in items)) })
 
-  part_row : (s m t : StatSink O E) (r : StatRow) (items : List Finding) → TakesRow held s r m → HasPart m items t → HasPart s (told_row r ∷ items) t
+  part_row : (s m t : StatSink O E) (r : StatRow) (items : List Finding) → TakesRow held held' s r m → HasPart m items t → HasPart s (told_row r ∷ items) t
   part_row s m t r items a b = record {
     out = begins_after (held s.out.now).bytes (held m.out.now).bytes (held t.out.now).bytes (text_of s (r ∷ [])) (text_of s (rows_told items)) (text_of s (r ∷ rows_told items))
         (pages_more s.aggregate (label_text s.label.now) s.label.now.page_size r (rows_told items)) a.puts.held
         (subst (λ l. Begins (held m.out.now).bytes (held t.out.now).bytes l) (same_text s m a.same (rows_told items)) b.out);
-    err = subst (λ e. Begins (held' e).bytes (held' t.err.now).bytes (flat_map fault_line (faults_in items))) a.err b.err;
+    err = kept_begins (held' s.err.now).bytes (held' m.err.now).bytes (held' t.err.now).bytes (flat_map fault_line (faults_in items)) (row_kept s m r a) b.err;
   }
 
-  part_fault : (s m t : StatSink O E) (f : Fault) (items : List Finding) → TakesFault held' s f m → HasPart m items t → HasPart s (told_fault f ∷ items) t
+  part_fault : (s m t : StatSink O E) (f : Fault) (items : List Finding) → TakesFault held held' s f m → HasPart m items t → HasPart s (told_fault f ∷ items) t
   part_fault s m t f items a b = record {
-    out = subst (λ o. Begins (held o).bytes (held t.out.now).bytes (text_of s (rows_told items))) a.out
+    out = kept_begins (held s.out.now).bytes (held m.out.now).bytes (held t.out.now).bytes (text_of s (rows_told items)) a.out.kept
         (subst (λ l. Begins (held m.out.now).bytes (held t.out.now).bytes l) (same_text s m a.same (rows_told items)) b.out);
     err = begins_after (held' s.err.now).bytes (held' m.err.now).bytes (held' t.err.now).bytes (fault_line f) (flat_map fault_line (faults_in items)) (flat_map fault_line (f ∷ faults_in items)) refl a.puts.held b.err;
   }
 
-  cut_row : (s t : StatSink O E) (r : StatRow) (items : List Finding) → CutsRow held s r t → HasPart s (told_row r ∷ items) t
+  cut_row : (s t : StatSink O E) (r : StatRow) (items : List Finding) → CutsRow held held' s r t → HasPart s (told_row r ∷ items) t
   cut_row s t r items a = record {
     out = begins_more (held s.out.now).bytes (held t.out.now).bytes (text_of s (r ∷ [])) (text_of s (rows_told items)) (text_of s (r ∷ rows_told items))
-        (pages_more s.aggregate (label_text s.label.now) s.label.now.page_size r (rows_told items)) a.puts.held;
-    err = subst (λ e. Begins (held' s.err.now).bytes (held' e).bytes (flat_map fault_line (faults_in items))) (sym a.err) (begins_nothing (held' s.err.now).bytes (flat_map fault_line (faults_in items)));
+        (pages_more s.aggregate (label_text s.label.now) s.label.now.page_size r (rows_told items)) a.out;
+    err = keeps_begins (held' s.err.now).bytes (held' t.err.now).bytes (flat_map fault_line (faults_in items)) a.err;
   }
 
-  cut_fault : (s t : StatSink O E) (f : Fault) (items : List Finding) → CutsFault held' s f t → HasPart s (told_fault f ∷ items) t
+  cut_fault : (s t : StatSink O E) (f : Fault) (items : List Finding) → CutsFault held held' s f t → HasPart s (told_fault f ∷ items) t
   cut_fault s t f items a = record {
-    out = subst (λ o. Begins (held s.out.now).bytes (held o).bytes (text_of s (rows_told items))) (sym a.out) (begins_nothing (held s.out.now).bytes (text_of s (rows_told items)));
-    err = begins_more (held' s.err.now).bytes (held' t.err.now).bytes (fault_line f) (flat_map fault_line (faults_in items)) (flat_map fault_line (f ∷ faults_in items)) refl a.puts.held;
+    out = keeps_begins (held s.out.now).bytes (held t.out.now).bytes (text_of s (rows_told items)) a.out;
+    err = begins_more (held' s.err.now).bytes (held' t.err.now).bytes (fault_line f) (flat_map fault_line (faults_in items)) (flat_map fault_line (f ∷ faults_in items)) refl a.err;
   }
 
   part_some : (items : List Finding) (s t : StatSink O E) → MovesBySome (Counts held held') s items t → HasPart s items t

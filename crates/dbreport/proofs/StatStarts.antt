@@ -11,7 +11,7 @@ use Rattle.dbformat.specs.Reference.{Way, Reference}
 use Rattle.dbformat.specs.Rows.{StatRow}
 use Rattle.dbformat.specs.Story.{Event, start_errands}
 use Rattle.dbformat.specs.declared.Fault.{Fault}
-use Rattle.dbsource.specs.Outs.{Begins, OutState, Puts}
+use Rattle.dbsource.specs.Outs.{OutState, Writes}
 use Rattle.dbsource.specs.declared.error.RunError.{RunError}
 use Rattle.dbwalk.specs.Done.{IsDone}
 use Rattle.dbwalk.specs.Finding.{Finding, told_below, visited_below}
@@ -26,7 +26,7 @@ use Rattle.dbreport.specs.StatStarts.{faults_told, Any, IsAt, IsTreeWritten, IsW
 use Rattle.dbreport.specs.Sums.{sums_of}
 use Rattle.dbreport.specs.declared.stat_sink.StatSink.{StatSink}
 use Rattle.dbreport.specs.declared.tree_name.Label.{Label}
-use Rattle.dbsource.proofs.Puts.{appends_append}
+use Rattle.dbsource.proofs.Puts.{appends_append, appends_kept}
 use Rattle.dbsource.proofs.Beginnings.{begins_after, all_begun}
 use Rattle.dbreport.proofs.Starts.{quiet_go}
 use Rattle.dbreport.proofs.StatSinks.{HasCounted, has_counted}
@@ -128,10 +128,10 @@ module _ {O E : Type 0} (held : O → OutState) (held' : E → OutState) where
       counted : HasCounted held held' s items t
       counted = has_counted held held' items s t d.told
 
-      put : {A X : Type 0} (r : Result A X) → EndsTree held r t u → Puts r (held t.out.now) (held u.out.now) its_end
-      put r ends = subst (λ l. Puts r (held t.out.now) (held u.out.now) l) (ap₂ (λ a (l : Label). end_text a (label_text l) l.page_size rows) counted.same.aggregate counted.same.label) (ends.puts rows (counted.sums [] none))
+      put : {A X : Type 0} (r : Result A X) → EndsTree held held' r t u → Writes r (held t.out.now).bytes (held u.out.now).bytes its_end
+      put r ends = subst (λ l. Writes r (held t.out.now).bytes (held u.out.now).bytes l) (ap₂ (λ a (l : Label). end_text a (label_text l) l.page_size rows) counted.same.aggregate counted.same.label) (ends.writes rows (counted.sums [] none))
 
-      pub tree_ended : {A X : Type 0} (a : A) → EndsTree {A = A} {X = X} held (Ok a) t u → {C : Type 0} (k : C) → IsTreeWritten {A = C} held held' file U c (Ok k) marks s u
+      pub tree_ended : {A X : Type 0} (a : A) → EndsTree {A = A} {X = X} held held' (Ok a) t u → {C : Type 0} (k : C) → IsTreeWritten {A = C} held held' file U c (Ok k) marks s u
       tree_ended {X = X} a ends k =
           let w = told_written held held' {A = B} (Ok b) items s t d.told in
           let p = put {X = X} (Ok a) ends in
@@ -143,21 +143,22 @@ module _ {O E : Type 0} (held : O → OutState) (held' : E → OutState) where
               page_size = ap (λ l. l.page_size) ends.label ∙ w.page_size;
               found = λ n e. ends.found ∙ w.found n e;
               out = subst (λ l. Appends (held s.out.now).bytes (held u.out.now).bytes l) whole
-                  (appends_append (held s.out.now).bytes (held t.out.now).bytes (held u.out.now).bytes (text_of s rows) its_end w.out p.held);
-              err = subst (λ x. Appends (held' s.err.now).bytes (held' x).bytes (flat_map fault_line (faults_in items))) (sym ends.err) w.err;
+                  (appends_append (held s.out.now).bytes (held t.out.now).bytes (held u.out.now).bytes (text_of s rows) its_end w.out p);
+              err = appends_kept (held' s.err.now).bytes (held' t.err.now).bytes (held' u.err.now).bytes (flat_map fault_line (faults_in items)) w.err ends.kept;
             };
             summed = ends.sums;
           }
 
-      pub tree_not_ended : {A X : Type 0} (x : X) → EndsTree {A = A} {X = X} held (Err x) t u → {C : Type 0} (e : RunError) → IsTreeWritten {A = C} held held' file U c (Err e) marks s u
+      pub tree_not_ended : {A X : Type 0} (x : X) → EndsTree {A = A} {X = X} held held' (Err x) t u → {C : Type 0} (e : RunError) → IsTreeWritten {A = C} held held' file U c (Err e) marks s u
       tree_not_ended {A = A} x ends e =
           let w = told_written held held' {A = B} (Ok b) items s t d.told in
           let p = put {A = A} (Err x) ends in
           record {
             marked = tt;
             writes = record {
-              out = begins_after (held s.out.now).bytes (held t.out.now).bytes (held u.out.now).bytes (text_of s rows) its_end tree whole w.out p.held;
-              err = subst (λ y. Begins (held' s.err.now).bytes (held' y).bytes (flat_map fault_line (faults_in items))) (sym ends.err) (all_begun (held' s.err.now).bytes (held' t.err.now).bytes (flat_map fault_line (faults_in items)) w.err);
+              out = begins_after (held s.out.now).bytes (held t.out.now).bytes (held u.out.now).bytes (text_of s rows) its_end tree whole w.out p;
+              err = all_begun (held' s.err.now).bytes (held' u.err.now).bytes (flat_map fault_line (faults_in items))
+                  (appends_kept (held' s.err.now).bytes (held' t.err.now).bytes (held' u.err.now).bytes (flat_map fault_line (faults_in items)) w.err ends.kept);
             };
             summed = tt;
           }

@@ -29,7 +29,7 @@ use Rattle.dbreport.specs.Findings.{faults_in}
 use Rattle.dbreport.specs.Roots.{short_name}
 use Rattle.dbreport.specs.Starts.{AreListed, errands_from}
 use Rattle.dbreport.specs.StatLines.{rows_told, tree_text}
-use Rattle.dbreport.specs.StatSink.{BeginsTree, Counts, Breaks, WritesBoth, failures_of_both, text_of}
+use Rattle.dbreport.specs.StatSink.{BeginsTree, Counts, Breaks, WritesBoth, failures_of_each, text_of}
 use Rattle.dbreport.specs.StatStarts.{Any, BeginsAt, IsTreeWritten, IsWriting, StopsWriting}
 use Rattle.dbreport.specs.Sums.{sums_of}
 use Rattle.dbreport.specs.TreeNames.{label_text}
@@ -126,5 +126,5 @@ module _ {O E : Type 0} {rows : List SchemaRow} {encoding : Encoding} {k : ℕ} 
   pub begun_encoding : named.encoding ≡ encoding
   begun_encoding = ap (λ (x : Root). x.encoding) b.root
 
-  pub begun_failures : (held : O → OutState) (held' : E → OutState) → failures_of_both (held m.out.now) (held' m.err.now) ≡ failures_of_both (held s.out.now) (held' s.err.now)
-  begun_failures held held' = ap₂ (λ o e. failures_of_both (held o) (held' e)) b.begins.out b.begins.err
+  pub begun_failures : (held : O → OutState) (held' : E → OutState) → failures_of_each (held m.out.now) (held' m.err.now) ≡ failures_of_each (held s.out.now) (held' s.err.now)
+  begun_failures held held' = ap₂ (λ o e. failures_of_each (held o) (held' e)) b.begins.out b.begins.err

@@ -18,7 +18,7 @@ use Rattle.dbformat.specs.File.{geometry}
 use Rattle.dbformat.specs.Reference.{Role, root, child, first_overflow, later_overflow, trunk, free_leaf, Way, Reference, role_of, is_root, is_on_freelist}
 use Rattle.dbformat.specs.Rows.{StatRow, FormRow, tree_row, row_in, stat_rows, trees_reached, tree_rows}
 use Rattle.dbformat.specs.Survey.{rules_of}
-use Rattle.dbformat.proofs.Roles.{child_leads}
+use Rattle.dbformat.proofs.Roles.{child_leads, no_root_on, root_off}
 use Rattle.dbformat.proofs.Theory.{are_rules}
 use Rattle.dbsound.proofs.RowCounts.RowPages.{of_row, row_of}
 
@@ -67,24 +67,6 @@ tree_from : (V : List Reference) (k : ℕ) → IsIn k (trees_reached V) → (t :
 tree_from V k i =
     let m = IsIn-from_map (λ (r : Reference). start_of r.address) (filter (λ (r : Reference). is_root (role_of r)) V) k i in
     (m.0, (filter-from (λ (r : Reference). is_root (role_of r)) V m.0 m.1).0, m.2)
-
--- roots are off the freelist
-
-root_off : (role : Role) → is_root role ≡ true → is_on_freelist role ≡ false
-root_off (root kind) e = refl
-root_off (child kind) e = cc
-root_off (first_overflow left) e = cc
-root_off (later_overflow left) e = cc
-root_off trunk e = cc
-root_off free_leaf e = cc
-
-no_root_on : (role : Role) → is_on_freelist role ≡ true → is_root role ≡ false
-no_root_on (root kind) e = cc
-no_root_on (child kind) e = refl
-no_root_on (first_overflow left) e = refl
-no_root_on (later_overflow left) e = refl
-no_root_on trunk e = refl
-no_root_on free_leaf e = refl
 
 -- ---- the rows of trees, part by part
 

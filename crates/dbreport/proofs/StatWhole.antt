@@ -28,7 +28,7 @@ use Rattle.dbreport.specs.StatSink.{Counts, Breaks, HasWritten, HasBegun, PutsOt
 use Rattle.dbreport.specs.StatStarts.{Any, ArePagesWritten, AreWritten, IsForSchema, IsTreeWritten, IsWriting, StopsWriting, faults_told, rows_text, walk_faults_told}
 use Rattle.dbreport.specs.Starts.{later_errands, schema_reference}
 use Rattle.dbreport.specs.declared.stat_sink.StatSink.{StatSink}
-use Rattle.dbsource.proofs.Puts.{appends_append}
+use Rattle.dbsource.proofs.Puts.{appends_append, appends_kept}
 use Rattle.dbsource.proofs.Beginnings.{all_begun, begins_after}
 use Rattle.dbreport.proofs.OtherRows.{others_text}
 use Rattle.dbreport.proofs.RunItems.{all_visited, starts_are, starts_left}
@@ -113,7 +113,7 @@ module _ {O E : Type 0} (held : O → OutState) (held' : E → OutState) (file :
     its_lines : marked_lines g marks 1 (length marks) ≡ flat_map (form_line file V) (other_rows file V)
     its_lines = others_text file V g marks e survey h.marked
 
-    pub others_written : {B X C : Type 0} (b : B) (c : C) → PutsOthers {A = B} {X = X} held (Ok b) g marks t u → ArePagesWritten held held' file V true (Ok c) marks any before u
+    pub others_written : {B X C : Type 0} (b : B) (c : C) → PutsOthers {A = B} {X = X} held held' (Ok b) g marks t u → ArePagesWritten held held' file V true (Ok c) marks any before u
     others_written b c p = record {
       marked = h.marked;
       writes = record {
@@ -122,20 +122,20 @@ module _ {O E : Type 0} (held : O → OutState) (held' : E → OutState) (file :
         page_size = ap (λ (s : StatSink O E). s.label.now.page_size) p.rest ∙ h.writes.page_size;
         found = λ n q. ap (λ (s : StatSink O E). s.found) p.rest ∙ h.writes.found n q;
         out = appends_append (held before.out.now).bytes (held t.out.now).bytes (held u.out.now).bytes trees (others true) h.writes.out
-            (subst (λ l. Appends (held t.out.now).bytes (held u.out.now).bytes l) its_lines p.puts.held);
-        err = subst (λ (s : StatSink O E). Appends (held' before.err.now).bytes (held' s.err.now).bytes (flat_map fault_line in_walks)) (sym p.rest) h.writes.err;
+            (subst (λ l. Appends (held t.out.now).bytes (held u.out.now).bytes l) its_lines p.writes);
+        err = appends_kept (held' before.err.now).bytes (held' t.err.now).bytes (held' u.err.now).bytes (flat_map fault_line in_walks) h.writes.err p.kept;
       };
       has_rows = h.has_rows;
     }
 
-    pub others_stopped : {B X C : Type 0} (x : X) (d : RunError) → PutsOthers {A = B} {X = X} held (Err x) g marks t u → ArePagesWritten {A = C} held held' file V true (Err d) marks any before u
+    pub others_stopped : {B X C : Type 0} (x : X) (d : RunError) → PutsOthers {A = B} {X = X} held held' (Err x) g marks t u → ArePagesWritten {A = C} held held' file V true (Err d) marks any before u
     others_stopped x d p = record {
       marked = tt;
       writes = record {
         out = begins_after (held before.out.now).bytes (held t.out.now).bytes (held u.out.now).bytes trees (others true) (rows_text before.aggregate true file V) refl h.writes.out
-            (subst (λ l. Begins (held t.out.now).bytes (held u.out.now).bytes l) its_lines p.puts.held);
-        err = subst (λ (s : StatSink O E). Begins (held' before.err.now).bytes (held' s.err.now).bytes (flat_map fault_line in_walks)) (sym p.rest)
-            (all_begun (held' before.err.now).bytes (held' t.err.now).bytes (flat_map fault_line in_walks) h.writes.err);
+            (subst (λ l. Begins (held t.out.now).bytes (held u.out.now).bytes l) its_lines p.writes);
+        err = all_begun (held' before.err.now).bytes (held' u.err.now).bytes (flat_map fault_line in_walks)
+            (appends_kept (held' before.err.now).bytes (held' t.err.now).bytes (held' u.err.now).bytes (flat_map fault_line in_walks) h.writes.err p.kept);
       };
       has_rows = tt;
     }

@@ -1,6 +1,6 @@
 -- The sink of the statistics: what a finding makes of it, and what it has written and counted after some.
-use Rattle.std.specs.Prelude.{◌≡◌, ℕ, ◌+◌, ◌%◌, ◌^◌, Bool, true, false, ◌==◌, List, [], ◌∷◌, ◌++◌, length, flat_map, Option, Result, MatchResult, OnOk, codes, if◌then◌else◌}
-use Rattle.std.specs.Io.KnownBytes.{Appends}
+use Rattle.std.specs.Prelude.{◌≡◌, ℕ, ◌+◌, Bool, true, false, not, ◌==◌, List, [], ◌∷◌, ◌++◌, length, flat_map, Option, Result, Ok, MatchResult, OnOk, codes, if◌then◌else◌}
+use Rattle.std.specs.Io.KnownBytes.{Appends, Keeps}
 use Rattle.std.specs.Option.{option_map_or}
 use Rattle.dbformat.specs.Lines.{counted, fault_line, page_line, tree_line}
 use Rattle.dbformat.specs.Rows.{StatRow}
@@ -10,12 +10,12 @@ use Rattle.dbformat.specs.declared.Geometry.{Geometry}
 use Rattle.dbformat.specs.declared.Verdict.{Verdict}
 use Rattle.dbformat.specs.declared.Verdict.TheVariants.{Clean, Faulty}
 use Rattle.dbsource.specs.Errors.{is_write_failed}
-use Rattle.dbsource.specs.Failures.{failures_after}
-use Rattle.dbsource.specs.Outs.{Begins, OutState, Puts}
+use Rattle.dbsource.specs.Failures.{CountsAfter}
+use Rattle.dbsource.specs.Outs.{Begins, Flushes, OutState, Writes}
 use Rattle.dbsource.specs.declared.error.RunError.{RunError}
 use Rattle.dbwalk.specs.Finding.{Finding, told_row, told_fault}
 use Rattle.dbwalk.specs.declared.mark.Mark.{Mark}
-use Rattle.dbreport.specs.CheckSink.{PutsAll, PutsPart}
+use Rattle.dbreport.specs.CheckSink.{PutsAll}
 use Rattle.dbreport.specs.TreeNames.{label_text}
 use Rattle.dbreport.specs.OtherMarks.{marked_lines}
 use Rattle.dbreport.specs.Roots.{short_name}
@@ -44,52 +44,61 @@ pub record IsSameSink {O E : Type 0} (s t : StatSink O E) : Type 0 where
   pub label : t.label.now ≡ s.label.now
   pub aggregate : t.aggregate ≡ s.aggregate
 
--- a row was taken: it was written, or counted for its tree's
-pub record TakesRow {O E : Type 0} (held : O → OutState) (s : StatSink O E) (r : StatRow) (t : StatSink O E) : Type 0 where
+-- an Out was flushed: what it told stays, nothing of it is pending, and it did not fail
+abbrev pub IsFlushed : OutState → OutState → Type 0
+IsFlushed old new = Flushes {A = Unit {0}} {E = Unit {0}} (Ok tt) old new
+
+-- the Out beside the one that bytes are put to, if they are: it was flushed then, or is as it was
+abbrev pub IsFlushedIf : Bool → OutState → OutState → Type 0
+IsFlushedIf true old new = IsFlushed old new
+IsFlushedIf false old new = new ≡ old
+
+-- a row was taken: it was written, behind the faults that came before it, or counted for its tree's
+pub record TakesRow {O E : Type 0} (held : O → OutState) (held' : E → OutState) (s : StatSink O E) (r : StatRow) (t : StatSink O E) : Type 0 where
   pub same : IsSameSink s t
-  pub err : t.err.now ≡ s.err.now
+  pub err : IsFlushedIf (not s.aggregate) (held' s.err.now) (held' t.err.now)
   pub found : t.found ≡ s.found
   pub sums : (rows : List StatRow) → s.sums ≡ sums_of rows → t.sums ≡ sums_of (rows ++ (r ∷ []))
   pub puts : PutsAll (held s.out.now) (held t.out.now) (text_of s (r ∷ []))
 
--- it was not written whole
-pub record CutsRow {O E : Type 0} (held : O → OutState) (s : StatSink O E) (r : StatRow) (t : StatSink O E) : Type 0 where
+-- it was not written whole, or the faults before it were not handed on
+pub record CutsRow {O E : Type 0} (held : O → OutState) (held' : E → OutState) (s : StatSink O E) (r : StatRow) (t : StatSink O E) : Type 0 where
   pub same : IsSameSink s t
-  pub err : t.err.now ≡ s.err.now
-  pub puts : PutsPart (held s.out.now) (held t.out.now) (text_of s (r ∷ []))
+  pub err : Keeps (held' s.err.now).bytes (held' t.err.now).bytes
+  pub out : Begins (held s.out.now).bytes (held t.out.now).bytes (text_of s (r ∷ []))
 
--- a fault was written, and counted
-pub record TakesFault {O E : Type 0} (held : E → OutState) (s : StatSink O E) (f : Fault) (t : StatSink O E) : Type 0 where
+-- a fault was written, behind the rows that came before it, and counted
+pub record TakesFault {O E : Type 0} (held : O → OutState) (held' : E → OutState) (s : StatSink O E) (f : Fault) (t : StatSink O E) : Type 0 where
   pub same : IsSameSink s t
-  pub out : t.out.now ≡ s.out.now
+  pub out : IsFlushed (held s.out.now) (held t.out.now)
   pub found : t.found ≡ counted (s.found + 1)
   pub sums : t.sums ≡ s.sums
-  pub puts : PutsAll (held s.err.now) (held t.err.now) (fault_line f)
+  pub puts : PutsAll (held' s.err.now) (held' t.err.now) (fault_line f)
 
--- it was not written whole
-pub record CutsFault {O E : Type 0} (held : E → OutState) (s : StatSink O E) (f : Fault) (t : StatSink O E) : Type 0 where
+-- it was not written whole, or the rows before it were not handed on
+pub record CutsFault {O E : Type 0} (held : O → OutState) (held' : E → OutState) (s : StatSink O E) (f : Fault) (t : StatSink O E) : Type 0 where
   pub same : IsSameSink s t
-  pub out : t.out.now ≡ s.out.now
-  pub puts : PutsPart (held s.err.now) (held t.err.now) (fault_line f)
+  pub out : Keeps (held s.out.now).bytes (held t.out.now).bytes
+  pub err : Begins (held' s.err.now).bytes (held' t.err.now).bytes (fault_line f)
 
 -- a finding was taken
 abbrev pub Counts : {O E : Type 0} → (O → OutState) → (E → OutState) → StatSink O E → Finding → StatSink O E → Type 0
-Counts out err s (told_row r) t = TakesRow out s r t
-Counts out err s (told_fault f) t = TakesFault err s f t
+Counts out err s (told_row r) t = TakesRow out err s r t
+Counts out err s (told_fault f) t = TakesFault out err s f t
 
 -- it was not taken whole
 abbrev pub Breaks : {O E : Type 0} → (O → OutState) → (E → OutState) → StatSink O E → Finding → StatSink O E → Type 0
-Breaks out err s (told_row r) t = CutsRow out s r t
-Breaks out err s (told_fault f) t = CutsFault err s f t
+Breaks out err s (told_row r) t = CutsRow out err s r t
+Breaks out err s (told_fault f) t = CutsFault out err s f t
 
--- the failures of both Outs, in 64 bits
-abbrev pub failures_of_both : OutState → OutState → ℕ
-failures_of_both out err = (out.failures + err.failures) % 2 ^ 64
+-- the failures of the first Out, and of the second
+abbrev pub failures_of_each : OutState → OutState → List ℕ
+failures_of_each out err = out.failures ∷ err.failures ∷ []
 
--- From one sink to the other both Outs together failed once, exactly where the answer is a failed write.
+-- From one sink to the other just one of the Outs failed, once, exactly where the answer is a failed write.
 abbrev pub Fails : {A O E : Type 0} → (O → OutState) → (E → OutState) → Result A RunError → StatSink O E → StatSink O E → Type 0
 Fails held held' r s t =
-    failures_of_both (held t.out.now) (held' t.err.now) ≡ failures_after is_write_failed r (failures_of_both (held s.out.now) (held' s.err.now))
+    CountsAfter is_write_failed r (failures_of_each (held s.out.now) (held' s.err.now)) (failures_of_each (held t.out.now) (held' t.err.now))
 
 -- what was found, by the count of faults
 abbrev pub found_verdict : ℕ → Verdict
@@ -124,17 +133,22 @@ pub record BeginsTree {O E : Type 0} (s : StatSink O E) (name : Option (List ℕ
   pub page_size : t.label.now.page_size ≡ s.label.now.page_size
   pub named : label_text t.label.now ≡ option_map_or (shown_name s.label.now.encoding) (short_name name) (codes "?")
 
--- A tree has ended: its own row was written, where its rows are added up, or a beginning of it.
-pub record EndsTree {O E A X : Type 0} (held : O → OutState) (r : Result A X) (s t : StatSink O E) : Type 0 where
-  pub err : t.err.now ≡ s.err.now
+-- A tree has ended: its own row was written, where its rows are added up, behind the faults that came before it; or a
+-- beginning of it.
+pub record EndsTree {O E A X : Type 0} (held : O → OutState) (held' : E → OutState) (r : Result A X) (s t : StatSink O E) : Type 0 where
   pub aggregate : t.aggregate ≡ s.aggregate
   pub label : t.label.now ≡ s.label.now
   pub found : t.found ≡ s.found
   pub sums : OnOk r (t.sums ≡ sums_of [])
-  pub puts : (rows : List StatRow) → s.sums ≡ sums_of rows
-      → Puts r (held s.out.now) (held t.out.now) (end_text s.aggregate (label_text s.label.now) s.label.now.page_size rows)
+  pub kept : Keeps (held' s.err.now).bytes (held' t.err.now).bytes
+  pub err : OnOk r (IsFlushedIf s.aggregate (held' s.err.now) (held' t.err.now))
+  pub writes : (rows : List StatRow) → s.sums ≡ sums_of rows
+      → Writes r (held s.out.now).bytes (held t.out.now).bytes (end_text s.aggregate (label_text s.label.now) s.label.now.page_size rows)
 
--- The rows of the other pages were written, as the marks tell them, or a beginning of them.
-pub record PutsOthers {O E A X : Type 0} (held : O → OutState) (r : Result A X) (g : Geometry) (marks : List Mark) (s t : StatSink O E) : Type 0 where
-  pub rest : t ≡ record s { out = t.out }
-  pub puts : Puts r (held s.out.now) (held t.out.now) (marked_lines g marks 1 (length marks))
+-- The rows of the other pages were written, as the marks tell them, behind the faults that came before them; or a beginning
+-- of them.
+pub record PutsOthers {O E A X : Type 0} (held : O → OutState) (held' : E → OutState) (r : Result A X) (g : Geometry) (marks : List Mark) (s t : StatSink O E) : Type 0 where
+  pub rest : t ≡ record s { out = t.out; err = t.err }
+  pub kept : Keeps (held' s.err.now).bytes (held' t.err.now).bytes
+  pub err : OnOk r (IsFlushed (held' s.err.now) (held' t.err.now))
+  pub writes : Writes r (held s.out.now).bytes (held t.out.now).bytes (marked_lines g marks 1 (length marks))

@@ -58,7 +58,7 @@ impl<O: Out> Sink for CheckSink<'_, O> {
 
     ghost drops = { Cuts O.held };
 
-    ghost held = { λ s. record { lent = s.out.ghost_name ∷ []; failures = (O.held s.out.now).failures } };
+    ghost held = { λ s. record { lent = s.out.ghost_name ∷ []; failures = (O.held s.out.now).failures ∷ [] } };
 
     fn fault(&mut self, fault: &Fault) -> Result<(), WriteFailed> {
         if self.shown < self.limit {

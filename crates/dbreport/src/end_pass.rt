@@ -14,7 +14,7 @@ ghost use Rattle.dbwalk.specs.Outcomes.{Tells, IsReadOrWrite};
 ghost use Rattle.dbwalk.specs.declared.mark.Mark as marking;
 ghost use Rattle.dbreport.specs.EndPass.{is_fixed_mark, pages_items, EndsPage};
 ghost use Rattle.dbreport.specs.MapReads.{entry_value, HasMapFor, IsMapInUse, IsMapTurn, MapReads};
-ghost use Rattle.dbwalk.specs.Sinks.{after_writes};
+ghost use Rattle.dbwalk.specs.Sinks.{SinkAfter};
 
 use crate::counts::count_marks;
 use crate::end_faults::{counted_faults, late_fault, use_fault};
@@ -66,7 +66,7 @@ fn end_page<S: Source, K: Sink, A: Allocator, B: Allocator>(
 ) -> Result<(), RunError>
     requires page { (1 ≤ page) × (page ≤ length marks.now) }
     ensures asks { Asks S.step (IsMapTurn bench.old.geometry page) is_read_failed result (S.held source.old) (S.held source.new) }
-    ensures writes { K.held sink.new ≡ after_writes is_write_failed result (K.held sink.old) }
+    ensures writes { SinkAfter is_write_failed result (K.held sink.old) (K.held sink.new) }
     ensures only { IfErr result IsReadOrWrite }
     ensures bench { bench.new ≡ record bench.old { chain = bench.new.chain } }
     ensures done { IfSome (S.held source.old).bytes (λ file. (mark : marking.Mark) → page_mark marks.now page ≡ Some mark → bench.old.geometry ≡ geometry file
@@ -97,7 +97,7 @@ fn end_pages<S: Source, K: Sink, A: Allocator, B: Allocator>(
     sink: &mut K,
 ) -> Result<(), RunError>
     ensures asks { Asks S.step (MapReads bench.old.geometry) is_read_failed result (S.held source.old) (S.held source.new) }
-    ensures writes { K.held sink.new ≡ after_writes is_write_failed result (K.held sink.old) }
+    ensures writes { SinkAfter is_write_failed result (K.held sink.old) (K.held sink.new) }
     ensures only { IfErr result IsReadOrWrite }
     ensures bench { bench.new ≡ record bench.old { chain = bench.new.chain } }
     ensures done { IfSome (S.held source.old).bytes (λ file. bench.old.geometry ≡ geometry file → refusal file ≡ None
@@ -127,7 +127,7 @@ pub(crate) fn tell_end<S: Source, K: Sink, A: Allocator, B: Allocator>(
     sink: &mut K,
 ) -> Result<(), RunError>
     ensures asks { Asks S.step (MapReads bench.old.geometry) is_read_failed result (S.held source.old) (S.held source.new) }
-    ensures writes { K.held sink.new ≡ after_writes is_write_failed result (K.held sink.old) }
+    ensures writes { SinkAfter is_write_failed result (K.held sink.old) (K.held sink.new) }
     ensures only { IfErr result IsReadOrWrite }
     ensures bench { bench.new ≡ record bench.old { chain = bench.new.chain } }
     ensures done { IfSome (S.held source.old).bytes (λ file. IsHeaderOf header.now file → bench.old.geometry ≡ geometry file

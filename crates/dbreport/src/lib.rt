@@ -37,4 +37,4 @@ mod walks;
 pub use dbformat::{Command, Verdict};
 pub use desk::Desk;
 pub use roots::RootList;
-pub use runs::{run, run_on};
+pub use runs::{run, run_in, run_on};

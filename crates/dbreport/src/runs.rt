@@ -10,10 +10,10 @@ ghost use Rattle.dbformat.specs.Survey.{Survey, survey};
 ghost use Rattle.dbformat.specs.declared.Command.TheVariants.{Check, Stat};
 ghost use Rattle.dbformat.specs.declared.Verdict.TheVariants.{Clean};
 ghost use Rattle.dbreport.specs.DeskSizes.{DeskFitsInMemory};
-ghost use Rattle.dbreport.specs.Runs.{CountsAllPages, IsAnswerOf, IsCheck, IsUnwritten};
-ghost use Rattle.dbreport.specs.StatSink.{failures_of_both};
+ghost use Rattle.dbreport.specs.Runs.{AsksHeaderAlone, CountsPages, IsAnswerOf, IsCheck, IsUnwritten};
+ghost use Rattle.dbreport.specs.StatSink.{failures_of_each};
 ghost use Rattle.dbsource.specs.Errors.{is_out_of_memory, is_read_failed, is_write_failed};
-ghost use Rattle.dbsource.specs.Failures.{failures_after};
+ghost use Rattle.dbsource.specs.Failures.{CountsAfter, failures_after};
 ghost use Rattle.dbsource.specs.Headers.{IsHeaderOf};
 ghost use Rattle.dbsource.specs.Outs.{Writes};
 ghost use Rattle.dbsource.specs.Sources.{Asks};
@@ -24,7 +24,7 @@ use crate::checking::check;
 use crate::statistics::{Form, stat};
 use dbformat::{Command, Verdict};
 use dbsource::{Header, Out, RunError, Source};
-use std::alloc::Allocator;
+use std::alloc::{Allocator, Global};
 
 // A check of the file whose header is on the desk.
 fn check_on<A: Allocator, S: Source, O: Out>(
@@ -73,7 +73,8 @@ fn stat_on<A: Allocator, S: Source, O: Out, E: Out>(
         → (V : List Reference) → Survey file V → (report (Stat form.aggregate form.all) file V).answer ≡ Ok v)) }
     ensures asks { Asks S.step (IsPageLog (geometry_of desk.old.header.bytes desk.old.header.file_len)) is_read_failed result
         (S.held source.old) (S.held source.new) }
-    ensures writes { failures_of_both (O.held out.new) (E.held err.new) ≡ failures_after is_write_failed result (failures_of_both (O.held out.old) (E.held err.old)) }
+    ensures writes { CountsAfter is_write_failed result (failures_of_each (O.held out.old) (E.held err.old))
+        (failures_of_each (O.held out.new) (E.held err.new)) }
     ensures refusals { desk.new.roots.refusals ≡ failures_after is_out_of_memory result desk.old.roots.refusals }
     ensures only { IfErr result IsReadWriteOrMemory }
     ensures header { desk.new.header ≡ desk.old.header }
@@ -115,13 +116,17 @@ pub fn run_on<A: Allocator, S: Source, O: Out, E: Out>(
         → Writes result (E.held err.old).bytes (E.held err.new).bytes (report command file V).err) }
     ensures verdict { IfOk result (λ v. IfSome (S.held source.old).bytes (λ file. IsHeaderOf desk.old.header file
         → (V : List Reference) → Survey file V → (report command file V).answer ≡ Ok v)) }
+    ensures answer { IfSome (S.held source.old).bytes (λ file. IsHeaderOf desk.old.header file → IsAnswerOf result file) }
+    // `Clean` is what a sound file is answered, and no other.
+    ensures sound { IfOk result (λ v. IfSome (S.held source.old).bytes (λ file. IsHeaderOf desk.old.header file → v ≡ Clean ↔ Sound file)) }
     // Whatever the source answers.
     ensures asks { Asks S.step (IsPageLog (geometry_of desk.old.header.bytes desk.old.header.file_len)) is_read_failed result
         (S.held source.old) (S.held source.new) }
-    ensures writes { failures_of_both (O.held out.new) (E.held err.new) ≡ failures_after is_write_failed result (failures_of_both (O.held out.old) (E.held err.old)) }
-    // A check writes to the first Out alone.
+    ensures writes { CountsAfter is_write_failed result (failures_of_each (O.held out.old) (E.held err.old))
+        (failures_of_each (O.held out.new) (E.held err.new)) }
+    // A check does nothing to the second Out.
     ensures out_failures { IsCheck command → (O.held out.new).failures ≡ failures_after is_write_failed result (O.held out.old).failures }
-    ensures second_out { IsCheck command → E.held err.new ≡ E.held err.old }
+    ensures second_out { IsCheck command → err.new ≡ err.old }
     ensures refusals { desk.new.roots.refusals ≡ failures_after is_out_of_memory result desk.old.roots.refusals }
     ensures only { IfErr result IsReadWriteOrMemory }
     ensures header { desk.new.header ≡ desk.old.header }
@@ -134,16 +139,12 @@ pub fn run_on<A: Allocator, S: Source, O: Out, E: Out>(
     }
 }
 
-/// Reads the database that `source` gives, and writes what `command` asks of it: for a check the fault lines to `out`,
-/// and nothing to `err`; for the statistics the rows to `out`, and all fault lines to `err`. What it keeps of the file
-/// stands on a [`Desk`], in memory from `alloc`.
+/// Does what [`run`] does, in memory from any allocator: the clauses are the same.
 ///
 /// # Errors
 ///
-/// [`RunError::Refused`] where the file is not read at all, and then nothing was written. [`RunError::ReadFailed`] where
-/// the source failed, [`RunError::OutOfMemory`] where a growth was refused, and [`RunError::WriteFailed`] where an out
-/// failed: then each out holds what it had and a beginning of its part of the report.
-pub fn run<A: Allocator + Copy, S: Source, O: Out, E: Out>(
+/// As of [`run`].
+pub fn run_in<A: Allocator + Copy, S: Source, O: Out, E: Out>(
     alloc: A,
     command: Command,
     source: &mut S,
@@ -152,6 +153,50 @@ pub fn run<A: Allocator + Copy, S: Source, O: Out, E: Out>(
 ) -> Result<Verdict, RunError>
     // What is kept of the file is no larger than memory, as is so unless the allocator itself is about that large.
     requires fits { DeskFitsInMemory A.row A.Allocator }
+    ensures survey { IfSome (S.held source.old).bytes (λ file. Survey file (survey file)) }
+    ensures out { IfSome (S.held source.old).bytes (λ file. (V : List Reference) → Survey file V
+        → Writes result (O.held out.old).bytes (O.held out.new).bytes (report command file V).out) }
+    ensures err { IfSome (S.held source.old).bytes (λ file. (V : List Reference) → Survey file V
+        → Writes result (E.held err.old).bytes (E.held err.new).bytes (report command file V).err) }
+    ensures verdict { IfOk result (λ v. IfSome (S.held source.old).bytes (λ file. (V : List Reference) → Survey file V
+        → (report command file V).answer ≡ Ok v)) }
+    ensures answer { IfSome (S.held source.old).bytes (IsAnswerOf result) }
+    ensures counts { IfSome (S.held source.old).bytes (λ file. (V : List Reference) → Survey file V → CountsPages command file V) }
+    ensures sound { IfOk result (λ v. IfSome (S.held source.old).bytes (λ file. v ≡ Clean ↔ Sound file)) }
+    ensures log { IfSome (S.held source.old).bytes (λ file. HasLog S.step (IsRunLog (geometry file)) (S.held source.old).trail (S.held source.new).trail) }
+    ensures unread { IfSome (S.held source.old).bytes (λ file. length file < 100 → (S.held source.new).trail ≡ (S.held source.old).trail) }
+    ensures asks { Asks S.step IsSomeRunLog is_read_failed result (S.held source.old) (S.held source.new) }
+    ensures refused { AsksHeaderAlone S.step result (S.held source.old).trail (S.held source.new).trail }
+    ensures unwritten { IsUnwritten result out.old out.new × IsUnwritten result err.old err.new }
+    ensures writes { CountsAfter is_write_failed result (failures_of_each (O.held out.old) (E.held err.old))
+        (failures_of_each (O.held out.new) (E.held err.new)) }
+    ensures out_failures { IsCheck command → (O.held out.new).failures ≡ failures_after is_write_failed result (O.held out.old).failures }
+    ensures second_out { IsCheck command → err.new ≡ err.old }
+{
+    let header = Header::read(source)?;
+    let mut desk = Desk::new_in(alloc, header)?;
+    run_on(command, &mut desk, source, out, err)
+}
+
+/// Reads the database that `source` gives, and writes what `command` asks of it: for a check the fault lines to `out`,
+/// and nothing to `err`; for the statistics the rows to `out`, and all fault lines to `err`. What it keeps of the file
+/// stands on a [`Desk`], in memory from `alloc`.
+///
+/// The statistics flush the one Out before they put to the other, so that rows and faults stand in the order of the report
+/// where both lead to one place. What was put last may be pending at the end: a caller flushes both.
+///
+/// # Errors
+///
+/// [`RunError::Refused`] where the file is not read at all: then nothing but its header was asked for, and nothing was
+/// written. [`RunError::ReadFailed`] where the source failed, [`RunError::OutOfMemory`] where a growth was refused, and
+/// [`RunError::WriteFailed`] where an out failed: then each out holds what it had and a beginning of its part of the report.
+pub fn run<S: Source, O: Out, E: Out>(
+    alloc: Global,
+    command: Command,
+    source: &mut S,
+    out: &mut O,
+    err: &mut E,
+) -> Result<Verdict, RunError>
     // Where the source tells its bytes: the file has a survey, and by any survey of it each Out got its part.
     ensures survey { IfSome (S.held source.old).bytes (λ file. Survey file (survey file)) }
     ensures out { IfSome (S.held source.old).bytes (λ file. (V : List Reference) → Survey file V
@@ -161,21 +206,22 @@ pub fn run<A: Allocator + Copy, S: Source, O: Out, E: Out>(
     ensures verdict { IfOk result (λ v. IfSome (S.held source.old).bytes (λ file. (V : List Reference) → Survey file V
         → (report command file V).answer ≡ Ok v)) }
     ensures answer { IfSome (S.held source.old).bytes (IsAnswerOf result) }
-    // The rows of all pages count each page once.
-    ensures counts { IfSome (S.held source.old).bytes (λ file. (V : List Reference) → Survey file V → CountsAllPages command file V) }
+    // The rows of all pages count each page once, and those of trees alone count none twice.
+    ensures counts { IfSome (S.held source.old).bytes (λ file. (V : List Reference) → Survey file V → CountsPages command file V) }
     // `Clean` is what a sound file is answered, and no other.
     ensures sound { IfOk result (λ v. IfSome (S.held source.old).bytes (λ file. v ≡ Clean ↔ Sound file)) }
     ensures log { IfSome (S.held source.old).bytes (λ file. HasLog S.step (IsRunLog (geometry file)) (S.held source.old).trail (S.held source.new).trail) }
     ensures unread { IfSome (S.held source.old).bytes (λ file. length file < 100 → (S.held source.new).trail ≡ (S.held source.old).trail) }
     // Whatever the source answers.
     ensures asks { Asks S.step IsSomeRunLog is_read_failed result (S.held source.old) (S.held source.new) }
-    ensures unwritten { IsUnwritten result (O.held out.old).bytes (O.held out.new).bytes }
-    ensures writes { failures_of_both (O.held out.new) (E.held err.new) ≡ failures_after is_write_failed result (failures_of_both (O.held out.old) (E.held err.old)) }
-    // A check writes to the first Out alone.
+    // At a refusal nothing but the header is asked for, and nothing is done to either Out.
+    ensures refused { AsksHeaderAlone S.step result (S.held source.old).trail (S.held source.new).trail }
+    ensures unwritten { IsUnwritten result out.old out.new × IsUnwritten result err.old err.new }
+    ensures writes { CountsAfter is_write_failed result (failures_of_each (O.held out.old) (E.held err.old))
+        (failures_of_each (O.held out.new) (E.held err.new)) }
+    // A check does nothing to the second Out.
     ensures out_failures { IsCheck command → (O.held out.new).failures ≡ failures_after is_write_failed result (O.held out.old).failures }
-    ensures second_out { IsCheck command → E.held err.new ≡ E.held err.old }
+    ensures second_out { IsCheck command → err.new ≡ err.old }
 {
-    let header = Header::read(source)?;
-    let mut desk = Desk::new_in(alloc, header)?;
-    run_on(command, &mut desk, source, out, err)
+    run_in(alloc, command, source, out, err)
 }

@@ -1,11 +1,11 @@
 // What the statistics write of what they are told.
-ghost use Rattle.std.specs.Prelude.{◌≡◌, [], List};
+ghost use Rattle.std.specs.Prelude.{◌≡◌, [], List, true};
 ghost use Rattle.std.specs.Option.{option_copied};
 ghost use Rattle.dbformat.specs.FixedPages.{IsInRange};
 ghost use Rattle.dbformat.specs.Rows.{StatRow};
-ghost use Rattle.dbsource.specs.Failures.{failures_after, is_any};
+ghost use Rattle.dbsource.specs.Failures.{CountsAfter, failures_after, is_any};
 ghost use Rattle.dbsource.specs.Outs.{Puts};
-ghost use Rattle.dbreport.specs.StatSink.{BeginsTree, EndsTree, PutsOthers, end_text, found_verdict};
+ghost use Rattle.dbreport.specs.StatSink.{BeginsTree, EndsTree, PutsOthers, end_text, failures_of_each, found_verdict};
 ghost use Rattle.dbreport.specs.Sums.{sums_of};
 ghost use Rattle.dbreport.specs.TreeNames.{label_text};
 
@@ -20,7 +20,8 @@ use dbwalk::{Fault, Marks, Row, Sink};
 use std::alloc::Allocator;
 
 // Writes rows to the one Out and the lines of faults to the other, as they come. In the aggregate form it adds up the rows
-// of a tree, and writes their sums when it has ended.
+// of a tree, and writes their sums when it has ended. Before it puts to one Out it flushes the other, so that both stand in
+// the order of the report where both lead to one place.
 #[derive(Drop)]
 pub(crate) struct StatSink<'a, O, E> {
     out: &'a mut O,
@@ -71,10 +72,14 @@ impl<'a, O: Out, E: Out> StatSink<'a, O, E> {
     pub(crate) fn end_tree(&mut self) -> Result<(), WriteFailed>
         ensures same_out { self.new.out.ghost_name ≡ self.old.out.ghost_name }
         ensures same_err { self.new.err.ghost_name ≡ self.old.err.ghost_name }
-        ensures ends { EndsTree O.held result self.old self.new }
-        ensures count { (O.held self.new.out.now).failures ≡ failures_after is_any result (O.held self.old.out.now).failures }
+        ensures ends { EndsTree O.held E.held result self.old self.new }
+        ensures count { CountsAfter is_any result (failures_of_each (O.held self.old.out.now) (E.held self.old.err.now))
+            (failures_of_each (O.held self.new.out.now) (E.held self.new.err.now)) }
     {
-        put_sums(self.out, self.label, self.aggregate, &self.sums)?;
+        if self.aggregate {
+            self.err.flush()?;
+            put_sums(self.out, self.label, &self.sums)?;
+        }
         self.sums = Sums::new();
         Ok(())
     }
@@ -88,8 +93,11 @@ impl<'a, O: Out, E: Out> StatSink<'a, O, E> {
         requires { IsInRange shape }
         ensures same_out { self.new.out.ghost_name ≡ self.old.out.ghost_name }
         ensures same_err { self.new.err.ghost_name ≡ self.old.err.ghost_name }
-        ensures others { PutsOthers O.held result shape marks.now self.old self.new }
+        ensures others { PutsOthers O.held E.held result shape marks.now self.old self.new }
+        ensures count { CountsAfter is_any result (failures_of_each (O.held self.old.out.now) (E.held self.old.err.now))
+            (failures_of_each (O.held self.new.out.now) (E.held self.new.err.now)) }
     {
+        self.err.flush()?;
         put_others(shape, marks, self.out)
     }
 
@@ -106,22 +114,25 @@ impl<'a, O: Out, E: Out> StatSink<'a, O, E> {
 
 impl<O: Out, E: Out> Sink for StatSink<'_, O, E> {
     ghost use Rattle.std.specs.Prelude.{[], ◌∷◌};
-    ghost use Rattle.dbreport.specs.StatSink.{Counts, Breaks, failures_of_both};
+    ghost use Rattle.dbreport.specs.StatSink.{Counts, Breaks, failures_of_each};
 
     ghost takes = { Counts O.held E.held };
 
     ghost drops = { Breaks O.held E.held };
 
-    ghost held = { λ s. record { lent = s.out.ghost_name ∷ s.err.ghost_name ∷ []; failures = failures_of_both (O.held s.out.now) (E.held s.err.now) } };
+    ghost held = { λ s. record { lent = s.out.ghost_name ∷ s.err.ghost_name ∷ []; failures = failures_of_each (O.held s.out.now) (E.held s.err.now) } };
 
     fn fault(&mut self, fault: &Fault) -> Result<(), WriteFailed> {
+        self.out.flush()?;
         put_fault(self.err, fault)?;
         self.found = self.found.saturating_add(1);
         Ok(())
     }
 
+    #[tactic(auto, using(dbsource::proofs::Beginnings::begins_nothing))]
     fn row(&mut self, row: &Row<'_>) -> Result<(), WriteFailed> {
         if !self.aggregate {
+            self.err.flush()?;
             put_page_row(self.out, self.label, row)?;
         }
         self.sums.add(row);
@@ -129,18 +140,13 @@ impl<O: Out, E: Out> Sink for StatSink<'_, O, E> {
     }
 }
 
-// Puts the row of a tree, where rows are added up, and some came.
-fn put_sums<O: Out>(
-    out: &mut O,
-    label: &Label,
-    aggregate: bool,
-    sums: &Sums,
-) -> Result<(), WriteFailed>
+// Puts the row of a tree that some rows came of.
+fn put_sums<O: Out>(out: &mut O, label: &Label, sums: &Sums) -> Result<(), WriteFailed>
     ensures text { (rows : List StatRow) → sums.now ≡ sums_of rows
-        → Puts result (O.held out.old) (O.held out.new) (end_text aggregate (label_text label.now) label.now.page_size rows) }
+        → Puts result (O.held out.old) (O.held out.new) (end_text true (label_text label.now) label.now.page_size rows) }
     ensures count { (O.held out.new).failures ≡ failures_after is_any result (O.held out.old).failures }
 {
-    if !aggregate || sums.pages == 0 {
+    if sums.pages == 0 {
         return Ok(());
     }
     put_tree_row(out, label, sums)

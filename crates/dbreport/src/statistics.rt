@@ -10,7 +10,7 @@ ghost use Rattle.dbformat.specs.Report.{faults, verdict};
 ghost use Rattle.dbformat.specs.Rows.{form_rows};
 ghost use Rattle.dbformat.specs.Survey.{Survey};
 ghost use Rattle.dbsource.specs.Errors.{is_out_of_memory, is_read_failed, is_write_failed};
-ghost use Rattle.dbsource.specs.Failures.{failures_after};
+ghost use Rattle.dbsource.specs.Failures.{CountsAfter, failures_after};
 ghost use Rattle.dbsource.specs.Headers.{IsHeaderOf};
 ghost use Rattle.dbsource.specs.Outs.{Writes};
 ghost use Rattle.dbsource.specs.Sources.{Asks};
@@ -19,7 +19,7 @@ ghost use Rattle.dbwalk.specs.Marking.{AreMarksFor, AreMarksOf, marks_of};
 ghost use Rattle.dbwalk.specs.Outcomes.{IsReadWriteOrMemory};
 ghost use Rattle.dbwalk.specs.Reads.{Reads};
 ghost use Rattle.dbreport.specs.Statistics.{form_of};
-ghost use Rattle.dbreport.specs.StatSink.{Fails, IsSameSink, WritesBoth, failures_of_both, found_verdict};
+ghost use Rattle.dbreport.specs.StatSink.{Fails, IsSameSink, WritesBoth, failures_of_each, found_verdict};
 ghost use Rattle.dbreport.specs.StatStarts.{ArePagesWritten, IsForSchema, rows_text, walk_faults_told};
 ghost use Rattle.dbreport.specs.Sums.{sums_of};
 ghost use Rattle.dbreport.specs.TreeNames.{label_text};
@@ -184,7 +184,8 @@ pub(crate) fn stat<A: Allocator, S: Source, O: Out, E: Out>(
     ensures shape { bench.new.geometry ≡ bench.old.geometry }
     ensures marks { AreMarksFor bench.old.geometry marks.new }
     ensures asks { Asks S.step (IsPageLog bench.old.geometry) is_read_failed result (S.held source.old) (S.held source.new) }
-    ensures writes { failures_of_both (O.held out.new) (E.held err.new) ≡ failures_after is_write_failed result (failures_of_both (O.held out.old) (E.held err.old)) }
+    ensures writes { CountsAfter is_write_failed result (failures_of_each (O.held out.old) (E.held err.old))
+        (failures_of_each (O.held out.new) (E.held err.new)) }
     ensures refusals { roots.new.refusals ≡ failures_after is_out_of_memory result roots.old.refusals }
     ensures only { IfErr result IsReadWriteOrMemory }
     ensures out { IfSome (S.held source.old).bytes (λ file. IsHeaderOf header.now file → bench.old.geometry ≡ geometry file

@@ -13,7 +13,7 @@ ghost use Rattle.dbsource.specs.Headers.{IsHeaderOf};
 ghost use Rattle.dbsource.specs.Sources.{Asks};
 ghost use Rattle.dbwalk.specs.Marking.{AreMarksFor, marks_of};
 ghost use Rattle.dbwalk.specs.Outcomes.{IsReadWriteOrMemory, Tells};
-ghost use Rattle.dbwalk.specs.Sinks.{after_writes};
+ghost use Rattle.dbwalk.specs.Sinks.{SinkAfter};
 ghost use Rattle.dbreport.specs.RunItems.{walk_items};
 
 use crate::RootList;
@@ -33,7 +33,7 @@ use std::alloc::Allocator;
 /// [`RunError::WriteFailed`] exactly where the sink failed.
 pub(crate) fn tell_header<K: Sink>(header: &Header, sink: &mut K) -> Result<(), RunError>
     ensures told { Tells K.takes K.drops result sink.old (findings (header_faults header.now.bytes header.now.file_len)) sink.new }
-    ensures writes { K.held sink.new ≡ after_writes is_write_failed result (K.held sink.old) }
+    ensures writes { SinkAfter is_write_failed result (K.held sink.old) (K.held sink.new) }
     ensures only { IfErr result (λ e. e ≡ WriteFailed) }
 {
     let faults = faults_of(header);
@@ -60,7 +60,7 @@ pub(crate) fn tell_walks<A: Allocator, S: Source, K: Sink + Drop>(
     ensures shape { bench.new.geometry ≡ bench.old.geometry }
     ensures marks { AreMarksFor bench.old.geometry marks.new }
     ensures asks { Asks S.step (IsPageLog bench.old.geometry) is_read_failed result (S.held source.old) (S.held source.new) }
-    ensures writes { K.held watch.new.sink ≡ after_writes is_write_failed result (K.held watch.old.sink) }
+    ensures writes { SinkAfter is_write_failed result (K.held watch.old.sink) (K.held watch.new.sink) }
     ensures refusals { roots.new.refusals ≡ failures_after is_out_of_memory result roots.old.refusals }
     ensures only { IfErr result IsReadWriteOrMemory }
     ensures done { IfSome (S.held source.old).bytes (λ file. IsHeaderOf header.now file → bench.old.geometry ≡ geometry file

@@ -19,7 +19,7 @@ ghost use Rattle.dbwalk.specs.Marking.{AreMarksOf};
 ghost use Rattle.dbwalk.specs.Outcomes.{IsReadOrWrite, IsReadWriteOrMemory};
 ghost use Rattle.dbwalk.specs.Reads.{Reads};
 ghost use Rattle.dbreport.specs.Starts.{AreBelowStarts, AreWalked, IsSchemaWalked, errands_from, kind_by, root_of, schema_root};
-ghost use Rattle.dbwalk.specs.Sinks.{after_writes};
+ghost use Rattle.dbwalk.specs.Sinks.{SinkAfter};
 
 use crate::RootList;
 use crate::schema_watch::SchemaWatch;
@@ -54,7 +54,7 @@ pub(crate) fn walk_schema<A: Allocator, S: Source, K: Sink + Drop>(
     requires unseen { watch.old.has_rows ≡ false }
     ensures shape { bench.new.geometry ≡ bench.old.geometry }
     ensures asks { Asks S.step (Reads bench.old.geometry.page_size marks.old marks.new) is_read_failed result (S.held source.old) (S.held source.new) }
-    ensures writes { K.held watch.new.sink ≡ after_writes is_write_failed result (K.held watch.old.sink) }
+    ensures writes { SinkAfter is_write_failed result (K.held watch.old.sink) (K.held watch.new.sink) }
     ensures refusals { roots.new.refusals ≡ failures_after is_out_of_memory result roots.old.refusals }
     ensures only { IfErr result IsReadWriteOrMemory }
     ensures done { IfSome (S.held source.old).bytes (λ file. IsHeaderOf header.now file → bench.old.geometry ≡ shape_of file → AreMarksOf file [] marks.old
@@ -109,7 +109,7 @@ fn walk_roots<A: Allocator, S: Source, K: Sink>(
     ensures shape { bench.new.geometry ≡ bench.old.geometry }
     ensures roots { roots.new ≡ roots.old }
     ensures asks { Asks S.step (Reads bench.old.geometry.page_size marks.old marks.new) is_read_failed result (S.held source.old) (S.held source.new) }
-    ensures writes { K.held sink.new ≡ after_writes is_write_failed result (K.held sink.old) }
+    ensures writes { SinkAfter is_write_failed result (K.held sink.old) (K.held sink.new) }
     ensures only { IfErr result IsReadOrWrite }
     ensures done { IfSome (S.held source.old).bytes (λ file. bench.old.geometry ≡ shape_of file → encoding ≡ encoding_of file
         → (W : List Reference) (errands : List (Errand Way Event)) (before : K) (U : List Reference) → AreBelowStarts (W ++ visited_below file W errands)
@@ -139,7 +139,7 @@ pub(crate) fn walk_later<A: Allocator, S: Source, K: Sink>(
     ensures shape { bench.new.geometry ≡ bench.old.geometry }
     ensures roots { roots.new ≡ roots.old }
     ensures asks { Asks S.step (Reads bench.old.geometry.page_size marks.old marks.new) is_read_failed result (S.held source.old) (S.held source.new) }
-    ensures writes { K.held sink.new ≡ after_writes is_write_failed result (K.held sink.old) }
+    ensures writes { SinkAfter is_write_failed result (K.held sink.old) (K.held sink.new) }
     ensures only { IfErr result IsReadOrWrite }
     ensures done { IfSome (S.held source.old).bytes (λ file. IsHeaderOf header.now file → bench.old.geometry ≡ shape_of file
         → (W : List Reference) (errands : List (Errand Way Event)) (before : K) (U : List Reference) → AreBelowStarts (W ++ visited_below file W errands)
@@ -173,7 +173,7 @@ pub(crate) fn walk_starts<A: Allocator, S: Source, K: Sink + Drop>(
     requires unseen { watch.old.has_rows ≡ false }
     ensures shape { bench.new.geometry ≡ bench.old.geometry }
     ensures asks { Asks S.step (Reads bench.old.geometry.page_size marks.old marks.new) is_read_failed result (S.held source.old) (S.held source.new) }
-    ensures writes { K.held watch.new.sink ≡ after_writes is_write_failed result (K.held watch.old.sink) }
+    ensures writes { SinkAfter is_write_failed result (K.held watch.old.sink) (K.held watch.new.sink) }
     ensures refusals { roots.new.refusals ≡ failures_after is_out_of_memory result roots.old.refusals }
     ensures only { IfErr result IsReadWriteOrMemory }
     ensures done { IfSome (S.held source.old).bytes (λ file. IsHeaderOf header.now file → bench.old.geometry ≡ shape_of file → AreMarksOf file [] marks.old

@@ -26,10 +26,13 @@
 ghost use Rattle.std.specs.Prelude.{ℕ, List, pos, negsuc};
 ghost use Rattle.dbformat.specs.Faults.{fault};
 ghost use Rattle.dbformat.specs.Samples.{long_row_file};
+ghost use Rattle.dbformat.specs.Sound.{Sound};
 ghost use Rattle.dbformat.specs.declared.FaultCode.TheVariants.{H01, H08, H09, H10, L01, M01, M02, N01, P09, S02, S03, T06};
 ghost use Rattle.dbformat.specs.declared.Refusal.TheVariants.{Magic};
 ghost use Rattle.dbsound.specs.Broken.{IsRefusedBeside, FailsBeside, wrong_magic, unknown_version, false_fragment, numeric_name};
-ghost use Rattle.dbsound.specs.Broken.{unused_page, false_free_page, no_encoding, one_row, two_leaves, one_trunk, no_table, mapped_trunk, early_root, late_root};
+ghost use Rattle.dbsound.specs.Broken.{unused_page, false_free_page, no_encoding, one_row, two_leaves};
+ghost use Rattle.dbsound.specs.Broken.{one_trunk, no_table, mapped_trunk, early_root, late_root};
+ghost use Rattle.dbsound.specs.Samples.{index_file, mapped_file};
 ghost use Rattle.dbsound.specs.Soundness.{HasItsUses, IsSoundByFaults, IsSoundByAnswer, IsSoundByVerdict};
 ghost use Rattle.dbsound.specs.Surveys.{IsByItsStarts, IsByItsLinks, HasChainsBelow, HasTreesBelow, HasWholeTrees};
 
@@ -63,6 +66,13 @@ pub fn each_rule_can_fail_alone()
     ensures format { FailsBeside long_row_file no_encoding (fault H08 1 4 (pos 0)) }
     ensures mapped { FailsBeside (mapped_trunk 2) (mapped_trunk 5) (fault M01 3 5 (pos 0)) }
     ensures roots_first { FailsBeside early_root late_root (fault M02 4 0 (pos 3)) }
+{}
+
+/// Files of other shapes are sound, too: one whose tree is an index's, and one with a pointer map that has an entry of a root,
+/// of pages that are no root, and of a first and a later overflow page.
+pub fn other_shapes_are_sound()
+    ensures index { Sound index_file }
+    ensures mapped { Sound mapped_file }
 {}
 
 /// Where pages and references have no fault, a survey is what is below its starts, one after another, and below each

@@ -1,5 +1,5 @@
 -- Puts in a row.
-use Rattle.std.proofs.Common.{◌≡◌, ℕ, ◌+◌, ◌-◌, ◌≤◌, length, take, drop, arith, List, [], ◌++◌, sym, ◌∙◌, ap, append_assoc, append-nil, Option, None, Some, Result, Ok, Err}
+use Rattle.std.proofs.Common.{◌≡◌, ℕ, ◌+◌, ◌-◌, ◌≤◌, length, take, drop, arith, List, [], ◌++◌, refl, sym, ◌∙◌, ap, append_assoc, append-nil, Option, None, Some, Result, Ok, Err}
 use Rattle.std.proofs.lemmas.Grind.{common_steps}
 use Rattle.std.proofs.lemmas.List.{take-append-drop}
 use Rattle.std.proofs.Math.Seq.{take-add}
@@ -13,6 +13,11 @@ appends_append None m n a b h k = tt
 appends_append (Some x) None n a b h k = absurd h
 appends_append (Some x) (Some y) None a b h k = absurd k
 appends_append (Some x) (Some y) (Some z) a b h k = k ∙ (ap (λ w. w ++ b) h) ∙ append_assoc x a b
+
+-- what is left alone stays
+pub keeps_same : (o : Option (List ℕ)) → Keeps o o
+keeps_same None = tt
+keeps_same (Some x) = refl
 
 -- what was appended stays
 pub appends_kept : (o m n : Option (List ℕ)) (a : List ℕ) → Appends o m a → Keeps m n → Appends o n a

@@ -1,15 +1,26 @@
--- What a put makes of the bytes that an Out holds, where it tells them.
-use Rattle.std.specs.Prelude.{◌≡◌, ℕ, List, [], ◌++◌, Option, Some, Result, MatchResult}
-use Rattle.std.specs.Io.KnownBytes.{Appends}
+-- What a put and a flush make of the bytes that an Out holds, where it tells them.
+use Rattle.std.specs.Prelude.{◌≡◌, ℕ, List, [], ◌++◌, Option, Some, Result, MatchResult, OnOk}
+use Rattle.std.specs.Io.KnownBytes.{Appends, Keeps}
 use Rattle.dbsource.specs.Failures.{failures_after, is_any}
 
--- an Out as contracts see it: the bytes that it holds, if it tells them, and how many calls failed
+-- an Out as contracts see it: the bytes that it holds, if it tells them; the last of these that it did not yet hand on; and
+-- how many calls failed
 pub record OutState : Type 0 where
+  pub bytes : Option (List ℕ)
+  pub pending : List ℕ
+  pub failures : ℕ
+
+-- what one that hands on each piece at once holds, if it tells it, and how many calls failed
+pub record Holding : Type 0 where
   pub bytes : Option (List ℕ)
   pub failures : ℕ
 
+-- as an Out: nothing is pending
+abbrev pub at_once : Holding → OutState
+at_once s = record { bytes = s.bytes; pending = []; failures = s.failures }
+
 -- one that holds nothing yet
-abbrev pub empty_out : OutState
+abbrev pub empty_out : Holding
 empty_out = record { bytes = Some []; failures = 0 }
 
 -- told bytes grew by a beginning of these
@@ -26,4 +37,10 @@ Writes r old new bytes = MatchResult r (λ _. Appends old new bytes) (λ _. Begi
 -- the same, and just at Err a failure is counted, once
 pub record Puts {A E : Type 0} (r : Result A E) (old new : OutState) (bytes : List ℕ) : Type 0 where
   pub held : Writes r old.bytes new.bytes bytes
+  pub count : new.failures ≡ failures_after is_any r old.failures
+
+-- told bytes stay, at Ok none is pending, and just at Err a failure is counted, once
+pub record Flushes {A E : Type 0} (r : Result A E) (old new : OutState) : Type 0 where
+  pub kept : Keeps old.bytes new.bytes
+  pub empty : OnOk r (new.pending ≡ [])
   pub count : new.failures ≡ failures_after is_any r old.failures

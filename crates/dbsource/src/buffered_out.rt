@@ -1,9 +1,9 @@
 // An Out over a writer, which gathers bytes before it writes.
-ghost use Rattle.std.specs.Prelude.{◌≡◌, ◌+◌, ◌-◌, ◌≤◌, [], ◌++◌, length, drop, Some, IfSome, IfOk, IsOk, OnOk, vec_len, vec_capacity};
+ghost use Rattle.std.specs.Prelude.{◌≡◌, ◌+◌, ◌-◌, ◌≤◌, [], ◌++◌, length, take, drop, Some, IfSome, IfOk, IsOk, OnOk, vec_len, vec_capacity};
 ghost use Rattle.std.specs.Io.KnownBytes.{Appends, Keeps, append_known};
 ghost use Rattle.dbsource.specs.Failures.{failures_after, is_any};
-ghost use Rattle.dbsource.specs.Gathers.{gathered_most, told};
-ghost use Rattle.dbsource.specs.Outs.{Begins, Puts, Writes};
+ghost use Rattle.dbsource.specs.Gathers.{begun_line, gathered_most, gathered_with, kept_line, told};
+ghost use Rattle.dbsource.specs.Outs.{Begins, Flushes, Puts, Writes};
 
 use crate::stream_out::write_whole;
 use crate::{Failures, Out, WriteFailed};
@@ -14,9 +14,13 @@ use std::marker::Model;
 // How many bytes are gathered at most.
 const CAPACITY: usize = 65_536;
 
-/// A writer behind a buffer of 65536 bytes. What is put is gathered there, and handed to the writer where the next piece
-/// finds no room, and at a [`flush`](BufferedOut::flush). A piece that is longer than the buffer is written straight, behind
-/// what was gathered.
+/// A writer behind a buffer of 65536 bytes. What is put is gathered there. Where the next piece finds no room, the gathered
+/// lines are handed to the writer, up to the last line feed, and the line that was begun stays gathered. Where that leaves no
+/// room for the piece it goes too, and a piece that is longer than the buffer is written straight, behind all that was
+/// gathered. A [`flush`](Out::flush) hands on all.
+///
+/// So a line of at most 65536 bytes is handed on whole, if no piece goes on behind its line feed and no flush cuts it: what
+/// another writer to the same place writes between two puts stands before the line or behind it.
 ///
 /// What the writer does not take stays gathered, and is handed on again later, so no byte is lost or written twice. What is
 /// gathered at the end is written by `flush` alone: a drop writes nothing.
@@ -86,42 +90,33 @@ impl<W: Write, A: Allocator> BufferedOut<W, A> {
     {
         self.gathered.as_slice()
     }
+}
 
-    /// Hands on what is gathered.
-    ///
-    /// # Errors
-    ///
-    /// [`WriteFailed`] where the writer did not take it whole. What it did not take stays gathered then, and one failure is
-    /// counted.
-    #[tactic(auto, using(crate::proofs::Gathered::kept_begins))]
-    pub fn flush(&mut self) -> Result<(), WriteFailed>
-        ensures writes { Writes result self.old.written self.new.written self.old.gathered }
-        ensures whole { OnOk result (Keeps (told self.old).bytes self.new.written) }
-        ensures empty { OnOk result (self.new.gathered ≡ []) }
-        ensures beginning { IfSome (told self.old).bytes (λ bytes. Appends self.new.written (Some bytes) self.new.gathered) }
-        ensures kept { Keeps (told self.old).bytes (told self.new).bytes }
-        ensures count { self.new.failures ≡ failures_after is_any result self.old.failures }
-    {
-        let handed = hand_on(&mut self.writer, &mut self.gathered);
-        if handed.is_err() {
-            self.failures.add();
-        }
-        handed
+// Where the line begins that these bytes end in: behind the last line feed.
+fn begun_at(bytes: &[u8]) -> usize
+    ensures bound { result ≤ length bytes.now }
+    ensures line { drop result bytes.now ≡ begun_line bytes.now }
+{
+    match bytes.iter().rposition(|byte| *byte == b'\n') {
+        Some(at) => at + 1,
+        None => 0,
     }
 }
 
-// Writes what is gathered. What was not taken stays.
+// Writes the first `count` of the gathered bytes. What was not taken stays.
 fn hand_on<W: Write, A: Allocator>(
     writer: &mut W,
     gathered: &mut Vec<u8, A>,
+    count: usize,
 ) -> Result<(), WriteFailed>
-    ensures writes { Writes result (W.contents writer.old) (W.contents writer.new) gathered.old.items }
-    ensures empty { OnOk result (gathered.new.items ≡ []) }
+    requires { count ≤ vec_len gathered.old }
+    ensures writes { Writes result (W.contents writer.old) (W.contents writer.new) (take count gathered.old.items) }
+    ensures rest { OnOk result (gathered.new.items ≡ drop count gathered.old.items) }
     ensures bound { vec_len gathered.new ≤ vec_len gathered.old }
     ensures capacity { vec_capacity gathered.new ≡ vec_capacity gathered.old }
     ensures kept { Keeps (append_known (W.contents writer.old) gathered.old.items) (append_known (W.contents writer.new) gathered.new.items) }
 {
-    let (taken, written) = write_whole(writer, gathered.as_slice());
+    let (taken, written) = write_whole(writer, &gathered.as_slice()[..count]);
     drop_front(gathered, taken);
     written
 }
@@ -138,6 +133,29 @@ fn drop_front<A: Allocator>(bytes: &mut Vec<u8, A>, count: usize)
     bytes.truncate(len - count);
 }
 
+// Hands on the gathered lines. The begun one goes too where `count` bytes have no room behind it.
+fn make_room<W: Write, A: Allocator>(
+    writer: &mut W,
+    gathered: &mut Vec<u8, A>,
+    count: usize,
+) -> Result<(), WriteFailed>
+    requires { vec_len gathered.old ≤ gathered_most }
+    ensures begins { Begins (W.contents writer.old) (W.contents writer.new) gathered.old.items }
+    ensures rest { OnOk result (gathered.new.items ≡ kept_line gathered.old.items count) }
+    ensures bound { vec_len gathered.new ≤ vec_len gathered.old }
+    ensures capacity { vec_capacity gathered.new ≡ vec_capacity gathered.old }
+    ensures kept { Keeps (append_known (W.contents writer.old) gathered.old.items) (append_known (W.contents writer.new) gathered.new.items) }
+{
+    let lines = begun_at(gathered.as_slice());
+    let begun = gathered.len() - lines;
+    let handed = if count > CAPACITY - begun {
+        gathered.len()
+    } else {
+        lines
+    };
+    hand_on(writer, gathered, handed)
+}
+
 // Gathers a piece that has room.
 fn gather<A: Allocator>(gathered: &mut Vec<u8, A>, piece: &[u8])
     requires { vec_len gathered.old + length piece.now ≤ vec_capacity gathered.old }
@@ -150,7 +168,7 @@ fn gather<A: Allocator>(gathered: &mut Vec<u8, A>, piece: &[u8])
 }
 
 // Gathers the piece, or writes it where it is longer than the buffer.
-#[tactic(auto, using(crate::proofs::Beginnings::begins_nothing, crate::proofs::Gathered::begins_longer, crate::proofs::Gathered::begins_first))]
+#[tactic(auto, using(crate::proofs::Beginnings::begins_nothing, crate::proofs::Gathered::begins_longer))]
 fn take_piece<W: Write, A: Allocator>(
     writer: &mut W,
     gathered: &mut Vec<u8, A>,
@@ -160,14 +178,15 @@ fn take_piece<W: Write, A: Allocator>(
     requires room { gathered_most ≤ vec_capacity gathered.old }
     ensures bound { vec_len gathered.new ≤ gathered_most }
     ensures room { gathered_most ≤ vec_capacity gathered.new }
-    ensures writes { Writes result (append_known (W.contents writer.old) gathered.old.items) (append_known (W.contents writer.new) gathered.new.items) piece.now }
+    ensures writes { Writes result (append_known (W.contents writer.old) gathered.old.items)
+        (append_known (W.contents writer.new) gathered.new.items) piece.now }
     ensures grows { Begins (W.contents writer.old) (W.contents writer.new) (gathered.old.items ++ piece.now) }
     ensures fits { vec_len gathered.old + length piece.now ≤ gathered_most → IsOk result }
     ensures unwritten { vec_len gathered.old + length piece.now ≤ gathered_most → writer.new ≡ writer.old }
-    ensures gathers { vec_len gathered.old + length piece.now ≤ gathered_most → gathered.new.items ≡ gathered.old.items ++ piece.now }
+    ensures rest { OnOk result (gathered.new.items ≡ gathered_with gathered.old.items piece.now) }
 {
     if piece.len() > CAPACITY - gathered.len() {
-        hand_on(writer, gathered)?;
+        make_room(writer, gathered, piece.len())?;
         if piece.len() > CAPACITY {
             return write_whole(writer, piece).1;
         }
@@ -185,11 +204,27 @@ impl<W: Write, A: Allocator> Out for BufferedOut<W, A> {
         ensures fits { length self.old.gathered + length piece.now ≤ gathered_most → IsOk result }
         ensures gathers { length self.old.gathered + length piece.now ≤ gathered_most
             → self.new ≡ record self.old { gathered = self.old.gathered ++ piece.now } }
+        ensures rest { OnOk result (self.new.gathered ≡ gathered_with self.old.gathered piece.now) }
     {
         let taken = take_piece(&mut self.writer, &mut self.gathered, piece);
         if taken.is_err() {
             self.failures.add();
         }
         taken
+    }
+
+    #[tactic(auto, using(crate::proofs::Gathered::kept_begins))]
+    fn flush(&mut self) -> Result<(), WriteFailed>
+        ensures flushes { Flushes result (told self.old) (told self.new) }
+        ensures writes { Writes result self.old.written self.new.written self.old.gathered }
+        ensures whole { OnOk result (Keeps (told self.old).bytes self.new.written) }
+        ensures beginning { IfSome (told self.old).bytes (λ bytes. Appends self.new.written (Some bytes) self.new.gathered) }
+    {
+        let count = self.gathered.len();
+        let handed = hand_on(&mut self.writer, &mut self.gathered, count);
+        if handed.is_err() {
+            self.failures.add();
+        }
+        handed
     }
 }

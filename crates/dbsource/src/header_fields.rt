@@ -1,6 +1,8 @@
 // The fields of a header that faults are told of (Database File Format, 1.3).
 ghost use Rattle.std.specs.Prelude.{◌≡◌};
-ghost use Rattle.dbformat.specs.Header.{stated_pages, first_trunk, freelist_count, schema_format, greatest_root, encoding, encoding_number, incremental_vacuum, is_size_valid};
+ghost use Rattle.dbformat.specs.Header.{stated_pages, first_trunk, freelist_count, schema_format};
+ghost use Rattle.dbformat.specs.Header.{greatest_root, encoding, encoding_number, incremental_vacuum};
+ghost use Rattle.dbformat.specs.Header.{is_size_valid};
 
 use crate::Header;
 use crate::header_words::is_size_valid;

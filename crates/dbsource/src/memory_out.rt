@@ -1,6 +1,6 @@
 // An Out over memory.
 ghost use Rattle.std.specs.Prelude.{◌≡◌, Some, OnErr};
-ghost use Rattle.dbsource.specs.Outs.{Puts, empty_out};
+ghost use Rattle.dbsource.specs.Outs.{Puts, at_once, empty_out};
 
 use crate::{Failures, Out, WriteFailed};
 use std::alloc::{Allocator, Global};
@@ -15,9 +15,9 @@ pub struct MemOut<A: Allocator = Global> {
 
 impl<A: Allocator> Model for MemOut<A> {
     ghost use Rattle.std.specs.Prelude.{Some};
-    ghost use Rattle.dbsource.specs.Outs.{OutState};
+    ghost use Rattle.dbsource.specs.Outs.{Holding};
 
-    ghost Value = { OutState };
+    ghost Value = { Holding };
 
     ghost view = { λ s. record { bytes = Some s.bytes.items; failures = s.failures } };
 }
@@ -51,10 +51,10 @@ impl<A: Allocator> MemOut<A> {
 }
 
 impl<A: Allocator> Out for MemOut<A> {
-    ghost held = { λ s. s };
+    ghost held = { at_once };
 
     fn put(&mut self, piece: &[u8]) -> Result<(), WriteFailed>
-        ensures puts { Puts result self.old self.new piece.now }
+        ensures puts { Puts result (at_once self.old) (at_once self.new) piece.now }
         ensures refused { OnErr result (self.new.bytes ≡ self.old.bytes) }
     {
         match self.bytes.extend_from_slice(piece) {
@@ -64,5 +64,9 @@ impl<A: Allocator> Out for MemOut<A> {
                 Err(WriteFailed)
             }
         }
+    }
+
+    fn flush(&mut self) -> Result<(), WriteFailed> {
+        Ok(())
     }
 }

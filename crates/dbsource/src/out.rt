@@ -1,5 +1,5 @@
 // What takes the bytes of a report.
-ghost use Rattle.dbsource.specs.Outs.{Puts};
+ghost use Rattle.dbsource.specs.Outs.{Flushes, Puts};
 
 /// A put that was not made whole.
 #[derive(Clone, Copy, Debug, PartialEq, Eq)]
@@ -9,7 +9,7 @@ pub struct WriteFailed;
 pub trait Out {
     ghost use Rattle.dbsource.specs.Outs.{OutState};
 
-    // The bytes that it holds, if it tells them, and its failures.
+    // The bytes that it holds, if it tells them, those of them that it did not yet hand on, and its failures.
     ghost held: { Self → OutState };
 
     /// Appends the bytes of `piece`.
@@ -20,4 +20,12 @@ pub trait Out {
     /// one failure is counted.
     fn put(&mut self, piece: &[u8]) -> Result<(), WriteFailed>
         ensures { Puts result (held self.old) (held self.new) piece.now };
+
+    /// Hands on what was put and is still pending.
+    ///
+    /// # Errors
+    ///
+    /// [`WriteFailed`] where not all of it was taken. No byte is lost then, and one failure is counted.
+    fn flush(&mut self) -> Result<(), WriteFailed>
+        ensures { Flushes result (held self.old) (held self.new) };
 }

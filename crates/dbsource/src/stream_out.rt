@@ -1,7 +1,7 @@
 // An Out over a writer.
 ghost use Rattle.std.specs.Prelude.{◌≡◌, ◌≤◌, length, take, OnOk};
 ghost use Rattle.std.specs.Io.KnownBytes.{Appends};
-ghost use Rattle.dbsource.specs.Outs.{Writes};
+ghost use Rattle.dbsource.specs.Outs.{Writes, at_once};
 
 use crate::{Failures, Out, WriteFailed};
 use std::io::Write;
@@ -15,9 +15,9 @@ pub struct StreamOut<W: Write> {
 }
 
 impl<W: Write> Model for StreamOut<W> {
-    ghost use Rattle.dbsource.specs.Outs.{OutState};
+    ghost use Rattle.dbsource.specs.Outs.{Holding};
 
-    ghost Value = { OutState };
+    ghost Value = { Holding };
 
     ghost view = { λ s. record { bytes = W.contents s.writer; failures = s.failures } };
 }
@@ -56,7 +56,7 @@ pub(crate) fn write_whole<W: Write>(
 }
 
 impl<W: Write> Out for StreamOut<W> {
-    ghost held = { λ s. s };
+    ghost held = { at_once };
 
     fn put(&mut self, piece: &[u8]) -> Result<(), WriteFailed> {
         let (_, written) = write_whole(&mut self.writer, piece);
@@ -64,5 +64,10 @@ impl<W: Write> Out for StreamOut<W> {
             self.failures.add();
         }
         written
+    }
+
+    #[tactic(auto, using(crate::proofs::Puts::keeps_same))]
+    fn flush(&mut self) -> Result<(), WriteFailed> {
+        Ok(())
     }
 }

@@ -1,5 +1,5 @@
 -- Two lists that have the same elements, each once, are one list in two orders.
-use Rattle.std.proofs.Common.{◌≡◌, ◌⊎◌, inl, inr, List, [], ◌∷◌, ◌++◌, refl, sym, ap, subst}
+use Rattle.std.proofs.Common.{◌≡◌, ◌≤◌, ◌⊎◌, inl, inr, List, [], ◌∷◌, ◌++◌, length, refl, sym, ap, subst, arith, length-append}
 use Rattle.std.specs.Prelude.{IsPermutation}
 use Rattle.std.proofs.lemmas.List.Sorted.{IsPermutation-refl, IsPermutation-sym, IsPermutation-trans, IsPermutation-cons, IsPermutation-middle}
 use Rattle.dbsurvey.specs.Address.{IsIn}
@@ -53,3 +53,12 @@ rearranged {X} (x ∷ xs) ys a b h k =
     (IsPermutation-trans (x ∷ xs) (x ∷ (p.0 ++ p.1)) (p.0 ++ x ∷ p.1)
     (IsPermutation-cons x xs (p.0 ++ p.1) inner)
     (IsPermutation-sym (p.0 ++ x ∷ p.1) (x ∷ (p.0 ++ p.1)) (IsPermutation-middle p.0 x p.1)))
+
+-- a list whose elements stand once, and all stand in another, is no longer than that one
+pub no_longer : {X : Type 0} (xs ys : List X) → IsOnce xs → ((x : X) → IsIn x xs → IsIn x ys) → length xs ≤ length ys
+no_longer [] ys a h = omega arith
+no_longer (x ∷ xs) ys a h =
+    let p = parted x ys (h x (inl refl)) in
+    let rest = no_longer xs (p.0 ++ p.1) a.1
+    (λ z i. elim (in_rest p.0 x z p.1 (subst (λ l. IsIn z l) p.2 (h z (inr i)))) [ inl e ↦ absurd (a.0 z i (sym e)) | inr j ↦ j ]) in
+    rw p.2 (omega (arith, rest, length-append p.0 p.1, length-append p.0 (x ∷ p.1)))

@@ -3,14 +3,14 @@ use Rattle.std.specs.Prelude.{◌≡◌, ℕ, zero, suc, ◌+◌, ◌-◌, ◌<�
 use Rattle.std.specs.Option.{option_or}
 use Rattle.dbformat.specs.Head.{View, undamaged}
 use Rattle.dbformat.specs.Cell.{count}
-use Rattle.dbpage.specs.Packed.{AreRising, IsRising, IsWhole, key_at}
+use Rattle.dbpage.specs.Packed.{HasRisingKeys, IsAbove, IsAllLocal, key_at}
 use Rattle.dbformat.specs.declared.TreeKind.{TreeKind}
 use Rattle.dbwalk.specs.declared.state.KeySpan.{KeySpan}
 
 -- the cells of a page are readable and have no overflow pages, and their keys rise from the first to the last
 pub record HasSpan (v : View) (keys : KeySpan) : Type 0 where
-  pub whole : (i : ℕ) → i < count v → IsWhole v i
-  pub rising : AreRising v (count v)
+  pub whole : (i : ℕ) → i < count v → IsAllLocal v i
+  pub rising : HasRisingKeys v (count v)
   pub first_is : 0 < count v → key_at v 0 ≡ keys.first
   pub last_is : (i : ℕ) → i + 1 ≡ count v → key_at v i ≡ keys.last
   pub none : count v ≡ 0 → keys.last ≡ None
@@ -19,15 +19,15 @@ pub record HasSpan (v : View) (keys : KeySpan) : Type 0 where
 -- greatest then.
 pub record ArePassed (start : ℕ) (greatest : Option ℤ) (keys : KeySpan) (after : Option ℤ) : Type 0 where
   pub other : 1 ≤ start
-  pub above : IsRising greatest keys.first
+  pub above : IsAbove greatest keys.first
   pub after_is : after ≡ option_or keys.last greatest
 
 -- So many cells from one on are readable and have no overflow pages, and their keys rise from above the greatest before
 -- them; the greatest behind them is the last of these keys, where there is one.
 abbrev pub AreRisingFrom : View → ℕ → ℕ → Option ℤ → Option ℤ → Type 0
 AreRisingFrom v from zero greatest after = after ≡ greatest
-AreRisingFrom v from (suc n) greatest after = (before : Option ℤ) × AreRisingFrom v from n greatest before × IsWhole v (from + n)
-    × IsRising before (key_at v (from + n)) × (after ≡ option_or (key_at v (from + n)) before)
+AreRisingFrom v from (suc n) greatest after = (before : Option ℤ) × AreRisingFrom v from n greatest before × IsAllLocal v (from + n)
+    × IsAbove before (key_at v (from + n)) × (after ≡ option_or (key_at v (from + n)) before)
 
 -- the same of the page at a level: the cells from one on to another
 pub record ArePassedAt (usable : ℕ) (kind : TreeKind) (levels : List (List ℕ)) (level page from end : ℕ) (greatest after : Option ℤ) : Type 0 where

@@ -2,6 +2,7 @@
 use Rattle.std.specs.Option.{option_map_or}
 use Rattle.std.specs.Prelude.{Bool, ◌==◌, not, pos, true, [], ◌∷◌, None, ◌≡◌, ℕ, ◌<◌, ◌≤◌, IfSome, List, Option, Some, ℤ, slice_get, option_map, option_and_then}
 use Rattle.std.specs.Result.{result_ok}
+use Rattle.dbformat.specs.Payload.{most_payload}
 use Rattle.dbformat.specs.Head.{View, undamaged}
 use Rattle.dbformat.specs.Cell.{cell, count, overflow_size}
 use Rattle.dbsurvey.specs.Story.{Errand}
@@ -22,7 +23,7 @@ pub record HasCells (usable : ℕ) (kind : TreeKind) (levels : List (List ℕ)) 
 
 -- the first overflow page of cell i, with the bytes that stand on overflow pages, and its key
 pub record HasCell (usable : ℕ) (kind : TreeKind) (levels : List (List ℕ)) (level page i : ℕ) (overflow : Option (ℕ × ℕ)) (key : Option ℤ) : Type 0 where
-  pub most : IfSome overflow (λ o. o.1 ≤ 2147483647)
+  pub most : IfSome overflow (λ o. o.1 ≤ most_payload)
   pub chain : (bytes : List ℕ) (v : View) → slice_get levels level ≡ Some bytes → undamaged kind page usable bytes ≡ Some v → i < count v → overflow ≡ option_and_then (λ c. option_map (λ p. (p, overflow_size c)) c.overflow) (result_ok (cell v i))
   pub key_is : (bytes : List ℕ) (v : View) → slice_get levels level ≡ Some bytes → undamaged kind page usable bytes ≡ Some v → i < count v → key ≡ option_and_then (λ c. c.key) (result_ok (cell v i))
 

@@ -1,5 +1,6 @@
 -- What the walk over one tree keeps, and what entering a page of it leaves.
 use Rattle.std.specs.Prelude.{◌≡◌, ℕ, suc, ◌+◌, ◌-◌, ◌*◌, ◌<◌, ◌≤◌, Bool, true, false, List, [], ◌∷◌, ◌++◌, length, map, Option, Some, None, Result, Ok, Err, ℤ, slice_get, OnOk}
+use Rattle.dbformat.specs.FixedPages.{IsPageNumber}
 use Rattle.dbsurvey.specs.Address.{Address}
 use Rattle.dbsurvey.specs.Moves.{Moves}
 use Rattle.dbsurvey.specs.Story.{Go, errands_of}
@@ -101,7 +102,7 @@ cost marks frames = unmarked_pages marks * 98312 + frames_cost frames
 -- On any source: the bytes at a frame's level are those of an undamaged interior page, and the frame is at one of its
 -- steps, or behind them.
 pub record IsOpen (usable : ℕ) (kind : TreeKind) (levels : List (List ℕ)) (level : ℕ) (f : Frame) : Type 0 where
-  pub low : f.page ≤ 67108864
+  pub low : IsPageNumber f.page
   pub bytes : List ℕ
   pub there : slice_get levels level ≡ Some bytes
   pub view : View

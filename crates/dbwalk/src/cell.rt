@@ -1,5 +1,7 @@
 // A cell of a leaf: its overflow chain, and its key.
 ghost use Rattle.std.specs.Prelude.{◌≡◌, ◌-◌, ◌<◌, ◌≤◌, length, Some, IfErr, IfSome, OnOk, is_some};
+ghost use Rattle.dbformat.specs.Payload.{most_payload};
+ghost use Rattle.dbformat.specs.FixedPages.{IsPageNumber};
 ghost use Rattle.dbformat.specs.File.{geometry as shape_of};
 ghost use Rattle.dbformat.specs.Log.{HasLog};
 ghost use Rattle.dbwalk.specs.LeafCells.{overflow_errands, late_faults, top_after};
@@ -12,7 +14,7 @@ ghost use Rattle.dbwalk.specs.Outcomes.{IsReadOrWrite};
 ghost use Rattle.dbwalk.specs.Reads.{Reads};
 ghost use Rattle.dbsource.specs.Errors.{is_read_failed, is_write_failed};
 ghost use Rattle.dbsource.specs.Failures.{failures_after};
-ghost use Rattle.dbwalk.specs.Sinks.{after_writes};
+ghost use Rattle.dbwalk.specs.Sinks.{SinkAfter};
 
 use crate::cells::leaf_cell;
 use crate::chain::{Chain, walk_chain};
@@ -28,7 +30,7 @@ use std::alloc::Allocator;
 /// # Errors
 ///
 /// [`RunError::ReadFailed`] exactly where the source failed, [`RunError::WriteFailed`] exactly where the sink failed.
-pub fn walk_overflow<A: Allocator, S: Source, K: Sink>(
+pub(crate) fn walk_overflow<A: Allocator, S: Source, K: Sink>(
     source: &mut S,
     bench: &mut Bench<A>,
     marks: &mut Marks<A>,
@@ -39,12 +41,12 @@ pub fn walk_overflow<A: Allocator, S: Source, K: Sink>(
     sieve: &mut Option<RowSieve>,
     sink: &mut K,
 ) -> Result<(), RunError>
-    requires page { page ≤ 67108864 }
-    requires left { IfSome overflow (λ o. o.1 ≤ 2147483647) }
+    requires page { IsPageNumber page }
+    requires left { IfSome overflow (λ o. o.1 ≤ most_payload) }
     ensures bench { (bench.new.geometry ≡ bench.old.geometry) × (bench.new.levels ≡ bench.old.levels) }
     ensures told { (S.held source.new).bytes ≡ (S.held source.old).bytes }
     ensures reads { (S.held source.new).failures ≡ failures_after is_read_failed result (S.held source.old).failures }
-    ensures writes { K.held sink.new ≡ after_writes is_write_failed result (K.held sink.old) }
+    ensures writes { SinkAfter is_write_failed result (K.held sink.old) (K.held sink.new) }
     ensures log { HasLog S.step (Reads bench.old.geometry.page_size marks.old marks.new) (S.held source.old).trail (S.held source.new).trail }
     ensures only { IfErr result IsReadOrWrite }
     ensures kept { is_some sieve.new ≡ is_some sieve.old }
@@ -72,7 +74,7 @@ pub fn walk_overflow<A: Allocator, S: Source, K: Sink>(
 }
 
 /// Tells that the key of a cell of a leaf is out of order, where it is, and keeps it if it is the greatest.
-pub fn tell_rowid<K: Sink>(
+pub(crate) fn tell_rowid<K: Sink>(
     tree: &mut Tree,
     page: u32,
     i: u32,
@@ -95,7 +97,7 @@ pub fn tell_rowid<K: Sink>(
 /// # Errors
 ///
 /// [`RunError::ReadFailed`] exactly where the source failed, [`RunError::WriteFailed`] exactly where the sink failed.
-pub fn walk_cell<A: Allocator, S: Source, K: Sink>(
+pub(crate) fn walk_cell<A: Allocator, S: Source, K: Sink>(
     source: &mut S,
     bench: &mut Bench<A>,
     marks: &mut Marks<A>,
@@ -105,13 +107,13 @@ pub fn walk_cell<A: Allocator, S: Source, K: Sink>(
     sink: &mut K,
 ) -> Result<(), RunError>
     requires level { length tree.old.path.items < 20 }
-    requires page { page ≤ 67108864 }
+    requires page { IsPageNumber page }
     requires start { 1 ≤ tree.old.start }
     ensures bench { (bench.new.geometry ≡ bench.old.geometry) × (bench.new.levels ≡ bench.old.levels) }
     ensures tree { IsSameButGreatest tree.old tree.new }
     ensures told { (S.held source.new).bytes ≡ (S.held source.old).bytes }
     ensures reads { (S.held source.new).failures ≡ failures_after is_read_failed result (S.held source.old).failures }
-    ensures writes { K.held sink.new ≡ after_writes is_write_failed result (K.held sink.old) }
+    ensures writes { SinkAfter is_write_failed result (K.held sink.old) (K.held sink.new) }
     ensures log { HasLog S.step (Reads bench.old.geometry.page_size marks.old marks.new) (S.held source.old).trail (S.held source.new).trail }
     ensures only { IfErr result IsReadOrWrite }
     ensures done { IfSome (S.held source.old).bytes (λ file. bench.old.geometry ≡ shape_of file

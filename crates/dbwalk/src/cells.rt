@@ -15,13 +15,18 @@ use std::alloc::Allocator;
 /// A cell of a leaf, as far as a walk needs it: its first overflow page with the bytes that stand on overflow pages, and its
 /// key.
 #[derive(Clone, Copy, Debug)]
-pub struct LeafCell {
-    pub overflow: Option<(u32, u32)>,
-    pub key: Option<i64>,
+pub(crate) struct LeafCell {
+    pub(crate) overflow: Option<(u32, u32)>,
+    pub(crate) key: Option<i64>,
 }
 
 /// How many cells the leaf at a level has; 0 where there is no undamaged page.
-pub fn leaf_cells<A: Allocator>(bench: &Bench<A>, kind: TreeKind, level: usize, page: u32) -> u32
+pub(crate) fn leaf_cells<A: Allocator>(
+    bench: &Bench<A>,
+    kind: TreeKind,
+    level: usize,
+    page: u32,
+) -> u32
     requires { level < 20 }
     ensures { HasCells bench.now.geometry.usable kind bench.now.levels level page result }
 {
@@ -32,7 +37,7 @@ pub fn leaf_cells<A: Allocator>(bench: &Bench<A>, kind: TreeKind, level: usize, 
 }
 
 /// Cell `i` of the leaf at a level; one that cannot be read has nothing.
-pub fn leaf_cell<A: Allocator>(
+pub(crate) fn leaf_cell<A: Allocator>(
     bench: &Bench<A>,
     kind: TreeKind,
     level: usize,
@@ -68,7 +73,7 @@ pub fn leaf_cell<A: Allocator>(
 }
 
 /// How many bytes of a payload of this size stand on overflow pages, where these stand in the cell.
-pub fn overflow_size(size: u32, local: &[u8]) -> u32
+pub(crate) fn overflow_size(size: u32, local: &[u8]) -> u32
     ensures value { result ≡ size - length local.now }
     ensures most { result ≤ size }
 {
@@ -78,9 +83,15 @@ pub fn overflow_size(size: u32, local: &[u8]) -> u32
 /// Passes over the cells of the leaf at the level of the tree's path, from cell `from` on, of which nothing but the key is left
 /// to look at, as long as their keys rise from above the greatest so far; and answers with the number of the first other
 /// cell, or of all. In the tree of the schema, whose rows are wanted, it passes over none.
-pub fn pass_cells<A: Allocator>(bench: &Bench<A>, tree: &mut Tree, page: u32, from: u32) -> u32
+pub(crate) fn pass_cells<A: Allocator>(
+    bench: &Bench<A>,
+    tree: &mut Tree,
+    page: u32,
+    from: u32,
+) -> u32
     requires { length tree.old.path.items < 20 }
-    ensures passed { ArePassedAt bench.now.geometry.usable tree.old.kind bench.now.levels (length tree.old.path.items) page from result tree.old.greatest tree.new.greatest }
+    ensures passed { ArePassedAt bench.now.geometry.usable tree.old.kind bench.now.levels (length tree.old.path.items) page from result
+        tree.old.greatest tree.new.greatest }
     ensures other { from < result → 1 ≤ tree.old.start }
     ensures others { IsSameButGreatest tree.old tree.new }
 {

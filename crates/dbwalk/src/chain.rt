@@ -1,9 +1,10 @@
 // The walk along an overflow chain (Database File Format, 1.7).
 ghost use Rattle.std.specs.Prelude.{◌≡◌, ◌+◌, ◌≤◌, ◌<◌, ◌∷◌, List, [], Option, Some, IfSome, IfOk, IfErr, OnOk, is_some};
+ghost use Rattle.dbformat.specs.FixedPages.{IsPageNumber};
 ghost use Rattle.dbsurvey.specs.Story.{Go};
 ghost use Rattle.dbformat.specs.File.{geometry, page_bytes};
 ghost use Rattle.dbformat.specs.Log.{HasLog, page_range};
-ghost use Rattle.dbformat.specs.Payload.{overflow_next};
+ghost use Rattle.dbformat.specs.Payload.{most_payload, overflow_next};
 ghost use Rattle.dbformat.specs.Reference.{Reference, role_of, bytes_left};
 ghost use Rattle.dbformat.specs.Schema.{held_bytes};
 ghost use Rattle.dbformat.specs.Story.{at_page};
@@ -20,7 +21,7 @@ ghost use Rattle.dbwalk.specs.Outcomes.{Tells, IsReadOrWrite};
 ghost use Rattle.dbwalk.specs.Reads.{Reads};
 ghost use Rattle.dbsource.specs.Errors.{is_read_failed, is_write_failed};
 ghost use Rattle.dbsource.specs.Failures.{failures_after};
-ghost use Rattle.dbwalk.specs.Sinks.{after_writes};
+ghost use Rattle.dbwalk.specs.Sinks.{SinkAfter};
 
 use crate::entering::{Step, enter};
 use crate::overflow::{feed_page, last_fault, next_page, overflow_row, tell};
@@ -34,19 +35,19 @@ pub(crate) const CHAIN: usize = 20;
 
 /// Where an overflow chain begins.
 #[derive(Clone, Copy, Debug, Drop, PartialEq, Eq)]
-pub struct Chain<'a> {
+pub(crate) struct Chain<'a> {
     /// The start of the tree.
-    pub start: u32,
+    pub(crate) start: u32,
     /// The children on the way to the page of the cell.
-    pub path: &'a [u32],
+    pub(crate) path: &'a [u32],
     /// That page.
-    pub page: u32,
+    pub(crate) page: u32,
     /// The cell.
-    pub cell: u32,
+    pub(crate) cell: u32,
     /// The first overflow page, as the cell names it.
-    pub first: u32,
+    pub(crate) first: u32,
     /// The bytes of the payload that do not stand in the cell.
-    pub left: u32,
+    pub(crate) left: u32,
 }
 
 // A place on the way along a chain: the number of the next page, the bytes that are left, and the reference to it.
@@ -72,7 +73,7 @@ fn visit_overflow<S: Source, K: Sink, A: Allocator>(
     ensures told { (S.held source.new).bytes ≡ (S.held source.old).bytes }
     ensures trail { (S.held source.new).trail ≡ S.step (S.held source.old).trail (page_range bench.old.geometry.page_size page) }
     ensures reads { (S.held source.new).failures ≡ failures_after is_read_failed result (S.held source.old).failures }
-    ensures writes { K.held sink.new ≡ after_writes is_write_failed result (K.held sink.old) }
+    ensures writes { SinkAfter is_write_failed result (K.held sink.old) (K.held sink.new) }
     ensures only { IfErr result IsReadOrWrite }
     ensures bench { bench.new ≡ record bench.old { chain = bench.new.chain } }
     ensures kept { is_some sieve.new ≡ is_some sieve.old }
@@ -103,19 +104,19 @@ fn turn<S: Source, K: Sink, A: Allocator>(
     sieve: &mut Option<RowSieve>,
     sink: &mut K,
 ) -> Result<Option<Place>, RunError>
-    requires named { named_page place.step.mark ≤ 67108864 }
+    requires named { IsPageNumber (named_page place.step.mark) }
     requires used { IsUse place.step.mark }
-    requires counted { place.number + place.left ≤ 2147483647 }
+    requires counted { place.number + place.left ≤ most_payload }
     ensures told { (S.held source.new).bytes ≡ (S.held source.old).bytes }
     ensures log { HasLog S.step (Reads bench.old.geometry.page_size marks.old marks.new) (S.held source.old).trail (S.held source.new).trail }
     ensures reads { (S.held source.new).failures ≡ failures_after is_read_failed result (S.held source.old).failures }
-    ensures writes { K.held sink.new ≡ after_writes is_write_failed result (K.held sink.old) }
+    ensures writes { SinkAfter is_write_failed result (K.held sink.old) (K.held sink.new) }
     ensures only { IfErr result IsReadOrWrite }
     ensures bench { bench.new ≡ record bench.old { chain = bench.new.chain } }
     ensures kept { is_some sieve.new ≡ is_some sieve.old }
-    ensures named { IfOk result (λ o. IfSome o (λ next. named_page next.step.mark ≤ 67108864)) }
+    ensures named { IfOk result (λ o. IfSome o (λ next. IsPageNumber (named_page next.step.mark))) }
     ensures used { IfOk result (λ o. IfSome o (λ next. IsUse next.step.mark)) }
-    ensures counted { IfOk result (λ o. IfSome o (λ next. next.number + next.left ≤ 2147483647)) }
+    ensures counted { IfOk result (λ o. IfSome o (λ next. next.number + next.left ≤ most_payload)) }
     ensures less { IfOk result (λ o. IfSome o (λ next. next.left < place.left)) }
     ensures turned { IfSome (S.held source.old).bytes (λ file. bench.old.geometry ≡ geometry file
         → (W : List Reference) (c : Reference) (before : K) (first : Option RowSieve)
@@ -161,7 +162,7 @@ fn turn<S: Source, K: Sink, A: Allocator>(
 ///
 /// [`RunError::ReadFailed`] exactly where the source failed, [`RunError::WriteFailed`] exactly where the sink failed. The
 /// sink was told a beginning then of what it is told else.
-pub fn walk_chain<S: Source, K: Sink, A: Allocator>(
+pub(crate) fn walk_chain<S: Source, K: Sink, A: Allocator>(
     source: &mut S,
     bench: &mut Bench<A>,
     marks: &mut Marks<A>,
@@ -169,12 +170,12 @@ pub fn walk_chain<S: Source, K: Sink, A: Allocator>(
     sieve: &mut Option<RowSieve>,
     sink: &mut K,
 ) -> Result<(), RunError>
-    requires page { chain.now.page ≤ 67108864 }
-    requires left { chain.now.left ≤ 2147483647 }
+    requires page { IsPageNumber chain.now.page }
+    requires left { chain.now.left ≤ most_payload }
     ensures told { (S.held source.new).bytes ≡ (S.held source.old).bytes }
     ensures log { HasLog S.step (Reads bench.old.geometry.page_size marks.old marks.new) (S.held source.old).trail (S.held source.new).trail }
     ensures reads { (S.held source.new).failures ≡ failures_after is_read_failed result (S.held source.old).failures }
-    ensures writes { K.held sink.new ≡ after_writes is_write_failed result (K.held sink.old) }
+    ensures writes { SinkAfter is_write_failed result (K.held sink.old) (K.held sink.new) }
     ensures only { IfErr result IsReadOrWrite }
     ensures bench { bench.new ≡ record bench.old { chain = bench.new.chain } }
     ensures kept { is_some sieve.new ≡ is_some sieve.old }
@@ -210,19 +211,19 @@ pub fn walk_chain<S: Source, K: Sink, A: Allocator>(
 ///
 /// As of [`walk_chain`].
 #[inline(never)]
-pub fn walk_unfed<S: Source, K: Sink, A: Allocator>(
+pub(crate) fn walk_unfed<S: Source, K: Sink, A: Allocator>(
     source: &mut S,
     bench: &mut Bench<A>,
     marks: &mut Marks<A>,
     chain: &Chain<'_>,
     sink: &mut K,
 ) -> Result<(), RunError>
-    requires page { chain.now.page ≤ 67108864 }
-    requires left { chain.now.left ≤ 2147483647 }
+    requires page { IsPageNumber chain.now.page }
+    requires left { chain.now.left ≤ most_payload }
     ensures told { (S.held source.new).bytes ≡ (S.held source.old).bytes }
     ensures log { HasLog S.step (Reads bench.old.geometry.page_size marks.old marks.new) (S.held source.old).trail (S.held source.new).trail }
     ensures reads { (S.held source.new).failures ≡ failures_after is_read_failed result (S.held source.old).failures }
-    ensures writes { K.held sink.new ≡ after_writes is_write_failed result (K.held sink.old) }
+    ensures writes { SinkAfter is_write_failed result (K.held sink.old) (K.held sink.new) }
     ensures only { IfErr result IsReadOrWrite }
     ensures bench { bench.new ≡ record bench.old { chain = bench.new.chain } }
     ensures done { IfSome (S.held source.old).bytes (λ file. bench.old.geometry ≡ geometry file → (W : List Reference) (c : Reference)

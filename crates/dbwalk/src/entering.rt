@@ -1,5 +1,6 @@
 // How a page is entered: it is marked, where its reference may be followed.
 ghost use Rattle.std.specs.Prelude.{◌≡◌, ◌-◌, ◌≤◌, ℕ, List, [], ◌∷◌, IfOk, IfErr, IsTrue, false, true, Some, pos, slice_set};
+ghost use Rattle.dbformat.specs.FixedPages.{most_pages, IsPageNumber};
 ghost use Rattle.dbformat.specs.Reference.{Reference};
 ghost use Rattle.dbsource.specs.declared.error.RunError.TheVariants as run_error;
 ghost use Rattle.dbwalk.specs.declared.mark.Mark.TheVariants as use_mark;
@@ -7,7 +8,7 @@ ghost use Rattle.dbwalk.specs.Marking.{AreMarksOf, page_mark, visit_mark};
 ghost use Rattle.dbwalk.specs.Entered.{IsNext, IsStepOf, Enters};
 ghost use Rattle.dbwalk.specs.Packing.{named_page};
 ghost use Rattle.dbsource.specs.Errors.{is_write_failed};
-ghost use Rattle.dbwalk.specs.Sinks.{after_writes};
+ghost use Rattle.dbwalk.specs.Sinks.{SinkAfter};
 
 use crate::{Fault, Mark, Marks, Sink};
 use dbformat::FaultCode;
@@ -16,17 +17,17 @@ use std::alloc::Allocator;
 
 /// A reference to a page.
 #[derive(Clone, Copy, Debug, PartialEq, Eq)]
-pub struct Step {
+pub(crate) struct Step {
     /// The page that it names.
-    pub page: u32,
+    pub(crate) page: u32,
     /// The mark of that page, if it is followed.
-    pub mark: Mark,
+    pub(crate) mark: Mark,
     /// The page on which it stands, or 0.
-    pub from: u32,
+    pub(crate) from: u32,
     /// The item of that page.
-    pub item: u32,
+    pub(crate) item: u32,
     /// Whether it leads too deep into a tree.
-    pub is_too_deep: bool,
+    pub(crate) is_too_deep: bool,
 }
 
 /// Marks the page of a reference that may be followed, or tells why it may not.
@@ -34,19 +35,19 @@ pub struct Step {
 /// # Errors
 ///
 /// [`RunError::WriteFailed`] where the sink failed.
-pub fn enter<K: Sink, A: Allocator>(
+pub(crate) fn enter<K: Sink, A: Allocator>(
     marks: &mut Marks<A>,
     step: Step,
     sink: &mut K,
 ) -> Result<bool, RunError>
-    requires { named_page step.mark ≤ 67108864 }
+    requires { IsPageNumber (named_page step.mark) }
     ensures marked { IfOk result (λ yes. IsTrue yes → (page_mark marks.old step.page ≡ Some use_mark.Unmarked)
         × (marks.new ≡ slice_set marks.old (step.page - 1) step.mark)) }
-    ensures page { IfOk result (λ yes. IsTrue yes → (1 ≤ step.page) × (step.page ≤ 67108864)) }
+    ensures page { IfOk result (λ yes. IsTrue yes → (1 ≤ step.page) × (step.page ≤ most_pages)) }
     ensures shallow { IfOk result (λ yes. IsTrue yes → step.is_too_deep ≡ false) }
     ensures unmarked { IfOk result (λ yes. yes ≡ false → marks.new ≡ marks.old) }
     ensures after_error { IfErr result (λ e. (e ≡ run_error.WriteFailed) × (marks.new ≡ marks.old)) }
-    ensures writes { K.held sink.new ≡ after_writes is_write_failed result (K.held sink.old) }
+    ensures writes { SinkAfter is_write_failed result (K.held sink.old) (K.held sink.new) }
     ensures entered { (file : List ℕ) (W : List Reference) (c : Reference) → IsStepOf step c → IsNext W c → AreMarksOf file W marks.old
         → Enters K.takes K.drops file W c result marks.new sink.old sink.new }
 {

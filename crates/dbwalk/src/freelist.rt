@@ -27,7 +27,7 @@ ghost use Rattle.dbwalk.specs.declared.mark.Mark.TheVariants as use_mark;
 ghost use Rattle.dbsource.specs.Errors.{is_read_failed, is_write_failed};
 ghost use Rattle.dbsource.specs.Failures.{failures_after};
 ghost use Rattle.dbsource.specs.Sources.{Asks};
-ghost use Rattle.dbwalk.specs.Sinks.{after_writes};
+ghost use Rattle.dbwalk.specs.Sinks.{SinkAfter};
 
 use crate::chain::CHAIN;
 use crate::entering::{Step, enter};
@@ -44,7 +44,7 @@ const FREELIST_START: u32 = 65537;
 /// # Errors
 ///
 /// [`RunError::WriteFailed`] exactly where the sink failed.
-pub fn walk_leaves<K: Sink, A: Allocator>(
+pub(crate) fn walk_leaves<K: Sink, A: Allocator>(
     bytes: &[u8],
     marks: &mut Marks<A>,
     page: u32,
@@ -55,7 +55,7 @@ pub fn walk_leaves<K: Sink, A: Allocator>(
     requires few { count ≤ 16384 }
     ensures keeps { Keeps marks.old marks.new }
     ensures fewer { unmarked_pages marks.new ≤ unmarked_pages marks.old }
-    ensures writes { K.held sink.new ≡ after_writes is_write_failed result (K.held sink.old) }
+    ensures writes { SinkAfter is_write_failed result (K.held sink.old) (K.held sink.new) }
     ensures only { IfErr result (λ e. e ≡ run_error.WriteFailed) }
     ensures done { (file : List ℕ) (W : List Reference) (errands : List (Errand Way Event)) (before : K) (U : List Reference) (d : Reference)
         (tail : List (Errand Way Event))
@@ -86,7 +86,7 @@ fn open_trunk<K: Sink, A: Allocator>(
     requires usable { (480 ≤ usable) × (usable ≤ 65536) × (usable ≤ length bytes.now) }
     ensures keeps { Keeps marks.old marks.new }
     ensures fewer { unmarked_pages marks.new ≤ unmarked_pages marks.old }
-    ensures writes { K.held sink.new ≡ after_writes is_write_failed result (K.held sink.old) }
+    ensures writes { SinkAfter is_write_failed result (K.held sink.old) (K.held sink.new) }
     ensures only { IfErr result (λ e. e ≡ run_error.WriteFailed) }
     ensures opened { (file : List ℕ) (W : List Reference) (c : Reference) (before : K) (U : List Reference) (d : Reference) (old : List Mark)
         → d.page ≡ page → role_of d ≡ trunk → bytes.now ≡ page_bytes file page → usable ≡ usable_size file → is_followed (rules_of file) U d ≡ true
@@ -134,7 +134,7 @@ fn turn<S: Source, K: Sink, A: Allocator>(
     ensures told { (S.held source.new).bytes ≡ (S.held source.old).bytes }
     ensures log { HasLog S.step (Reads bench.old.geometry.page_size marks.old marks.new) (S.held source.old).trail (S.held source.new).trail }
     ensures reads { (S.held source.new).failures ≡ failures_after is_read_failed result (S.held source.old).failures }
-    ensures writes { K.held sink.new ≡ after_writes is_write_failed result (K.held sink.old) }
+    ensures writes { SinkAfter is_write_failed result (K.held sink.old) (K.held sink.new) }
     ensures only { IfErr result IsReadOrWrite }
     ensures bench { bench.new ≡ record bench.old { chain = bench.new.chain } }
     ensures trunk { IfOk result (λ o. IfSome o (λ next. next.mark ≡ use_mark.Trunk)) }
@@ -168,7 +168,7 @@ pub fn walk_freelist<S: Source, K: Sink, A: Allocator>(
     sink: &mut K,
 ) -> Result<(), RunError>
     ensures asks { Asks S.step (Reads bench.old.geometry.page_size marks.old marks.new) is_read_failed result (S.held source.old) (S.held source.new) }
-    ensures writes { K.held sink.new ≡ after_writes is_write_failed result (K.held sink.old) }
+    ensures writes { SinkAfter is_write_failed result (K.held sink.old) (K.held sink.new) }
     ensures only { IfErr result IsReadOrWrite }
     ensures bench { bench.new ≡ record bench.old { chain = bench.new.chain } }
     ensures done { IfSome (S.held source.old).bytes (λ file. bench.old.geometry ≡ geometry file → (W : List Reference) (c : Reference)

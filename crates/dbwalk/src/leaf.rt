@@ -1,5 +1,6 @@
 // The cells of a leaf (Database File Format, 1.6).
 ghost use Rattle.std.specs.Prelude.{◌≡◌, ℕ, ◌<◌, ◌≤◌, length, IfErr, IfSome};
+ghost use Rattle.dbformat.specs.FixedPages.{IsPageNumber};
 ghost use Rattle.dbformat.specs.Address.{then_step, schema_start};
 ghost use Rattle.dbformat.specs.File.{geometry as shape_of};
 ghost use Rattle.dbformat.specs.Header.{encoding as encoding_of};
@@ -10,7 +11,7 @@ ghost use Rattle.dbwalk.specs.CellTaken.{IsGiven, IsRowsDone};
 ghost use Rattle.dbsource.specs.Errors.{is_out_of_memory, is_read_failed, is_write_failed};
 ghost use Rattle.dbsource.specs.Failures.{failures_after};
 ghost use Rattle.dbwalk.specs.Standing.{AtLeaf, IsSameButGreatest};
-ghost use Rattle.dbwalk.specs.Sinks.{after_writes};
+ghost use Rattle.dbwalk.specs.Sinks.{SinkAfter};
 
 use crate::cells::{leaf_cells, pass_cells};
 use crate::schema_cell::walk_leaf_cell;
@@ -27,7 +28,7 @@ use std::alloc::Allocator;
 ///
 /// [`RunError::ReadFailed`] exactly where the source failed, [`RunError::WriteFailed`] exactly where the sink failed,
 /// [`RunError::OutOfMemory`] exactly where the taker was refused memory.
-pub fn walk_leaf<A: Allocator, S: Source, K: Sink, T: Taker>(
+pub(crate) fn walk_leaf<A: Allocator, S: Source, K: Sink, T: Taker>(
     source: &mut S,
     bench: &mut Bench<A>,
     marks: &mut Marks<A>,
@@ -38,12 +39,12 @@ pub fn walk_leaf<A: Allocator, S: Source, K: Sink, T: Taker>(
     sink: &mut K,
 ) -> Result<(), RunError>
     requires level { length tree.old.path.items < 20 }
-    requires page { page ≤ 67108864 }
+    requires page { IsPageNumber page }
     ensures bench { (bench.new.geometry ≡ bench.old.geometry) × (bench.new.levels ≡ bench.old.levels) }
     ensures tree { IsSameButGreatest tree.old tree.new }
     ensures told { (S.held source.new).bytes ≡ (S.held source.old).bytes }
     ensures reads { (S.held source.new).failures ≡ failures_after is_read_failed result (S.held source.old).failures }
-    ensures writes { K.held sink.new ≡ after_writes is_write_failed result (K.held sink.old) }
+    ensures writes { SinkAfter is_write_failed result (K.held sink.old) (K.held sink.new) }
     ensures refusals { T.refusals taker.new ≡ failures_after is_out_of_memory result (T.refusals taker.old) }
     ensures log { HasLog S.step (Reads bench.old.geometry.page_size marks.old marks.new) (S.held source.old).trail (S.held source.new).trail }
     ensures only { IfErr result IsReadWriteOrMemory }

@@ -1,6 +1,6 @@
 // The marks of all pages.
 ghost use Rattle.std.specs.Prelude.{ℕ, List, ◌≡◌, ◌-◌, ◌+◌, ◌<◌, ◌≤◌, ◌^◌, [], Some, None, IfOk, length, map, slice_set};
-ghost use Rattle.dbformat.specs.FixedPages.{IsInRange};
+ghost use Rattle.dbformat.specs.FixedPages.{most_pages, IsPageNumber, IsInRange};
 ghost use Rattle.dbwalk.specs.Marking.{cleared, mark_of, marks_of, page_mark};
 ghost use Rattle.dbwalk.specs.Packing.{named_page, unpacked};
 ghost use Rattle.dbformat.specs.declared.Geometry.{Geometry};
@@ -25,11 +25,12 @@ impl<A: Allocator> Model for Marks<A> {
 
     ghost Value = { List Mark };
 
+    ghost use Rattle.dbformat.specs.FixedPages.{most_pages};
     ghost use Rattle.dbwalk.specs.Packing.{unpacked};
 
     ghost view = { λ m. map unpacked m.words.items };
 
-    ghost invariant = { λ m. vec_len m.words ≤ 67108864 };
+    ghost invariant = { λ m. vec_len m.words ≤ most_pages };
 }
 
 // A mark as it is stored.
@@ -109,7 +110,7 @@ impl<A: Allocator> Marks<A> {
     /// How many pages there are.
     pub fn pages(&self) -> u32
         ensures count { result ≡ length self.now }
-        ensures most { result ≤ 67108864 }
+        ensures most { IsPageNumber result }
     {
         self.words.len() as u32
     }
@@ -123,18 +124,18 @@ impl<A: Allocator> Marks<A> {
     }
 
     /// Gives a page a mark.
-    pub fn put(&mut self, page: u32, mark: Mark)
+    pub(crate) fn put(&mut self, page: u32, mark: Mark)
         requires page { (1 ≤ page) × (page ≤ length self.old) }
-        requires mark { named_page mark ≤ 67108864 }
+        requires mark { IsPageNumber (named_page mark) }
         ensures { self.new ≡ slice_set self.old (page - 1) mark }
     {
         self.words[page as usize - 1] = pack(mark);
     }
 
     /// Why a reference to a page may not be followed, where it may not.
-    pub fn refusal(&self, page: u32, is_too_deep: bool) -> Option<FaultCode>
+    pub(crate) fn refusal(&self, page: u32, is_too_deep: bool) -> Option<FaultCode>
         ensures why { result ≡ refusal_by (page_mark self.now page) is_too_deep }
-        ensures page { result ≡ None → (1 ≤ page) × (page ≤ 67108864) }
+        ensures page { result ≡ None → (1 ≤ page) × (page ≤ most_pages) }
     {
         if page == 0 || page > self.pages() {
             return Some(FaultCode::R01);

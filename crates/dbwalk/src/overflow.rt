@@ -11,7 +11,7 @@ ghost use Rattle.dbwalk.specs.Finding.{told_row, told_fault};
 ghost use Rattle.dbwalk.specs.Outcomes.{Tells};
 ghost use Rattle.dbwalk.specs.Rows.{row_of};
 ghost use Rattle.dbsource.specs.Errors.{is_write_failed};
-ghost use Rattle.dbwalk.specs.Sinks.{after_writes};
+ghost use Rattle.dbwalk.specs.Sinks.{SinkAfter};
 
 use crate::chain::Chain;
 use crate::{Fault, PageType, Row, Sink};
@@ -77,7 +77,7 @@ pub(crate) fn tell<K: Sink>(
     sink: &mut K,
 ) -> Result<(), RunError>
     ensures only { IfErr result (λ e. e ≡ run_error.WriteFailed) }
-    ensures writes { K.held sink.new ≡ after_writes is_write_failed result (K.held sink.old) }
+    ensures writes { SinkAfter is_write_failed result (K.held sink.old) (K.held sink.new) }
     ensures told { Tells K.takes K.drops result sink.old (told_row (row_of row.now) ∷ map told_fault (option_to_list fault)) sink.new }
 {
     sink.row(row)?;

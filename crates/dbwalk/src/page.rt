@@ -3,7 +3,8 @@ ghost use Rattle.std.specs.Prelude.{◌≡◌, ℕ, ◌≤◌, ◌<◌, ◌==◌
 ghost use Rattle.dbformat.specs.Cell.{cell, count};
 ghost use Rattle.dbformat.specs.Coverage.{coverage};
 ghost use Rattle.dbformat.specs.Head.{tree_of, is_same_tree, undamaged};
-ghost use Rattle.dbformat.specs.PageFaults.{fragment_fault, cell_fault, cell_faults, freeblock_fault, coverage_fault, empty_fault, inner_faults, tree_page_faults};
+ghost use Rattle.dbformat.specs.PageFaults.{fragment_fault, cell_fault, cell_faults, freeblock_fault};
+ghost use Rattle.dbformat.specs.PageFaults.{coverage_fault, empty_fault, inner_faults, tree_page_faults};
 ghost use Rattle.dbwalk.specs.Telling.{IsTold, findings};
 
 use crate::Sink;
@@ -13,7 +14,7 @@ use dbsource::WriteFailed;
 
 /// Page `number` as a page of a tree of this kind. It is an error where it is damaged: the one fault that is told of it.
 #[tactic(auto, unfolding(dbformat::specs::PageFaults::tree_page_faults))]
-pub fn undamaged<'a>(
+pub(crate) fn undamaged<'a>(
     page: &'a [u8],
     number: u32,
     usable: u32,
@@ -73,7 +74,7 @@ fn is_of_tree(page: PageKind, tree: TreeKind) -> bool
 /// [`WriteFailed`] where the sink failed: it was told the faults up to the one that it did not take.
 // Most pages are packed, and do not come here.
 #[inline(never)]
-pub fn tell_inner<K: Sink>(
+pub(crate) fn tell_inner<K: Sink>(
     view: &PageView<'_>,
     number: u32,
     is_child: bool,
@@ -103,7 +104,7 @@ pub fn tell_inner<K: Sink>(
 /// # Errors
 ///
 /// [`WriteFailed`] where the sink failed: it was told the faults up to the one that it did not take.
-pub fn tell_readable<K: Sink>(
+pub(crate) fn tell_readable<K: Sink>(
     view: &PageView<'_>,
     number: u32,
     is_child: bool,

@@ -1,5 +1,6 @@
 // How a page of a tree is entered.
 ghost use Rattle.std.specs.Prelude.{◌≡◌, ℕ, ◌<◌, ◌≤◌, List, length, true, false, IfOk, IfErr, IfSome, IsTrue, slice_get};
+ghost use Rattle.dbformat.specs.FixedPages.{IsPageNumber};
 ghost use Rattle.dbformat.specs.Address.{schema_start};
 ghost use Rattle.dbformat.specs.File.{geometry as shape_of};
 ghost use Rattle.dbformat.specs.Header.{encoding as encoding_of};
@@ -16,7 +17,7 @@ ghost use Rattle.dbwalk.specs.Reads.{Reads};
 ghost use Rattle.dbsource.specs.Errors.{is_out_of_memory, is_read_failed, is_write_failed};
 ghost use Rattle.dbsource.specs.Failures.{failures_after};
 ghost use Rattle.dbwalk.specs.Standing.{AtPage, AtReference};
-ghost use Rattle.dbwalk.specs.Sinks.{after_writes};
+ghost use Rattle.dbwalk.specs.Sinks.{SinkAfter};
 
 use crate::entering::{Step, enter};
 use crate::leaf::walk_leaf;
@@ -28,11 +29,11 @@ use dbsource::{Bench, RunError, Source};
 use std::alloc::Allocator;
 
 /// The reference from item `item` of page `from` to a page of a tree that stands below so many others.
-pub fn tree_step(level: usize, page: u32, from: u32, item: u32) -> Step
-    requires { from ≤ 67108864 }
+pub(crate) fn tree_step(level: usize, page: u32, from: u32, item: u32) -> Step
+    requires { IsPageNumber from }
     ensures page { result.page ≡ page }
     ensures used { IsUse result.mark }
-    ensures named { named_page result.mark ≤ 67108864 }
+    ensures named { IsPageNumber (named_page result.mark) }
     ensures shallow { result.is_too_deep ≡ false → level < 20 }
     ensures step { (kind : TreeKind) (k : ℕ) (children : List ℕ) (c : Reference) → length children ≡ level
         → IsCandidate kind k children page from item c → IsStepOf result c }
@@ -58,7 +59,7 @@ pub fn tree_step(level: usize, page: u32, from: u32, item: u32) -> Step
 ///
 /// [`RunError::ReadFailed`] exactly where the source failed, [`RunError::WriteFailed`] exactly where the sink failed,
 /// [`RunError::OutOfMemory`] exactly where the taker was refused memory.
-pub fn visit_page<A: Allocator, S: Source, K: Sink, T: Taker>(
+pub(crate) fn visit_page<A: Allocator, S: Source, K: Sink, T: Taker>(
     source: &mut S,
     bench: &mut Bench<A>,
     marks: &mut Marks<A>,
@@ -69,12 +70,12 @@ pub fn visit_page<A: Allocator, S: Source, K: Sink, T: Taker>(
     sink: &mut K,
 ) -> Result<bool, RunError>
     requires level { length tree.old.path.items < 20 }
-    requires page { page ≤ 67108864 }
+    requires page { IsPageNumber page }
     ensures bench { (bench.new.geometry ≡ bench.old.geometry) × (bench.new.levels ≡ bench.old.levels) }
     ensures tree { (tree.new.start ≡ tree.old.start) × (tree.new.kind ≡ tree.old.kind) × (tree.new.path ≡ tree.old.path) }
     ensures told { (S.held source.new).bytes ≡ (S.held source.old).bytes }
     ensures reads { (S.held source.new).failures ≡ failures_after is_read_failed result (S.held source.old).failures }
-    ensures writes { K.held sink.new ≡ after_writes is_write_failed result (K.held sink.old) }
+    ensures writes { SinkAfter is_write_failed result (K.held sink.old) (K.held sink.new) }
     ensures refusals { T.refusals taker.new ≡ failures_after is_out_of_memory result (T.refusals taker.old) }
     ensures log { HasLog S.step (Reads bench.old.geometry.page_size marks.old marks.new) (S.held source.old).trail (S.held source.new).trail }
     ensures only { IfErr result IsReadWriteOrMemory }
@@ -108,7 +109,7 @@ pub fn visit_page<A: Allocator, S: Source, K: Sink, T: Taker>(
 ///
 /// [`RunError::ReadFailed`] exactly where the source failed, [`RunError::WriteFailed`] exactly where the sink failed,
 /// [`RunError::OutOfMemory`] exactly where the taker was refused memory.
-pub fn enter_page<A: Allocator, S: Source, K: Sink, T: Taker>(
+pub(crate) fn enter_page<A: Allocator, S: Source, K: Sink, T: Taker>(
     source: &mut S,
     bench: &mut Bench<A>,
     marks: &mut Marks<A>,
@@ -120,13 +121,13 @@ pub fn enter_page<A: Allocator, S: Source, K: Sink, T: Taker>(
     taker: &mut T,
     sink: &mut K,
 ) -> Result<bool, RunError>
-    requires from { from ≤ 67108864 }
+    requires from { IsPageNumber from }
     ensures shape { bench.new.geometry ≡ bench.old.geometry }
     ensures levels { (level : ℕ) → level < length tree.old.path.items → slice_get bench.new.levels level ≡ slice_get bench.old.levels level }
     ensures tree { (tree.new.start ≡ tree.old.start) × (tree.new.kind ≡ tree.old.kind) × (tree.new.path ≡ tree.old.path) }
     ensures told { (S.held source.new).bytes ≡ (S.held source.old).bytes }
     ensures reads { (S.held source.new).failures ≡ failures_after is_read_failed result (S.held source.old).failures }
-    ensures writes { K.held sink.new ≡ after_writes is_write_failed result (K.held sink.old) }
+    ensures writes { SinkAfter is_write_failed result (K.held sink.old) (K.held sink.new) }
     ensures refusals { T.refusals taker.new ≡ failures_after is_out_of_memory result (T.refusals taker.old) }
     ensures log { HasLog S.step (Reads bench.old.geometry.page_size marks.old marks.new) (S.held source.old).trail (S.held source.new).trail }
     ensures only { IfErr result IsReadWriteOrMemory }

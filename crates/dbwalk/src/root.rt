@@ -52,7 +52,7 @@ impl Root {
 }
 
 /// The kind of the tree whose root was read at level 0.
-pub fn root_kind<A: Allocator>(bench: &Bench<A>, root: Root) -> TreeKind
+pub(crate) fn root_kind<A: Allocator>(bench: &Bench<A>, root: Root) -> TreeKind
     ensures there { slice_get bench.now.levels 0 ≡ Some (bytes_at bench.now 0) }
     ensures kind { result ≡ kind_of root.kind root.page (bytes_at bench.now 0) }
 {

@@ -1,5 +1,6 @@
 // A cell of a leaf of the schema's tree: its overflow chain, its row, and its key (Database File Format, 1.6 and 2.6).
 ghost use Rattle.std.specs.Prelude.{◌≡◌, ℕ, ◌-◌, ◌*◌, ◌<◌, ◌≤◌, length, IfErr, IfSome};
+ghost use Rattle.dbformat.specs.FixedPages.{IsPageNumber};
 ghost use Rattle.dbformat.specs.Address.{then_step, schema_start};
 ghost use Rattle.dbformat.specs.File.{geometry as shape_of};
 ghost use Rattle.dbformat.specs.Header.{encoding as encoding_of};
@@ -10,7 +11,7 @@ ghost use Rattle.dbwalk.specs.CellTaken.{IsGiven, IsLeafCellDone, IsRowDone};
 ghost use Rattle.dbsource.specs.Errors.{is_out_of_memory, is_read_failed, is_write_failed};
 ghost use Rattle.dbsource.specs.Failures.{failures_after};
 ghost use Rattle.dbwalk.specs.Standing.{AtCell, IsSameButGreatest};
-ghost use Rattle.dbwalk.specs.Sinks.{after_writes};
+ghost use Rattle.dbwalk.specs.Sinks.{SinkAfter};
 
 use crate::cell::{tell_rowid, walk_cell, walk_overflow};
 use crate::cells::leaf_cell;
@@ -29,7 +30,7 @@ use std::alloc::Allocator;
 ///
 /// [`RunError::ReadFailed`] exactly where the source failed, [`RunError::WriteFailed`] exactly where the sink failed,
 /// [`RunError::OutOfMemory`] exactly where the taker was refused memory.
-pub fn walk_schema_cell<A: Allocator, S: Source, K: Sink, T: Taker>(
+pub(crate) fn walk_schema_cell<A: Allocator, S: Source, K: Sink, T: Taker>(
     source: &mut S,
     bench: &mut Bench<A>,
     marks: &mut Marks<A>,
@@ -41,13 +42,13 @@ pub fn walk_schema_cell<A: Allocator, S: Source, K: Sink, T: Taker>(
     sink: &mut K,
 ) -> Result<(), RunError>
     requires level { length tree.old.path.items < 20 }
-    requires page { page ≤ 67108864 }
+    requires page { IsPageNumber page }
     requires start { tree.old.start ≡ schema_start }
     ensures bench { (bench.new.geometry ≡ bench.old.geometry) × (bench.new.levels ≡ bench.old.levels) }
     ensures tree { IsSameButGreatest tree.old tree.new }
     ensures told { (S.held source.new).bytes ≡ (S.held source.old).bytes }
     ensures reads { (S.held source.new).failures ≡ failures_after is_read_failed result (S.held source.old).failures }
-    ensures writes { K.held sink.new ≡ after_writes is_write_failed result (K.held sink.old) }
+    ensures writes { SinkAfter is_write_failed result (K.held sink.old) (K.held sink.new) }
     ensures refusals { T.refusals taker.new ≡ failures_after is_out_of_memory result (T.refusals taker.old) }
     ensures log { HasLog S.step (Reads bench.old.geometry.page_size marks.old marks.new) (S.held source.old).trail (S.held source.new).trail }
     ensures only { IfErr result IsReadWriteOrMemory }
@@ -84,7 +85,7 @@ pub fn walk_schema_cell<A: Allocator, S: Source, K: Sink, T: Taker>(
 ///
 /// [`RunError::ReadFailed`] exactly where the source failed, [`RunError::WriteFailed`] exactly where the sink failed,
 /// [`RunError::OutOfMemory`] exactly where the taker was refused memory.
-pub fn walk_leaf_cell<A: Allocator, S: Source, K: Sink, T: Taker>(
+pub(crate) fn walk_leaf_cell<A: Allocator, S: Source, K: Sink, T: Taker>(
     source: &mut S,
     bench: &mut Bench<A>,
     marks: &mut Marks<A>,
@@ -96,12 +97,12 @@ pub fn walk_leaf_cell<A: Allocator, S: Source, K: Sink, T: Taker>(
     sink: &mut K,
 ) -> Result<(), RunError>
     requires level { length tree.old.path.items < 20 }
-    requires page { page ≤ 67108864 }
+    requires page { IsPageNumber page }
     ensures bench { (bench.new.geometry ≡ bench.old.geometry) × (bench.new.levels ≡ bench.old.levels) }
     ensures tree { IsSameButGreatest tree.old tree.new }
     ensures told { (S.held source.new).bytes ≡ (S.held source.old).bytes }
     ensures reads { (S.held source.new).failures ≡ failures_after is_read_failed result (S.held source.old).failures }
-    ensures writes { K.held sink.new ≡ after_writes is_write_failed result (K.held sink.old) }
+    ensures writes { SinkAfter is_write_failed result (K.held sink.old) (K.held sink.new) }
     ensures refusals { T.refusals taker.new ≡ failures_after is_out_of_memory result (T.refusals taker.old) }
     ensures log { HasLog S.step (Reads bench.old.geometry.page_size marks.old marks.new) (S.held source.old).trail (S.held source.new).trail }
     ensures only { IfErr result IsReadWriteOrMemory }

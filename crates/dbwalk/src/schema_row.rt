@@ -12,7 +12,7 @@ ghost use Rattle.dbwalk.specs.RowTold.{place_of, fault_of, taken_faults, TellsRo
 ghost use Rattle.dbwalk.specs.Sieving.{HasFed};
 ghost use Rattle.dbsource.specs.Errors.{is_out_of_memory, is_write_failed};
 ghost use Rattle.dbsource.specs.Failures.{failures_after};
-ghost use Rattle.dbwalk.specs.Sinks.{after_writes};
+ghost use Rattle.dbwalk.specs.Sinks.{SinkAfter};
 
 use crate::{Sink, Taken, Taker};
 use dbbytes::{RowSieve, SchemaRow};
@@ -21,15 +21,15 @@ use dbsource::{RunError, WriteFailed};
 
 /// Where a row of the schema stands: its page, the number of its cell, and its rowid.
 #[derive(Clone, Copy, Debug, Drop, PartialEq, Eq)]
-pub struct RowPlace {
-    pub page: u32,
-    pub item: u32,
-    pub rowid: i64,
+pub(crate) struct RowPlace {
+    pub(crate) page: u32,
+    pub(crate) item: u32,
+    pub(crate) rowid: i64,
 }
 
 impl RowPlace {
     /// The place of the row of cell `item` of a page, whose key is the rowid; 0 where it has none.
-    pub fn new(page: u32, item: u32, key: Option<i64>) -> RowPlace
+    pub(crate) fn new(page: u32, item: u32, key: Option<i64>) -> RowPlace
         ensures { result ≡ place_of page item key }
     {
         RowPlace {
@@ -91,7 +91,7 @@ fn take_row<K: Sink, T: Taker>(
     taker: &mut T,
     sink: &mut K,
 ) -> Result<(), RunError>
-    ensures writes { K.held sink.new ≡ after_writes is_write_failed result (K.held sink.old) }
+    ensures writes { SinkAfter is_write_failed result (K.held sink.old) (K.held sink.new) }
     ensures refusals { T.refusals taker.new ≡ failures_after is_out_of_memory result (T.refusals taker.old) }
     ensures only { IfErr result IsWriteOrMemory }
     ensures told { TellsRow K.takes K.drops T.takes T.refuses place (seen row.entry) result sink.old sink.new taker.old taker.new }
@@ -113,13 +113,13 @@ fn take_row<K: Sink, T: Taker>(
 ///
 /// [`RunError::OutOfMemory`] exactly where the taker was refused memory: nothing was told then. [`RunError::WriteFailed`]
 /// exactly where the sink failed.
-pub fn tell_row<K: Sink, T: Taker>(
+pub(crate) fn tell_row<K: Sink, T: Taker>(
     sieve: &Option<RowSieve>,
     place: RowPlace,
     taker: &mut T,
     sink: &mut K,
 ) -> Result<(), RunError>
-    ensures writes { K.held sink.new ≡ after_writes is_write_failed result (K.held sink.old) }
+    ensures writes { SinkAfter is_write_failed result (K.held sink.old) (K.held sink.new) }
     ensures refusals { T.refusals taker.new ≡ failures_after is_out_of_memory result (T.refusals taker.old) }
     ensures only { IfErr result IsWriteOrMemory }
     ensures none { sieve.now ≡ None → (result ≡ Ok tt) × (sink.new ≡ sink.old) × (taker.new ≡ taker.old) }

@@ -10,7 +10,7 @@ use std::alloc::Allocator;
 
 /// A sieve that has taken what stands of the payload in cell `i` of the leaf at a level; none for a cell that cannot be
 /// read.
-pub fn row_sieve<A: Allocator>(
+pub(crate) fn row_sieve<A: Allocator>(
     bench: &Bench<A>,
     kind: TreeKind,
     level: usize,

@@ -2,7 +2,7 @@
 ghost use Rattle.std.specs.Prelude.{◌≡◌, MatchResult};
 ghost use Rattle.dbwalk.specs.Finding.{Finding, told_row, told_fault};
 ghost use Rattle.dbwalk.specs.Rows.{row_of};
-ghost use Rattle.dbwalk.specs.Sinks.{after_writes};
+ghost use Rattle.dbwalk.specs.Sinks.{SinkAfter};
 ghost use Rattle.dbsource.specs.Failures.{is_any};
 
 use crate::{Fault, PageType};
@@ -40,7 +40,7 @@ pub trait Sink {
     ghost takes: { Self → Finding → Self → Type 0 };
     // What an item that is not taken, or not whole, makes of it.
     ghost drops: { Self → Finding → Self → Type 0 };
-    // What it is lent, and how many calls failed, in 64 bits.
+    // What it is lent, and how many calls of each Out failed, in 64 bits.
     ghost held: { Self → SinkState };
 
     /// Takes a fault.
@@ -50,7 +50,7 @@ pub trait Sink {
     /// [`WriteFailed`] where it was not taken whole; one failure is counted then.
     fn fault(&mut self, fault: &Fault) -> Result<(), WriteFailed>
         ensures item { MatchResult result (λ _. takes self.old (told_fault fault.now) self.new) (λ _. drops self.old (told_fault fault.now) self.new) }
-        ensures count { held self.new ≡ after_writes is_any result (held self.old) };
+        ensures count { SinkAfter is_any result (held self.old) (held self.new) };
 
     /// Takes a row.
     ///
@@ -58,6 +58,7 @@ pub trait Sink {
     ///
     /// [`WriteFailed`] where it was not taken whole; one failure is counted then.
     fn row(&mut self, row: &Row<'_>) -> Result<(), WriteFailed>
-        ensures item { MatchResult result (λ _. takes self.old (told_row (row_of row.now)) self.new) (λ _. drops self.old (told_row (row_of row.now)) self.new) }
-        ensures count { held self.new ≡ after_writes is_any result (held self.old) };
+        ensures item { MatchResult result (λ _. takes self.old (told_row (row_of row.now)) self.new)
+            (λ _. drops self.old (told_row (row_of row.now)) self.new) }
+        ensures count { SinkAfter is_any result (held self.old) (held self.new) };
 }

@@ -15,25 +15,25 @@ use dbsource::WriteFailed;
 /// The keys of a leaf whose cells are all readable, without overflow pages and in the order of their keys: that of its first
 /// cell and that of its last, where there are cells and they have keys.
 #[derive(Clone, Copy, Debug, PartialEq, Eq)]
-pub struct KeySpan {
-    pub first: Option<i64>,
-    pub last: Option<i64>,
+pub(crate) struct KeySpan {
+    pub(crate) first: Option<i64>,
+    pub(crate) last: Option<i64>,
 }
 
 /// The number of the tree's start, its kind, the greatest key so far, the depth of its first leaf, and the numbers of the
 /// children on the way to the page at which the walk is.
 #[derive(Drop)]
-pub struct Tree {
-    pub start: u32,
-    pub kind: TreeKind,
-    pub greatest: Option<i64>,
-    pub leaf: Option<u32>,
-    pub path: ArrayVec<u32, 20>,
+pub(crate) struct Tree {
+    pub(crate) start: u32,
+    pub(crate) kind: TreeKind,
+    pub(crate) greatest: Option<i64>,
+    pub(crate) leaf: Option<u32>,
+    pub(crate) path: ArrayVec<u32, 20>,
 }
 
 impl Tree {
     /// A tree of which nothing was visited.
-    pub fn new(start: u32, kind: TreeKind) -> Tree
+    pub(crate) fn new(start: u32, kind: TreeKind) -> Tree
         ensures names { (result.start ≡ start) × (result.kind ≡ kind) }
         ensures nothing { (result.greatest ≡ None) × (result.leaf ≡ None) × (result.path.items ≡ []) }
     {
@@ -47,7 +47,7 @@ impl Tree {
     }
 
     /// Tells that a key is out of order, where it is, and keeps it if it is the greatest.
-    pub fn tell_key<K: Sink>(
+    pub(crate) fn tell_key<K: Sink>(
         &mut self,
         page: u32,
         item: u32,
@@ -81,7 +81,7 @@ impl Tree {
     /// Passes over a leaf of whose cells nothing but the keys is left to look at, where it has these keys, they come behind the
     /// greatest so far, and the tree is not the schema's, whose rows are wanted. Where it answers false, the cells have to be
     /// walked over one by one.
-    pub fn pass_over(&mut self, keys: Option<KeySpan>) -> bool
+    pub(crate) fn pass_over(&mut self, keys: Option<KeySpan>) -> bool
         ensures passed { IsTrue result → IsSomeAnd keys (λ span. ArePassed self.old.start self.old.greatest span self.new.greatest) }
         ensures kept { result ≡ false → self.new.greatest ≡ self.old.greatest }
         ensures others { IsSameButGreatest self.old self.new }
@@ -97,7 +97,7 @@ impl Tree {
     }
 
     /// Tells that a leaf has another depth than the first leaf of the tree, where it has.
-    pub fn tell_depth<K: Sink>(
+    pub(crate) fn tell_depth<K: Sink>(
         &mut self,
         page: u32,
         depth: u32,

@@ -15,7 +15,7 @@ use std::alloc::Allocator;
 
 /// What an interior page has at a step.
 #[derive(Clone, Copy, Debug, PartialEq, Eq)]
-pub enum Next {
+pub(crate) enum Next {
     /// The step is behind the last one.
     Behind,
     /// Nothing stands there.
@@ -29,7 +29,12 @@ pub enum Next {
 }
 
 /// What the page at a level has at the step of its frame; a damaged page has nothing more.
-pub fn step_of<A: Allocator>(bench: &Bench<A>, kind: TreeKind, level: usize, frame: Frame) -> Next
+pub(crate) fn step_of<A: Allocator>(
+    bench: &Bench<A>,
+    kind: TreeKind,
+    level: usize,
+    frame: Frame,
+) -> Next
     requires { level < 20 }
     ensures { HasNext bench.now.geometry.usable kind bench.now.levels level frame.page frame.next result }
 {

@@ -1,6 +1,5 @@
 // What is told of one page of a tree: its row, and its faults.
 ghost use Rattle.std.specs.Prelude.{◌≡◌, ◌≤◌, length, IfOk, IfSome};
-ghost use Rattle.dbformat.specs.Head.{is_interior};
 ghost use Rattle.dbwalk.specs.KeySpans.{HasSpan};
 ghost use Rattle.dbwalk.specs.PageRows.{undamaged_findings, damaged_findings};
 ghost use Rattle.dbwalk.specs.Telling.{IsTold};
@@ -9,27 +8,16 @@ use crate::page::{tell_inner, tell_readable};
 use crate::payload::{CellSums, cell_sums};
 use crate::state::KeySpan;
 use crate::{Row, Sink};
-use dbformat::{Fault, PageKind, PageType};
+use dbformat::{Fault, PageType};
 use dbpage::PageView;
 use dbsource::WriteFailed;
 
 /// A page of a tree: the number of the tree's start, the children on the way to the page, and its number.
 #[derive(Clone, Copy, Debug, Drop)]
-pub struct PagePlace<'a> {
-    pub start: u32,
-    pub path: &'a [u32],
-    pub page: u32,
-}
-
-/// Whether pages of this kind have children.
-#[inline(always)]
-pub fn is_interior(kind: PageKind) -> bool
-    ensures { result ≡ is_interior kind }
-{
-    match kind {
-        PageKind::InteriorIndex | PageKind::InteriorTable => true,
-        PageKind::LeafIndex | PageKind::LeafTable => false,
-    }
+pub(crate) struct PagePlace<'a> {
+    pub(crate) start: u32,
+    pub(crate) path: &'a [u32],
+    pub(crate) page: u32,
 }
 
 /// Tells the row of an undamaged page, and then the faults within it; and answers with the span of its keys, where these rise
@@ -38,7 +26,7 @@ pub fn is_interior(kind: PageKind) -> bool
 /// # Errors
 ///
 /// [`WriteFailed`] where the sink failed: it was told a beginning of this.
-pub fn tell_undamaged<K: Sink>(
+pub(crate) fn tell_undamaged<K: Sink>(
     view: &PageView<'_>,
     place: &PagePlace<'_>,
     is_child: bool,
@@ -54,12 +42,12 @@ pub fn tell_undamaged<K: Sink>(
     let packed = view.packed(uses);
     let sums = match packed {
         Some(page) => CellSums {
-            payload: u64::from(page.payload),
-            greatest: u64::from(page.greatest),
+            payload: u64::from(page.sums.payload),
+            greatest: u64::from(page.sums.greatest),
         },
         None => cell_sums(view),
     };
-    let pagetype = if is_interior(view.kind()) {
+    let pagetype = if view.kind().is_interior() {
         PageType::Internal
     } else {
         PageType::Leaf
@@ -80,12 +68,12 @@ pub fn tell_undamaged<K: Sink>(
         return Ok(None);
     };
     tell_readable(view, place.page, is_child, page.unheld, sink)?;
-    if page.has_overflow {
+    if page.sums.has_overflow {
         return Ok(None);
     }
     Ok(Some(KeySpan {
-        first: page.first,
-        last: page.last,
+        first: page.sums.first,
+        last: page.sums.last,
     }))
 }
 
@@ -94,7 +82,7 @@ pub fn tell_undamaged<K: Sink>(
 /// # Errors
 ///
 /// [`WriteFailed`] where the sink failed: it was told a beginning of this.
-pub fn tell_damaged<K: Sink>(
+pub(crate) fn tell_damaged<K: Sink>(
     place: &PagePlace<'_>,
     damage: &Fault,
     sink: &mut K,

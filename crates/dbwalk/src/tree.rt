@@ -1,5 +1,6 @@
 // The walk over one tree (Database File Format, 1.6).
 ghost use Rattle.std.specs.Prelude.{◌≡◌, ℕ, ◌≤◌, ◌++◌, [], ◌∷◌, ◌↔◌, List, None, true, IfErr, IfSome};
+ghost use Rattle.dbformat.specs.FixedPages.{IsPageNumber};
 ghost use Rattle.dbsurvey.specs.Story.{Go};
 ghost use Rattle.dbsurvey.specs.Traverse.{is_followed};
 ghost use Rattle.dbformat.specs.Address.{schema_start};
@@ -24,7 +25,7 @@ ghost use Rattle.dbwalk.specs.Taking.{Gives, readable_rows};
 ghost use Rattle.dbwalk.specs.WalkGiven.{IsTreeDone};
 ghost use Rattle.dbwalk.specs.Walking.{IsCandidate};
 ghost use Rattle.dbwalk.specs.declared.root.RootKind.TheVariants as root_kind;
-ghost use Rattle.dbwalk.specs.Sinks.{after_writes};
+ghost use Rattle.dbwalk.specs.Sinks.{SinkAfter};
 
 use crate::entering::enter;
 use crate::frame::Frame;
@@ -49,12 +50,12 @@ fn walk_pages<A: Allocator, S: Source, K: Sink, T: Taker>(
     taker: &mut T,
     sink: &mut K,
 ) -> Result<(), RunError>
-    requires page { page ≤ 67108864 }
+    requires page { IsPageNumber page }
     requires fresh { (tree.old.greatest ≡ None) × (tree.old.leaf ≡ None) × (tree.old.path.items ≡ []) }
     ensures shape { bench.new.geometry ≡ bench.old.geometry }
     ensures told { (S.held source.new).bytes ≡ (S.held source.old).bytes }
     ensures reads { (S.held source.new).failures ≡ failures_after is_read_failed result (S.held source.old).failures }
-    ensures writes { K.held sink.new ≡ after_writes is_write_failed result (K.held sink.old) }
+    ensures writes { SinkAfter is_write_failed result (K.held sink.old) (K.held sink.new) }
     ensures refusals { T.refusals taker.new ≡ failures_after is_out_of_memory result (T.refusals taker.old) }
     ensures log { HasLog S.step (Reads bench.old.geometry.page_size marks.old marks.new) (S.held source.old).trail (S.held source.new).trail }
     ensures only { IfErr result IsReadWriteOrMemory }
@@ -106,7 +107,7 @@ pub fn walk_tree<A: Allocator, S: Source, K: Sink, T: Taker>(
     requires schema { (root.kind ≡ root_kind.Schema) ↔ (root.start ≡ schema_start) }
     ensures shape { bench.new.geometry ≡ bench.old.geometry }
     ensures asks { Asks S.step (Reads bench.old.geometry.page_size marks.old marks.new) is_read_failed result (S.held source.old) (S.held source.new) }
-    ensures writes { K.held sink.new ≡ after_writes is_write_failed result (K.held sink.old) }
+    ensures writes { SinkAfter is_write_failed result (K.held sink.old) (K.held sink.new) }
     ensures refusals { T.refusals taker.new ≡ failures_after is_out_of_memory result (T.refusals taker.old) }
     ensures only { IfErr result IsReadWriteOrMemory }
     // Only the schema's tree calls the taker.

@@ -14,7 +14,7 @@ ghost use Rattle.dbwalk.specs.Reads.{Reads};
 ghost use Rattle.dbsource.specs.Errors.{is_out_of_memory, is_read_failed, is_write_failed};
 ghost use Rattle.dbsource.specs.Failures.{failures_after};
 ghost use Rattle.dbwalk.specs.Standing.{AtStep};
-ghost use Rattle.dbwalk.specs.Sinks.{after_writes};
+ghost use Rattle.dbwalk.specs.Sinks.{SinkAfter};
 
 use crate::chain::{Chain, walk_unfed};
 use crate::frame::Frame;
@@ -53,7 +53,7 @@ fn enter_child<A: Allocator, S: Source, K: Sink, T: Taker>(
     ensures ends { OnOk result (cost marks.new frames.new.items < cost marks.old (frames.old.items ++ (frame ∷ []))) }
     ensures told { (S.held source.new).bytes ≡ (S.held source.old).bytes }
     ensures reads { (S.held source.new).failures ≡ failures_after is_read_failed result (S.held source.old).failures }
-    ensures writes { K.held sink.new ≡ after_writes is_write_failed result (K.held sink.old) }
+    ensures writes { SinkAfter is_write_failed result (K.held sink.old) (K.held sink.new) }
     ensures refusals { T.refusals taker.new ≡ failures_after is_out_of_memory result (T.refusals taker.old) }
     ensures log { HasLog S.step (Reads bench.old.geometry.page_size marks.old marks.new) (S.held source.old).trail (S.held source.new).trail }
     ensures only { IfErr result IsReadWriteOrMemory }
@@ -82,7 +82,7 @@ fn enter_child<A: Allocator, S: Source, K: Sink, T: Taker>(
 ///
 /// [`RunError::ReadFailed`] exactly where the source failed, [`RunError::WriteFailed`] exactly where the sink failed,
 /// [`RunError::OutOfMemory`] exactly where the taker was refused memory.
-pub fn turn<A: Allocator, S: Source, K: Sink, T: Taker>(
+pub(crate) fn turn<A: Allocator, S: Source, K: Sink, T: Taker>(
     source: &mut S,
     bench: &mut Bench<A>,
     marks: &mut Marks<A>,
@@ -104,7 +104,7 @@ pub fn turn<A: Allocator, S: Source, K: Sink, T: Taker>(
     ensures ends { OnOk result (cost marks.new frames.new.items < cost marks.old (frames.old.items ++ (frame ∷ []))) }
     ensures told { (S.held source.new).bytes ≡ (S.held source.old).bytes }
     ensures reads { (S.held source.new).failures ≡ failures_after is_read_failed result (S.held source.old).failures }
-    ensures writes { K.held sink.new ≡ after_writes is_write_failed result (K.held sink.old) }
+    ensures writes { SinkAfter is_write_failed result (K.held sink.old) (K.held sink.new) }
     ensures refusals { T.refusals taker.new ≡ failures_after is_out_of_memory result (T.refusals taker.old) }
     ensures log { HasLog S.step (Reads bench.old.geometry.page_size marks.old marks.new) (S.held source.old).trail (S.held source.new).trail }
     ensures only { IfErr result IsReadWriteOrMemory }

@@ -1,5 +1,6 @@
 // What is told of a page of a tree that was read.
 ghost use Rattle.std.specs.Prelude.{◌≡◌, ◌+◌, ◌<◌, ◌≤◌, ◌++◌, [], ◌∷◌, length, IfOk, OnOk};
+ghost use Rattle.dbformat.specs.FixedPages.{IsPageNumber};
 ghost use Rattle.dbformat.specs.Story.{at_page};
 ghost use Rattle.dbwalk.specs.Running.{first_leaf};
 ghost use Rattle.dbwalk.specs.Found.{IsFound};
@@ -7,18 +8,18 @@ ghost use Rattle.dbwalk.specs.Telling.{IsTold};
 ghost use Rattle.dbwalk.specs.Finding.{told_at};
 ghost use Rattle.dbsource.specs.Failures.{is_any};
 ghost use Rattle.dbwalk.specs.Standing.{AtRead, IsSameButLeaf};
-ghost use Rattle.dbwalk.specs.Sinks.{after_writes};
+ghost use Rattle.dbwalk.specs.Sinks.{SinkAfter};
 
 use crate::Sink;
 use crate::page::undamaged;
 use crate::state::{KeySpan, Tree};
-use crate::told::{PagePlace, is_interior, tell_damaged, tell_undamaged};
+use crate::told::{PagePlace, tell_damaged, tell_undamaged};
 use dbsource::{Bench, WriteFailed};
 use std::alloc::Allocator;
 
 /// What a page of a tree was found to be.
 #[derive(Clone, Copy, Debug, PartialEq, Eq)]
-pub enum PageFound {
+pub(crate) enum PageFound {
     Damaged,
     Interior,
     /// A leaf, with the span of its keys where nothing else of its cells is left to look at.
@@ -31,18 +32,18 @@ pub enum PageFound {
 /// # Errors
 ///
 /// [`WriteFailed`] where the sink failed.
-pub fn tell_page<A: Allocator, K: Sink>(
+pub(crate) fn tell_page<A: Allocator, K: Sink>(
     bench: &mut Bench<A>,
     tree: &mut Tree,
     page: u32,
     sink: &mut K,
 ) -> Result<PageFound, WriteFailed>
     requires level { length tree.old.path.items < 20 }
-    requires page { page ≤ 67108864 }
+    requires page { IsPageNumber page }
     ensures bench { (bench.new.geometry ≡ bench.old.geometry) × (bench.new.levels ≡ bench.old.levels) }
     ensures tree { IsSameButLeaf tree.old tree.new }
     ensures open { IfOk result (λ found. IsFound bench.new.geometry.usable tree.new.kind bench.new.levels (length tree.old.path.items) page found) }
-    ensures writes { K.held sink.new ≡ after_writes is_any result (K.held sink.old) }
+    ensures writes { SinkAfter is_any result (K.held sink.old) (K.held sink.new) }
     // Where the bytes at the level are those of the page.
     ensures told { AtRead bench.old.geometry tree.old bench.old.levels page (λ file W c.
         IsTold K.takes K.drops K.held result sink.old (told_at file (W ++ (c ∷ [])) (at_page c)) sink.new
@@ -60,7 +61,7 @@ pub fn tell_page<A: Allocator, K: Sink>(
     let keys = match undamaged(bytes, page, usable, tree.kind) {
         Ok(view) => {
             let keys = tell_undamaged(&view, &place, depth > 1, uses, sink)?;
-            if is_interior(view.kind()) {
+            if view.kind().is_interior() {
                 return Ok(PageFound::Interior);
             }
             keys

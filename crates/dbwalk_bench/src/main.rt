@@ -3,12 +3,13 @@
 //! changes.
 #![tactic(auto)]
 
-mod roots;
 mod totals;
 
-use crate::roots::Roots;
 use crate::totals::Totals;
 use anyhow::{Context, Result};
+use dbfiles::TestFile;
+use dbformat::RowKind;
+use dbreport::RootList;
 use dbsource::{Bench, Header, MemSource, RunError};
 use dbwalk::{Marks, Root, RootKind, walk_freelist, walk_tree};
 use std::alloc::Global;
@@ -23,7 +24,7 @@ fn walk_file(alloc: Global, file: &[u8], totals: &mut Totals) -> std::result::Re
     let encoding = header.encoding();
     let bench = &mut Bench::new(alloc, geometry)?;
     let marks = &mut Marks::new(alloc, &geometry)?;
-    let roots = &mut Roots::new(alloc);
+    let roots = &mut RootList::new(alloc);
     let schema = Root {
         start: 0,
         page: 1,
@@ -31,10 +32,21 @@ fn walk_file(alloc: Global, file: &[u8], totals: &mut Totals) -> std::result::Re
         encoding,
     };
     walk_tree(source, bench, marks, schema, roots, totals)?;
-    for index in 0..roots.len() {
-        if let Some(root) = roots.get(index + 1, encoding) {
-            walk_tree(source, bench, marks, root, roots, totals)?;
-        }
+    for start in 1..roots.len() + 1 {
+        let Some(row) = roots.get(start) else {
+            break;
+        };
+        let kind = match row.kind {
+            RowKind::Index => RootKind::Index,
+            _ => RootKind::Own,
+        };
+        let root = Root {
+            start,
+            page: row.root,
+            kind,
+            encoding,
+        };
+        walk_tree(source, bench, marks, root, roots, totals)?;
     }
     let first = header.first_trunk();
     if first != 0 {
@@ -52,26 +64,11 @@ fn totals_of(alloc: Global, file: &[u8], rounds: u32) -> Result<Totals> {
     Ok(totals)
 }
 
-/// The bytes of a file of one page, an empty schema.
-fn small_file() -> [u8; 512] {
-    let mut file = [0u8; 512];
-    file[..16].copy_from_slice(b"SQLite format 3\0");
-    file[16] = 2;
-    file[18] = 1;
-    file[19] = 1;
-    file[21] = 64;
-    file[22] = 32;
-    file[23] = 32;
-    file[31] = 1;
-    file[100] = 13;
-    file[105] = 2;
-    file
-}
-
 fn main(rt: HostRuntime) -> Result<()> {
     let mut words = env::args(&rt)?.skip(1);
     let Some(path) = words.next() else {
-        let totals = totals_of(rt.alloc(), &small_file(), 1)?;
+        let file = TestFile::new(rt.alloc(), 512, 1)?.into_bytes();
+        let totals = totals_of(rt.alloc(), file.as_slice(), 1)?;
         println!(rt; "{totals:?}")?;
         return Ok(());
     };

@@ -1,5 +1,5 @@
 // Sums of what is told.
-use dbsource::{Failures, WriteFailed};
+use dbsource::WriteFailed;
 use dbwalk::{Fault, Row, Sink};
 
 /// How many rows and faults came, and the sums of the rows' numbers.
@@ -10,7 +10,6 @@ pub(crate) struct Totals {
     cells: u64,
     payload: u64,
     unused: u64,
-    failures: Failures,
 }
 
 impl Totals {
@@ -21,7 +20,6 @@ impl Totals {
             cells: 0,
             payload: 0,
             unused: 0,
-            failures: Failures::new(),
         }
     }
 
@@ -38,7 +36,7 @@ impl Sink for Totals {
 
     ghost drops = { λ _ _ _. ⊤ };
 
-    ghost held = { λ s. record { lent = []; failures = s.failures } };
+    ghost held = { λ s. record { lent = []; failures = [] } };
 
     fn fault(&mut self, _fault: &Fault) -> Result<(), WriteFailed> {
         self.faults = self.faults.wrapping_add(1);

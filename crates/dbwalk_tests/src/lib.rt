@@ -1,15 +1,8 @@
-//! Tests of the walk over trees, chains and the freelist, on whole files.
+//! Tests of the walk over trees, chains and the freelist, on whole files: who is told and who takes rows fails at any item.
+//! Those of whole runs stand in `dbck_tests`.
 #![tactic(auto)]
 
 #[cfg(test)]
-mod fakes;
+mod support;
 #[cfg(test)]
-mod files;
-#[cfg(test)]
-mod freelists;
-#[cfg(test)]
-mod hostile;
-#[cfg(test)]
-mod schemas;
-#[cfg(test)]
-mod trees;
+mod walks;

@@ -1,6 +1,6 @@
 // The exit status of a run, and what stands in the outs.
 use crate::finishing::finish;
-use dbfiles::{base_file, patch};
+use crate::tests::small_files::{base_file, patch};
 use dbreport::Command;
 use dbsource::{BufferedOut, Failures, MemOut, MemSource, Out, ReadFailed, Source, WriteFailed};
 use std::test::Fail;
@@ -20,13 +20,17 @@ impl NoRoom {
 }
 
 impl Out for NoRoom {
-    ghost use Rattle.std.specs.Prelude.{None};
+    ghost use Rattle.std.specs.Prelude.{[], None};
 
-    ghost held = { λ s. record { bytes = None; failures = s.failures } };
+    ghost held = { λ s. record { bytes = None; pending = []; failures = s.failures } };
 
     fn put(&mut self, _piece: &[u8]) -> Result<(), WriteFailed> {
         self.failures.add();
         Err(WriteFailed)
+    }
+
+    fn flush(&mut self) -> Result<(), WriteFailed> {
+        Ok(())
     }
 }
 
@@ -56,7 +60,7 @@ const RUNS: [(usize, u8, u8, &str, &str); 7] = [
 #[test]
 fn finishes(rt: HostRuntime) -> Result<(), Fail> {
     for (at, byte, status, written, told) in RUNS {
-        let mut file = base_file(rt.alloc(), 512, 1)?;
+        let mut file = base_file(rt.alloc(), 1)?;
         assert!(rt; at < 512);
         patch(file.as_mut_slice(), at, &[byte]);
         let mut out = BufferedOut::new(rt.alloc(), Vec::new(rt.alloc()))?;
@@ -160,7 +164,7 @@ const STATISTICS: [(bool, bool, u32, usize, u8, u8, &str, &str); 8] = [
 fn finishes_statistics(rt: HostRuntime) -> Result<(), Fail> {
     for (aggregate, all, pages, at, byte, status, written, told) in STATISTICS {
         assert!(rt; 1 <= pages && pages <= 2);
-        let mut file = base_file(rt.alloc(), 512, pages)?;
+        let mut file = base_file(rt.alloc(), pages)?;
         assert!(rt; at < 512);
         patch(file.as_mut_slice(), at, &[byte]);
         let mut out = BufferedOut::new(rt.alloc(), Vec::new(rt.alloc()))?;
@@ -180,7 +184,7 @@ fn finishes_statistics(rt: HostRuntime) -> Result<(), Fail> {
 fn finishes_statistics_without_room(rt: HostRuntime) -> Result<(), Fail> {
     for (pages, status) in [(1, 0), (2, 6)] {
         assert!(rt; 1 <= pages && pages <= 2);
-        let file = base_file(rt.alloc(), 512, pages)?;
+        let file = base_file(rt.alloc(), pages)?;
         let mut out = BufferedOut::new(rt.alloc(), Vec::new(rt.alloc()))?;
         let mut no_room = NoRoom::new();
         let command = Command::Stat {
@@ -217,7 +221,7 @@ fn finishes_without_file(rt: HostRuntime) -> Result<(), Fail> {
 // A disk that is full at each byte of the output: that is found before the status is decided.
 #[test]
 fn finishes_on_a_full_disk(rt: HostRuntime) -> Result<(), Fail> {
-    let file = base_file(rt.alloc(), 512, 1)?;
+    let file = base_file(rt.alloc(), 1)?;
     let row = "sqlite_schema\t/\t1\tleaf\t0\t0\t404\t0\t0\t512\n";
     let rows = Command::Stat {
         aggregate: false,
@@ -282,7 +286,7 @@ impl Source for Torn<'_> {
 // Page 1 is an interior page whose one child is page 2. The rows that were found before a read fails are handed on.
 #[test]
 fn hands_on_before_an_error(rt: HostRuntime) -> Result<(), Fail> {
-    let mut file = base_file(rt.alloc(), 512, 2)?;
+    let mut file = base_file(rt.alloc(), 2)?;
     patch(
         file.as_mut_slice(),
         100,

@@ -1,5 +1,6 @@
 // The notes on logs that lie beside a database.
 use crate::logs::put_notes;
+use crate::tests::fake_files::{Allowed, FakeFiles};
 use dbsource::MemOut;
 use std::fs;
 use std::os::unix::fs::symlink;
@@ -11,15 +12,16 @@ const WAL: &str =
 const JOURNAL: &str =
     "dbck: note: logs/x.db-journal is not read; let SQLite open a copy of both files to recover it, and check that copy\n";
 
-// Looks for logs at `path`, and tells whether these are the notes.
+// Looks for logs at `path`, and tells whether these are the notes, and nothing but metadata was asked for.
 fn has_notes(rt: &HostRuntime, path: &str, notes: &[&str]) -> Result<bool, Fail> {
+    let files = FakeFiles::new(rt, Allowed::Looking);
     let mut err = MemOut::new(rt.alloc());
-    put_notes(rt, path, &mut err);
+    put_notes(&files, path, &mut err);
     let mut text = String::new(rt.alloc());
     for note in notes {
         text.push_str(note)?;
     }
-    Ok(err.bytes() == text.as_str().as_bytes())
+    Ok(err.bytes() == text.as_str().as_bytes() && !files.has_refused())
 }
 
 #[test]

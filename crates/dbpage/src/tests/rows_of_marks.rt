@@ -1,5 +1,5 @@
 // Marks at the ends of their windows and lanes.
-use crate::table::{claim_long, claim_plain};
+use crate::byte_use::{claim_long, claim_plain};
 use crate::{PageView, uncounted_coverage};
 use dbformat::Coverage;
 use std::process::Abort;

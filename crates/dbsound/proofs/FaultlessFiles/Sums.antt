@@ -23,7 +23,7 @@ use Rattle.dbformat.proofs.NoFaults.{page_none}
 use Rattle.dbsound.specs.Below.{below, use_of}
 use Rattle.dbsurvey.proofs.Lists.{filter-from, count_all, count_none, count-append}
 use Rattle.dbsound.proofs.FaultlessSurveys.Trunks.{room_for_leaves, freelist_of}
-use Rattle.dbformat.proofs.Roles.{all_as, one_root, no_roots}
+use Rattle.dbformat.proofs.Roles.{all_as, one_root, no_roots, root_off}
 use Rattle.dbsound.proofs.FaultlessFiles.Forest.{row_starts, sections_of, start_triple, parts_are, whole_start, whole_free}
 
 -- the freelist's start is one of a trunk
@@ -38,14 +38,6 @@ free_role file c i = by_case (first_trunk file == 0) i
 -- a row's start is one of a root
 row_role : (file : List ℕ) (k : ℕ) (rows : List SchemaRow) (l : Link Way) → IsIn l (row_starts file k rows) → is_root (role_of (start_triple l)) ≡ true
 row_role file k rows l i = let m = IsIn-from_map (root_start file) (enumerate_from k rows) l i in ap (λ l. is_root (role_of (start_triple l))) m.2
-
-root_off : (role : Role) → is_root role ≡ true → is_on_freelist role ≡ false
-root_off (root kind) e = refl
-root_off trunk e = cc
-root_off (Role.child kind) e = refl
-root_off (Role.first_overflow left) e = refl
-root_off (Role.later_overflow left) e = refl
-root_off Role.free_leaf e = cc
 
 module _ (file : List ℕ) (V : List Reference) (s : Survey file V) (none : walk_faults file V ≡ []) where
   -- what is below the first start, those of rows, and that of the freelist

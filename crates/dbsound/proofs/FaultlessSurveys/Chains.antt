@@ -2,6 +2,7 @@
 use Rattle.std.proofs.Common.{◌≡◌, ℕ, zero, suc, ◌-◌, ◌≤◌, ◌<◌, ◌⊎◌, inl, inr, true, false, List, [], ◌∷◌, ◌++◌, length, map, Some, None, refl, sym, ap, subst, ◌∙◌, arith, append-nil}
 use Rattle.std.specs.Prelude.{flat_map, nat_lt}
 use Rattle.std.proofs.lemmas.Bool.Decides.{nat_tests}
+use Rattle.std.proofs.lemmas.Bool.{cases_lt}
 use Rattle.dbsurvey.specs.Address.{IsIn}
 use Rattle.dbsurvey.specs.Survey.{children, named_at}
 use Rattle.dbformat.specs.Header.{usable_size}
@@ -79,10 +80,10 @@ module _ (file : List ℕ) (V : List Reference) (s : Survey file V) (none : walk
 
   step : (n : ℕ) (r : Reference) (left : ℕ) → length (below V r.address) ≤ suc n → bytes_left (role_of r) ≡ Some left → IsIn r V
       → ((q : Reference) (less : ℕ) → length (below V q.address) ≤ n → bytes_left (role_of q) ≡ Some less → IsIn q V → IsChainOf file V q less (below V q.address))
-      → (left ≤ usable_size file - 4) ⊎ (usable_size file - 4 < left) → IsChainOf file V r left (below V r.address)
-  step n r left small e i rest (inl h) =
-      subst (IsChainOf file V r left) (sym (by_its_links file V s none r i ∙ ap (λ ds. r ∷ flat_map (λ d. below V d.address) ds) (no_next r left h e))) (at_end r left h e i)
+      → (usable_size file - 4 < left) ⊎ (left ≤ usable_size file - 4) → IsChainOf file V r left (below V r.address)
   step n r left small e i rest (inr h) =
+      subst (IsChainOf file V r left) (sym (by_its_links file V s none r i ∙ ap (λ ds. r ∷ flat_map (λ d. below V d.address) ds) (no_next r left h e))) (at_end r left h e i)
+  step n r left small e i rest (inl h) =
       let q = next_of r left in
       let j : IsIn q (children (rules_of file) r) = subst (IsIn q) (sym (one_next r left h e)) (inl refl) in
       let k = fewer_below file V s none r q i j in
@@ -90,13 +91,10 @@ module _ (file : List ℕ) (V : List Reference) (s : Survey file V) (none : walk
       subst (IsChainOf file V r left) (sym (by_its_links file V s none r i ∙ ap (λ ds. r ∷ flat_map (λ d. below V d.address) ds) (one_next r left h e) ∙ ap (λ l. r ∷ l) (append-nil (below V q.address))))
       (at_next r left (below V q.address) h e c)
 
-  cases : (left : ℕ) → (left ≤ usable_size file - 4) ⊎ (usable_size file - 4 < left)
-  cases left = grind arith
-
   chain_of : (n : ℕ) (r : Reference) (left : ℕ) → length (below V r.address) ≤ n → bytes_left (role_of r) ≡ Some left → IsIn r V
       → IsChainOf file V r left (below V r.address)
   chain_of zero r left small e i = absurd (let f = ap length (by_its_links file V s none r i) in omega arith)
-  chain_of (suc n) r left small e i = step n r left small e i (chain_of n) (cases left)
+  chain_of (suc n) r left small e i = step n r left small e i (chain_of n) (cases_lt (usable_size file - 4) left)
 
   -- the chain from a visited overflow page on
   pub whole_chain : (r : Reference) (left : ℕ) → bytes_left (role_of r) ≡ Some left → IsIn r V → IsChainOf file V r left (below V r.address)

@@ -1,32 +1,62 @@
 -- The rows of a form with all pages count each page of the file once.
 use Rattle.std.proofs.Common.{◌≡◌, ℕ, zero, suc, ◌⊎◌, ◌<◌, ◌≤◌, inl, inr, Bool, true, false, cond, List, [], ◌∷◌, ◌++◌, map, length, Option, Some, None, refl, sym, ap, subst, ◌∙◌, arith, length-append, append-nil}
-use Rattle.std.specs.Prelude.{take, filter, flat_map, ◌==◌, IsPermutation}
+use Rattle.std.specs.Prelude.{◌+◌, ◌*◌, ◌^◌, None, take, filter, flat_map, sum_by, ◌==◌, IsPermutation}
 use Rattle.std.specs.List.{enumerate_from}
 use Rattle.std.proofs.lemmas.Bool.{cases_Bool, eqb-true, both_ways}
 use Rattle.std.proofs.lemmas.Grind.{flat_map-append}
+use Rattle.std.proofs.Math.Nat.{min-eq_left, mul-le-mul}
+use Rattle.std.proofs.lemmas.List.{length-map}
+use Rattle.std.proofs.lemmas.List.FromFn.{length-range_with_len}
+use Rattle.std.proofs.lemmas.List.Sorted.{length_permutation}
+use Rattle.std.proofs.lemmas.List.Sums.{sum_by-cons}
 use Rattle.dbsurvey.specs.Address.{IsIn, EachPair, IsBefore}
 use Rattle.dbsurvey.specs.Survey.{Link}
 use Rattle.dbsurvey.proofs.Order.{IsIn-left, IsIn-right, IsIn-cases, EachPair-append, IsBefore-irreflexive}
 use Rattle.dbsurvey.proofs.Ordering.{IsIn-map, IsIn-from_map, IsIn-from_flat_map}
-use Rattle.dbformat.specs.File.{geometry}
+use Rattle.dbformat.specs.File.{geometry, refusal}
 use Rattle.dbformat.specs.Address.{start_of, schema_start, last_root_start, freelist_start}
 use Rattle.dbformat.specs.Reference.{trunk, Way, Reference, role_of, is_root, is_on_freelist}
 use Rattle.dbformat.specs.Schema.{starts, start, schema, rooted_rows, root_starts, root_start, freelist_starts, later_starts}
 use Rattle.dbformat.specs.SchemaRow.{SchemaRow}
-use Rattle.dbformat.specs.Header.{first_trunk}
+use Rattle.dbformat.specs.Header.{first_trunk, page_size}
+use Rattle.dbformat.specs.Lines.{pgsize, AddsUpToAllPages}
 use Rattle.dbsurvey.specs.From.{under}
 use Rattle.dbformat.specs.Survey.{Survey, rules_of}
 use Rattle.dbformat.specs.EndFaults.{visit_of, page_numbers}
-use Rattle.dbformat.specs.Rows.{StatRow, StatForm, row_in, stat_rows, other_page, other_rows, trees_reached, tree_rows, page_rows, form_rows, counted_pages, CountsEachPageOnce}
+use Rattle.dbformat.specs.Rows.{StatRow, StatForm, row_in, stat_rows, other_page, other_rows, trees_reached, tree_rows, page_rows, form_rows, counted_pages, FormRow, page_row, tree_row, other_row, CountsEachPageOnce, CountsNoPageTwice}
 use Rattle.dbsurvey.proofs.Lists.{filter-from, filter-has, find-some, filter_map-from, filter_map-has}
 use Rattle.dbsurvey.proofs.Elements.{IsOnce, EachPair-filter, range_once, map_once}
 use Rattle.dbsurvey.proofs.Rearranged.{rearranged}
+use Rattle.dbformat.proofs.Accepted.{is_accepted}
 use Rattle.dbformat.proofs.Roles.{child_leads}
 use Rattle.dbsurvey.proofs.Composing.{named_at-step, named_at-from}
 use Rattle.dbsound.proofs.RowCounts.RowPages.{of_row, row_of, pages_counted, trees_counted, is_shown, others_counted, rows_apart, unvisited_shown, visited_shown}
 use Rattle.dbformat.proofs.Visited.{each_once, visit_is, number_of, has_address, root_is_start}
 use Rattle.dbformat.proofs.Places.{same_start}
 use Rattle.dbsurvey.proofs.Groups.{group, group-from, groups-have, groups_once}
+
+-- the column `pgsize` of a row is the size of the pages that it counts, where these are so few
+row_size : (size : ℕ) (row : FormRow) → length (counted_pages row) * size < 2 ^ 64 → pgsize size row ≡ length (counted_pages row) * size
+row_size size (page_row row) h = omega arith
+row_size size (tree_row k rows) h =
+    let l : length (map (λ (row : StatRow). row.page) rows) ≡ length rows = length-map rows (λ row. row.page) in
+    rw l (min-eq_left (let m : length rows * size < 2 ^ 64 = rw l at h in omega (arith, m)))
+row_size size (other_row p what) h = omega arith
+
+-- so of many rows
+sizes_add_up : (size : ℕ) (rows : List FormRow) → length (flat_map counted_pages rows) * size < 2 ^ 64
+    → sum_by (pgsize size) rows ≡ length (flat_map counted_pages rows) * size
+sizes_add_up size [] h = let zero_size : 0 ≡ 0 * size = omega arith in zero_size
+sizes_add_up size (row ∷ rows) h =
+    let a = length (counted_pages row) in
+    let b = length (flat_map counted_pages rows) in
+    let l : length (flat_map counted_pages (row ∷ rows)) ≡ a + b = length-append (counted_pages row) (flat_map counted_pages rows) in
+    let parts : (a + b) * size ≡ a * size + b * size = grind arith in
+    let both : a * size + b * size < 2 ^ 64 = subst (λ n. n < 2 ^ 64) (ap (λ n. n * size) l ∙ parts) h in
+    let first = row_size size row (omega (arith, both)) in
+    let rest = sizes_add_up size rows (omega (arith, both)) in
+    let sums : pgsize size row + sum_by (pgsize size) rows ≡ a * size + b * size = omega (arith, first, rest) in
+    sum_by-cons (pgsize size) row rows ∙ sums ∙ sym (ap (λ n. n * size) l ∙ parts)
 
 -- the starts are roots of trees, and a trunk
 pub start_role : (file : List ℕ) (V : List Reference) (l : Link Way) → IsIn l (starts file V) → (is_root l.role.role ≡ true) ⊎ (is_on_freelist l.role.role ≡ true)
@@ -136,16 +166,20 @@ module _ (file : List ℕ) (V : List Reference) (s : Survey file V) where
   abbrev shown : ℕ → Bool
   shown p = is_shown (other_page file V p)
 
-  together : (ps : List ℕ) → CountsTrees ps → IsPermutation (ps ++ filter shown (page_numbers (geometry file))) (page_numbers (geometry file))
-  together ps c = rearranged (ps ++ filter shown (page_numbers (geometry file))) (page_numbers (geometry file))
-      (EachPair-append (λ x y. x ≡ y → ⊥) ps (filter shown (page_numbers (geometry file))) c.once
+  -- no other page is one that rows of trees count
+  others_apart : (ps : List ℕ) → CountsTrees ps → IsOnce (ps ++ filter shown (page_numbers (geometry file)))
+  others_apart ps c = EachPair-append (λ x y. x ≡ y → ⊥) ps (filter shown (page_numbers (geometry file))) c.once
       (EachPair-filter (λ x y. x ≡ y → ⊥) shown (page_numbers (geometry file)) (range_once 1 (geometry file).pages))
       (λ p q i j e.
       let m = c.from p i in
       let v = row_visit m.0 m.1 in
       let same : v.0.page ≡ q = sym v.2 ∙ m.2 ∙ e in
       let off : shown q ≡ false = visited_shown file V q v.0 (ap (visit_of V) (sym same) ∙ visit_is file V s v.0 v.1) ∙ v.3 in
-      both_ways (shown q) off (filter-from shown (page_numbers (geometry file)) q j).1))
+      both_ways (shown q) off (filter-from shown (page_numbers (geometry file)) q j).1)
+
+  together : (ps : List ℕ) → CountsTrees ps → IsPermutation (ps ++ filter shown (page_numbers (geometry file))) (page_numbers (geometry file))
+  together ps c = rearranged (ps ++ filter shown (page_numbers (geometry file))) (page_numbers (geometry file))
+      (others_apart ps c)
       (range_once 1 (geometry file).pages)
       (λ p i. elim (IsIn-cases p ps (filter shown (page_numbers (geometry file))) i) [
         | inl j ↦ (let m = c.from p j in let v = row_visit m.0 m.1 in subst (λ p. IsIn p (page_numbers (geometry file))) (sym v.2 ∙ m.2) (number_of file V s v.0 v.1))
@@ -167,11 +201,38 @@ module _ (file : List ℕ) (V : List Reference) (s : Survey file V) where
   counted_trees true = subst CountsTrees (sym (trees_counted (λ k. filter (λ (row : StatRow). row.start == k) rows) (trees_reached V))) by_tree
   counted_trees false = subst CountsTrees (sym (pages_counted rows)) by_page
 
+  -- the pages that a form counts: those of trees, and the other pages where it shows them
+  abbrev shown_pages : Bool → List ℕ → List ℕ
+  shown_pages all ps = ps ++ cond all (filter shown (page_numbers (geometry file))) []
+
+  form_pages : (all : Bool) (A : List FormRow) → flat_map counted_pages (A ++ cond all (other_rows file V) []) ≡ shown_pages all (flat_map counted_pages A)
+  form_pages true A = flat_map-append counted_pages A (other_rows file V)
+      ∙ ap (λ l. flat_map counted_pages A ++ l) (others_counted (other_page file V) (page_numbers (geometry file)))
+  form_pages false A = ap (flat_map counted_pages) (append-nil A) ∙ sym (append-nil (flat_map counted_pages A))
+
+  shown_once : (all : Bool) (ps : List ℕ) → CountsTrees ps → IsOnce (shown_pages all ps)
+  shown_once true ps c = others_apart ps c
+  shown_once false ps c = subst IsOnce (sym (append-nil ps)) c.once
+
+  abbrev tree_rows_of : StatForm → List FormRow
+  tree_rows_of form = cond form.aggregate (tree_rows file V) (page_rows file V)
+
+  pub counts_no_page_twice : (form : StatForm) → CountsNoPageTwice form file V
+  unfolding form_rows
+  counts_no_page_twice form = subst IsOnce (sym (form_pages form.all (tree_rows_of form)))
+      (shown_once form.all (flat_map counted_pages (tree_rows_of form)) (counted_trees form.aggregate))
+
   pub counts_each_page : (form : StatForm) → form.all ≡ true → CountsEachPageOnce form file V
   unfolding form_rows
-  counts_each_page form all =
-      let A = cond form.aggregate (tree_rows file V) (page_rows file V) in
-      let all_rows : flat_map counted_pages (A ++ cond form.all (other_rows file V) []) ≡ flat_map counted_pages A ++ filter shown (page_numbers (geometry file)) =
-      ap (λ b. flat_map counted_pages (A ++ cond b (other_rows file V) [])) all ∙ flat_map-append counted_pages A (other_rows file V)
-      ∙ ap (λ l. flat_map counted_pages A ++ l) (others_counted (other_page file V) (page_numbers (geometry file))) in
-      subst (λ ps. IsPermutation ps (page_numbers (geometry file))) (sym all_rows) (together (flat_map counted_pages A) (counted_trees form.aggregate))
+  counts_each_page form all = subst (λ ps. IsPermutation ps (page_numbers (geometry file)))
+      (sym (form_pages form.all (tree_rows_of form) ∙ ap (λ b. shown_pages b (flat_map counted_pages (tree_rows_of form))) all))
+      (together (flat_map counted_pages (tree_rows_of form)) (counted_trees form.aggregate))
+
+  pub adds_up : (form : StatForm) → form.all ≡ true → refusal file ≡ None → AddsUpToAllPages form file V
+  adds_up form all read =
+      let range = (is_accepted file (length file) read).range in
+      let rows = form_rows form file V in
+      let pages : length (flat_map counted_pages rows) ≡ (geometry file).pages =
+      sym (length_permutation (flat_map counted_pages rows) (page_numbers (geometry file)) (counts_each_page form all)) ∙ length-range_with_len 1 (geometry file).pages in
+      let fits = mul-le-mul range.pages.1 range.page_size.1 in
+      sizes_add_up (page_size file) rows (rw pages (omega (arith, fits))) ∙ ap (λ n. n * page_size file) pages

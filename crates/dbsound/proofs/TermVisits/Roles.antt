@@ -13,6 +13,7 @@ use Rattle.dbformat.specs.Terms.{Use, Chain, last, full, Payload, whole, split, 
 use Rattle.dbformat.specs.Sound.{Forest, no_tree, and_tree}
 use Rattle.dbformat.specs.EndFaults.{free_pages}
 use Rattle.dbformat.specs.declared.TreeKind.{TreeKind}
+use Rattle.dbformat.proofs.Roles.{no_root_on}
 use Rattle.dbformat.proofs.Chains.{IsOverflow}
 use Rattle.dbsurvey.proofs.Each.{Each, Each-none, Each-cons, Each-one, Each-append}
 use Rattle.dbsound.proofs.TermVisits.{visit_at, chain_visits, payload_visits, payloads_visits, tree_visits, children_visits, leaf_visits, freelist_visits, forest_visits}
@@ -105,17 +106,9 @@ freelist_free {file} (and_trunk {p} n l t) from item a =
     Each-cons IsFree (visit_at trunk from item p a) (leaf_visits p (free_leaves page) 0 a ++ rest) refl
     (Each-append IsFree (leaf_visits p (free_leaves page) 0 a) rest (leaves_free p (free_leaves page) 0 a) (freelist_free t p (leaf_count page) (a ++ leaf_count page ∷ [])))
 
-free_no_root : (role : Role) → is_on_freelist role ≡ true → is_root role ≡ false
-free_no_root (root kind) e = cc
-free_no_root (child kind) e = refl
-free_no_root (first_overflow left) e = refl
-free_no_root (later_overflow left) e = refl
-free_no_root trunk e = refl
-free_no_root free_leaf e = refl
-
 pub freelist_no_root : {file : List ℕ} {p : ℕ} {uses : List Use} (t : Freelist file p uses) (from item : ℕ) (a : Address)
     → root_pages (freelist_visits t from item a) ≡ []
-freelist_no_root t from item a = no_roots (freelist_visits t from item a) (λ u i. free_no_root (role_of u) (freelist_free t from item a u i))
+freelist_no_root t from item a = no_roots (freelist_visits t from item a) (λ u i. no_root_on (role_of u) (freelist_free t from item a u i))
 
 root_not_free : (is_child : Bool) (kind : TreeKind) → is_on_freelist (role_in_tree is_child kind) ≡ false
 root_not_free true kind = refl

@@ -7,7 +7,7 @@ use Rattle.std.proofs.lemmas.Bool.Decides.{nat_tests}
 use Rattle.std.proofs.lemmas.Option.{get_or_from_slice_get}
 use Rattle.dbformat.specs.Numbers.{u32_at}
 use Rattle.dbformat.specs.Varint.{varint, signed}
-use Rattle.dbformat.specs.Payload.{local_len}
+use Rattle.dbformat.specs.Payload.{most_payload, local_len}
 use Rattle.dbformat.specs.Head.{View, content_start, undamaged}
 use Rattle.dbformat.specs.Cell.{Cell, bytes_from, payload_cell, cell_at, cell, cell_pointer, count, overflow_size}
 use Rattle.dbformat.specs.declared.PageKind.{PageKind}
@@ -22,8 +22,8 @@ use Rattle.dbwalk.specs.LeafCells.{HasCell, HasCells}
 
 -- a payload is at most 2147483647 bytes long
 
-payload_size : (v : View) (kind : PayloadKind) (offset before size : ℕ) (left : Option ℕ) (key : Option ℤ) (x : Cell) → payload_cell v kind offset before size left key ≡ Some x → x.size ≤ 2147483647
-payload_size v kind offset before size left key x e = by_test (nat_le size 2147483647 && nat_le (offset + (before + here + more)) v.usable) refl e
+payload_size : (v : View) (kind : PayloadKind) (offset before size : ℕ) (left : Option ℕ) (key : Option ℤ) (x : Cell) → payload_cell v kind offset before size left key ≡ Some x → x.size ≤ most_payload
+payload_size v kind offset before size left key x e = by_test (nat_le size most_payload && nat_le (offset + (before + here + more)) v.usable) refl e
   where
     here : ℕ
     here = local_len kind v.usable size
@@ -34,31 +34,31 @@ payload_size v kind offset before size left key x e = by_test (nat_le size 21474
     bytes : List ℕ
     bytes = drop (offset + before) v.bytes
 
-    by_test : (b : Bool) → (nat_le size 2147483647 && nat_le (offset + (before + here + more)) v.usable) ≡ b
-        → cond b (Some (record { offset = offset; len = before + here + more; size = size; left = left; key = key; local = take here bytes; overflow = cond (nat_lt here size) (Some (u32_at (offset + before + here) v.bytes)) None })) None ≡ Some x → x.size ≤ 2147483647
+    by_test : (b : Bool) → (nat_le size most_payload && nat_le (offset + (before + here + more)) v.usable) ≡ b
+        → cond b (Some (record { offset = offset; len = before + here + more; size = size; left = left; key = key; local = take here bytes; overflow = cond (nat_lt here size) (Some (u32_at (offset + before + here) v.bytes)) None })) None ≡ Some x → x.size ≤ most_payload
     by_test true f g =
         let h : size ≡ x.size = same g in
-        let k = (and_parts (nat_le size 2147483647) (nat_le (offset + (before + here + more)) v.usable) f).0 in
-        let l : size ≤ 2147483647 = grind (arith, nat_tests) in
+        let k = (and_parts (nat_le size most_payload) (nat_le (offset + (before + here + more)) v.usable) f).0 in
+        let l : size ≤ most_payload = grind (arith, nat_tests) in
         omega arith
       where
         same : {y : Cell} → Some y ≡ Some x → y.size ≡ x.size
         same {y} g = let h : y ≡ x = cc in ap (λ y. y.size) h
     by_test false f g = cc
 
-cell_at_size : (kind : PageKind) (v : View) (offset : ℕ) (x : Cell) → cell_at kind v offset ≡ Some x → x.size ≤ 2147483647
+cell_at_size : (kind : PageKind) (v : View) (offset : ℕ) (x : Cell) → cell_at kind v offset ≡ Some x → x.size ≤ most_payload
 cell_at_size LeafTable v offset x e = by_size (varint (bytes_from v offset)) e
   where
-    by_rowid : (size : ℕ × ℕ) (o : Option (ℕ × ℕ)) → option_and_then (λ rowid. payload_cell v TableLeaf offset (size.1 + rowid.1) size.0 None (Some (signed rowid.0))) o ≡ Some x → x.size ≤ 2147483647
+    by_rowid : (size : ℕ × ℕ) (o : Option (ℕ × ℕ)) → option_and_then (λ rowid. payload_cell v TableLeaf offset (size.1 + rowid.1) size.0 None (Some (signed rowid.0))) o ≡ Some x → x.size ≤ most_payload
     by_rowid size None e = cc
     by_rowid size (Some rowid) e = payload_size v TableLeaf offset (size.1 + rowid.1) size.0 None (Some (signed rowid.0)) x e
 
-    by_size : (o : Option (ℕ × ℕ)) → option_and_then (λ size. option_and_then (λ rowid. payload_cell v TableLeaf offset (size.1 + rowid.1) size.0 None (Some (signed rowid.0))) (varint (bytes_from v (offset + size.1)))) o ≡ Some x → x.size ≤ 2147483647
+    by_size : (o : Option (ℕ × ℕ)) → option_and_then (λ size. option_and_then (λ rowid. payload_cell v TableLeaf offset (size.1 + rowid.1) size.0 None (Some (signed rowid.0))) (varint (bytes_from v (offset + size.1)))) o ≡ Some x → x.size ≤ most_payload
     by_size None e = cc
     by_size (Some size) e = by_rowid size (varint (bytes_from v (offset + size.1))) e
 cell_at_size InteriorTable v offset x e = by_key (varint (bytes_from v (offset + 4))) e
   where
-    by_key : (o : Option (ℕ × ℕ)) → option_and_then (λ key. Some (record { offset = offset; len = 4 + key.1; size = 0; local = []; overflow = None; left = Some (u32_at offset v.bytes); key = Some (signed key.0) })) o ≡ Some x → x.size ≤ 2147483647
+    by_key : (o : Option (ℕ × ℕ)) → option_and_then (λ key. Some (record { offset = offset; len = 4 + key.1; size = 0; local = []; overflow = None; left = Some (u32_at offset v.bytes); key = Some (signed key.0) })) o ≡ Some x → x.size ≤ most_payload
     by_key None e = cc
     by_key (Some key) e = let h = none e in omega arith
       where
@@ -66,24 +66,24 @@ cell_at_size InteriorTable v offset x e = by_key (varint (bytes_from v (offset +
         none {y} g = let h : y ≡ x = cc in ap (λ y. y.size) h
 cell_at_size LeafIndex v offset x e = by_size (varint (bytes_from v offset)) e
   where
-    by_size : (o : Option (ℕ × ℕ)) → option_and_then (λ size. payload_cell v Index offset size.1 size.0 None None) o ≡ Some x → x.size ≤ 2147483647
+    by_size : (o : Option (ℕ × ℕ)) → option_and_then (λ size. payload_cell v Index offset size.1 size.0 None None) o ≡ Some x → x.size ≤ most_payload
     by_size None e = cc
     by_size (Some size) e = payload_size v Index offset size.1 size.0 None None x e
 cell_at_size InteriorIndex v offset x e = by_size (varint (bytes_from v (offset + 4))) e
   where
-    by_size : (o : Option (ℕ × ℕ)) → option_and_then (λ size. payload_cell v Index offset (4 + size.1) size.0 (Some (u32_at offset v.bytes)) None) o ≡ Some x → x.size ≤ 2147483647
+    by_size : (o : Option (ℕ × ℕ)) → option_and_then (λ size. payload_cell v Index offset (4 + size.1) size.0 (Some (u32_at offset v.bytes)) None) o ≡ Some x → x.size ≤ most_payload
     by_size None e = cc
     by_size (Some size) e = payload_size v Index offset (4 + size.1) size.0 (Some (u32_at offset v.bytes)) None x e
 
-pub cell_size : (v : View) (i : ℕ) (x : Cell) → cell v i ≡ Ok x → x.size ≤ 2147483647
+pub cell_size : (v : View) (i : ℕ) (x : Cell) → cell v i ≡ Ok x → x.size ≤ most_payload
 unfolding cell
 cell_size v i x e = by_test (nat_le (content_start v.number v.bytes) (cell_pointer v i) && nat_le (cell_pointer v i) (v.usable - 4)) e
   where
-    by_cell : (o : Option Cell) → cell_at v.kind v (cell_pointer v i) ≡ o → ok_or o Unreadable ≡ Ok x → x.size ≤ 2147483647
+    by_cell : (o : Option Cell) → cell_at v.kind v (cell_pointer v i) ≡ o → ok_or o Unreadable ≡ Ok x → x.size ≤ most_payload
     by_cell None f e = cc
     by_cell (Some y) f e = cell_at_size v.kind v (cell_pointer v i) x (f ∙ (let h : y ≡ x = cc in ap (λ y. Some y) h))
 
-    by_test : (b : Bool) → cond b (ok_or (cell_at v.kind v (cell_pointer v i)) Unreadable) (Err Offset) ≡ Ok x → x.size ≤ 2147483647
+    by_test : (b : Bool) → cond b (ok_or (cell_at v.kind v (cell_pointer v i)) Unreadable) (Err Offset) ≡ Ok x → x.size ≤ most_payload
     by_test true e = by_cell (cell_at v.kind v (cell_pointer v i)) refl e
     by_test false e = cc
 
@@ -102,7 +102,7 @@ module _ (b : Pages) (kind : TreeKind) (level page : ℕ) (low : level < 20) (us
   pub has_cells : (n : ℕ) → ((v : View) → o ≡ Some v → n ≡ count v) → HasCells b.geometry.usable kind b.levels level page n
   has_cells n h = record { count_is = λ y v e f. h v (seen y v e f) }
 
-  pub has_cell : (i : ℕ) (overflow : Option (ℕ × ℕ)) (key : Option ℤ) → IfSome overflow (λ p. p.1 ≤ 2147483647)
+  pub has_cell : (i : ℕ) (overflow : Option (ℕ × ℕ)) (key : Option ℤ) → IfSome overflow (λ p. p.1 ≤ most_payload)
       → ((v : View) → o ≡ Some v → i < count v → (overflow ≡ option_and_then (λ c. option_map (λ p. (p, overflow_size c)) c.overflow) (result_ok (cell v i))) × (key ≡ option_and_then (λ c. c.key) (result_ok (cell v i))))
       → HasCell b.geometry.usable kind b.levels level page i overflow key
   has_cell i overflow key most h = record {

@@ -13,7 +13,7 @@ use Rattle.dbsurvey.proofs.Order.{IsIn-left}
 use Rattle.dbformat.specs.Address.{start_of, then_step, overflow_step, child_step, key_step, is_child_step, cell_of_step, children_on, chain_on, child_path, chain_place}
 use Rattle.dbformat.specs.Numbers.{u32_at}
 use Rattle.dbformat.specs.Varint.{varint, signed}
-use Rattle.dbformat.specs.Payload.{local_len}
+use Rattle.dbformat.specs.Payload.{most_payload, local_len}
 use Rattle.dbformat.specs.Head.{View, content_start, is_interior}
 use Rattle.dbformat.specs.Cell.{Cell, bytes_from, payload_cell, cell_at, cell, cell_pointer, count, overflow_size}
 use Rattle.dbformat.specs.Errands.{go, tell_cell, errands_in, cell_errands}
@@ -56,7 +56,7 @@ use Rattle.dbwalk.proofs.Trees.Walkings.{running_step, running_key, running_chai
 -- a leaf's cells have no left child
 
 payload_left : (v : View) (kind : PayloadKind) (offset before size : ℕ) (left : Option ℕ) (key : Option ℤ) (x : Cell) → payload_cell v kind offset before size left key ≡ Some x → x.left ≡ left
-payload_left v kind offset before size left key x e = by_test (nat_le size 2147483647 && nat_le (offset + (before + here + more)) v.usable) e
+payload_left v kind offset before size left key x e = by_test (nat_le size most_payload && nat_le (offset + (before + here + more)) v.usable) e
   where
     here : ℕ
     here = local_len kind v.usable size

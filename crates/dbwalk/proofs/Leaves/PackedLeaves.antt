@@ -10,7 +10,7 @@ use Rattle.dbsurvey.specs.Story.{errands_of}
 use Rattle.dbformat.specs.Address.{start_of, then_step, schema_start}
 use Rattle.dbformat.specs.Numbers.{u32_at}
 use Rattle.dbformat.specs.Varint.{varint, signed}
-use Rattle.dbformat.specs.Payload.{local_len}
+use Rattle.dbformat.specs.Payload.{most_payload, local_len}
 use Rattle.dbformat.specs.File.{page_bytes}
 use Rattle.dbformat.specs.Head.{View, content_start, is_interior, undamaged}
 use Rattle.dbformat.specs.Cell.{Cell, bytes_from, payload_cell, cell_at, cell, cell_pointer, count, overflow_size}
@@ -27,7 +27,7 @@ use Rattle.dbformat.specs.declared.PayloadKind.{PayloadKind}
 use Rattle.dbformat.specs.declared.PayloadKind.TheVariants.{TableLeaf, Index}
 use Rattle.dbformat.specs.declared.TreeKind.{TreeKind}
 use Rattle.dbformat.proofs.Looping.{cells_apart}
-use Rattle.dbpage.specs.Packed.{IsRising, IsWhole, key_at}
+use Rattle.dbpage.specs.Packed.{IsAbove, IsAllLocal, key_at}
 use Rattle.dbwalk.specs.CellTaken.{IsRowsDone}
 use Rattle.dbwalk.specs.Finding.{Finding}
 use Rattle.dbwalk.specs.KeySpans.{HasSpan, AreRisingFrom, ArePassedAt}
@@ -50,7 +50,7 @@ has_keys LeafIndex = false
 has_keys InteriorIndex = false
 
 payload_key : (v : View) (kind : PayloadKind) (offset before size : ℕ) (left : Option ℕ) (key : Option ℤ) (x : Cell) → payload_cell v kind offset before size left key ≡ Some x → x.key ≡ key
-payload_key v kind offset before size left key x e = by_test (nat_le size 2147483647 && nat_le (offset + (before + here + more)) v.usable) e
+payload_key v kind offset before size left key x e = by_test (nat_le size most_payload && nat_le (offset + (before + here + more)) v.usable) e
   where
     here : ℕ
     here = local_len kind v.usable size
@@ -106,11 +106,11 @@ cell_has_key v i x e = by_test (nat_le (content_start v.number v.bytes) (cell_po
     by_test true e = by_cell (cell_at v.kind v (cell_pointer v i)) refl e
     by_test false e = cc
 
-whole_key : (v : View) (i : ℕ) → IsWhole v i → is_some (key_at v i) ≡ has_keys v.kind
+whole_key : (v : View) (i : ℕ) → IsAllLocal v i → is_some (key_at v i) ≡ has_keys v.kind
 whole_key v i w = ap (λ r. is_some (option_and_then (λ c. c.key) (result_ok r))) w.readable ∙ cell_has_key v i w.whole w.readable
 
 -- the keys of two cells are there both, or not
-keys_alike : (v : View) (i j : ℕ) → IsWhole v i → IsWhole v j → is_some (key_at v i) ≡ is_some (key_at v j)
+keys_alike : (v : View) (i j : ℕ) → IsAllLocal v i → IsAllLocal v j → is_some (key_at v i) ≡ is_some (key_at v j)
 keys_alike v i j a b = whole_key v i a ∙ sym (whole_key v j b)
 
 -- a key above the greatest so far
@@ -121,12 +121,12 @@ int_above a b l = grind (arith, ints)
 int_not_late : (a b : ℤ) → a <ℤ b → int_le b a ≡ false
 int_not_late a b l = grind (arith, ints)
 
-none_late : (top key : Option ℤ) (p i : ℕ) → IsRising top key → late_faults top p i key ≡ []
+none_late : (top key : Option ℤ) (p i : ℕ) → IsAbove top key → late_faults top p i key ≡ []
 none_late top None p i above = refl
 none_late None (Some b) p i above = refl
 none_late (Some a) (Some b) p i above = ap (λ t. told_if t (fault T06 p i b)) (int_not_late a b (above a b refl refl))
 
-top_is : (top key : Option ℤ) → IsRising top key → top_after top key ≡ option_or key top
+top_is : (top key : Option ℤ) → IsAbove top key → top_after top key ≡ option_or key top
 top_is top None above = refl
 top_is None (Some b) above = refl
 top_is (Some a) (Some b) above = ap (λ t. cond t (Some b) (Some a)) (int_above a b (above a b refl refl))
@@ -147,7 +147,7 @@ module _ {S T : Type 0} (takes drops : S → Finding → S → Type 0) (keeps : 
   not_schema : 1 ≤ k → start_of c.address ≡ schema_start → ⊥
   not_schema other e = let f : k ≡ 0 = sym at.start ∙ e in omega arith
 
-  pub cell_passed : 1 ≤ k → (i : ℕ) (greatest : Option ℤ) → i < count v → IsWhole v i → IsRising greatest (key_at v i) → On i greatest → On (i + 1) (option_or (key_at v i) greatest)
+  pub cell_passed : 1 ≤ k → (i : ℕ) (greatest : Option ℤ) → i < count v → IsAllLocal v i → IsAbove greatest (key_at v i) → On i greatest → On (i + 1) (option_or (key_at v i) greatest)
   cell_passed other i greatest low x above w =
       let chain : ◌≡◌ {A = Option (ℕ × ℕ)} None (read_overflow (result_ok (cell v i))) = sym (ap (λ r. read_overflow (result_ok r)) x.readable ∙ ap (λ o. option_map (λ p. (p, overflow_size x.whole)) o) x.here) in
       let told : Moves takes s (findings (late_faults greatest p i (key_at v i))) s = subst (λ fs. Moves takes s (findings fs) s) (sym (none_late greatest (key_at v i) p i above)) refl in
@@ -184,7 +184,7 @@ module _ {S T : Type 0} (takes drops : S → Finding → S → Type 0) (keeps : 
       (subst (λ i. On i after) e (cells_passed from (end - from) greatest after (λ l. other (omega arith)) (omega arith) rising.1 w), rising.0)
 
 module _ {S T : Type 0} (takes drops : S → Finding → S → Type 0) (keeps : T → SchemaRow → Taken → T → Type 0) (refuses : T → SchemaRow → T → Type 0) (file : List ℕ) (kind : TreeKind) (k : ℕ) (children : List ℕ) (levels : List (List ℕ)) (p : ℕ) (U : List Reference) (c : Reference)
-    (at : IsLeafAt file kind k children U c levels p) (other : 1 ≤ k) (v : View) (viewed : tree_view file c ≡ Some v) (leaf : is_interior v.kind ≡ false) (keys : KeySpan) (span : HasSpan v keys) (greatest : Option ℤ) (above : IsRising greatest keys.first)
+    (at : IsLeafAt file kind k children U c levels p) (other : 1 ≤ k) (v : View) (viewed : tree_view file c ≡ Some v) (leaf : is_interior v.kind ≡ false) (keys : KeySpan) (span : HasSpan v keys) (greatest : Option ℤ) (above : IsAbove greatest keys.first)
     (before : S) (first t : T) (marks : List Mark) (deep : Option ℕ) where
   -- no taker is asked below the other starts
   none_held : T → ℕ
@@ -196,7 +196,7 @@ module _ {S T : Type 0} (takes drops : S → Finding → S → Type 0) (keeps : 
   top_at (suc n) = option_or (key_at v n) greatest
 
   -- a cell's key is above it
-  above_at : (n : ℕ) → n < count v → IsRising (top_at n) (key_at v n)
+  above_at : (n : ℕ) → n < count v → IsAbove (top_at n) (key_at v n)
   unfolding top_at
   above_at zero low = λ a b e f. above a b e (sym (span.first_is low) ∙ f)
   above_at (suc n) low = λ a b e f. by_key a b f (key_at v n) refl e

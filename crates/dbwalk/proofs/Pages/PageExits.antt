@@ -22,13 +22,6 @@ use Rattle.dbwalk.specs.Walking.{IsCandidate}
 use Rattle.dbwalk.proofs.Pages.PageTellings.{told_then, told_stop, told_ok}
 use Rattle.dbwalk.proofs.Pages.PageVisits.{told_damaged, row_and_faults, told_interior, leaf_after_damaged, leaf_after_interior, told_leaf, leaf_after_leaf}
 
--- the bytes at a level, found twice
-pub same_bytes : {X : Type 0} (o : Option X) (x y : X) → o ≡ Some x → o ≡ Some y → x ≡ y
-same_bytes o x y e f = some_is (sym e ∙ f)
-  where
-    some_is : {X : Type 0} {x y : X} → Some x ≡ Some y → x ≡ y
-    some_is e = cc
-
 pub on_err : {A E : Type 0} (P : Type 0) {e : E} (r : Result A E) → r ≡ Err e → OnOk r P
 on_err P (Ok a) e = cc
 on_err P (Err x) e = tt

@@ -7,14 +7,14 @@ use Rattle.std.proofs.lemmas.Grind.{flat_map-append}
 use Rattle.std.proofs.lemmas.Bool.Decides.{nat_tests}
 use Rattle.dbsurvey.proofs.Moving.{Moves-append, stops_first, stops_after}
 use Rattle.dbformat.specs.declared.Fault.{Fault}
-use Rattle.dbwalk.specs.Sinks.{SinkState, failed}
+use Rattle.dbwalk.specs.Sinks.{HasFailed, SinkState}
 use Rattle.dbwalk.specs.Finding.{Finding, told_fault}
 use Rattle.dbwalk.specs.Telling.{IsTold, findings}
 
 -- some items, and then others
 pub told_then : {S I A B E : Type 0} {takes drops : S → I → S → Type 0} {held : S → SinkState} {a : A} (r0 : Result A E) (r : Result B E) {s m t : S} (L M : List I) → r0 ≡ Ok a → IsTold takes drops held r0 s L m → IsTold takes drops held r m M t → IsTold takes drops held r s (L ++ M) t
 told_then (Ok b) (Ok c) {s} {m} {t} L M e h k = record { items = Moves-append _ s m t L M h.items k.items; count = k.count ∙ h.count }
-told_then {held = held} (Ok b) (Err c) {s} {m} {t} L M e h k = record { items = stops_after _ _ s m t L M h.items k.items; count = subst (λ n. held t ≡ failed n) h.count k.count }
+told_then {held = held} (Ok b) (Err c) {s} {m} {t} L M e h k = record { items = stops_after _ _ s m t L M h.items k.items; count = subst (λ n. HasFailed n (held t)) h.count k.count }
 told_then (Err b) r L M e h k = cc
 
 -- an error in the first of two lists

@@ -25,9 +25,6 @@ use Rattle.dbwalk.specs.Telling.{findings}
 use Rattle.dbwalk.specs.Walking.{IsCandidate, role_at}
 use Rattle.dbwalk.proofs.Pages.PageTold.{is_child, page_told, view_is, row_of_view, row_of_damage}
 
-and_true : (a b : Bool) → a ≡ true → b ≡ true → (a && b) ≡ true
-and_true a b e f = rw (e, f) refl
-
 and_false : (a b : Bool) → b ≡ false → (a && b) ≡ false
 and_false true b e = e
 and_false false b e = refl

@@ -11,20 +11,7 @@ use Rattle.dbformat.specs.Reference.{Reference}
 use Rattle.dbformat.specs.Schema.{SchemaCell, rooted, rooted_rows}
 use Rattle.dbwalk.specs.Running.{cells_before, rows_before}
 
--- whether a row has a root page
-abbrev pub roots_in : SchemaCell → ℕ
-roots_in c = length (rooted_rows (c ∷ []))
-
 module _ (file : List ℕ) (U V : List Reference) (p q : Address) where
-  -- the same rows, the same count
-  pub roots_same : cells_before file V q ≡ cells_before file U p → earlier_roots file V q ≡ earlier_roots file U p
-  roots_same e = ap (λ l. length (rooted_rows l)) e
-
-  -- one row more
-  pub roots_more : (c : SchemaCell) → cells_before file V q ≡ cells_before file U p ++ c ∷ [] → earlier_roots file V q ≡ earlier_roots file U p + roots_in c
-  roots_more c e = ap (λ l. length (rooted_rows l)) e ∙ ap length (filter_map-append (λ c. rooted c.row) (cells_before file U p) (c ∷ []))
-      ∙ length-append (rooted_rows (cells_before file U p)) (rooted_rows (c ∷ []))
-
   pub rows_same : cells_before file V q ≡ cells_before file U p → rows_before file V q ≡ rows_before file U p
   rows_same e = ap (filter_map (λ c. result_ok c.row)) e
 

@@ -2,6 +2,7 @@
 use Rattle.std.proofs.Common.{◌≡◌, ℕ, suc, ◌+◌, ◌-◌, ◌*◌, ◌<◌, ◌≤◌, List, [], ◌∷◌, ◌++◌, length, take, Result, Ok, Err, refl, sym, ap, subst, arith, ◌∙◌}
 use Rattle.std.specs.Prelude.{slice_get, OnOk}
 use Rattle.std.proofs.lemmas.List.{map-append, length-map}
+use Rattle.dbformat.specs.FixedPages.{most_pages}
 use Rattle.dbformat.specs.Address.{cell_of_step}
 use Rattle.dbformat.specs.Cell.{count}
 use Rattle.dbformat.specs.Head.{undamaged}
@@ -32,7 +33,7 @@ module _ (usable : ℕ) (kind : TreeKind) (levels : List (List ℕ)) where
   -- a frame a step on
   pub open_on : (level : ℕ) (f g : Frame) → g.page ≡ f.page → g.next ≡ suc f.next → (o : IsOpen usable kind levels level f) → suc f.next ≤ 3 * count o.view + 2 → IsOpen usable kind levels level g
   open_on level f g page next o within = record {
-    low = subst (λ p. p ≤ 67108864) (sym page) o.low;
+    low = subst (λ p. p ≤ most_pages) (sym page) o.low;
     bytes = o.bytes;
     there = o.there;
     view = o.view;
@@ -85,7 +86,3 @@ path_length fs = length-map fs (λ f. cell_of_step (f.next - 1))
 -- the last frame is no part of it
 pub path_last : (items fs : List Frame) (f : Frame) (path : List ℕ) → items ≡ fs ++ (f ∷ []) → path ≡ path_of fs → (gs : List Frame) (g : Frame) → items ≡ gs ++ (g ∷ []) → path ≡ path_of gs
 path_last items fs f path e p gs g h = p ∙ ap path_of (last_same fs gs f g (sym e ∙ h)).0
-
-take_front : (xs : List ℕ) (x : ℕ) → take (length xs) (xs ++ (x ∷ [])) ≡ xs
-take_front [] x = refl
-take_front (y ∷ xs) x = ap (λ l. y ∷ l) (take_front xs x)

@@ -2,6 +2,7 @@
 use Rattle.std.proofs.Common.{◌≡◌, ℕ, suc, ◌+◌, ◌-◌, ◌≤◌, List, [], ◌∷◌, ◌++◌, length, sym, ap, arith, ◌∙◌}
 use Rattle.std.specs.Prelude.{slice_get}
 use Rattle.std.proofs.lemmas.List.{length-append}
+use Rattle.dbformat.specs.FixedPages.{IsPageNumber}
 use Rattle.dbformat.specs.Address.{cell_of_step}
 use Rattle.dbformat.specs.declared.TreeKind.{TreeKind}
 use Rattle.dbwalk.specs.Steps.{IsNextStep, HasNext}
@@ -14,7 +15,7 @@ use Rattle.dbwalk.proofs.Trees.Turns.{step_within}
 
 -- it stands at a step of its page, and this has something there
 pub record IsAtStep (usable : ℕ) (kind : TreeKind) (levels : List (List ℕ)) (fs : List Frame) (f : Frame) (next : Next) : Type 0 where
-  pub low : f.page ≤ 67108864
+  pub low : IsPageNumber f.page
   pub most : f.next ≤ 98306
   pub front : AreOpen usable kind levels 0 fs
   pub last : IsOpen usable kind levels (0 + length fs) f

@@ -141,9 +141,6 @@ module _ {S : Type 0} (takes : S → Finding → S → Type 0) (file : List ℕ)
     next_place U greatest leaf h = subst (λ n. IsRunning file (start_of c.address) U (then_step (top_visit file kind c fs).address n) greatest leaf) (sym next) h
 
     module _ (marks : List Mark) (greatest : Option ℤ) (leaf : Option ℕ) (now : S) (walking : IsWalking takes file kind W c before (fs ++ (f ∷ [])) levels marks greatest leaf now) where
-      abbrev here : IsRunning file (start_of c.address) walking.U (then_step (top_visit file kind c fs).address f.next) greatest leaf
-      here = walking.running fs f refl
-
       -- a step at which nothing is
       abbrev pub walking_skip : errands_from file (top_visit file kind c fs) f.next ≡ errands_from file (top_visit file kind c fs) (suc f.next)
           → ((v : View) → tree_view file (top_visit file kind c fs) ≡ Some v → suc f.next ≤ 3 * count v + 2)
@@ -342,7 +339,3 @@ module _ {S : Type 0} (takes : S → Finding → S → Type 0) (file : List ℕ)
         read = read_front file levels 0 fs f walking.read;
         running = end_below past;
       }
-
-  -- nothing is left
-  pub walking_done : {A : Type 0} (drops : S → Finding → S → Type 0) (a : A) (m : List Mark) (s : S) (w : IsWalking takes file kind W c before [] levels m greatest leaf s) → IsDone takes drops file W (Go c ∷ []) (Ok a) m before s
-  walking_done drops a m s w = left_none takes file W (Go c ∷ []) before w.U m s drops a w.left

@@ -9,8 +9,8 @@ versioned a = record a { top = record a.top { has_version = true } }
 abbrev required : App → App
 required a = record a { top = record a.top { subcommand_required = true } }
 
-pub returns : goal.returns
-returns c =
+pub returns-clause-app : goal.returns-clause-app
+returns-clause-app c =
     let first : app_of c.version.result ≡ versioned (new_app (codes "dbck")) = ap app_of_fields c.version.ensures ∙ ap versioned c.described.ensures.app in
     let top : app_of c.subcommand_required.result ≡ required (versioned (new_app (codes "dbck"))) =
     ap app_of_fields c.subcommand_required.ensures ∙ ap required first in

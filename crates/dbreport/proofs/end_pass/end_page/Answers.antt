@@ -17,7 +17,8 @@ use Rattle.dbreport.specs.EndPass.{is_fixed_mark}
 use Rattle.dbreport.specs.MapReads.{entry_value, HasMapFor, IsMapInUse}
 use Rattle.dbreport.proofs.EndItems.{fixed_items, other_items}
 use Rattle.dbreport.proofs.MapLogs.{asks_nothing}
-use Rattle.dbreport.proofs.MapPlaces.{next_read, next_kept, page_read, not_map, on_ok, not_in_use}
+use Rattle.dbwalk.proofs.Chaining.Overflows.{page_read}
+use Rattle.dbreport.proofs.MapPlaces.{next_read, next_kept, not_map, on_ok, not_in_use}
 use Rattle.dbreport.proofs.end_pass.end_page.Goals as goal
 
 pub returns-in_err-load-clause-asks : goal.returns-in_err-load-clause-asks

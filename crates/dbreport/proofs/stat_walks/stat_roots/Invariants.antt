@@ -7,7 +7,7 @@ use Rattle.dbformat.specs.Reference.{Reference}
 use Rattle.dbformat.specs.Survey.{Survey}
 use Rattle.dbwalk.specs.Reads.{Reads}
 use Rattle.dbreport.specs.Starts.{AreListed, errands_from}
-use Rattle.dbreport.specs.StatSink.{failures_of_both}
+use Rattle.dbreport.specs.StatSink.{failures_of_each}
 use Rattle.dbreport.specs.StatStarts.{IsWriting}
 use Rattle.dbreport.specs.declared.stat_sink.StatSink.{StatSink}
 use Rattle.dbreport.proofs.stat_walks.stat_roots.Given as goal
@@ -21,7 +21,7 @@ invariant-loop-index g l = record {
   told : (g.S.Source.held l.source).bytes ≡ (g.S.Source.held l.initial.source).bytes;
   log : HasLog g.S.Source.step (Reads l.initial.bench.geometry.page_size l.initial.marks l.marks) (g.S.Source.held l.initial.source).trail (g.S.Source.held l.source).trail;
   reads : (g.S.Source.held l.source).failures ≡ (g.S.Source.held l.initial.source).failures;
-  writes : failures_of_both (g.O.Out.held l.sink.out.now) (g.E.Out.held l.sink.err.now) ≡ failures_of_both (g.O.Out.held l.initial.sink.out.now) (g.E.Out.held l.initial.sink.err.now);
+  writes : failures_of_each (g.O.Out.held l.sink.out.now) (g.E.Out.held l.sink.err.now) ≡ failures_of_each (g.O.Out.held l.initial.sink.out.now) (g.E.Out.held l.initial.sink.err.now);
   left : IfSome (g.S.Source.held l.initial.source).bytes (λ file. l.initial.bench.geometry ≡ geometry file → l.encoding ≡ encoding file
       → (V : List Reference) → Survey file V → AreListed file V l.initial.roots.rows → (before : StatSink g.row.O.Denot g.row.E.Denot) (U : List Reference)
       → IsWriting g.O.Out.held g.E.Out.held file V before U (errands_from file 1 l.initial.roots.rows) l.initial.marks l.initial.sink

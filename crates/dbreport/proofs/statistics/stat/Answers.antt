@@ -1,4 +1,4 @@
-use Rattle.std.proofs.Common.{rules, [], Err, ◌≡◌, ◌∙◌, sym, ap, ap₂, subst}
+use Rattle.std.proofs.Common.{rules, [], Err, ◌∙◌, ap, subst}
 use Rattle.std.specs.Prelude.{flat_map}
 use Rattle.dbsource.specs.Outs.{Writes}
 use Rattle.std.proofs.lemmas.Result.{err_from_is_err_and}
@@ -6,11 +6,8 @@ use Rattle.dbformat.specs.Lines.{fault_line, form_line}
 use Rattle.dbformat.specs.Report.{faults}
 use Rattle.dbformat.specs.Rows.{form_rows}
 use Rattle.dbformat.specs.declared.Verdict.{Verdict}
-use Rattle.dbsource.specs.Errors.{is_write_failed}
-use Rattle.dbsource.specs.Failures.{failures_after}
 use Rattle.dbsource.proofs.Told.{if_told, told_all}
 use Rattle.dbreport.specs.Statistics.{form_of}
-use Rattle.dbreport.specs.StatSink.{failures_of_both}
 use Rattle.dbreport.specs.declared.stat_sink.StatSink.{StatSink}
 use Rattle.dbreport.proofs.Checked.{at_error}
 use Rattle.dbreport.proofs.MapLogs.{asks_nothing, map_log, reads_none}
@@ -86,15 +83,3 @@ returns-clause-verdict g c = found_told (λ r. IsStatWalked {A = Verdict} g.O.Ou
     (done is e (for_schema file c.args.header.now c.args.bench.now.geometry c.schema_label-label.result c.new-sink.result c.stat_header.new.sink c.new-watch.result.sink is e
     label.text label.encoding label.page_size new.label new.sums c.in_ok-stat_header.ensures.kept c.new-watch.ensures.sink) V s))
     c.stat_rest.ensures.done c.stat_rest.ensures.found
-
-pub returns-clause-writes : goal.returns-clause-writes
-returns-clause-writes g c =
-    let out_name =
-    c.stat_rest.ensures.same_out ∙ ap (λ (s : StatSink g.row.O.Denot g.row.E.Denot). s.out.ghost_name) c.new-watch.ensures.sink ∙ c.in_ok-stat_header.ensures.same_out ∙ c.new-sink.ensures.same_out in
-    let err_name =
-    c.stat_rest.ensures.same_err ∙ ap (λ (s : StatSink g.row.O.Denot g.row.E.Denot). s.err.ghost_name) c.new-watch.ensures.sink ∙ c.in_ok-stat_header.ensures.same_err ∙ c.new-sink.ensures.same_err in
-    let both = λ (s : StatSink g.row.O.Denot g.row.E.Denot). failures_of_both (g.O.Out.held s.out.now) (g.E.Out.held s.err.now) in
-    let was : both c.new-watch.result.sink ≡ failures_of_both (g.O.Out.held c.args.out.now) (g.E.Out.held c.args.err.now) =
-    ap both c.new-watch.ensures.sink ∙ c.in_ok-stat_header.ensures.writes ∙ ap₂ (λ o e. failures_of_both (g.O.Out.held o) (g.E.Out.held e)) c.new-sink.ensures.out c.new-sink.ensures.err in
-    ap₂ (λ o e. failures_of_both (g.O.Out.held o) (g.E.Out.held e)) (sym (search rules)) (sym (search rules))
-    ∙ c.stat_rest.ensures.writes ∙ ap (failures_after is_write_failed c.stat_rest.result) was

@@ -1,6 +1,8 @@
 use Rattle.std.proofs.Common.{◌+◌, ◌≤◌, [], ◌∷◌, Ok, Err, refl, sym, ap, subst, ◌∙◌, arith}
 use Rattle.std.specs.Prelude.{IfSome}
 use Rattle.std.proofs.lemmas.Result.{err_from_is_err_and}
+use Rattle.dbformat.specs.Payload.{most_payload}
+use Rattle.dbformat.specs.FixedPages.{IsPageNumber}
 use Rattle.dbsurvey.specs.Story.{Go}
 use Rattle.dbsource.specs.Bench.{Pages}
 use Rattle.dbwalk.specs.Chains.{Turns}
@@ -49,9 +51,9 @@ loop-next-preserved g c = record {
   writes = c.in_ok-next.ensures.writes ∙ c.loop-next.invariant.writes;
   bench = c.turn.ensures.bench ∙ ap (λ (b : Pages). record b { chain = c.turn.new.bench.chain }) c.loop-next.invariant.bench;
   kept = c.turn.ensures.kept ∙ c.loop-next.invariant.kept;
-  named = subst (λ o. IfSome o (λ next. named_page next.step.mark ≤ 67108864)) c.in-Some.is c.in_ok-next.ensures.named;
+  named = subst (λ o. IfSome o (λ next. IsPageNumber (named_page next.step.mark))) c.in-Some.is c.in_ok-next.ensures.named;
   used = subst (λ o. IfSome o (λ next. IsUse next.step.mark)) c.in-Some.is c.in_ok-next.ensures.used;
-  counted = subst (λ o. IfSome o (λ next. next.number + next.left ≤ 2147483647)) c.in-Some.is c.in_ok-next.ensures.counted;
+  counted = subst (λ o. IfSome o (λ next. next.number + next.left ≤ most_payload)) c.in-Some.is c.in_ok-next.ensures.counted;
   way = if_some_moved _ _ _ (g.S.Source.held c.args.source.now).bytes (g.S.Source.held c.loop-next.source).bytes c.loop-next.invariant.told c.loop-next.invariant.way c.in_ok-next.ensures.turned
       (λ file way turned e W d h next m.
       subst (λ o. Turns g.K.Sink.takes g.K.Sink.drops file W d c.args.sink.now c.args.chain.now (Ok o) c.turn.new.marks c.turn.new.sink c.args.sieve.now c.turn.new.sieve) c.in-Some.is

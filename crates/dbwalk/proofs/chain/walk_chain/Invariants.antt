@@ -1,5 +1,7 @@
 use Rattle.std.proofs.Common.{◌≡◌, ◌+◌, ◌≤◌, List}
 use Rattle.std.specs.Prelude.{IfSome, is_some}
+use Rattle.dbformat.specs.Payload.{most_payload}
+use Rattle.dbformat.specs.FixedPages.{IsPageNumber}
 use Rattle.dbformat.specs.File.{geometry}
 use Rattle.dbformat.specs.Log.{HasLog}
 use Rattle.dbformat.specs.Reference.{Reference}
@@ -21,9 +23,9 @@ invariant-loop-next g l = record {
   writes : g.K.Sink.held l.sink ≡ g.K.Sink.held l.initial.sink;
   bench : l.bench ≡ record l.initial.bench { chain = l.bench.chain };
   kept : is_some l.sieve ≡ is_some l.initial.sieve;
-  named : named_page l.place.step.mark ≤ 67108864;
+  named : IsPageNumber (named_page l.place.step.mark);
   used : IsUse l.place.step.mark;
-  counted : l.place.number + l.place.left ≤ 2147483647;
+  counted : l.place.number + l.place.left ≤ most_payload;
   way : IfSome (g.S.Source.held l.initial.source).bytes (λ file. l.initial.bench.geometry ≡ geometry file → (W : List Reference) (c : Reference)
       → IsChainOf l.chain c → IsNext W c → AreMarksOf file W l.initial.marks → IsOnWay g.K.Sink.takes file W c l.initial.sink l.chain l.place l.marks l.sink l.initial.sieve l.sieve);
 }

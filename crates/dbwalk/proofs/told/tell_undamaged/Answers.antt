@@ -5,5 +5,5 @@ use Rattle.dbwalk.proofs.told.tell_undamaged.Goals as goal
 pub tell_readable-requires-clause-cells : goal.tell_readable-requires-clause-cells
 tell_readable-requires-clause-cells g c =
     let page = c.in-Some-packed.page in
-    let packed : IsPacked c.args.view.now page.payload page.greatest page.unheld page.first page.last page.has_overflow = search rules in
-    packed.readable
+    let packed : IsPacked c.args.view.now page = search rules in
+    packed.read.readable

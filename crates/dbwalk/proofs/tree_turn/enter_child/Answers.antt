@@ -1,6 +1,7 @@
 use Rattle.std.proofs.Common.{rules, ◌≡◌, ◌+◌, ◌/◌, ◌<◌, ◌≤◌, ◌++◌, [], ◌∷◌, length, Ok, Err, refl, sym, ap, subst, arith, ◌∙◌}
 use Rattle.std.specs.Prelude.{ℕ, IfErr}
 use Rattle.std.proofs.lemmas.Result.{err_from_is_err_and}
+use Rattle.dbformat.specs.FixedPages.{IsPageNumber}
 use Rattle.dbwalk.proofs.Chaining.ChainTurns.{if_some_both}
 use Rattle.dbwalk.specs.Stack.{child_at, top_visit}
 use Rattle.dbformat.specs.Address.{schema_start}
@@ -23,7 +24,7 @@ stepped-requires g c =
 
 pub enter_page-requires : goal.enter_page-requires
 enter_page-requires g c =
-    let low : c.args.frame.page ≤ 67108864 = (at_step c.args.bench.now.geometry.usable c.args.tree.now.kind c.args.bench.now.levels c.args.frames.now.items c.args.frame (Child c.args.page) c.requires.«open» c.requires.child).low in
+    let low : IsPageNumber c.args.frame.page = (at_step c.args.bench.now.geometry.usable c.args.tree.now.kind c.args.bench.now.levels c.args.frames.now.items c.args.frame (Child c.args.page) c.requires.«open» c.requires.child).low in
     search rules
 
 pub returns-in_err-enter_page-clause-others : goal.returns-in_err-enter_page-clause-others

@@ -2,6 +2,8 @@ use Rattle.std.proofs.Common.{rules, ◌/◌, ◌<◌, ◌≤◌, ◌++◌, [], 
 use Rattle.std.specs.Prelude.{slice_get, IfErr}
 use Rattle.std.proofs.Common.{SFits, w64}
 use Rattle.std.proofs.lemmas.Int.{to_z-of_z}
+use Rattle.dbformat.specs.Payload.{most_payload}
+use Rattle.dbformat.specs.FixedPages.{IsPageNumber}
 use Rattle.dbsurvey.specs.Moves.{Moves, Stops}
 use Rattle.dbformat.specs.Faults.{fault}
 use Rattle.dbformat.specs.Tests.{told_if}
@@ -68,10 +70,10 @@ walk_unfed-requires g c =
     let f = c.args.frame in
     let has = subst (λ x. HasNext b.geometry.usable t.kind b.levels (length fs) f.page f.next x) c.in-Chain.is (subst (λ n. HasNext b.geometry.usable t.kind b.levels n f.page f.next c.step_of.result) c.len.ensures.value c.step_of.ensures) in
     let s = at_step b.geometry.usable t.kind b.levels fs f (Chain c.in-Chain.first c.in-Chain.left) c.requires.«open» has in
-    let low : f.page ≤ 67108864 = s.low in
+    let low : IsPageNumber f.page = s.low in
     let size = cell_size s.last.view s.stands.n s.stands.x s.stands.read in
     let rest = s.stands.rest in
-    let most : c.in-Chain.left ≤ 2147483647 = omega arith in
+    let most : c.in-Chain.left ≤ most_payload = omega arith in
     search rules
 
 pub returns-in_err-tell_key-in-Key-clause-others : goal.returns-in_err-tell_key-in-Key-clause-others

@@ -1,11 +1,11 @@
-use Rattle.std.proofs.Common.{◌+◌, ◌||◌, max, length, refl, sym, ap, ◌∙◌, arith}
+use Rattle.std.proofs.Common.{◌+◌, ◌||◌, max, length, sym, ap, ◌∙◌, arith}
 use Rattle.std.specs.Prelude.{is_some}
 use Rattle.dbformat.specs.Head.{View, cell_count}
 use Rattle.dbformat.specs.Cell.{Cell}
 use Rattle.dbpage.proofs.CellLemmas.{cell_local}
 use Rattle.dbpage.proofs.Items.{Holds-from_read}
-use Rattle.dbpage.proofs.PackedLemmas.{one_more_read, read_as, unpacked_at_unreadable, unpacked_at_key}
-use Rattle.dbpage.specs.declared.scan.Sums.{Sums}
+use Rattle.dbpage.proofs.PackedLemmas.{one_more_read, unpacked_at_unreadable, unpacked_at_key}
+use Rattle.dbpage.specs.declared.packed.CellSums.{CellSums}
 use Rattle.dbpage.proofs.view.PageView.add_cell.Goals as goal
 use Rattle.dbpage.proofs.view.PageView.add_cell.Goals.{then-i-eq0, else-i-eq0}
 
@@ -18,7 +18,7 @@ returns-then-not-is_rising c =
     let i = c.args.i in
     let d = c.in-Ok.cell in
     let readable = sym c.read_cell.ensures ∙ c.in-Ok.is in
-    unpacked_at_key v i _ _ _ _ _ d c.requires.before c.requires.within readable (λ rises. c.if-not-is_rising.ensures (λ a b p q. rises a b p (sym (ap (λ (e : Cell). e.key) c.cell.view_is) ∙ q)))
+    unpacked_at_key v i c.args.sums.now d c.requires.before c.requires.within readable (λ rises. c.if-not-is_rising.ensures (λ a b p q. rises a b p (sym (ap (λ (e : Cell). e.key) c.cell.view_is) ∙ q)))
 
 pub overflow_cast-sums : goal.overflow_cast-sums
 overflow_cast-sums c =
@@ -50,7 +50,7 @@ returns c =
     let fits = cell_local v i d readable in
     let key = ap (λ (e : Cell). e.key) same in
     let sums = c.args.sums.now in
-    let read = one_more_read v i sums.payload sums.greatest sums.first sums.last sums.has_overflow c.requires.before d readable
+    let read = one_more_read v i sums c.requires.before d readable
     (omega (arith, fits, ap (λ (w : View). w.usable) c.self.view_is, c.self.invariant.most)) (λ a b p q. c.if-not-is_rising.ensures a b p (key ∙ q)) in
     let payload = ap (λ (e : Cell). sums.payload + length e.local) same in
     let greatest = c.max-sums.ensures ∙ ap (λ (e : Cell). max sums.greatest e.size) same in
@@ -58,10 +58,10 @@ returns c =
       has,
       elim c.if-i-eq0.branch [
         | then-i-eq0 w ↦
-            read_as (read d.key (λ h. refl) (λ h. absurd (omega (arith, h, w.if-i-eq0.true)))) (ap (λ (s : Sums). s.payload) w.sums-is ∙ payload) (ap (λ (s : Sums). s.greatest) w.sums-is ∙ greatest)
-            (ap (λ (s : Sums). s.first) w.sums-is ∙ key) key (ap (λ (s : Sums). s.has_overflow || c.is_some.result) w.sums-is ∙ overflow)
+            read _ (ap (λ (s : CellSums). s.payload) w.sums-is ∙ payload) (ap (λ (s : CellSums). s.greatest) w.sums-is ∙ greatest) (λ h. ap (λ (s : CellSums). s.first) w.sums-is ∙ key)
+            (λ h. absurd (omega (arith, h, w.if-i-eq0.true))) key (ap (λ (s : CellSums). s.has_overflow || c.is_some.result) w.sums-is ∙ overflow)
         | else-i-eq0 w ↦
-            read_as (read sums.first (λ h. absurd (omega (arith, h, w.if-i-eq0.false))) (λ h. refl)) (ap (λ (s : Sums). s.payload) w.sums-is ∙ payload) (ap (λ (s : Sums). s.greatest) w.sums-is ∙ greatest)
-            (ap (λ (s : Sums). s.first) w.sums-is) key (ap (λ (s : Sums). s.has_overflow || c.is_some.result) w.sums-is ∙ overflow)
+            read _ (ap (λ (s : CellSums). s.payload) w.sums-is ∙ payload) (ap (λ (s : CellSums). s.greatest) w.sums-is ∙ greatest) (λ h. absurd (omega (arith, h, w.if-i-eq0.false)))
+            (λ h. ap (λ (s : CellSums). s.first) w.sums-is) key (ap (λ (s : CellSums). s.has_overflow || c.is_some.result) w.sums-is ∙ overflow)
       ],
     )

@@ -2,7 +2,8 @@ use Rattle.std.proofs.Common.{◌≡◌, ℕ, List, ◌-◌, ◌<◌, ◌≤◌,
 use Rattle.dbformat.specs.Head.{View, cell_count}
 use Rattle.dbformat.specs.Cell.{count}
 use Rattle.dbformat.specs.Coverage.{Span, freeblocks}
-use Rattle.dbpage.proofs.Items.{no_span, offset_of_cell, offset_of_freeblock}
+use Rattle.dbpage.proofs.Items.{offset_of_cell, offset_of_freeblock}
+use Rattle.dbpage.proofs.Overlaps.{no_span}
 use Rattle.dbpage.proofs.view.PageView.item_offset.Goals as goal
 
 pub returns-then-item-self : goal.returns-then-item-self

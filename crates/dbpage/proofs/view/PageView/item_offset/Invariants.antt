@@ -1,6 +1,6 @@
 use Rattle.std.proofs.Common.{◌≡◌, get_or}
 use Rattle.dbformat.specs.Coverage.{freeblocks}
-use Rattle.dbpage.proofs.Items.{no_span}
+use Rattle.dbpage.proofs.Overlaps.{no_span}
 use Rattle.dbpage.proofs.view.PageView.item_offset.Given as goal
 
 abbrev pub invariant-loop-freeblock : goal.invariant-loop-freeblock

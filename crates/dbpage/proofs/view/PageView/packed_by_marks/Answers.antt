@@ -6,5 +6,5 @@ use Rattle.dbpage.proofs.view.PageView.packed_by_marks.Goals as goal
 
 pub returns : goal.returns
 returns c =
-    subst (λ (v : View). MatchOption c.packed_by_clear_marks.result (IsUnpacked v) (λ p. IsPacked v p.payload p.greatest p.unheld p.first p.last p.has_overflow)) c.copied.ensures
+    subst (λ (v : View). MatchOption c.packed_by_clear_marks.result (IsUnpacked v) (IsPacked v)) c.copied.ensures
     c.packed_by_clear_marks.ensures

@@ -2,7 +2,7 @@ use Rattle.std.proofs.Common.{◌≡◌, ℕ, ◌<◌, subst, ap, arith}
 use Rattle.dbformat.specs.Head.{View, cell_count, content_start}
 use Rattle.dbformat.specs.Cell.{count}
 use Rattle.dbpage.specs.Marking.{AreMarked, cells_upto}
-use Rattle.dbpage.specs.Packed.{AreRead}
+use Rattle.dbpage.specs.Packed.{AddUpTo}
 use Rattle.dbpage.proofs.Items.{cell_marked, cell_overlaps}
 use Rattle.dbpage.proofs.PackedLemmas.{unpacked_at_overlap}
 use Rattle.dbpage.proofs.view.PageView.packed_from_marks_of.Goals as goal
@@ -35,6 +35,5 @@ returns-in-Err g c = unpacked_at_overlap c.args.self.now c.in-Err.field-0.item c
 pub packed_from-requires-clause-read : goal.packed_from-requires-clause-read
 packed_from-requires-clause-read g c =
     let v = c.args.self.now in
-    let sums = c.loop-i.sums in
     let all : c.loop-i.i ≡ count v = omega (arith, c.loop-i-test.false, c.loop-i.auto.i-end, c.requires.begun.few, c.self.invariant.cells_is, ap (λ (w : View). cell_count w.number w.bytes) c.self.view_is) in
-    subst (λ (n : ℕ). AreRead v n sums.payload sums.greatest sums.first sums.last sums.has_overflow) all c.loop-i.invariant.read
+    subst (λ (n : ℕ). AddUpTo v n c.loop-i.sums) all c.loop-i.invariant.read

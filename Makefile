@@ -1,0 +1,35 @@
+# Builds and installs dbck: make, make install, make uninstall, make deb.
+PREFIX ?= /usr/local
+DESTDIR ?=
+INSTALL ?= install
+
+VERSION := $(shell sed -n 's/^const VERSION: &str = "\(.*\)";$$/\1/p' crates/dbck/src/command_line.rt)
+PROGRAM := crates/dbck/out/dbck
+BIN := $(DESTDIR)$(PREFIX)/bin
+SHARE := $(DESTDIR)$(PREFIX)/share
+
+.PHONY: all install uninstall deb version
+
+# rt builds only what is proved, and does again what has changed alone.
+all:
+	cd crates/dbck && rt run -- --version
+
+install: $(PROGRAM)
+	$(INSTALL) -D -m 755 $(PROGRAM) $(BIN)/dbck
+	$(INSTALL) -D -m 644 docs/dbck.1 $(SHARE)/man/man1/dbck.1
+	$(INSTALL) -D -m 644 completions/dbck.bash $(SHARE)/bash-completion/completions/dbck
+	$(INSTALL) -D -m 644 completions/_dbck $(SHARE)/zsh/site-functions/_dbck
+	$(INSTALL) -D -m 644 completions/dbck.fish $(SHARE)/fish/vendor_completions.d/dbck.fish
+
+uninstall:
+	rm -f $(BIN)/dbck $(SHARE)/man/man1/dbck.1 $(SHARE)/bash-completion/completions/dbck \
+	    $(SHARE)/zsh/site-functions/_dbck $(SHARE)/fish/vendor_completions.d/dbck.fish
+
+deb: $(PROGRAM)
+	packaging/make-deb $(PROGRAM) $(VERSION)
+
+version:
+	@echo $(VERSION)
+
+$(PROGRAM):
+	$(MAKE) all

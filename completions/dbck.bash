@@ -1,0 +1,26 @@
+# bash completion for dbck
+
+_dbck() {
+    local cur=${COMP_WORDS[COMP_CWORD]} prev=${COMP_WORDS[COMP_CWORD - 1]} command=${COMP_WORDS[1]} words
+    COMPREPLY=()
+    if [ "$COMP_CWORD" -eq 1 ]; then
+        words='check stat help --help --version'
+    elif [ "$prev" = --limit ]; then
+        return
+    else
+        case $command in
+            check) words='--limit --help' ;;
+            stat) words='--aggregate --all --help' ;;
+            help) words='check stat' ;;
+            *) return ;;
+        esac
+    fi
+    if [[ $cur == -* || $COMP_CWORD -eq 1 || $command == help ]]; then
+        mapfile -t COMPREPLY < <(compgen -W "$words" -- "$cur")
+    else
+        compopt -o filenames 2> /dev/null
+        mapfile -t COMPREPLY < <(compgen -f -- "$cur")
+    fi
+}
+
+complete -F _dbck dbck

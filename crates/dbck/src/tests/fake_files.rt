@@ -1,0 +1,119 @@
+// Files of the system, of which a test allows some calls.
+use std::alloc::{Allocator, Global};
+use std::cell::Cell;
+use std::fs::{File, Metadata, OpenOptions};
+use std::io;
+use std::path::PathBuf;
+use std::rt::Files;
+
+/// What is allowed beside a look at a path.
+#[derive(Clone, Copy, PartialEq)]
+pub enum Allowed {
+    /// Nothing.
+    Looking,
+    /// To open a file for reading alone.
+    Reading,
+    /// The same, where a device takes the place of each file behind the look, which finds 512 bytes.
+    Swapping,
+}
+
+/// The files of the system. A call that is not allowed is refused, and that is noted.
+#[derive(Drop)]
+pub struct FakeFiles<'a> {
+    rt: &'a HostRuntime,
+    allowed: Allowed,
+    has_refused: Cell<bool>,
+}
+
+impl<'a> FakeFiles<'a> {
+    pub fn new(rt: &'a HostRuntime, allowed: Allowed) -> FakeFiles<'a> {
+        FakeFiles {
+            rt,
+            allowed,
+            has_refused: Cell::new(false),
+        }
+    }
+
+    /// Whether a call was refused.
+    pub fn has_refused(&self) -> bool {
+        self.has_refused.get()
+    }
+
+    fn refuse<T>(&self) -> io::Result<T> {
+        self.has_refused.set(true);
+        Err(io::Error::from(io::ErrorKind::Unsupported))
+    }
+}
+
+// Whether a file that is opened so can be read, and nothing else is done to it.
+fn only_reads(how: &OpenOptions) -> bool {
+    let writes = how.asks_write() || how.asks_append() || how.asks_truncate();
+    let makes = how.asks_create() || how.asks_create_new();
+    how.asks_read() && !writes && !makes
+}
+
+impl<'a> Alloc for FakeFiles<'a> {
+    type A = Global;
+
+    fn alloc(&self) -> Global {
+        self.rt.alloc()
+    }
+}
+
+impl<'a> Files for FakeFiles<'a> {
+    type File = File;
+
+    type Dir = File;
+
+    fn open_file(&self, how: &OpenOptions, path: &str) -> io::Result<File> {
+        match self.allowed {
+            Allowed::Reading if only_reads(how) => how.open(self.rt, path),
+            Allowed::Swapping if only_reads(how) => how.open(self.rt, "/dev/zero"),
+            _ => self.refuse(),
+        }
+    }
+
+    fn open_dir(&self, _path: &str) -> io::Result<File> {
+        self.refuse()
+    }
+
+    fn metadata(&self, path: &str) -> io::Result<Metadata> {
+        if self.allowed == Allowed::Swapping {
+            Ok(Metadata::of_file(512))
+        } else {
+            self.rt.metadata(path)
+        }
+    }
+
+    fn symlink_metadata(&self, path: &str) -> io::Result<Metadata> {
+        self.rt.symlink_metadata(path)
+    }
+
+    fn canonicalize<B: Allocator>(&self, alloc: B, path: &str) -> io::Result<PathBuf<B>> {
+        self.rt.canonicalize(alloc, path)
+    }
+
+    fn copy(&self, _from: &str, _to: &str) -> io::Result<u64> {
+        self.refuse()
+    }
+
+    fn rename(&self, _from: &str, _to: &str) -> io::Result<()> {
+        self.refuse()
+    }
+
+    fn remove_file(&self, _path: &str) -> io::Result<()> {
+        self.refuse()
+    }
+
+    fn create_dir(&self, _path: &str) -> io::Result<()> {
+        self.refuse()
+    }
+
+    fn remove_dir(&self, _path: &str) -> io::Result<()> {
+        self.refuse()
+    }
+
+    fn remove_dir_all<B: Allocator>(&self, _alloc: B, _path: &str) -> io::Result<()> {
+        self.refuse()
+    }
+}

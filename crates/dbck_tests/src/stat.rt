@@ -1,0 +1,5 @@
+// Statistics of whole files.
+mod forms;
+mod names;
+mod pages;
+mod sizes;

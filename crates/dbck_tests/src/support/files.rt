@@ -1,0 +1,83 @@
+// Files that several tests share beside the samples, and what is written of some samples.
+use dbfiles::{TestFile, patch};
+use std::alloc::{AllocError, Global};
+
+/// The rows of the sample of one table and its row on an overflow page, in which each tab is written `|`.
+pub(crate) const LONG_ROW_ROWS: &str = "sqlite_schema|/|1|leaf|1|14|386|14|0|512\n\
+    t|/|2|leaf|1|92|403|600|512|512\n\
+    t|/000+000000|3|overflow|0|508|0|0|1024|512\n";
+
+/// The rows of the sample of an index, in which each tab is written `|`: the chain of a cell comes before its child.
+pub(crate) const INDEX_ROWS: &str = "sqlite_schema|/|1|leaf|1|14|386|14|0|512\n\
+    t|/|2|internal|1|92|396|600|512|512\n\
+    t|/000+000000|5|overflow|0|508|0|0|2048|512\n\
+    t|/000/|3|leaf|1|7|494|7|1024|512\n\
+    t|/001/|4|leaf|1|7|494|7|1536|512\n";
+
+/// The rows of a ladder of 20 pages, in which each tab is written `|`. Free on a page is what lies between the pointer array,
+/// which ends at byte 112 of page 1, at 12 of an interior page and at 8 of the leaf, and byte 512.
+pub(crate) const DEEP_ROWS: &str = "sqlite_schema|/|1|internal|0|0|400|0|0|512\n\
+    sqlite_schema|/000/|2|internal|0|0|500|0|512|512\n\
+    sqlite_schema|/000/000/|3|internal|0|0|500|0|1024|512\n\
+    sqlite_schema|/000/000/000/|4|internal|0|0|500|0|1536|512\n\
+    sqlite_schema|/000/000/000/000/|5|internal|0|0|500|0|2048|512\n\
+    sqlite_schema|/000/000/000/000/000/|6|internal|0|0|500|0|2560|512\n\
+    sqlite_schema|/000/000/000/000/000/000/|7|internal|0|0|500|0|3072|512\n\
+    sqlite_schema|/000/000/000/000/000/000/000/|8|internal|0|0|500|0|3584|512\n\
+    sqlite_schema|/000/000/000/000/000/000/000/000/|9|internal|0|0|500|0|4096|512\n\
+    sqlite_schema|/000/000/000/000/000/000/000/000/000/|10|internal|0|0|500|0|4608|512\n\
+    sqlite_schema|/000/000/000/000/000/000/000/000/000/000/|11|internal|0|0|500|0|5120|512\n\
+    sqlite_schema|/000/000/000/000/000/000/000/000/000/000/000/|12|internal|0|0|500|0|5632|512\n\
+    sqlite_schema|/000/000/000/000/000/000/000/000/000/000/000/000/|13|internal|0|0|500|0|6144|512\n\
+    sqlite_schema|/000/000/000/000/000/000/000/000/000/000/000/000/000/|14|internal|0|0|500|0|6656|512\n\
+    sqlite_schema|/000/000/000/000/000/000/000/000/000/000/000/000/000/000/|15|internal|0|0|500|0|7168|512\n\
+    sqlite_schema|/000/000/000/000/000/000/000/000/000/000/000/000/000/000/000/|16|internal|0|0|500|0|7680|512\n\
+    sqlite_schema|/000/000/000/000/000/000/000/000/000/000/000/000/000/000/000/000/|17|internal|0|0|500|0|8192|512\n\
+    sqlite_schema|/000/000/000/000/000/000/000/000/000/000/000/000/000/000/000/000/000/|18|internal|0|0|500|0|8704|512\n\
+    sqlite_schema|/000/000/000/000/000/000/000/000/000/000/000/000/000/000/000/000/000/000/|19|internal|0|0|500|0|9216|512\n\
+    sqlite_schema|/000/000/000/000/000/000/000/000/000/000/000/000/000/000/000/000/000/000/000/|20|leaf|0|0|504|0|9728|512\n";
+
+/// What is told of pages 2 to 20 of a ladder.
+pub(crate) const EMPTY_PAGES: &str = "P10 page 2 item 0 value 0: empty page that is not a root\n\
+    P10 page 3 item 0 value 0: empty page that is not a root\n\
+    P10 page 4 item 0 value 0: empty page that is not a root\n\
+    P10 page 5 item 0 value 0: empty page that is not a root\n\
+    P10 page 6 item 0 value 0: empty page that is not a root\n\
+    P10 page 7 item 0 value 0: empty page that is not a root\n\
+    P10 page 8 item 0 value 0: empty page that is not a root\n\
+    P10 page 9 item 0 value 0: empty page that is not a root\n\
+    P10 page 10 item 0 value 0: empty page that is not a root\n\
+    P10 page 11 item 0 value 0: empty page that is not a root\n\
+    P10 page 12 item 0 value 0: empty page that is not a root\n\
+    P10 page 13 item 0 value 0: empty page that is not a root\n\
+    P10 page 14 item 0 value 0: empty page that is not a root\n\
+    P10 page 15 item 0 value 0: empty page that is not a root\n\
+    P10 page 16 item 0 value 0: empty page that is not a root\n\
+    P10 page 17 item 0 value 0: empty page that is not a root\n\
+    P10 page 18 item 0 value 0: empty page that is not a root\n\
+    P10 page 19 item 0 value 0: empty page that is not a root\n\
+    P10 page 20 item 0 value 0: empty page that is not a root\n";
+
+/// A schema of this many pages of 512 bytes, each but the last an interior page without cells whose right child is the next.
+pub(crate) fn ladder(alloc: Global, pages: u8) -> Result<Vec<u8>, AllocError> {
+    let mut file = TestFile::new(alloc, 512, u32::from(pages))?;
+    for p in 1..pages {
+        file.interior_table(u32::from(p), u32::from(p).wrapping_add(1));
+    }
+    file.leaf_table(u32::from(pages));
+    Ok(file.into_bytes())
+}
+
+/// A freelist of one trunk, page 2, which states this many leaves, and the leaves 3 to 128, all of the pages behind it.
+pub(crate) fn long_freelist(alloc: Global, count: u8) -> Result<Vec<u8>, AllocError> {
+    let mut leaves = [0u32; 126];
+    for (place, leaf) in leaves.iter_mut().zip(3..129u32) {
+        *place = leaf;
+    }
+    let mut file = TestFile::new(alloc, 512, 128)?;
+    file.freelist(2, 127);
+    file.trunk(2, 0, &leaves);
+    let mut bytes = file.into_bytes();
+    patch(bytes.as_mut_slice(), 519, &[count]);
+    Ok(bytes)
+}

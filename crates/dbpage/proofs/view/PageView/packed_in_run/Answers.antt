@@ -1,0 +1,53 @@
+use Rattle.std.proofs.Common.{◌≡◌, ℕ, ◌≤◌, refl, sym, subst, ap, ◌∙◌, arith}
+use Rattle.dbformat.specs.Head.{View, cell_count, content_start}
+use Rattle.dbformat.specs.Cell.{count}
+use Rattle.dbformat.specs.Coverage.{items}
+use Rattle.dbpage.specs.Beginning.{AreInRun}
+use Rattle.dbpage.specs.Marking.{ShareNoByte}
+use Rattle.dbpage.specs.Packed.{AddUpTo}
+use Rattle.dbpage.specs.declared.run.Run.{Run}
+use Rattle.dbpage.proofs.PackedLemmas.{none_read}
+use Rattle.dbpage.proofs.Runs.{no_cells, run_as, cell_joins, run_of_items}
+use Rattle.dbpage.proofs.view.PageView.packed_in_run.Goals as goal
+
+pub loop-i-init : goal.loop-i-init
+loop-i-init c =
+    let v = c.args.self.now in
+    let sums = c.new-sums.ensures in
+    let usable = ap (λ (w : View). w.usable) c.self.view_is in
+    let start : content_start v.number v.bytes ≤ v.usable = omega (arith, usable, ap (λ (w : View). content_start w.number w.bytes) c.self.view_is, c.self.invariant.start_is, c.self.invariant.inside) in
+    record {
+      read = subst (AddUpTo v 0) (sym sums) (none_read v);
+      run = run_as v 0 (no_cells v v.usable start (omega arith)) (omega (arith, ap (λ (r : Run). r.from) c.new-run.ensures, usable)) (omega (arith, ap (λ (r : Run). r.to) c.new-run.ensures, usable));
+    }
+
+pub loop-i-preserved : goal.loop-i-preserved
+loop-i-preserved c =
+    let was = c.loop-i.run in
+    let run = c.add.new.self in
+    let cell = c.in_ok-offset in
+    record {
+      read = cell.ensures.1;
+      run = cell_joins c.args.self.now c.loop-i.i was.from was.to c.loop-i.invariant.run cell.offset cell.len run.from run.to cell.ensures.0 (c.if-not-add.ensures.beside refl);
+    }
+
+pub packed_from-requires-clause-apart : goal.packed_from-requires-clause-apart
+packed_from-requires-clause-apart c =
+    let v = c.args.self.now in
+    let run = c.loop-i.run in
+    let all : c.loop-i.i ≡ count v = omega (arith, c.loop-i-test.false, c.loop-i.auto.i-end, c.self.invariant.cells_is, ap (λ (w : View). cell_count w.number w.bytes) c.self.view_is) in
+    subst (λ (n : ℕ). ShareNoByte (items v) (content_start v.number v.bytes) v.usable n) (sym c.len.ensures) (run_of_items v c.loop-i.i run.from run.to c.loop-i.invariant.run all
+    (sym c.freeblocks.ensures.all ∙ c.in-None.ensures.steps.0.0))
+
+pub packed_by_marks-requires-in-Some-clause-begun : goal.packed_by_marks-requires-in-Some-clause-begun
+packed_by_marks-requires-in-Some-clause-begun c =
+    let v = c.args.self.now in
+    let sums = c.loop-i.sums in
+    let run = c.loop-i.run in
+    let cells = ap (λ (w : View). cell_count w.number w.bytes) c.self.view_is in
+    let all : c.loop-i.i ≡ c.self.inside.cells = omega (arith, c.loop-i-test.false, c.loop-i.auto.i-end) in
+    record {
+      few = omega (arith, c.self.invariant.cells_is, cells);
+      read = subst (λ (n : ℕ). AddUpTo v n sums) all c.loop-i.invariant.read;
+      runs = subst (λ (n : ℕ). AreInRun v n run.from run.to) all c.loop-i.invariant.run;
+    }

@@ -1,0 +1,279 @@
+// Packed pages: one reading of the cells tells all of them.
+ghost use Rattle.std.specs.Prelude.{◌≡◌, ℕ, None, false, ◌+◌, ◌<◌, ◌≤◌, length, MatchBool, MatchOption};
+ghost use Rattle.dbformat.specs.Head.{content_start};
+ghost use Rattle.dbformat.specs.Cell.{count};
+ghost use Rattle.dbformat.specs.Coverage.{items};
+ghost use Rattle.dbpage.specs.Marking.{ShareNoByte, AreMarked, Holds, cells_upto, is_claimed};
+ghost use Rattle.dbpage.specs.Beginning.{IsBegun};
+ghost use Rattle.dbpage.specs.Packed.{AddUpTo, IsPacked, IsAbove, IsUnpacked};
+
+use crate::byte_use::{claim, clear};
+use crate::marks::mark_freeblocks;
+use crate::run::Run;
+use crate::steps::Steps;
+use crate::view::{PageView, by_kind};
+use dbformat::PageKind;
+use std::marker::Brand;
+use std::sync::ledger::{Blank, Ledger};
+
+/// What one reading gives of a packed page. Each of its cells is readable, the keys rise from cell to cell, and no two of
+/// its cells and good freeblocks share a byte. Most pages of most files are packed.
+#[derive(Clone, Copy, Debug, PartialEq, Eq)]
+pub struct Packed {
+    /// What the cells add up to.
+    pub sums: CellSums,
+    /// How many bytes of the content area no cell and no good freeblock holds.
+    pub unheld: u32,
+}
+
+/// What cells add up to, one after another from the first on.
+#[derive(Clone, Copy, Debug, PartialEq, Eq)]
+pub struct CellSums {
+    /// How many bytes of payload stand in the cells.
+    pub payload: u32,
+    /// How many bytes the greatest payload of a cell has, with those on overflow pages.
+    pub greatest: u32,
+    /// The key of the first cell, where there is one and it has a key.
+    pub first: Option<i64>,
+    /// The key of the last.
+    pub last: Option<i64>,
+    /// Whether a cell has an overflow page.
+    pub has_overflow: bool,
+}
+
+impl<'a> PageView<'a> {
+    /// What one reading of the cells gives of the page. `None` only where it is not packed: where a cell is not readable,
+    /// where the keys do not rise, or where two items share a byte.
+    ///
+    /// `table` is room to work in, a byte for each usable byte of the page. What it holds does not matter, and is open
+    /// afterwards.
+    #[inline(never)]
+    pub fn packed(&self, table: &mut [u8]) -> Option<Packed>
+        requires { self.now.usable ≤ length table.old }
+        ensures { MatchOption result (IsUnpacked self.now) (IsPacked self.now) }
+    {
+        by_kind!(self.kind, kind => self.packed_in_run(kind, table))
+    }
+
+    // `packed` of a page of this kind. No byte is marked while the cells stand side by side, in one run. SQLite fills a page from its end
+    // downwards, so that on most pages this is so up to the last.
+    #[inline(always)]
+    fn packed_in_run(&self, kind: PageKind, table: &mut [u8]) -> Option<Packed>
+        requires kind { kind ≡ self.now.kind }
+        requires room { self.now.usable ≤ length table.old }
+        ensures { MatchOption result (IsUnpacked self.now) (IsPacked self.now) }
+    {
+        let mut sums = CellSums::new();
+        let mut run = Run::new(self.usable);
+        for i in 0..self.cells {
+            let (offset, len) = self.add_cell(kind, i, &mut sums)?;
+            if !run.add(offset, len) {
+                let begun = Beginning {
+                    cells: i + 1,
+                    sums,
+                    run,
+                    next: Some((offset, len)),
+                };
+                return self.packed_by_marks(&begun, table);
+            }
+        }
+        match self.freeblocks().next() {
+            None => Some(self.packed_from(sums, run.len())),
+            Some(_) => {
+                let begun = Beginning {
+                    cells: self.cells,
+                    sums,
+                    run,
+                    next: None,
+                };
+                self.packed_by_marks(&begun, table)
+            }
+        }
+    }
+
+    // `packed` of a page whose first cells were read, by marks of all items.
+    #[inline(never)]
+    fn packed_by_marks(&self, begun: &Beginning, table: &mut [u8]) -> Option<Packed>
+        requires room { self.now.usable ≤ length table.old }
+        requires begun { IsBegun self.now begun.now }
+        ensures { MatchOption result (IsUnpacked self.now) (IsPacked self.now) }
+    {
+        clear(table, self.usable);
+        self.copied()
+            .packed_by_clear_marks::<Brand>(begun, table, Blank::new(1))
+    }
+
+    // The same view, in the caller's own room: a write into a table cannot change it, and a loop need not read it anew.
+    #[inline(always)]
+    fn copied(&self) -> PageView<'a>
+        ensures { result ≡ self.now }
+    {
+        PageView {
+            bytes: self.bytes,
+            number: self.number,
+            kind: self.kind,
+            usable: self.usable,
+            pointers: self.pointers,
+            cells: self.cells,
+            start: self.start,
+        }
+    }
+
+    // `packed_by_marks`, where no byte is marked yet. The marks are counted in the ledger that `blank` opens, for nobody.
+    #[inline(always)]
+    fn packed_by_clear_marks<L: Ledger>(
+        &self,
+        begun: &Beginning,
+        table: &mut [u8],
+        blank: Blank,
+    ) -> Option<Packed>
+        requires room { self.now.usable ≤ length table.old }
+        requires begun { IsBegun self.now begun.now }
+        requires free { (byte : ℕ) → byte < self.now.usable → is_claimed table.old byte ≡ false }
+        requires name { blank.name ≡ L.name }
+        requires parts { blank.parts ≡ L.parts }
+        requires some { 0 < blank.parts }
+        ensures { MatchOption result (IsUnpacked self.now) (IsPacked self.now) }
+    {
+        let mut steps = Steps::<L>::new(blank);
+        let held = self.mark_beginning(begun, table, &mut steps)?;
+        by_kind!(self.kind, kind => self.packed_from_marks_of(kind, begun, held, table, &mut steps))
+    }
+
+    // Marks what the cells of the beginning hold, and counts it. `None` where two share a byte.
+    fn mark_beginning<L: Ledger>(
+        &self,
+        begun: &Beginning,
+        table: &mut [u8],
+        steps: &mut Steps<L>,
+    ) -> Option<u32>
+        requires room { self.now.usable ≤ length table.old }
+        requires begun { IsBegun self.now begun.now }
+        requires free { (byte : ℕ) → byte < self.now.usable → is_claimed table.old byte ≡ false }
+        ensures { MatchOption result (IsUnpacked self.now)
+            (λ held. AreMarked (cells_upto self.now begun.now.cells) (content_start self.now.number self.now.bytes) self.now.usable table.new held) }
+    {
+        // So that the proof has what is known of the view.
+        let _ = &self.usable;
+        let in_run = begun.run.len();
+        if !claim(table, begun.run.from, in_run, steps) {
+            return None;
+        }
+        let Some((offset, len)) = begun.next else {
+            return Some(in_run);
+        };
+        if !claim(table, offset, len, steps) {
+            return None;
+        }
+        Some(in_run + len)
+    }
+
+    // `packed_by_marks` of a page of this kind, where what the cells of the beginning hold is marked.
+    #[inline(always)]
+    fn packed_from_marks_of<L: Ledger>(
+        &self,
+        kind: PageKind,
+        begun: &Beginning,
+        in_cells: u32,
+        table: &mut [u8],
+        steps: &mut Steps<L>,
+    ) -> Option<Packed>
+        requires kind { kind ≡ self.now.kind }
+        requires room { self.now.usable ≤ length table.old }
+        requires begun { IsBegun self.now begun.now }
+        requires marked { AreMarked (cells_upto self.now begun.now.cells) (content_start self.now.number self.now.bytes) self.now.usable table.old in_cells }
+        ensures { MatchOption result (IsUnpacked self.now) (IsPacked self.now) }
+    {
+        let mut sums = begun.sums;
+        let mut held = in_cells;
+        for i in begun.cells..self.cells {
+            let (offset, len) = self.add_cell(kind, i, &mut sums)?;
+            if !claim(table, offset, len, steps) {
+                return None;
+            }
+            held += len;
+        }
+        match mark_freeblocks(self, held, table, steps) {
+            Ok(all) => Some(self.packed_from(sums, all)),
+            Err(_) => None,
+        }
+    }
+
+    // Adds cell `i` to the sums of those before it, and tells which bytes it holds. `None` where it is not readable, or where
+    // its key does not rise.
+    #[inline(always)]
+    fn add_cell(&self, kind: PageKind, i: u32, sums: &mut CellSums) -> Option<(u32, u32)>
+        requires kind { kind ≡ self.now.kind }
+        requires within { i < count self.now }
+        requires before { AddUpTo self.now i sums.old }
+        ensures { MatchOption result (IsUnpacked self.now) (λ held. Holds self.now i held.0 held.1
+            × AddUpTo self.now (i + 1) sums.new) }
+    {
+        // So that the proof has what is known of the view.
+        let _ = &self.usable;
+        let Ok(cell) = self.read_cell(kind, i) else {
+            return None;
+        };
+        if !is_rising(sums.last, cell.key) {
+            return None;
+        }
+        sums.payload += cell.local.len() as u32;
+        sums.greatest = sums.greatest.max(cell.size);
+        if i == 0 {
+            sums.first = cell.key;
+        }
+        sums.last = cell.key;
+        sums.has_overflow |= cell.overflow.is_some();
+        Some((cell.offset, cell.len.max(4)))
+    }
+
+    // The numbers of a page of whose cells these are the sums, and whose items hold so many bytes.
+    #[inline(always)]
+    fn packed_from(&self, sums: CellSums, held: u32) -> Packed
+        requires read { AddUpTo self.now (count self.now) sums }
+        requires apart { ShareNoByte (items self.now) (content_start self.now.number self.now.bytes) self.now.usable held }
+        ensures { IsPacked self.now result }
+    {
+        Packed {
+            sums,
+            unheld: self.usable - self.start - held,
+        }
+    }
+}
+
+// What was read of a page before a byte is marked: how many cells, their sums, the run of the first of them, and what the
+// last holds, where it is not part of this run.
+#[derive(Clone, Copy)]
+struct Beginning {
+    cells: u32,
+    sums: CellSums,
+    run: Run,
+    next: Option<(u32, u32)>,
+}
+
+impl CellSums {
+    // Those of no cell.
+    #[inline(always)]
+    fn new() -> CellSums
+        ensures { result ≡ record { payload = 0; greatest = 0; first = None; last = None; has_overflow = false } }
+    {
+        CellSums {
+            payload: 0,
+            greatest: 0,
+            first: None,
+            last: None,
+            has_overflow: false,
+        }
+    }
+}
+
+/// Whether a key is greater than the last, as far as there are both.
+#[inline(always)]
+pub fn is_rising(last: Option<i64>, key: Option<i64>) -> bool
+    ensures { MatchBool result (IsAbove last key) (IsAbove last key → ⊥) }
+{
+    match (last, key) {
+        (Some(a), Some(b)) => a < b,
+        _ => true,
+    }
+}

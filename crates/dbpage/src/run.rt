@@ -1,0 +1,50 @@
+// A run: cells that stand side by side.
+ghost use Rattle.std.specs.Prelude.{◌≡◌, ◌+◌, ◌-◌, ◌^◌, ◌<◌, ◌≤◌, IsTrue, false};
+ghost use Rattle.dbpage.specs.Marking.{AreAdjoining};
+
+// The bytes from one offset up to another: those that cells hold which stand side by side.
+#[derive(Clone, Copy)]
+pub(crate) struct Run {
+    pub(crate) from: u32,
+    to: u32,
+}
+
+impl Run {
+    // That of no cell of a page of `usable` bytes.
+    #[inline(always)]
+    pub(crate) fn new(usable: u32) -> Run
+        ensures { result ≡ record { from = usable; to = usable } }
+    {
+        Run {
+            from: usable,
+            to: usable,
+        }
+    }
+
+    // How many bytes they are.
+    #[inline(always)]
+    pub(crate) fn len(&self) -> u32
+        requires { self.now.from ≤ self.now.to }
+        ensures { result ≡ self.now.to - self.now.from }
+    {
+        self.to - self.from
+    }
+
+    // Adds a cell that holds `len` bytes from `offset` on, if these stand right below or right above the others.
+    #[inline(always)]
+    pub(crate) fn add(&mut self, offset: u32, len: u32) -> bool
+        requires { offset + len < 2 ^ 32 }
+        ensures beside { IsTrue result → AreAdjoining self.old.from self.old.to offset len self.new.from self.new.to }
+        ensures apart { result ≡ false → self.new ≡ self.old }
+    {
+        let end = offset + len;
+        if end == self.from {
+            self.from = offset;
+        } else if offset == self.to {
+            self.to = end;
+        } else {
+            return false;
+        }
+        true
+    }
+}

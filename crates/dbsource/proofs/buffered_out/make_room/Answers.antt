@@ -1,0 +1,5 @@
+use Rattle.dbsource.proofs.Gathered.{begins_taken}
+use Rattle.dbsource.proofs.buffered_out.make_room.Goals as goal
+
+pub returns-clause-begins : goal.returns-clause-begins
+returns-clause-begins g c = begins_taken c.hand_on.result _ _ c.if-count-begun.handed c.args.gathered.now.items c.hand_on.ensures.writes

@@ -1,0 +1,2 @@
+// Sinks and takers of the tests.
+pub(crate) mod fakes;

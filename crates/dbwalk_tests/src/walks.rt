@@ -1,0 +1,5 @@
+// Walks over whole files.
+mod freelists;
+mod hostile;
+mod schemas;
+mod trees;

@@ -1,0 +1,50 @@
+#!/usr/bin/env bash
+# Compares the words of the completions with the help of the program: completions.sh DBCK. It names each word that is missing
+# or too many, and its status is 0 where there is none.
+set -u
+dbck=$(realpath "${1:?give the program}")
+cd "$(dirname "$0")/../completions" || exit
+work=$(mktemp -d)
+trap 'rm -rf "$work"' EXIT
+status=0
+
+# long: the long options in a text, a line each.
+long() {
+    grep -oE -- '--[a-z][a-z-]*' | LC_ALL=C sort -u
+}
+
+# compare NAME: says in what the words of a completion differ from those of the help.
+compare() {
+    if ! diff "$work/help" "$work/words" > "$work/diff"; then
+        echo "$1:"
+        grep '^[<>]' "$work/diff"
+        status=1
+    fi
+}
+
+for command in check stat; do
+    "$dbck" "$command" --help | long > "$work/help"
+    # shellcheck disable=SC1091
+    words=$(
+        . ./dbck.bash
+        COMP_WORDS=(dbck "$command" --) COMP_CWORD=2
+        _dbck
+        printf '%s\n' "${COMPREPLY[@]}"
+    )
+    printf '%s\n' "$words" | long > "$work/words"
+    compare "dbck.bash: $command"
+    sed -n "/^        $command)\$/,/;;/p" _dbck | long > "$work/words"
+    compare "_dbck: $command"
+    { sed -n "/seen_subcommand_from $command'/s/.*-l \([a-z-]*\).*/--\1/p" dbck.fish; echo --help; } | LC_ALL=C sort -u > "$work/words"
+    compare "dbck.fish: $command"
+done
+"$dbck" --help | sed -n '/^Commands:/,/^$/s/^  \([a-z]*\) .*/\1/p' | LC_ALL=C sort > "$work/help"
+for file in dbck.bash _dbck dbck.fish; do
+    : > "$work/words"
+    for word in check stat help; do
+        grep -q -- "$word" "$file" && echo "$word" >> "$work/words"
+    done
+    LC_ALL=C sort -o "$work/words" "$work/words"
+    compare "$file: commands"
+done
+exit $status

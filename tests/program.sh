@@ -1,0 +1,158 @@
+#!/usr/bin/env bash
+# Runs the built program over files of the repository: program.sh DBCK. Each run has to end with its status, and to write what
+# is wanted to standard output and to standard error. It says which runs do not, and its last line is 'N passed, M failed'.
+set -u
+dbck=$(realpath "${1:?give the program}")
+if [ ! -x "$dbck" ]; then
+    echo "there is no program $dbck"
+    echo '0 passed, 1 failed'
+    exit 1
+fi
+cd "$(dirname "$0")/.." || exit
+work=$(mktemp -d)
+trap 'rm -rf "$work"' EXIT
+data=crates/dbck/data
+passed=0
+failed=0
+
+# count NAME TEST..: counts a test, and names it where it fails.
+count() {
+    local name=$1
+    shift
+    if "$@"; then
+        passed=$((passed + 1))
+    else
+        failed=$((failed + 1))
+        echo "FAILED: ${name//[^[:print:]]/?}"
+    fi
+}
+
+# ended STATUS OUT ERR: whether the last run ended so. A text that ends with '*' may go on.
+ended() {
+    local out err
+    out=$(cat "$work/out" && echo .) err=$(cat "$work/err" && echo .)
+    # shellcheck disable=SC2053
+    [[ $status == "$1" && ${out%.} == $2 && ${err%.} == $3 ]]
+}
+
+# run WORDS..: runs the program.
+run() {
+    "$dbck" "$@" > "$work/out" 2> "$work/err" < /dev/null
+    status=$?
+}
+
+# expect STATUS OUT ERR WORDS..: runs the program, and counts whether it ended so.
+expect() {
+    run "${@:4}"
+    count "${*:4}" ended "$1" "$2" "$3"
+}
+
+# A fault line, a row and an error.
+unused=$'N01 page 8 item 0 value 0: page is not in use\n'
+twice=$'R03 page 2 item 2 value 7: page is already in use\n'
+page=$'sqlite_schema\t/\t1\tleaf\t0\t0\t404\t0\t0\t512\n'
+tree=$'sqlite_schema\t-\t1\t-\t0\t0\t404\t0\t-\t512\n'
+unread=$'dbck: E8 the file cannot be read\n'
+unwritten=$'dbck: E10 the output cannot be written\n'
+
+# 0 and 1: each form of both commands.
+expect 0 $'ok\n' '' check "$data/empty.db"
+expect 0 $'ok\n' '' check "$data/by-sqlite.db"
+expect 0 $'ok\n' '' check "$data/whole.db"
+expect 1 "$twice$unused" '' check "$data/two-owners.db"
+expect 1 "$twice$unused" '' check --limit 2 "$data/two-owners.db"
+expect 1 "$twice$unused" '' check "$data/two-owners.db" --limit=1000000
+expect 1 "$twice"$'more 1\n' '' check --limit 1 "$data/two-owners.db"
+expect 1 $'H10 page 1 item 0 value 3: freelist count differs from the header\n' '' check "$data/view-last.db"
+expect 0 "$page" '' stat "$data/empty.db"
+expect 0 "$page" '' stat --all "$data/empty.db"
+expect 0 "$tree" '' stat --aggregate "$data/empty.db"
+expect 0 "$tree" '' stat --all --aggregate "$data/empty.db"
+expect 1 $'sqlite_schema\t*' "$twice$unused" stat "$data/two-owners.db"
+expect 1 $'*\n-\t-\t8\tunowned\t0\t0\t0\t0\t3584\t512\n' "$twice$unused" stat --all "$data/two-owners.db"
+expect 1 $'sqlite_schema\t-\t*' "$twice$unused" stat --aggregate "$data/two-owners.db"
+expect 1 $'*\n-\t-\t8\tunowned\t0\t0\t0\t0\t3584\t512\n' "$twice$unused" stat --aggregate --all "$data/two-owners.db"
+
+# 0: help and the version stand on standard output alone.
+for words in --help -h help 'help check' 'help stat' 'check --help' 'stat --help'; do
+    # shellcheck disable=SC2086
+    expect 0 $'*\nUsage: dbck *' '' $words
+done
+expect 0 $'dbck +([0-9.])\n' '' --version
+expect 0 $'dbck +([0-9.])\n' '' -V
+
+# 2: nothing stands on standard output where the line is refused.
+for words in '' check stat 'repair x' 'check x y' 'check --limit 0 x' 'check --limit 1000001 x' 'check --limit x' \
+    'check --limit 1 --limit 1 x' 'check --all x' 'stat --limit 1 x' 'stat --all --all x' 'stat --all=true x' --limit; do
+    # shellcheck disable=SC2086
+    expect 2 '' 'error: *' $words
+done
+expect 2 '' $'error: a word of the command line is not UTF-8\n' check $'\xff'
+
+# 3: refused files.
+: > "$work/no-bytes.db"
+for command in check stat; do
+    expect 3 '' $'dbck: E1 file is shorter than 100 bytes\n' "$command" "$work/no-bytes.db"
+    expect 3 '' $'dbck: E2 file is not a SQLite 3 database\n' "$command" tests/program.sh
+done
+
+# 4: what cannot be read.
+for command in check stat; do
+    for path in "$work/missing.db" "$work" /dev/null /dev/zero ''; do
+        expect 4 '' "$unread" "$command" "$path"
+    done
+done
+
+# 5: the marks of as many pages as there may be take more than the memory that is allowed.
+cp "$data/empty.db" "$work/many-pages.db"
+if truncate -s 34359738368 "$work/many-pages.db" 2> "$work/why"; then
+    for command in check stat; do
+        (ulimit -v 40000 && run "$command" "$work/many-pages.db" && exit "$status")
+        status=$?
+        count "$command in 40 MB" ended 5 '' $'dbck: E9 out of memory\n'
+    done
+else
+    echo "no run without memory: $(cat "$work/why")"
+fi
+
+# 6: an output that takes nothing.
+for words in check stat 'stat --all' 'stat --aggregate'; do
+    # shellcheck disable=SC2086
+    "$dbck" $words "$data/whole.db" > /dev/full 2> "$work/err"
+    status=$?
+    : > "$work/out"
+    count "$words to a full disk" ended 6 '' "$unwritten"
+done
+
+# The note on a log.
+cp "$data/empty.db" "$work/noted.db"
+echo log > "$work/noted.db-wal"
+expect 0 $'ok\n' "dbck: note: $work/noted.db-wal is not read; *" check "$work/noted.db"
+
+# has_rows_of FILE: whether the rows of the last run are ten columns, and show the bytes of the file.
+has_rows_of() {
+    ended 0 '*' '' && awk -F '\t' -v bytes="$(wc -c < "$1")" 'NF != 10 { bad = 1 } { sum += $10 } END { exit bad || sum != bytes }' "$work/out"
+}
+
+# A database of each kind that SQLite wrote: each is sound, and rows of all pages show each page once.
+for file in tests/sqlite/*.db; do
+    expect 0 $'ok\n' '' check "$file"
+    expect 0 $'ok\n' '' check --limit 1 "$file"
+    expect 0 $'sqlite_schema\t/\t1\t*' '' stat "$file"
+    expect 0 $'sqlite_schema\t-\t*' '' stat --aggregate "$file"
+    run stat --all "$file"
+    count "stat --all $file" has_rows_of "$file"
+    run stat --all --aggregate "$file"
+    count "stat --all --aggregate $file" has_rows_of "$file"
+done
+if [ "$(sqlite3 :memory: 'SELECT count(*) FROM dbstat' 2> /dev/null)" ]; then
+    count 'the rows of dbstat' tests/compare_dbstat.sh "$dbck" "$data/whole.db" "$data/by-sqlite.db" tests/sqlite/*.db
+else
+    echo 'no rows to compare with: there is no sqlite3 with dbstat'
+fi
+
+# The words of the completions are those of the help.
+count 'the words of the completions' tests/completions.sh "$dbck"
+
+echo "$passed passed, $failed failed"
+[ "$failed" = 0 ]
