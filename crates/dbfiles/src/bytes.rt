@@ -14,7 +14,7 @@ pub fn patch(file: &mut [u8], at: usize, bytes: &[u8])
 }
 
 /// A database of some pages of one size, which has an empty schema on page 1 and zeros behind it.
-pub fn base_file(alloc: Global, page_size: u32, pages: u32) -> Result<Vec<u8>, AllocError>
+pub(crate) fn base_file(alloc: Global, page_size: u32, pages: u32) -> Result<Vec<u8>, AllocError>
     requires size { (512 ≤ page_size) × (page_size ≤ 65536) }
     requires some { (1 ≤ pages) × (pages ≤ 1024) }
     ensures { IfOk result (λ file. vec_len file ≡ page_size * pages) }

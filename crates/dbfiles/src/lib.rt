@@ -23,7 +23,7 @@ mod stated;
 mod test_file;
 mod tree_page;
 
-pub use bytes::{base_file, patch};
+pub use bytes::patch;
 pub use drawn::{DrawnSource, draw};
 pub use records::{Record, schema_row};
 pub use samples::Sample;

@@ -55,8 +55,8 @@ impl<'a> PageView<'a> {
         by_kind!(self.kind, kind => self.packed_in_run(kind, table))
     }
 
-    // `packed` of a page of this kind. No byte is marked while the cells stand side by side, in one run. SQLite fills a page from its end
-    // downwards, so that on most pages this is so up to the last.
+    // `packed` of a page of this kind. No byte is marked while the cells stand side by side, in one run. SQLite fills a page
+    // from its end downwards, so that on most pages this is so up to the last.
     #[inline(always)]
     fn packed_in_run(&self, kind: PageKind, table: &mut [u8]) -> Option<Packed>
         requires kind { kind ≡ self.now.kind }
