@@ -30,6 +30,3 @@ pub use row::SchemaRow;
 pub use serial::serial_len;
 pub use sieve::RowSieve;
 pub use varints::varint;
-
-#[cfg(test)]
-mod tests;

@@ -24,8 +24,6 @@ mod marks;
 mod packed;
 mod run;
 mod steps;
-#[cfg(test)]
-mod tests;
 mod view;
 
 pub use cell::Cell;

@@ -1,10 +1,10 @@
 // Pages written out by hand. What is expected of them is counted from their bytes.
-mod rows_of_marks;
+mod marks;
 mod sqlite_pages;
 mod written_pages;
 
-use super::*;
 use dbformat::{CellFault, Coverage, HeadFault, PageKind};
+use dbpage::{Cell, CellSums, Packed, PageView, content_start, type_byte, uncounted_coverage};
 use std::process::Abort;
 
 // A cell by its offset, length, payload size, local bytes, left child, key and first overflow page.

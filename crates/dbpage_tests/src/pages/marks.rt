@@ -1,7 +1,6 @@
 // Marks at the ends of their windows and lanes.
-use crate::byte_use::{claim_long, claim_plain};
-use crate::{PageView, uncounted_coverage};
 use dbformat::Coverage;
+use dbpage::{PageView, uncounted_coverage};
 use std::process::Abort;
 
 // A page of 544 bytes, of which so many are usable.
@@ -64,43 +63,60 @@ fn covers_pages_of_each_size(rt: HostRuntime) {
     }
 }
 
-// A range of `len` bytes is marked by windows and by lanes as byte by byte, beside a mark of one byte or on it.
-fn compare(rt: &impl Abort, from: u32, len: u32, one: u32) {
-    let mut by_windows = [0u8; 2048];
-    let mut by_lanes = [0u8; 2048];
-    let mut by_bytes = [0u8; 2048];
-    assert!(rt; one < 2000 && from < 1000 && len < 1001);
-    assert!(rt; claim_plain(&mut by_windows, one, 1));
-    assert!(rt; claim_plain(&mut by_lanes, one, 1));
-    assert!(rt; claim_plain(&mut by_bytes, one, 1));
-    let is_free = one < from || one >= from + len;
-    assert_eq!(rt;
-        claim_plain(&mut by_windows, from, len),
-        is_free,
-        "{from} {len} {one}"
-    );
-    assert_eq!(rt;
-        len < 64 || claim_long(&mut by_lanes, from, len) == is_free,
-        true,
-        "{from} {len} {one}"
-    );
-    if is_free {
-        for byte in from..from + len {
-            assert!(rt; claim_plain(&mut by_bytes, byte, 1));
+// Writes bytes over those of a page, as far as there are such.
+fn put(page: &mut [u8; 2048], start: u32, bytes: &[u8]) {
+    let mut at = start as usize;
+    for byte in bytes {
+        if at < 2048 {
+            page[at] = *byte;
+            at += 1;
         }
-        assert!(rt; by_windows == by_bytes, "{from} {len} {one}");
-        assert!(rt; len < 64 || by_lanes == by_bytes, "{from} {len} {one}");
     }
 }
 
-// `compare`, with the one mark at the ends of the range and of its windows and lanes, within it and beside it.
-fn compare_all(rt: &impl Abort, from: u32, len: u32) {
-    assert!(rt; from > 0 && from < 1000 && len > 0 && len < 1001);
-    for one in [
-        from - 1,
+// Of a leaf with a cell of `len` bytes at `from` and one of four bytes at `one`, in either order, the bytes that are not held,
+// or that the second shares one with the first. No header stands on the other's.
+fn compare(rt: &impl Abort, from: u32, len: u32, one: u32) {
+    assert!(rt; 60 <= one && one < 2040 && 60 <= from && from < 1000 && 4 <= len && len <= 1000);
+    let is_free = one + 4 <= from || one >= from + len;
+    let want = if is_free {
+        Coverage::Unheld(2048 - 60 - 4 - len)
+    } else {
+        Coverage::Overlap(1)
+    };
+    let size = len - 3;
+    let mut page = [0u8; 2048];
+    put(&mut page, one, &[2, 1]);
+    put(
+        &mut page,
         from,
+        &[128 | (size >> 7) as u8, size as u8 & 127, 1],
+    );
+    for (first, second) in [(from, one), (one, from)] {
+        put(&mut page, 0, b"\x0d\x00\x00\x00\x02\x00\x3c\x00");
+        put(&mut page, 8, &(first as u16).to_be_bytes());
+        put(&mut page, 10, &(second as u16).to_be_bytes());
+        let mut table = [255u8; 2048];
+        match PageView::new(&page, 2, 2048) {
+            Ok(view) => assert_eq!(rt;
+                uncounted_coverage(&view, &mut table),
+                want,
+                "{len} bytes at {first} or {second}"
+            ),
+            Err(fault) => panic!(rt; "{fault:?}"),
+        }
+    }
+}
+
+// `compare`, with the small cell beside the long one, at its ends and within it.
+fn compare_all(rt: &impl Abort, from: u32, len: u32) {
+    assert!(rt; 64 <= from && from < 1000 && 4 <= len && len <= 1000);
+    for one in [
+        from - 4,
+        from - 3,
+        from + 3,
         from + 7,
-        from + len / 2,
+        from + 3 + len / 2,
         from + 260,
         from + len - 1,
         from + len,
@@ -109,11 +125,11 @@ fn compare_all(rt: &impl Abort, from: u32, len: u32) {
     }
 }
 
-// From each bit of a byte on, ranges of each length up to five windows, and some of more lanes than one.
+// From each bit of a byte on, cells of each length up to five windows, and some of more lanes than one.
 #[test]
-fn lanes_and_windows_mark_as_bytes_do(rt: HostRuntime) {
+fn cells_are_marked_to_their_ends(rt: HostRuntime) {
     for from in 64..72 {
-        for len in 1..332 {
+        for len in 4..332 {
             compare_all(&rt, from, len);
         }
         for len in [512, 519, 776, 1000] {

@@ -1,4 +1,7 @@
-use super::*;
+use super::{expect, root, row};
+use dbbytes::{RowFault, RowSieve};
+use dbformat::{Encoding, RowKind};
+use std::test::Fail;
 
 #[test]
 fn rows_in_any_pieces(rt: HostRuntime) {

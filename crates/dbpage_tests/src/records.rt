@@ -1,11 +1,11 @@
-use super::*;
-use dbformat::{Encoding, PayloadKind, RowKind};
-use std::process::Abort;
-use std::test::Fail;
-
+// Numbers, payload lengths, names and rows of the schema, by their bytes.
 mod columns;
 mod names;
 mod rows;
+
+use dbbytes::{RowFault, RowSieve, SchemaRow, local_len, serial_len, varint};
+use dbformat::{Encoding, PayloadKind, RowKind};
+use std::process::Abort;
 
 // Feeds the bytes whole, one by one and in two pieces, cut anywhere.
 fn expect(

@@ -1,5 +1,7 @@
-use super::*;
+use dbbytes::name_text;
+use dbformat::Encoding;
 use dbsource::{MemOut, StreamOut, WriteFailed};
+use std::test::Fail;
 
 #[test]
 fn shown_names(rt: HostRuntime) -> Result<(), Fail> {

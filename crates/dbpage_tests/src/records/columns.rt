@@ -1,4 +1,6 @@
-use super::*;
+use super::{expect, root, row};
+use dbbytes::RowFault;
+use dbformat::{Encoding, RowKind};
 
 #[test]
 fn columns_of_each_class(rt: HostRuntime) {

@@ -2,8 +2,8 @@
 // its dbstat, and freeblocks, fragments and children are read off the bytes.
 ghost use Rattle.std.specs.Prelude.{◌<◌};
 
-use super::super::*;
 use dbformat::{Coverage, PageKind};
+use dbpage::{PageView, uncounted_coverage};
 use std::alloc::{AllocError, Global};
 use std::process::Abort;
 use std::test::Fail;
