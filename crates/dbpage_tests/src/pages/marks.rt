@@ -90,7 +90,7 @@ fn compare(rt: &impl Abort, from: u32, len: u32, one: u32) {
     put(
         &mut page,
         from,
-        &[128 | (size >> 7) as u8, size as u8 & 127, 1],
+        &[128 + (size / 128) as u8, (size % 128) as u8, 1],
     );
     for (first, second) in [(from, one), (one, from)] {
         put(&mut page, 0, b"\x0d\x00\x00\x00\x02\x00\x3c\x00");
