@@ -23,7 +23,8 @@ mod text;
 mod varints;
 mod window;
 
-pub use dbformat::RowFault;
+pub use dbformat::{Encoding, PayloadKind, RowFault, RowKind};
+pub use dbsource::{Out, WriteFailed};
 pub use name::name_text;
 pub use payload::{local_len, most_local};
 pub use row::SchemaRow;

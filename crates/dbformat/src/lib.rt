@@ -221,20 +221,24 @@ pub enum PayloadKind {
 }
 
 /// Why the head of a b-tree page is not sound.
-#[derive(Clone, Copy, Debug, PartialEq, Eq)]
+#[derive(Clone, Copy, Debug, Error, PartialEq, Eq)]
 pub enum HeadFault {
     /// The type is none of the four.
+    #[error("unknown page type")]
     UnknownType,
     /// The content area begins before the end of the cell pointers, or past the usable bytes.
+    #[error("content area out of bounds")]
     ContentStart,
 }
 
 /// Why a cell holds nothing.
-#[derive(Clone, Copy, Debug, PartialEq, Eq)]
+#[derive(Clone, Copy, Debug, Error, PartialEq, Eq)]
 pub enum CellFault {
     /// Its pointer leads out of the content area.
+    #[error("cell offset out of bounds")]
     Offset,
     /// It does not end within the usable bytes, or its payload is too long.
+    #[error("cell cannot be read")]
     Unreadable,
 }
 
@@ -257,11 +261,13 @@ pub enum RowKind {
 }
 
 /// Why a schema row is not taken.
-#[derive(Clone, Copy, Debug, PartialEq, Eq)]
+#[derive(Clone, Copy, Debug, Error, PartialEq, Eq)]
 pub enum RowFault {
     /// It is no record of five columns.
+    #[error("schema row cannot be read")]
     Malformed,
     /// Its type or root page is wrong. The number is the root page, 0 where that is no integer.
+    #[error("root page {0} or type is wrong")]
     Root(i64),
 }
 

@@ -27,6 +27,7 @@ mod steps;
 mod view;
 
 pub use cell::Cell;
+pub use dbformat::{CellFault, Coverage, HeadFault, PageKind};
 pub use freeblocks::{Freeblock, Freeblocks};
 pub use marks::{coverage, uncounted_coverage};
 pub use packed::{CellSums, Packed, is_rising};

@@ -28,7 +28,7 @@ mod stream_out;
 
 pub use bench::Bench;
 pub use buffered_out::BufferedOut;
-pub use dbformat::{ByteRange, Fixed, Geometry, Refusal};
+pub use dbformat::{ByteRange, Encoding, Fixed, Geometry, Refusal};
 pub use error::{OpenError, RunError};
 pub use failures::Failures;
 pub use file_source::FileSource;

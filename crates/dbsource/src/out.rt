@@ -1,8 +1,11 @@
 // What takes the bytes of a report.
 ghost use Rattle.dbsource.specs.Outs.{Flushes, Puts};
 
+use thiserror::Error;
+
 /// A put that was not made whole.
-#[derive(Clone, Copy, Debug, PartialEq, Eq)]
+#[derive(Clone, Copy, Debug, Error, PartialEq, Eq)]
+#[error("the output cannot be written")]
 pub struct WriteFailed;
 
 /// What bytes can be put to, piece by piece.

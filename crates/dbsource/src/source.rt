@@ -4,8 +4,11 @@ ghost use Rattle.dbformat.specs.Log.{range};
 ghost use Rattle.dbsource.specs.Failures.{failures_after, is_any};
 ghost use Rattle.dbsource.specs.Sources.{AreBytes, IsRangeOf};
 
+use thiserror::Error;
+
 /// A read, or a length, that was refused.
-#[derive(Clone, Copy, Debug, PartialEq, Eq)]
+#[derive(Clone, Copy, Debug, Error, PartialEq, Eq)]
+#[error("the source cannot be read")]
 pub struct ReadFailed;
 
 /// What can be asked for its bytes, range by range.

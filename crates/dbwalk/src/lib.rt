@@ -56,7 +56,9 @@ mod tree;
 mod tree_turn;
 mod visit;
 
-pub use dbformat::{Fault, PageType};
+pub use dbbytes::{RowKind, SchemaRow};
+pub use dbformat::{Encoding, Fault, FaultCode, Geometry, PageType};
+pub use dbsource::{Bench, RunError, Source, WriteFailed};
 pub use freelist::walk_freelist;
 pub use mark::Mark;
 pub use marks::{Marks, marks_tell_the_end, walks_read_each_page_once};
