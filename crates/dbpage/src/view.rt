@@ -64,6 +64,9 @@ impl<'a> PageView<'a> {
     /// A view of page `p`, whose first `usable` bytes are in use; `page` may go on behind them. It is an error where
     /// the type of the page is unknown, and else where the content area begins before the end of the cell pointers or
     /// past the usable bytes.
+    ///
+    /// A page of a `Bench` of `dbsource`, with the usable bytes of that bench's geometry, needs no test before the call:
+    /// `PageView::new(bench.page(0), p, bench.geometry().usable)`.
     #[tactic(auto, unfolding(dbformat::specs::Head::view, dbformat::specs::Head::type_byte))]
     pub fn new(page: &'a [u8], p: u32, usable: u32) -> Result<PageView<'a>, HeadFault>
         requires whole { usable ≤ length page.now }

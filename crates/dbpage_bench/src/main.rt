@@ -3,13 +3,14 @@
 //! arguments it reads one small page, and prints nothing that changes.
 #![tactic(auto)]
 
-ghost use Rattle.std.specs.Prelude.{◌≡◌, ◌≤◌, length, IfOk};
+ghost use Rattle.std.specs.Prelude.{◌≤◌, length};
+ghost use Rattle.dbformat.specs.FixedPages.{IsInRange};
 
-use anyhow::{Context, Result, bail};
+use anyhow::{Context, Result};
 use dbfiles::TestFile;
-use dbformat::{Coverage, PageKind};
-use dbpage::{Packed, PageView, type_byte, uncounted_coverage};
-use std::alloc::{AllocError, Global};
+use dbpage::{Coverage, Packed, PageKind, PageView, type_byte, uncounted_coverage};
+use dbsource::{Geometry, Header, MemSource};
+use std::alloc::Global;
 use std::time::Instant;
 use std::{env, fs};
 
@@ -90,46 +91,22 @@ impl Totals {
     }
 }
 
-/// The size of a page, and how many bytes of it are in use.
-#[derive(Clone, Copy)]
-struct Sizes {
-    page_size: usize,
-    usable: u32,
-    ghost least: { 480 ≤ usable },
-    ghost inside: { usable ≤ page_size },
-    ghost most: { page_size ≤ 65536 },
-}
-
-fn sizes_of(file: &[u8]) -> Option<Sizes> {
-    let page_size = match u16::from_be_bytes([*file.get(16)?, *file.get(17)?]) {
-        1 => 65536,
-        size => u32::from(size),
-    };
-    let reserved = u32::from(*file.get(20)?);
-    if page_size < 512 || reserved > 32 {
-        return None;
-    }
-    Some(Sizes {
-        page_size: page_size as usize,
-        usable: page_size - reserved,
-    })
-}
-
-/// A byte for each byte of a page.
-fn table_of(alloc: Global, sizes: Sizes) -> std::result::Result<Vec<u8>, AllocError>
-    ensures { IfOk result (λ table. length table.items ≡ sizes.page_size) }
-{
-    Vec::from_elem(alloc, 0u8, sizes.page_size)
-}
-
 /// Adds all pages of a file, or those of one type.
-fn add_file(totals: &mut Totals, file: &[u8], sizes: Sizes, only: Option<u8>, table: &mut [u8])
-    requires { sizes.usable ≤ length table.old }
+fn add_file(
+    totals: &mut Totals,
+    file: &[u8],
+    geometry: Geometry,
+    only: Option<u8>,
+    table: &mut [u8],
+)
+    requires range { IsInRange geometry }
+    requires room { geometry.usable ≤ length table.old }
 {
+    let page_size = geometry.page_size as usize;
     let mut rest = file;
     let mut p = 0u32;
-    while rest.len() >= sizes.page_size {
-        let (page, others) = rest.split_at(sizes.page_size);
+    while rest.len() >= page_size {
+        let (page, others) = rest.split_at(page_size);
         p = p.wrapping_add(1);
         rest = others;
         if let Some(only) = only
@@ -137,7 +114,7 @@ fn add_file(totals: &mut Totals, file: &[u8], sizes: Sizes, only: Option<u8>, ta
         {
             continue;
         }
-        if let Ok(view) = PageView::new(page, p, sizes.usable) {
+        if let Ok(view) = PageView::new(page, p, geometry.usable) {
             totals.add_page(&view, table);
         }
     }
@@ -146,12 +123,10 @@ fn add_file(totals: &mut Totals, file: &[u8], sizes: Sizes, only: Option<u8>, ta
 /// All pages of a file, or those of one type, so many times.
 fn totals_of(alloc: Global, file: &[u8], rounds: u32, only: Option<u8>) -> Result<Totals> {
     let mut totals = Totals::new();
-    let Some(sizes) = sizes_of(file) else {
-        bail!("no database file");
-    };
-    let mut table = table_of(alloc, sizes)?;
+    let geometry = Header::read(&mut MemSource::new(file))?.geometry();
+    let mut table = Vec::from_elem(alloc, 0u8, geometry.page_size as usize)?;
     for _ in 0..rounds {
-        add_file(&mut totals, file, sizes, only, table.as_mut_slice());
+        add_file(&mut totals, file, geometry, only, table.as_mut_slice());
     }
     Ok(totals)
 }

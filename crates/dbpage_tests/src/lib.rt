@@ -1,6 +1,8 @@
-//! Tests of `dbbytes` and `dbpage`. They stand apart, since a crate with tests is proved twice.
+//! Tests of `dbbytes` and `dbpage`, and of errors. They stand apart, since a crate with tests is proved twice.
 #![tactic(auto)]
 
+#[cfg(test)]
+mod errors;
 #[cfg(test)]
 mod pages;
 #[cfg(test)]

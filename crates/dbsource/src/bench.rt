@@ -36,7 +36,7 @@ impl<A: Allocator> Model for Bench<A> {
 }
 
 impl<A: Allocator> Bench<A> {
-    /// The geometry of the file.
+    /// The geometry of the file. Asked for within a loop that reads pages, it says without a test that they have its page size.
     pub fn geometry(&self) -> Geometry
         ensures value { result ≡ self.now.geometry }
         ensures range { IsInRange result }

@@ -3,7 +3,7 @@
 //! `dbformat` says what the survey of a file visits, and what is told of each visit. Here the pages are walked over in that
 //! order. A call takes one start, [`walk_tree`] a root and [`walk_freelist`] the first trunk, so that a caller can go through
 //! the starts one after another. It lends a source, a bench of page buffers, the marks of all pages, a [`Sink`] for what is
-//! told and a [`Taker`] for the rows of the schema.
+//! told and a [`Taker`] for the rows of the schema. At both traits stands an `impl` of which nothing is claimed, to copy.
 //!
 //! **Marks** (specs/Marking). A page has the mark of the visit that came to it, with the page that refers to it: marks are
 //! what is left of all visits so far, so that whether a reference may be followed is seen from one mark. A page is marked

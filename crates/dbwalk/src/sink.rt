@@ -32,6 +32,35 @@ pub struct Row<'a> {
 }
 
 /// What rows and faults are told to, one after another.
+///
+/// # A quiet sink
+///
+/// A sink of which nothing is claimed, and which takes every item. It proves with any bodies that answer `Ok`:
+///
+/// ```
+/// impl Sink for Quiet {
+///     ghost use Rattle.std.specs.Prelude.{[], ⊤};
+///
+///     ghost takes = { λ _ _ _. ⊤ };
+///
+///     ghost drops = { λ _ _ _. ⊤ };
+///
+///     ghost held = { λ _. record { lent = []; failures = [] } };
+///
+///     fn fault(&mut self, _fault: &Fault) -> Result<(), WriteFailed> {
+///         self.faults = self.faults.saturating_add(1);
+///         Ok(())
+///     }
+///
+///     fn row(&mut self, _row: &Row<'_>) -> Result<(), WriteFailed> {
+///         self.rows = self.rows.saturating_add(1);
+///         Ok(())
+///     }
+/// }
+/// ```
+///
+/// One that can fail has a field `failures: Failures` (of `dbsource`), calls `self.failures.add()` before each `Err`, and
+/// writes `held = { λ s. record { lent = []; failures = s.failures ∷ [] } }`, where `◌∷◌` is brought in beside `[]`.
 pub trait Sink {
     ghost use Rattle.dbwalk.specs.Finding.{Finding};
     ghost use Rattle.dbwalk.specs.Sinks.{SinkState};

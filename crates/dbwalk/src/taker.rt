@@ -18,6 +18,33 @@ pub enum Taken {
 }
 
 /// What takes the rows of the schema, one after another.
+///
+/// # A quiet taker
+///
+/// A taker of which nothing is claimed, and which is never refused memory. It proves with any body that answers `Ok`:
+///
+/// ```
+/// impl Taker for Quiet {
+///     ghost use Rattle.std.specs.Prelude.{⊤};
+///
+///     ghost takes = { λ _ _ _ _. ⊤ };
+///
+///     ghost refuses = { λ _ _ _. ⊤ };
+///
+///     ghost refusals = { λ _. 0 };
+///
+///     fn take(&mut self, row: &SchemaRow<'_>) -> Result<Taken, AllocError> {
+///         if row.root == 0 {
+///             return Ok(Taken::NoRoot);
+///         }
+///         self.roots = self.roots.saturating_add(1);
+///         Ok(Taken::Taken)
+///     }
+/// }
+/// ```
+///
+/// One that keeps the rows has a field `refusals: Failures` (of `dbsource`), calls `self.refusals.add()` before each `Err`, and
+/// writes `refusals = { λ s. s.refusals }`.
 pub trait Taker {
     ghost use Rattle.dbformat.specs.SchemaRow.{SchemaRow};
     ghost use Rattle.dbwalk.specs.declared.taker.Taken.{Taken};

@@ -1,5 +1,6 @@
 // Walks over whole files.
 mod freelists;
 mod hostile;
+mod quiet;
 mod schemas;
 mod trees;

@@ -1,0 +1,46 @@
+//! Prints a line for each page of a database file, `dbpages FILE`: its number, and the kind and the number of cells of a
+//! b-tree page. An example of a program over `dbsource` and `dbpage`.
+//!
+//! Where pointer maps and the lock-byte page stand is fixed by the file's shape. Every other page is judged by its own bytes:
+//! an overflow page or a free page is told not to be a b-tree page, but a free page that SQLite did not clear still looks like
+//! the b-tree page that it was.
+#![tactic(auto)]
+
+use anyhow::{Context, Result};
+use dbpage::{PageKind, PageView};
+use dbsource::{Bench, FileSource, Fixed, Header};
+use std::env;
+
+fn kind_text(kind: PageKind) -> &'static str {
+    match kind {
+        PageKind::InteriorIndex => "interior index",
+        PageKind::InteriorTable => "interior table",
+        PageKind::LeafIndex => "leaf index",
+        PageKind::LeafTable => "leaf table",
+    }
+}
+
+fn print_pages(rt: &(impl Print + AllocGlobal), source: &mut FileSource) -> Result<()> {
+    let header = Header::read(source)?;
+    let mut bench = Bench::new(rt.alloc(), header.geometry())?;
+    for number in 1..=header.geometry().pages {
+        bench.load(0, source, number)?;
+        // The geometry of the bench, so that the prover sees that it fits the bytes of its page.
+        let geometry = bench.geometry();
+        match geometry.fixed(number) {
+            Some(Fixed::Map) => println!(rt; "{number}\tpointer map")?,
+            Some(Fixed::Lock) => println!(rt; "{number}\tlock-byte page")?,
+            None => match PageView::new(bench.page(0), number, geometry.usable) {
+                Ok(view) => println!(rt; "{number}\t{}\t{}", kind_text(view.kind()), view.cells())?,
+                Err(fault) => println!(rt; "{number}\tnot a b-tree page: {fault}")?,
+            },
+        }
+    }
+    Ok(())
+}
+
+fn main(rt: HostRuntime) -> Result<()> {
+    let path = env::args(&rt)?.nth(1).context("usage: dbpages FILE")?;
+    let mut source = FileSource::open(&rt, path.as_str()).context(format_args!("opening {path}"))?;
+    print_pages(&rt, &mut source)
+}
