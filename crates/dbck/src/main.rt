@@ -1,17 +1,8 @@
 //! `dbck`: checks the structure of a SQLite 3 database file.
 #![tactic(auto)]
 
-mod command_line;
-mod finishing;
-mod logs;
-mod running;
-mod status;
-#[cfg(test)]
-mod tests;
-
-use command_line::LineError;
+use dbcli::{LineError, run_words, tell};
 use dbsource::{BufferedOut, StreamOut};
-use running::{run_words, tell};
 use std::alloc::AllocError;
 use std::env;
 use std::io::ErrorKind;

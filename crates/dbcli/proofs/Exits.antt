@@ -1,0 +1,172 @@
+-- What a status says of a report, by the outcome that it stands for.
+use Rattle.std.proofs.Common.{inl, inr, ◌≡◌, ◌↔◌, ℕ, ◌+◌, ◌%◌, ◌^◌, List, [], Option, None, Some, Result, Ok, Err, ◌≤◌, refl, sym, ap, subst, arith}
+use Rattle.std.specs.Prelude.{OnOk, IfOk, IfSome}
+use Rattle.std.specs.Io.KnownBytes.{Appends}
+use Rattle.std.proofs.KnownBytes.{Appends-nil, Appends-trans}
+use Rattle.std.proofs.lemmas.List.{append-nil}
+use Rattle.dbformat.specs.File.{refusal}
+use Rattle.dbformat.specs.Reference.{Reference}
+use Rattle.dbformat.specs.Report.{Report, report}
+use Rattle.dbformat.specs.Sound.{Sound}
+use Rattle.dbformat.specs.Survey.{Survey}
+use Rattle.dbformat.specs.declared.Command.{Command}
+use Rattle.dbformat.specs.declared.Refusal.{Refusal}
+use Rattle.dbformat.specs.declared.Verdict.{Verdict}
+use Rattle.dbformat.specs.declared.Verdict.TheVariants.{Clean, Faulty}
+use Rattle.dbreport.specs.Runs.{IsAnswerOf, IsUnwritten}
+use Rattle.dbsource.proofs.Beginnings.{all_begun}
+use Rattle.dbsource.specs.Outs.{Begins, OutState, Writes}
+use Rattle.dbsource.specs.declared.error.RunError.{RunError}
+use Rattle.dbsource.specs.declared.error.RunError.TheVariants.{Refused, ReadFailed, OutOfMemory, WriteFailed}
+use Rattle.dbcli.specs.Exit.{BeginsThenLine, IsExit, IsExitOf, IsKnown, IsOkIfSound, IsStatusOf, PutsLine}
+use Rattle.dbcli.specs.Status.{exit_status}
+
+-- the report of a refused file
+refused_answer : (command : Command) (file : List ℕ) (V : List Reference) (e : Refusal) → refusal file ≡ Some e → (report command file V).answer ≡ Err e
+unfolding report
+refused_answer command file V e h = rw h refl
+
+-- a status that is none of 0, 1 and 3
+neither : (n : ℕ) (r : Report) (out out' err err' : OutState) → 4 ≤ n → Begins out.bytes out'.bytes r.out → BeginsThenLine err.bytes err'.bytes r.err
+    → IsExit n r out out' err err'
+neither n r out out' err err' h begun told = record {
+  begun = begun;
+  told = told;
+  clean = λ e. absurd (omega arith);
+  faulty = λ e. absurd (omega arith);
+  refused = λ e. absurd (omega arith);
+}
+
+-- all of it is a beginning of it, with no line behind
+all_then_line : (old new : Option (List ℕ)) (bytes : List ℕ) → Appends old new bytes → BeginsThenLine old new bytes
+all_then_line old new bytes a = record {
+  part = bytes;
+  rest = [];
+  whole = append-nil bytes;
+  line = [];
+  short = omega arith;
+  added = let P : List ℕ → Type 0 = λ l. Appends old new l in subst P (sym (append-nil bytes)) a;
+}
+
+-- a beginning, and then the line of an error
+begins_then_line : (old mid new : OutState) (bytes : List ℕ) → Begins old.bytes mid.bytes bytes → PutsLine mid new → BeginsThenLine old.bytes new.bytes bytes
+begins_then_line old mid new bytes b l = record {
+  part = b.part;
+  rest = b.rest;
+  whole = b.whole;
+  line = l.line;
+  short = l.short;
+  added = Appends-trans old.bytes mid.bytes new.bytes b.part l.line b.added l.added;
+}
+
+-- what the second Out got of a report, where nothing more was put to it
+err_written : (err mid err' : OutState) (bytes : List ℕ) → Appends err.bytes mid.bytes bytes → err' ≡ mid → Appends err.bytes err'.bytes bytes
+err_written err mid err' bytes h e = let P : OutState → Type 0 = λ o. Appends err.bytes o.bytes bytes in subst P (sym e) h
+
+exit_by_outcome : (command : Command) (file : List ℕ) (V : List Reference) (outcome : Result Verdict RunError) (out out' err mid err' : OutState)
+    → IsAnswerOf outcome file → Writes outcome out.bytes out'.bytes (report command file V).out → Writes outcome err.bytes mid.bytes (report command file V).err
+    → IfOk outcome (λ v. (report command file V).answer ≡ Ok v) → IsUnwritten outcome out.bytes out'.bytes
+    → OnOk outcome (err' ≡ mid) → PutsLine mid err' → IsExit (exit_status outcome) (report command file V) out out' err err'
+exit_by_outcome command file V (Ok Clean) out out' err mid err' answer written second verdict unwritten quiet line = record {
+  begun = all_begun out.bytes out'.bytes (report command file V).out written;
+  told = all_then_line err.bytes err'.bytes (report command file V).err (err_written err mid err' (report command file V).err second quiet);
+  clean = λ e. (verdict, record { first = written; second = err_written err mid err' (report command file V).err second quiet });
+  faulty = λ e. absurd (omega arith);
+  refused = λ e. absurd (omega arith);
+}
+exit_by_outcome command file V (Ok (Faulty n)) out out' err mid err' answer written second verdict unwritten quiet line = record {
+  begun = all_begun out.bytes out'.bytes (report command file V).out written;
+  told = all_then_line err.bytes err'.bytes (report command file V).err (err_written err mid err' (report command file V).err second quiet);
+  clean = λ e. absurd (omega arith);
+  faulty = λ e. (n, verdict, record { first = written; second = err_written err mid err' (report command file V).err second quiet });
+  refused = λ e. absurd (omega arith);
+}
+exit_by_outcome command file V (Err (Refused e)) out out' err mid err' answer written second verdict unwritten quiet line = record {
+  begun = written;
+  told = begins_then_line err mid err' (report command file V).err second line;
+  clean = λ h. absurd (omega arith);
+  faulty = λ h. absurd (omega arith);
+  refused = λ h. (e, refused_answer command file V e answer, unwritten);
+}
+exit_by_outcome command file V (Err ReadFailed) out out' err mid err' answer written second verdict unwritten quiet line =
+    neither 4 (report command file V) out out' err err' (omega arith) written (begins_then_line err mid err' (report command file V).err second line)
+exit_by_outcome command file V (Err OutOfMemory) out out' err mid err' answer written second verdict unwritten quiet line =
+    neither 5 (report command file V) out out' err err' (omega arith) written (begins_then_line err mid err' (report command file V).err second line)
+exit_by_outcome command file V (Err WriteFailed) out out' err mid err' answer written second verdict unwritten quiet line =
+    neither 6 (report command file V) out out' err err' (omega arith) written (begins_then_line err mid err' (report command file V).err second line)
+
+at_survey : (P : Verdict → List Reference → Type 0) (file : List ℕ) (outcome : Result Verdict RunError) (V : List Reference) → Survey file V
+    → IfOk outcome (λ v. (U : List Reference) → Survey file U → P v U) → IfOk outcome (λ v. P v V)
+at_survey P file (Ok v) V s h = h V s
+at_survey P file (Err e) V s h = tt
+
+-- the same where bytes are told, if they are
+pub exits : (command : Command) (outcome : Result Verdict RunError) (told : Option (List ℕ)) (out out' err mid err' : OutState) → IfSome told (IsAnswerOf outcome)
+    → IfSome told (λ file. (V : List Reference) → Survey file V → Writes outcome out.bytes out'.bytes (report command file V).out)
+    → IfSome told (λ file. (V : List Reference) → Survey file V → Writes outcome err.bytes mid.bytes (report command file V).err)
+    → IfOk outcome (λ v. IfSome told (λ file. (V : List Reference) → Survey file V → (report command file V).answer ≡ Ok v))
+    → IsUnwritten outcome out.bytes out'.bytes → OnOk outcome (err' ≡ mid) → PutsLine mid err'
+    → IfSome told (λ file. IsExitOf (exit_status outcome) command file out out' err err')
+exits command outcome None out out' err mid err' answer written second verdict unwritten quiet line = tt
+exits command outcome (Some file) out out' err mid err' answer written second verdict unwritten quiet line = λ V s.
+    exit_by_outcome command file V outcome out out' err mid err' answer (written V s) (second V s)
+    (at_survey (λ v U. (report command file U).answer ≡ Ok v) file outcome V s verdict) unwritten quiet line
+
+-- no line was put
+pub puts_none : (s : OutState) → PutsLine s s
+puts_none s = record { line = []; short = omega arith; added = Appends-nil s.bytes }
+
+-- a status by its outcome
+status_by : (outcome : Result Verdict RunError) (file : List ℕ) → IsAnswerOf outcome file → IsStatusOf (exit_status outcome) file
+status_by (Ok Clean) file answer = record { memory = λ e. absurd (omega arith); unwritable = λ e. absurd (omega arith) }
+status_by (Ok (Faulty n)) file answer = record { memory = λ e. absurd (omega arith); unwritable = λ e. absurd (omega arith) }
+status_by (Err (Refused e)) file answer = record { memory = λ e. absurd (omega arith); unwritable = λ e. absurd (omega arith) }
+status_by (Err ReadFailed) file answer = record { memory = λ e. absurd (omega arith); unwritable = λ e. absurd (omega arith) }
+status_by (Err OutOfMemory) file answer = record { memory = λ e. answer; unwritable = λ e. absurd (omega arith) }
+status_by (Err WriteFailed) file answer = record { memory = λ e. absurd (omega arith); unwritable = λ e. answer }
+
+-- the statuses that there are
+pub known : (outcome : Result Verdict RunError) → IsKnown (exit_status outcome)
+known (Ok Clean) = inl (omega arith)
+known (Ok (Faulty n)) = inl (omega arith)
+known (Err (Refused e)) = inr (omega arith, omega arith)
+known (Err ReadFailed) = inr (omega arith, omega arith)
+known (Err OutOfMemory) = inr (omega arith, omega arith)
+known (Err WriteFailed) = inr (omega arith, omega arith)
+
+-- the same where bytes are told, if they are
+pub statuses : (outcome : Result Verdict RunError) (told : Option (List ℕ)) → IfSome told (IsAnswerOf outcome) → IfSome told (IsStatusOf (exit_status outcome))
+statuses outcome None h = tt
+statuses outcome (Some file) h = status_by outcome file h
+
+-- of the two statuses of a verdict 0 is that of a sound file
+sound_by : (outcome : Result Verdict RunError) (file : List ℕ) → IfOk outcome (λ v. v ≡ Clean ↔ Sound file) → IsOkIfSound (exit_status outcome) file
+sound_by (Ok Clean) file h = λ m. (λ e. h.0 refl, λ s. refl)
+sound_by (Ok (Faulty n)) file h = λ m. (λ e. absurd (omega arith), λ s. let e : Faulty n ≡ Clean = h.1 s in cc)
+sound_by (Err (Refused e)) file h = λ m. absurd (omega arith)
+sound_by (Err ReadFailed) file h = λ m. absurd (omega arith)
+sound_by (Err OutOfMemory) file h = λ m. absurd (omega arith)
+sound_by (Err WriteFailed) file h = λ m. absurd (omega arith)
+
+-- the same where bytes are told, if they are
+pub ok_if_sound : (outcome : Result Verdict RunError) (told : Option (List ℕ)) → IfOk outcome (λ v. IfSome told (λ file. v ≡ Clean ↔ Sound file))
+    → IfSome told (IsOkIfSound (exit_status outcome))
+ok_if_sound outcome None h = tt
+ok_if_sound outcome (Some file) h = sound_by outcome file h
+
+-- at a refusal it is as it was
+pub unwritten_at_3 : {X : Type 0} (outcome : Result Verdict RunError) (old new : X) → IsUnwritten outcome old new → exit_status outcome ≡ 3 → new ≡ old
+unwritten_at_3 (Ok Clean) old new u k = absurd (omega arith)
+unwritten_at_3 (Ok (Faulty n)) old new u k = absurd (omega arith)
+unwritten_at_3 (Err (Refused e)) old new u k = u
+unwritten_at_3 (Err ReadFailed) old new u k = absurd (omega arith)
+unwritten_at_3 (Err OutOfMemory) old new u k = absurd (omega arith)
+unwritten_at_3 (Err WriteFailed) old new u k = absurd (omega arith)
+
+-- and what is told of it
+pub untold : {X Y : Type 0} (f : X → Y) (outcome : Result Verdict RunError) (old new : X) → IsUnwritten outcome old new → IsUnwritten outcome (f old) (f new)
+untold f (Ok v) old new u = tt
+untold f (Err (Refused e)) old new u = ap f u
+untold f (Err ReadFailed) old new u = tt
+untold f (Err OutOfMemory) old new u = tt
+untold f (Err WriteFailed) old new u = tt

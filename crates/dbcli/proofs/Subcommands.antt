@@ -1,0 +1,81 @@
+-- The subcommand that a parse met.
+use Rattle.std.proofs.Common.{◌≡◌, ◌∙◌, ℕ, List, Option, Some, None, Result, Ok, Err, refl, sym, ap, subst, true, codes, slice_index, arith}
+use Rattle.std.specs.Prelude.{IfErr, IfNone, option_map}
+use Rattle.std.specs.Result.{IsErrAnd}
+use Rattle.std.specs.Box.{box_value}
+use Rattle.clap.specs.Words.{App, HasKind, Row, Text, fault_of, first_of, found_of, is_simple, is_simple_and_free, rows_of}
+use Rattle.clap.specs.Words.{subcommand_name_of, subcommand_of, subcommand_rows}
+use Rattle.clap.specs.declared.parser.matches.ArgMatches.{ArgMatches}
+use Rattle.clap.specs.declared.parser.matches.ArgMatches.TheViews.{out-ArgMatches, out-SubCommand}
+use Rattle.clap.specs.declared.error.Error.{Error}
+use Rattle.dbcli.specs.declared.command_line.LineError.{LineError}
+use Rattle.dbcli.specs.declared.command_line.LineError.TheVariants.{Words}
+use Rattle.clap.proofs.OnLiterals.{clap_on_literals}
+use Rattle.dbcli.specs.CommandLine.{AsksFor, HasLimit, IsErrorOf, IsLimitOf, dbck_app, name_of}
+use Rattle.dbformat.specs.declared.Command.{Command}
+use Rattle.dbformat.specs.declared.Command.TheVariants.{Check, Stat}
+
+-- a name and rows that were found are those of one subcommand
+met_pair : {B N R : Type 0} (f : B → N) (g : B → R) (o : Option B) (n : N) (r : R)
+    → option_map f o ≡ Some n → option_map (λ (p : N × R). p.1) (option_map {U = N × R} (λ b. (f b, g b)) o) ≡ Some r
+    → option_map {U = N × R} (λ b. (f b, g b)) o ≡ Some (n, r)
+met_pair f g None n r h k = cc
+met_pair f g (Some b) n r h k = let e : f b ≡ n = cc in let d : g b ≡ r = cc in rw (e, d) refl
+
+-- the subcommand that the words name is the one that their parse met
+pub named_by : (app : App) (words : List Text) (matches : ArgMatches) (name : Text) (rows : List Row) → app ≡ dbck_app
+    → subcommand_rows (out-ArgMatches matches).subcommand ≡ subcommand_of app words → Some name ≡ subcommand_name_of matches
+    → Some rows ≡ option_map (λ (p : Text × List Row). p.1) (subcommand_rows (out-ArgMatches matches).subcommand)
+    → subcommand_of dbck_app words ≡ Some (name, rows)
+named_by app words matches name rows same parsed named found =
+    sym (parsed ∙ ap (λ a. subcommand_of a words) same)
+    ∙ met_pair (λ b. (out-SubCommand (box_value b)).name.now) (λ b. rows_of (found_of (out-SubCommand (box_value b)).matches))
+    (out-ArgMatches matches).subcommand name rows (sym named) (sym found)
+
+-- `clap` says all of this command
+pub is_simple_dbck : is_simple dbck_app ≡ true
+unfolding clap_on_literals
+is_simple_dbck = refl
+
+-- and why it takes no line of it
+pub is_free_dbck : is_simple_and_free dbck_app ≡ true
+unfolding clap_on_literals
+is_free_dbck = refl
+
+-- an error of the parser, handed on as one of the line
+pub words_error : {A : Type 0} (r : Result A LineError) (e : Error) (words : List Text)
+    → IsErrAnd r (λ error. error ≡ Words e) → HasKind (fault_of dbck_app words) e → IfErr r (λ error. IsErrorOf error words)
+words_error (Ok a) e words h k = tt
+words_error (Err error) e words h k = let P : LineError → Type 0 = λ l. IsErrorOf l words in subst P (sym h) k
+
+-- the same by the command that has this name
+pub named_command : (met : Option (Text × List Row)) (name : Text) (rows : List Row) (command : Command) → met ≡ Some (name, rows) → name ≡ name_of command
+    → met ≡ Some (name_of command, rows)
+named_command met name rows command e named = e ∙ ap (λ (n : Text). Some (n, rows)) named
+
+-- what a subcommand with these rows asks for has its name, and is in these rows
+pub asked_of : (met : Option (Text × List Row)) (name : Text) (rows : List Row) (command : Command) (file : Text) → met ≡ Some (name, rows)
+    → AsksFor met command file → (name ≡ name_of command) × (first_of (codes "FILE") rows ≡ Some file) × IsLimitOf command rows
+asked_of met name rows command file e asks =
+    let both : Some (name, rows) ≡ Some (name_of command, asks.rows) = sym e ∙ asks.named in
+    let pair : (name, rows) ≡ (name_of command, asks.rows) = cc in
+    let same : rows ≡ asks.rows = ap (λ (p : Text × List Row). p.1) pair in
+    (ap (λ (p : Text × List Row). p.0) pair, rw same asks.file_given, rw same asks.limit)
+
+-- what follows where there is no value
+pub none_more : {T P Q : Type 0} (o : Option T) → IfNone o P → (P → Q) → IfNone o Q
+none_more None p f = f p
+none_more (Some x) p f = tt
+
+-- a check alone has its name
+pub only_checks : (command : Command) (name : Text) (rows : List Row) → name ≡ codes "check"
+    → ((limit : ℕ) → HasLimit (Check limit) → IsLimitOf (Check limit) rows → ⊥) → HasLimit command → name ≡ name_of command → IsLimitOf command rows → ⊥
+only_checks (Check limit) name rows e none range named value = none limit range value
+only_checks (Stat aggregate all) name rows e none range named value =
+    let P : Text → Type 0 = λ l. slice_index l 0 ≡ 99 in
+    let first : slice_index (codes "stat") 0 ≡ 99 = subst P (sym e ∙ named) refl in
+    absurd (omega arith)
+
+-- a row that is there is not away
+pub not_away : (row : Option Text) (text : Text) → row ≡ None → row ≡ Some text → ⊥
+not_away row text none some = let bad : None ≡ Some text = sym none ∙ some in cc

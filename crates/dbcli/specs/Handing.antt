@@ -1,0 +1,30 @@
+-- What handing on leaves of the outcome of a run.
+use Rattle.std.specs.Prelude.{◌≡◌, ◌≤◌, ℕ, ◌+◌, ◌%◌, ◌^◌, [], Result, Ok, Err}
+use Rattle.std.specs.Io.KnownBytes.{Keeps}
+use Rattle.dbformat.specs.declared.Verdict.{Verdict}
+use Rattle.dbreport.specs.StatSink.{IsFlushed, failures_of_each}
+use Rattle.dbsource.specs.Failures.{HasOneMore}
+use Rattle.dbsource.specs.Outs.{OutState}
+use Rattle.dbsource.specs.declared.error.RunError.{RunError}
+use Rattle.dbsource.specs.declared.error.RunError.TheVariants.{Refused, WriteFailed}
+use Rattle.dbcli.specs.Exit.{IsHandedOnOrFailed}
+
+-- it was tried to flush an Out, once: told bytes stay
+pub record TriesToFlush (old new : OutState) : Type 0 where
+  pub kept : Keeps old.bytes new.bytes
+  pub once : IsHandedOnOrFailed 1 old new
+
+-- The first Out was flushed and then the second, and one of the two failed. Told bytes stay.
+pub record StopsFlushing (out out' err err' : OutState) : Type 0 where
+  pub kept : Keeps out.bytes out'.bytes
+  pub second_kept : Keeps err.bytes err'.bytes
+  pub once : HasOneMore (failures_of_each out err) (failures_of_each out' err')
+  pub first : out'.failures ≡ out.failures → out'.pending ≡ []
+
+-- Behind a verdict both Outs are flushed, and where one fails the verdict is a failed write. Behind an error that is tried of
+-- the first, and at a refusal nothing is done.
+abbrev pub IsHanded : Result Verdict RunError → Result Verdict RunError → OutState → OutState → OutState → OutState → Type 0
+IsHanded (Ok v) (Ok w) out out' err err' = (w ≡ v) × IsFlushed out out' × IsFlushed err err'
+IsHanded (Ok v) (Err e) out out' err err' = (e ≡ WriteFailed) × StopsFlushing out out' err err'
+IsHanded (Err (Refused e)) r out out' err err' = (r ≡ Err (Refused e)) × (out' ≡ out) × (err' ≡ err)
+IsHanded (Err e) r out out' err err' = (r ≡ Err e) × TriesToFlush out out' × (err' ≡ err)

@@ -1,0 +1,142 @@
+// From an opened file to an exit status.
+ghost use Rattle.std.specs.Prelude.{◌≡◌, ◌≤◌, ◌⊎◌, IsErr, IsOk, IfOk, IfSome, OnErr, OnOk};
+ghost use Rattle.std.specs.Io.KnownBytes.{Keeps};
+ghost use Rattle.dbformat.specs.File.{geometry};
+ghost use Rattle.dbformat.specs.Log.{HasLog, IsRunLog, IsSomeRunLog};
+ghost use Rattle.dbreport.specs.Runs.{IsCheck, IsUnwritten};
+ghost use Rattle.dbcli.specs.Exit.{HasFailed, IsExitOf, IsHandedOn, IsHandedOnOrFailed, IsKnown, IsOkIfSound, IsStatusOf, PutsLine};
+ghost use Rattle.dbcli.specs.Exit.{failures_at_4, first_most, second_most};
+ghost use Rattle.dbcli.specs.Handing.{IsHanded};
+ghost use Rattle.dbcli.specs.Status.{exit_status};
+
+use crate::status::status_of;
+use arrayvec::ArrayString;
+use dbreport::{Command, Verdict, run};
+use dbsource::{Out, ReadFailed, RunError, Source};
+use std::alloc::Global;
+use std::fmt::Write;
+
+// Tries to put the line of an error, and to hand it on. That this fails changes nothing.
+fn put_error<E: Out>(err: &mut E, error: RunError)
+    ensures line { PutsLine (E.held err.old) (E.held err.new) }
+    ensures tried { IsHandedOnOrFailed 2 (E.held err.old) (E.held err.new) }
+{
+    let mut line: ArrayString<96> = ArrayString::new();
+    if writeln!(line, "dbck: {error}").is_ok() {
+        let _ = err.put(line.as_str().as_bytes());
+    }
+    let _ = err.flush();
+}
+
+/// Puts the line of an error to `err` and hands it on, if that can be, and answers the status of the outcome.
+pub fn end<E: Out>(err: &mut E, outcome: Result<Verdict, RunError>) -> u8
+    ensures status { result ≡ exit_status outcome }
+    ensures quiet { OnOk outcome (E.held err.new ≡ E.held err.old) }
+    ensures line { PutsLine (E.held err.old) (E.held err.new) }
+    ensures tried { OnErr outcome (IsHandedOnOrFailed 2 (E.held err.old) (E.held err.new)) }
+{
+    if let Err(error) = outcome {
+        put_error(err, error);
+    }
+    status_of(&outcome)
+}
+
+/// Hands on what is pending. Where `outcome` is a verdict that is done of both Outs. Where it is an error other than a refusal it
+/// is done of `out`, if that can be. At a refusal nothing was written.
+///
+/// # Errors
+///
+/// The error of `outcome`, and [`RunError::WriteFailed`] where an Out fails behind a verdict.
+pub fn hand_on<O: Out, E: Out>(
+    out: &mut O,
+    err: &mut E,
+    outcome: Result<Verdict, RunError>,
+) -> Result<Verdict, RunError>
+    ensures handed { IsHanded outcome result (O.held out.old) (O.held out.new) (E.held err.old) (E.held err.new) }
+    ensures refused { IsUnwritten outcome out.old out.new }
+{
+    match outcome {
+        Ok(verdict) => {
+            out.flush()?;
+            err.flush()?;
+            Ok(verdict)
+        }
+        Err(RunError::Refused(_)) => outcome,
+        Err(error) => {
+            let _ = out.flush();
+            Err(error)
+        }
+    }
+}
+
+/// Runs `command` on the source, and answers the exit status. What was put to `out` and then what was put to `err` is handed
+/// on before the status is decided. After an error that is tried of `out`, unless the file is refused; then the line of the
+/// error is put to `err`, if that can be, and handed on, if that can be.
+pub fn finish_opened<S: Source, O: Out, E: Out>(
+    alloc: Global,
+    command: Command,
+    source: &mut S,
+    out: &mut O,
+    err: &mut E,
+) -> u8
+    // Where the source tells its bytes: what the status says of their report, and of what was written of it; 0 for a sound
+    // file, and 1 for any other that is checked to its end; and each page is asked for once at most.
+    ensures exit { IfSome (S.held source.old).bytes (λ file.
+        IsExitOf result command file (O.held out.old) (O.held out.new) (E.held err.old) (E.held err.new)) }
+    ensures status { IfSome (S.held source.old).bytes (IsStatusOf result) }
+    ensures sound { IfSome (S.held source.old).bytes (IsOkIfSound result) }
+    ensures own_log { IfSome (S.held source.old).bytes (λ file.
+        HasLog S.step (IsRunLog (geometry file)) (S.held source.old).trail (S.held source.new).trail) }
+    // For every source: what it is asked for, and that it failed, once, exactly where the status is 4.
+    ensures log { HasLog S.step IsSomeRunLog (S.held source.old).trail (S.held source.new).trail }
+    ensures unread { (S.held source.new).failures ≡ failures_at_4 result (S.held source.old).failures }
+    ensures statuses { IsKnown result }
+    // At 0 and 1 all was handed on, and neither Out failed.
+    ensures whole { result ≤ 1
+        → IsHandedOn (O.held out.old) (O.held out.new) × IsHandedOn (E.held err.old) (E.held err.new) }
+    // At 3 the first Out is as it was. Behind the other errors what is pending is handed on, if that can be. At 6 one failed.
+    ensures unwritten { result ≡ 3 → out.new ≡ out.old }
+    ensures first { 4 ≤ result → IsHandedOnOrFailed (first_most result) (O.held out.old) (O.held out.new) }
+    ensures second { 3 ≤ result → IsHandedOnOrFailed (second_most result) (E.held err.old) (E.held err.new) }
+    ensures failed { result ≡ 6 → HasFailed (O.held out.old) (O.held out.new) ⊎ HasFailed (E.held err.old) (E.held err.new) }
+    // Of a check the second Out gets the line of an error at most, and nothing beside a verdict.
+    ensures line { IsCheck command → PutsLine (E.held err.old) (E.held err.new) }
+    ensures quiet { IsCheck command → result ≤ 1 → Keeps (E.held err.old).bytes (E.held err.new).bytes }
+{
+    let outcome = run(alloc, command, source, out, err);
+    let outcome = hand_on(out, err, outcome);
+    end(err, outcome)
+}
+
+/// Runs `command` on the file that was opened, as [`finish_opened`], or that could not be, and answers the exit status. Where
+/// it could not be opened the line of the error is put to `err`, and `out` is left alone.
+pub fn finish<S: Source + Drop, O: Out, E: Out>(
+    alloc: Global,
+    command: Command,
+    opened: Result<S, ReadFailed>,
+    out: &mut O,
+    err: &mut E,
+) -> u8
+    // Where the source tells its bytes.
+    ensures opened { IfOk opened (λ source. IfSome (S.held source).bytes (λ file.
+        IsExitOf result command file (O.held out.old) (O.held out.new) (E.held err.old) (E.held err.new))) }
+    ensures status { IfOk opened (λ source. IfSome (S.held source).bytes (IsStatusOf result)) }
+    ensures sound { IfOk opened (λ source. IfSome (S.held source).bytes (IsOkIfSound result)) }
+    // For every source.
+    ensures statuses { IsKnown result }
+    ensures whole { result ≤ 1
+        → IsHandedOn (O.held out.old) (O.held out.new) × IsHandedOn (E.held err.old) (E.held err.new) }
+    ensures unwritten { result ≡ 3 → out.new ≡ out.old }
+    ensures first { IsOk opened → 4 ≤ result → IsHandedOnOrFailed (first_most result) (O.held out.old) (O.held out.new) }
+    ensures second { 3 ≤ result → IsHandedOnOrFailed (second_most result) (E.held err.old) (E.held err.new) }
+    ensures failed { result ≡ 6 → HasFailed (O.held out.old) (O.held out.new) ⊎ HasFailed (E.held err.old) (E.held err.new) }
+    ensures line { IsCheck command → PutsLine (E.held err.old) (E.held err.new) }
+    ensures quiet { IsCheck command → result ≤ 1 → Keeps (E.held err.old).bytes (E.held err.new).bytes }
+    // Where no file was opened.
+    ensures unopened { IsErr opened → (result ≡ 4) × (out.new ≡ out.old) × PutsLine (E.held err.old) (E.held err.new) }
+{
+    match opened {
+        Ok(mut source) => finish_opened(alloc, command, &mut source, out, err),
+        Err(error) => end(err, Err(RunError::from(error))),
+    }
+}
