@@ -25,11 +25,8 @@ mod tree_page;
 
 pub use bytes::patch;
 pub use drawn::{DrawnSource, draw};
-pub use records::{Record, schema_row};
+pub use records::{Record, schema_row, varint};
 pub use samples::Sample;
 pub use stated::StatedSource;
 pub use test_file::TestFile;
 pub use tree_page::TreePage;
-
-#[cfg(test)]
-mod tests;

@@ -64,8 +64,8 @@ pub fn schema_row(kind: &[u8], name: &[u8], root: u8) -> Record {
         .null()
 }
 
-// A varint: seven bits a byte, the highest first, and a high bit for more. The ninth byte, if there is one, has eight bits.
-pub(crate) fn varint(value: u64) -> ArrayVec<u8, 9> {
+/// A varint: seven bits a byte, the highest first, and a high bit for more. The ninth byte, if there is one, has eight bits.
+pub fn varint(value: u64) -> ArrayVec<u8, 9> {
     let is_long = value >= 1 << 56;
     // What stands before the last byte.
     let high = if is_long { value >> 8 } else { value >> 7 };

@@ -1,6 +1,5 @@
-// The builder beside bytes that are written out, and what has no place.
-use crate::records::varint;
-use crate::{Sample, TestFile, schema_row};
+// The builder of test files beside bytes that are written out, and what has no place.
+use dbfiles::{Sample, TestFile, schema_row, varint};
 use std::test::Fail;
 
 #[test]
