@@ -1,4 +1,4 @@
-# Builds and installs dbck: make, make install, make uninstall, make deb.
+# Builds and installs dbck: make, make install, make uninstall, make deb, make static.
 PREFIX ?= /usr/local
 DESTDIR ?=
 INSTALL ?= install
@@ -8,7 +8,10 @@ PROGRAM := crates/dbck/out/dbck
 BIN := $(DESTDIR)$(PREFIX)/bin
 SHARE := $(DESTDIR)$(PREFIX)/share
 
-.PHONY: all install uninstall deb version
+# Where the toolchain is.
+KIT = $(patsubst %/,%,$(dir $(shell rt doc)))
+
+.PHONY: all install uninstall deb static version
 
 # rt builds only what is proved, and does again what has changed alone.
 all:
@@ -27,6 +30,10 @@ uninstall:
 
 deb: $(PROGRAM)
 	packaging/make-deb $(PROGRAM) $(VERSION)
+
+# The same object file, linked with a C library that it brings along.
+static: $(PROGRAM)
+	$(CC) -static -o $(PROGRAM)-static $(PROGRAM).o $(KIT)/c/libos_c.a $(KIT)/c/liblibc_c.a
 
 version:
 	@echo $(VERSION)

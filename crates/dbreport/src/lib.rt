@@ -34,7 +34,9 @@ mod telling;
 mod tree_name;
 mod walks;
 
-pub use dbformat::{Command, Verdict};
+pub use dbformat::{Command, RowKind, Verdict};
+pub use dbsource::{Header, Out, RunError, Source};
+pub use dbwalk::{SchemaRow, Taken, Taker};
 pub use desk::Desk;
 pub use roots::RootList;
 pub use runs::{run, run_in, run_on};
