@@ -2,7 +2,8 @@
 ghost use Rattle.std.specs.Prelude.{◌≡◌, ◌≤◌, ◌⊎◌, IsErr, IsOk, IfOk, IfSome, OnErr, OnOk};
 ghost use Rattle.std.specs.Io.KnownBytes.{Keeps};
 ghost use Rattle.dbformat.specs.File.{geometry};
-ghost use Rattle.dbformat.specs.Log.{HasLog, IsRunLog, IsSomeRunLog};
+ghost use Rattle.dbformat.specs.Log.{IsRunLog, IsSomeRunLog};
+ghost use Rattle.dbsource.specs.Sources.{HasRanges};
 ghost use Rattle.dbreport.specs.Runs.{IsCheck, IsUnwritten};
 ghost use Rattle.dbcli.specs.Exit.{HasFailed, IsExitOf, IsHandedOn, IsHandedOnOrFailed, IsKnown, IsOkIfSound, IsStatusOf, PutsLine};
 ghost use Rattle.dbcli.specs.Exit.{failures_at_4, first_most, second_most};
@@ -86,9 +87,9 @@ pub fn finish_opened<S: Source, O: Out, E: Out>(
     ensures status { IfSome (S.held source.old).bytes (IsStatusOf result) }
     ensures sound { IfSome (S.held source.old).bytes (IsOkIfSound result) }
     ensures own_log { IfSome (S.held source.old).bytes (λ file.
-        HasLog S.step (IsRunLog (geometry file)) (S.held source.old).trail (S.held source.new).trail) }
+        HasRanges S.step (IsRunLog (geometry file)) (S.held source.old).trail (S.held source.new).trail) }
     // For every source: what it is asked for, and that it failed, once, exactly where the status is 4.
-    ensures log { HasLog S.step IsSomeRunLog (S.held source.old).trail (S.held source.new).trail }
+    ensures log { HasRanges S.step IsSomeRunLog (S.held source.old).trail (S.held source.new).trail }
     ensures unread { (S.held source.new).failures ≡ failures_at_4 result (S.held source.old).failures }
     ensures statuses { IsKnown result }
     // At 0 and 1 all was handed on, and neither Out failed.

@@ -2,8 +2,6 @@
 use Rattle.std.proofs.Common.{◌≡◌, ℕ, ◌<◌, List, [], ◌∷◌, length, None, Some, Option, Ok, Err, Result, inl, inr, refl, sym, ap, ◌∙◌, subst}
 use Rattle.std.specs.Prelude.{◌↔◌, IfErr, IfOk, IfSome}
 use Rattle.dbformat.specs.File.{refusal}
-use Rattle.dbformat.specs.Log.{HasLog}
-use Rattle.dbformat.specs.declared.ByteRange.{ByteRange}
 use Rattle.dbformat.specs.Reference.{Reference}
 use Rattle.dbformat.specs.Report.{report}
 use Rattle.dbformat.specs.Sound.{Sound}
@@ -14,9 +12,11 @@ use Rattle.dbformat.specs.declared.Verdict.TheVariants.{Clean}
 use Rattle.dbformat.proofs.Theory.{one_survey}
 use Rattle.dbsound.proofs.Soundness.{sound_by_verdict}
 use Rattle.dbformat.specs.declared.Refusal.TheVariants.{Short}
+use Rattle.dbsource.specs.Answers.{Step, Trail}
 use Rattle.dbsource.specs.Errors.{run_error, is_out_of_memory, is_write_failed}
 use Rattle.dbsource.specs.Failures.{CountsAfter, failures_after}
 use Rattle.dbsource.specs.Headers.{IsOpenLog, IsRefusalOf}
+use Rattle.dbsource.specs.Sources.{HasRanges}
 use Rattle.dbsource.specs.declared.error.OpenError.{OpenError}
 use Rattle.dbsource.specs.declared.error.OpenError.TheVariants as opening
 use Rattle.dbsource.specs.declared.error.RunError.{RunError}
@@ -45,7 +45,7 @@ pub refused_counts : (e : OpenError) (counts : List ℕ) → CountsAfter {A = Ve
 refused_counts (opening.Refused r) counts = refl
 refused_counts opening.ReadFailed counts = refl
 
-pub refused_log : {step : List ByteRange → ByteRange → List ByteRange} (e : OpenError) (old new : List ByteRange) → HasLog step (IsOpenLog (Err e)) old new
+pub refused_log : {step : Step} (e : OpenError) (old new : Trail) → HasRanges step (IsOpenLog (Err e)) old new
     → AsksHeaderAlone {A = Verdict} step (Err (run_error e)) old new
 refused_log (opening.Refused r) old new h = h
 refused_log opening.ReadFailed old new h = tt
@@ -64,7 +64,7 @@ pub read_unwritten : {X : Type 0} (r : Result Verdict RunError) (old new : X) �
 read_unwritten (Ok v) old new only = tt
 read_unwritten (Err e) old new only = never_refused e only (λ e. IsUnwritten {A = Verdict} (Err e) old new) tt tt tt
 
-pub read_refused : (step : List ByteRange → ByteRange → List ByteRange) (r : Result Verdict RunError) (old new : List ByteRange) → IfErr r IsReadWriteOrMemory → AsksHeaderAlone step r old new
+pub read_refused : (step : Step) (r : Result Verdict RunError) (old new : Trail) → IfErr r IsReadWriteOrMemory → AsksHeaderAlone step r old new
 read_refused step (Ok v) old new only = tt
 read_refused step (Err e) old new only = never_refused e only (λ e. AsksHeaderAlone {A = Verdict} step (Err e) old new) tt tt tt
 

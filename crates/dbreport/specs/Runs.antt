@@ -1,14 +1,14 @@
 -- What an answer of a run says of the file, and of what was written.
 use Rattle.std.specs.Prelude.{◌≡◌, ℕ, true, false, List, None, Some, Result, Err, ⊤}
 use Rattle.dbformat.specs.File.{refusal}
-use Rattle.dbformat.specs.Log.{HasLog}
 use Rattle.dbformat.specs.Reference.{Reference}
 use Rattle.dbformat.specs.Lines.{AddsUpToAllPages}
 use Rattle.dbformat.specs.Rows.{CountsEachPageOnce, CountsNoPageTwice}
-use Rattle.dbformat.specs.declared.ByteRange.{ByteRange}
 use Rattle.dbformat.specs.declared.Command.{Command}
 use Rattle.dbformat.specs.declared.Command.TheVariants.{Check, Stat}
+use Rattle.dbsource.specs.Answers.{Step, Trail}
 use Rattle.dbsource.specs.Headers.{IsOpenLog}
+use Rattle.dbsource.specs.Sources.{HasRanges}
 use Rattle.dbsource.specs.declared.error.OpenError.TheVariants as opening
 use Rattle.dbsource.specs.declared.error.RunError.{RunError}
 use Rattle.dbsource.specs.declared.error.RunError.TheVariants.{Refused, ReadFailed}
@@ -30,8 +30,8 @@ IsUnwritten (Err (Refused r)) old new = new ≡ old
 IsUnwritten r old new = Unit {0}
 
 -- at a refusal the header alone was asked for, once; and not even that, where the file is too short to have one
-abbrev pub AsksHeaderAlone : {A : Type 0} → (List ByteRange → ByteRange → List ByteRange) → Result A RunError → List ByteRange → List ByteRange → Type 0
-AsksHeaderAlone step (Err (Refused r)) old new = HasLog step (IsOpenLog (Err (opening.Refused r))) old new
+abbrev pub AsksHeaderAlone : {A : Type 0} → Step → Result A RunError → Trail → Trail → Type 0
+AsksHeaderAlone step (Err (Refused r)) old new = HasRanges step (IsOpenLog (Err (opening.Refused r))) old new
 AsksHeaderAlone step r old new = Unit {0}
 
 -- The rows of all pages count each page once, and of a file that is read the column `pgsize` adds up to the size of all

@@ -10,7 +10,7 @@ ghost use Rattle.dbsource.specs.Errors.{is_out_of_memory, is_read_failed, is_wri
 ghost use Rattle.dbsource.specs.Failures.{failures_after};
 ghost use Rattle.dbsource.specs.Headers.{IsHeaderOf};
 ghost use Rattle.dbsource.specs.Outs.{Writes};
-ghost use Rattle.dbsource.specs.Sources.{Asks};
+ghost use Rattle.dbsource.specs.Sources.{AsksRanges};
 ghost use Rattle.dbsource.specs.declared.error.RunError.TheVariants.{WriteFailed};
 ghost use Rattle.dbwalk.specs.Marking.{AreMarksFor, marks_of};
 ghost use Rattle.dbwalk.specs.Outcomes.{IsReadWriteOrMemory, Tells};
@@ -52,7 +52,7 @@ fn tell_check<A: Allocator, S: Source, O: Out>(
     ensures same_out { watch.new.sink.out.ghost_name ≡ watch.old.sink.out.ghost_name }
     ensures shape { bench.new.geometry ≡ bench.old.geometry }
     ensures marks { AreMarksFor bench.old.geometry marks.new }
-    ensures asks { Asks S.step (IsPageLog bench.old.geometry) is_read_failed result (S.held source.old) (S.held source.new) }
+    ensures asks { AsksRanges S.step (IsPageLog bench.old.geometry) is_read_failed result (S.held source.old) (S.held source.new) }
     ensures writes { (O.held watch.new.sink.out.now).failures ≡ failures_after is_write_failed result (O.held watch.old.sink.out.now).failures }
     ensures refusals { roots.new.refusals ≡ failures_after is_out_of_memory result roots.old.refusals }
     ensures only { IfErr result IsReadWriteOrMemory }
@@ -83,7 +83,7 @@ pub(crate) fn check<A: Allocator, S: Source, O: Out>(
     requires fresh { marks.old ≡ marks_of bench.old.geometry [] }
     ensures shape { bench.new.geometry ≡ bench.old.geometry }
     ensures marks { AreMarksFor bench.old.geometry marks.new }
-    ensures asks { Asks S.step (IsPageLog bench.old.geometry) is_read_failed result (S.held source.old) (S.held source.new) }
+    ensures asks { AsksRanges S.step (IsPageLog bench.old.geometry) is_read_failed result (S.held source.old) (S.held source.new) }
     ensures writes { (O.held out.new).failures ≡ failures_after is_write_failed result (O.held out.old).failures }
     ensures refusals { roots.new.refusals ≡ failures_after is_out_of_memory result roots.old.refusals }
     ensures only { IfErr result IsReadWriteOrMemory }

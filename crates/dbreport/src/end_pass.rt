@@ -7,7 +7,7 @@ ghost use Rattle.dbformat.specs.Reference.{Reference};
 ghost use Rattle.dbformat.specs.Survey.{Survey};
 ghost use Rattle.dbsource.specs.Errors.{is_read_failed, is_write_failed};
 ghost use Rattle.dbsource.specs.Headers.{IsHeaderOf};
-ghost use Rattle.dbsource.specs.Sources.{Asks};
+ghost use Rattle.dbsource.specs.Sources.{AsksRanges};
 ghost use Rattle.dbwalk.specs.Finding.{told_fault};
 ghost use Rattle.dbwalk.specs.Marking.{AreMarksOf, page_mark};
 ghost use Rattle.dbwalk.specs.Outcomes.{Tells, IsReadOrWrite};
@@ -65,7 +65,7 @@ fn end_page<S: Source, K: Sink, A: Allocator, B: Allocator>(
     sink: &mut K,
 ) -> Result<(), RunError>
     requires page { (1 ≤ page) × (page ≤ length marks.now) }
-    ensures asks { Asks S.step (IsMapTurn bench.old.geometry page) is_read_failed result (S.held source.old) (S.held source.new) }
+    ensures asks { AsksRanges S.step (IsMapTurn bench.old.geometry page) is_read_failed result (S.held source.old) (S.held source.new) }
     ensures writes { SinkAfter is_write_failed result (K.held sink.old) (K.held sink.new) }
     ensures only { IfErr result IsReadOrWrite }
     ensures bench { bench.new ≡ record bench.old { chain = bench.new.chain } }
@@ -96,7 +96,7 @@ fn end_pages<S: Source, K: Sink, A: Allocator, B: Allocator>(
     least_other: Option<u32>,
     sink: &mut K,
 ) -> Result<(), RunError>
-    ensures asks { Asks S.step (MapReads bench.old.geometry) is_read_failed result (S.held source.old) (S.held source.new) }
+    ensures asks { AsksRanges S.step (MapReads bench.old.geometry) is_read_failed result (S.held source.old) (S.held source.new) }
     ensures writes { SinkAfter is_write_failed result (K.held sink.old) (K.held sink.new) }
     ensures only { IfErr result IsReadOrWrite }
     ensures bench { bench.new ≡ record bench.old { chain = bench.new.chain } }
@@ -126,7 +126,7 @@ pub(crate) fn tell_end<S: Source, K: Sink, A: Allocator, B: Allocator>(
     any_rows: bool,
     sink: &mut K,
 ) -> Result<(), RunError>
-    ensures asks { Asks S.step (MapReads bench.old.geometry) is_read_failed result (S.held source.old) (S.held source.new) }
+    ensures asks { AsksRanges S.step (MapReads bench.old.geometry) is_read_failed result (S.held source.old) (S.held source.new) }
     ensures writes { SinkAfter is_write_failed result (K.held sink.old) (K.held sink.new) }
     ensures only { IfErr result IsReadOrWrite }
     ensures bench { bench.new ≡ record bench.old { chain = bench.new.chain } }

@@ -2,7 +2,7 @@
 ghost use Rattle.std.specs.Prelude.{◌≡◌, ◌↔◌, ◌<◌, List, length, IfErr, IfOk, IfSome, Ok};
 ghost use Rattle.dbformat.specs.File.{geometry};
 ghost use Rattle.dbformat.specs.FixedPages.{geometry_of};
-ghost use Rattle.dbformat.specs.Log.{HasLog, IsPageLog, IsRunLog, IsSomeRunLog};
+ghost use Rattle.dbformat.specs.Log.{IsPageLog, IsRunLog, IsSomeRunLog};
 ghost use Rattle.dbformat.specs.Reference.{Reference};
 ghost use Rattle.dbformat.specs.Report.{report};
 ghost use Rattle.dbformat.specs.Sound.{Sound};
@@ -16,7 +16,7 @@ ghost use Rattle.dbsource.specs.Errors.{is_out_of_memory, is_read_failed, is_wri
 ghost use Rattle.dbsource.specs.Failures.{CountsAfter, failures_after};
 ghost use Rattle.dbsource.specs.Headers.{IsHeaderOf};
 ghost use Rattle.dbsource.specs.Outs.{Writes};
-ghost use Rattle.dbsource.specs.Sources.{Asks};
+ghost use Rattle.dbsource.specs.Sources.{AsksRanges, HasRanges};
 ghost use Rattle.dbwalk.specs.Outcomes.{IsReadWriteOrMemory};
 
 use crate::Desk;
@@ -37,7 +37,7 @@ fn check_on<A: Allocator, S: Source, O: Out>(
         → Writes result (O.held out.old).bytes (O.held out.new).bytes (report (Check limit) file V).out) }
     ensures verdict { IfOk result (λ v. IfSome (S.held source.old).bytes (λ file. IsHeaderOf desk.old.header file
         → (V : List Reference) → Survey file V → (report (Check limit) file V).answer ≡ Ok v)) }
-    ensures asks { Asks S.step (IsPageLog (geometry_of desk.old.header.bytes desk.old.header.file_len)) is_read_failed result
+    ensures asks { AsksRanges S.step (IsPageLog (geometry_of desk.old.header.bytes desk.old.header.file_len)) is_read_failed result
         (S.held source.old) (S.held source.new) }
     ensures out_failures { (O.held out.new).failures ≡ failures_after is_write_failed result (O.held out.old).failures }
     ensures refusals { desk.new.roots.refusals ≡ failures_after is_out_of_memory result desk.old.roots.refusals }
@@ -71,7 +71,7 @@ fn stat_on<A: Allocator, S: Source, O: Out, E: Out>(
         → Writes result (E.held err.old).bytes (E.held err.new).bytes (report (Stat form.aggregate form.all) file V).err) }
     ensures verdict { IfOk result (λ v. IfSome (S.held source.old).bytes (λ file. IsHeaderOf desk.old.header file
         → (V : List Reference) → Survey file V → (report (Stat form.aggregate form.all) file V).answer ≡ Ok v)) }
-    ensures asks { Asks S.step (IsPageLog (geometry_of desk.old.header.bytes desk.old.header.file_len)) is_read_failed result
+    ensures asks { AsksRanges S.step (IsPageLog (geometry_of desk.old.header.bytes desk.old.header.file_len)) is_read_failed result
         (S.held source.old) (S.held source.new) }
     ensures writes { CountsAfter is_write_failed result (failures_of_each (O.held out.old) (E.held err.old))
         (failures_of_each (O.held out.new) (E.held err.new)) }
@@ -120,7 +120,7 @@ pub fn run_on<A: Allocator, S: Source, O: Out, E: Out>(
     // `Clean` is what a sound file is answered, and no other.
     ensures sound { IfOk result (λ v. IfSome (S.held source.old).bytes (λ file. IsHeaderOf desk.old.header file → v ≡ Clean ↔ Sound file)) }
     // Whatever the source answers.
-    ensures asks { Asks S.step (IsPageLog (geometry_of desk.old.header.bytes desk.old.header.file_len)) is_read_failed result
+    ensures asks { AsksRanges S.step (IsPageLog (geometry_of desk.old.header.bytes desk.old.header.file_len)) is_read_failed result
         (S.held source.old) (S.held source.new) }
     ensures writes { CountsAfter is_write_failed result (failures_of_each (O.held out.old) (E.held err.old))
         (failures_of_each (O.held out.new) (E.held err.new)) }
@@ -163,9 +163,9 @@ pub fn run_in<A: Allocator + Copy, S: Source, O: Out, E: Out>(
     ensures answer { IfSome (S.held source.old).bytes (IsAnswerOf result) }
     ensures counts { IfSome (S.held source.old).bytes (λ file. (V : List Reference) → Survey file V → CountsPages command file V) }
     ensures sound { IfOk result (λ v. IfSome (S.held source.old).bytes (λ file. v ≡ Clean ↔ Sound file)) }
-    ensures log { IfSome (S.held source.old).bytes (λ file. HasLog S.step (IsRunLog (geometry file)) (S.held source.old).trail (S.held source.new).trail) }
+    ensures log { IfSome (S.held source.old).bytes (λ file. HasRanges S.step (IsRunLog (geometry file)) (S.held source.old).trail (S.held source.new).trail) }
     ensures unread { IfSome (S.held source.old).bytes (λ file. length file < 100 → (S.held source.new).trail ≡ (S.held source.old).trail) }
-    ensures asks { Asks S.step IsSomeRunLog is_read_failed result (S.held source.old) (S.held source.new) }
+    ensures asks { AsksRanges S.step IsSomeRunLog is_read_failed result (S.held source.old) (S.held source.new) }
     ensures refused { AsksHeaderAlone S.step result (S.held source.old).trail (S.held source.new).trail }
     ensures unwritten { IsUnwritten result out.old out.new × IsUnwritten result err.old err.new }
     ensures writes { CountsAfter is_write_failed result (failures_of_each (O.held out.old) (E.held err.old))
@@ -210,10 +210,10 @@ pub fn run<S: Source, O: Out, E: Out>(
     ensures counts { IfSome (S.held source.old).bytes (λ file. (V : List Reference) → Survey file V → CountsPages command file V) }
     // `Clean` is what a sound file is answered, and no other.
     ensures sound { IfOk result (λ v. IfSome (S.held source.old).bytes (λ file. v ≡ Clean ↔ Sound file)) }
-    ensures log { IfSome (S.held source.old).bytes (λ file. HasLog S.step (IsRunLog (geometry file)) (S.held source.old).trail (S.held source.new).trail) }
+    ensures log { IfSome (S.held source.old).bytes (λ file. HasRanges S.step (IsRunLog (geometry file)) (S.held source.old).trail (S.held source.new).trail) }
     ensures unread { IfSome (S.held source.old).bytes (λ file. length file < 100 → (S.held source.new).trail ≡ (S.held source.old).trail) }
     // Whatever the source answers.
-    ensures asks { Asks S.step IsSomeRunLog is_read_failed result (S.held source.old) (S.held source.new) }
+    ensures asks { AsksRanges S.step IsSomeRunLog is_read_failed result (S.held source.old) (S.held source.new) }
     // At a refusal nothing but the header is asked for, and nothing is done to either Out.
     ensures refused { AsksHeaderAlone S.step result (S.held source.old).trail (S.held source.new).trail }
     ensures unwritten { IsUnwritten result out.old out.new × IsUnwritten result err.old err.new }

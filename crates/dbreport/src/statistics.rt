@@ -13,7 +13,7 @@ ghost use Rattle.dbsource.specs.Errors.{is_out_of_memory, is_read_failed, is_wri
 ghost use Rattle.dbsource.specs.Failures.{CountsAfter, failures_after};
 ghost use Rattle.dbsource.specs.Headers.{IsHeaderOf};
 ghost use Rattle.dbsource.specs.Outs.{Writes};
-ghost use Rattle.dbsource.specs.Sources.{Asks};
+ghost use Rattle.dbsource.specs.Sources.{AsksRanges};
 ghost use Rattle.dbsource.specs.declared.error.RunError.TheVariants.{WriteFailed};
 ghost use Rattle.dbwalk.specs.Marking.{AreMarksFor, AreMarksOf, marks_of};
 ghost use Rattle.dbwalk.specs.Outcomes.{IsReadWriteOrMemory};
@@ -73,7 +73,7 @@ fn stat_pages<A: Allocator, S: Source, O: Out, E: Out>(
     ensures same_out { watch.new.sink.out.ghost_name ≡ watch.old.sink.out.ghost_name }
     ensures same_err { watch.new.sink.err.ghost_name ≡ watch.old.sink.err.ghost_name }
     ensures shape { bench.new.geometry ≡ bench.old.geometry }
-    ensures asks { Asks S.step (Reads bench.old.geometry.page_size marks.old marks.new) is_read_failed result (S.held source.old) (S.held source.new) }
+    ensures asks { AsksRanges S.step (Reads bench.old.geometry.page_size marks.old marks.new) is_read_failed result (S.held source.old) (S.held source.new) }
     ensures writes { Fails O.held E.held result watch.old.sink watch.new.sink }
     ensures refusals { roots.new.refusals ≡ failures_after is_out_of_memory result roots.old.refusals }
     ensures only { IfErr result IsReadWriteOrMemory }
@@ -105,7 +105,7 @@ fn stat_walks<A: Allocator, S: Source, O: Out, E: Out>(
     ensures same_err { watch.new.sink.err.ghost_name ≡ watch.old.sink.err.ghost_name }
     ensures shape { bench.new.geometry ≡ bench.old.geometry }
     ensures marks { AreMarksFor bench.old.geometry marks.new }
-    ensures asks { Asks S.step (IsPageLog bench.old.geometry) is_read_failed result (S.held source.old) (S.held source.new) }
+    ensures asks { AsksRanges S.step (IsPageLog bench.old.geometry) is_read_failed result (S.held source.old) (S.held source.new) }
     ensures writes { Fails O.held E.held result watch.old.sink watch.new.sink }
     ensures refusals { roots.new.refusals ≡ failures_after is_out_of_memory result roots.old.refusals }
     ensures only { IfErr result IsReadWriteOrMemory }
@@ -141,7 +141,7 @@ fn stat_rest<A: Allocator, S: Source, O: Out, E: Out>(
     ensures same_err { watch.new.sink.err.ghost_name ≡ watch.old.sink.err.ghost_name }
     ensures shape { bench.new.geometry ≡ bench.old.geometry }
     ensures marks { AreMarksFor bench.old.geometry marks.new }
-    ensures asks { Asks S.step (IsPageLog bench.old.geometry) is_read_failed result (S.held source.old) (S.held source.new) }
+    ensures asks { AsksRanges S.step (IsPageLog bench.old.geometry) is_read_failed result (S.held source.old) (S.held source.new) }
     ensures writes { Fails O.held E.held result watch.old.sink watch.new.sink }
     ensures refusals { roots.new.refusals ≡ failures_after is_out_of_memory result roots.old.refusals }
     ensures only { IfErr result IsReadWriteOrMemory }
@@ -183,7 +183,7 @@ pub(crate) fn stat<A: Allocator, S: Source, O: Out, E: Out>(
     requires fresh { marks.old ≡ marks_of bench.old.geometry [] }
     ensures shape { bench.new.geometry ≡ bench.old.geometry }
     ensures marks { AreMarksFor bench.old.geometry marks.new }
-    ensures asks { Asks S.step (IsPageLog bench.old.geometry) is_read_failed result (S.held source.old) (S.held source.new) }
+    ensures asks { AsksRanges S.step (IsPageLog bench.old.geometry) is_read_failed result (S.held source.old) (S.held source.new) }
     ensures writes { CountsAfter is_write_failed result (failures_of_each (O.held out.old) (E.held err.old))
         (failures_of_each (O.held out.new) (E.held err.new)) }
     ensures refusals { roots.new.refusals ≡ failures_after is_out_of_memory result roots.old.refusals }

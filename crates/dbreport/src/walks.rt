@@ -10,7 +10,7 @@ ghost use Rattle.dbformat.specs.Survey.{Survey};
 ghost use Rattle.dbsource.specs.Errors.{is_out_of_memory, is_read_failed, is_write_failed};
 ghost use Rattle.dbsource.specs.Failures.{failures_after};
 ghost use Rattle.dbsource.specs.Headers.{IsHeaderOf};
-ghost use Rattle.dbsource.specs.Sources.{Asks};
+ghost use Rattle.dbsource.specs.Sources.{AsksRanges};
 ghost use Rattle.dbwalk.specs.Done.{IsDone};
 ghost use Rattle.dbwalk.specs.Finding.{visited_below};
 ghost use Rattle.dbwalk.specs.FreeLeaves.{Leaves};
@@ -53,7 +53,7 @@ pub(crate) fn walk_schema<A: Allocator, S: Source, K: Sink + Drop>(
     requires empty { roots.old.rows ≡ [] }
     requires unseen { watch.old.has_rows ≡ false }
     ensures shape { bench.new.geometry ≡ bench.old.geometry }
-    ensures asks { Asks S.step (Reads bench.old.geometry.page_size marks.old marks.new) is_read_failed result (S.held source.old) (S.held source.new) }
+    ensures asks { AsksRanges S.step (Reads bench.old.geometry.page_size marks.old marks.new) is_read_failed result (S.held source.old) (S.held source.new) }
     ensures writes { SinkAfter is_write_failed result (K.held watch.old.sink) (K.held watch.new.sink) }
     ensures refusals { roots.new.refusals ≡ failures_after is_out_of_memory result roots.old.refusals }
     ensures only { IfErr result IsReadWriteOrMemory }
@@ -108,7 +108,7 @@ fn walk_roots<A: Allocator, S: Source, K: Sink>(
 ) -> Result<(), RunError>
     ensures shape { bench.new.geometry ≡ bench.old.geometry }
     ensures roots { roots.new ≡ roots.old }
-    ensures asks { Asks S.step (Reads bench.old.geometry.page_size marks.old marks.new) is_read_failed result (S.held source.old) (S.held source.new) }
+    ensures asks { AsksRanges S.step (Reads bench.old.geometry.page_size marks.old marks.new) is_read_failed result (S.held source.old) (S.held source.new) }
     ensures writes { SinkAfter is_write_failed result (K.held sink.old) (K.held sink.new) }
     ensures only { IfErr result IsReadOrWrite }
     ensures done { IfSome (S.held source.old).bytes (λ file. bench.old.geometry ≡ shape_of file → encoding ≡ encoding_of file
@@ -138,7 +138,7 @@ pub(crate) fn walk_later<A: Allocator, S: Source, K: Sink>(
 ) -> Result<(), RunError>
     ensures shape { bench.new.geometry ≡ bench.old.geometry }
     ensures roots { roots.new ≡ roots.old }
-    ensures asks { Asks S.step (Reads bench.old.geometry.page_size marks.old marks.new) is_read_failed result (S.held source.old) (S.held source.new) }
+    ensures asks { AsksRanges S.step (Reads bench.old.geometry.page_size marks.old marks.new) is_read_failed result (S.held source.old) (S.held source.new) }
     ensures writes { SinkAfter is_write_failed result (K.held sink.old) (K.held sink.new) }
     ensures only { IfErr result IsReadOrWrite }
     ensures done { IfSome (S.held source.old).bytes (λ file. IsHeaderOf header.now file → bench.old.geometry ≡ shape_of file
@@ -172,7 +172,7 @@ pub(crate) fn walk_starts<A: Allocator, S: Source, K: Sink + Drop>(
     requires empty { roots.old.rows ≡ [] }
     requires unseen { watch.old.has_rows ≡ false }
     ensures shape { bench.new.geometry ≡ bench.old.geometry }
-    ensures asks { Asks S.step (Reads bench.old.geometry.page_size marks.old marks.new) is_read_failed result (S.held source.old) (S.held source.new) }
+    ensures asks { AsksRanges S.step (Reads bench.old.geometry.page_size marks.old marks.new) is_read_failed result (S.held source.old) (S.held source.new) }
     ensures writes { SinkAfter is_write_failed result (K.held watch.old.sink) (K.held watch.new.sink) }
     ensures refusals { roots.new.refusals ≡ failures_after is_out_of_memory result roots.old.refusals }
     ensures only { IfErr result IsReadWriteOrMemory }

@@ -1,6 +1,9 @@
 -- What length and bytes say of a file whose first 100 they are.
-use Rattle.std.proofs.Common.{◌≡◌, ℕ, ◌<◌, ◌≤◌, List, [], ◌∷◌, length, take, true, false, refl, sym, ap, ◌∙◌, arith, subst, Some, None, Err}
-use Rattle.std.specs.Prelude.{nat_lt}
+use Rattle.std.proofs.Common.{◌≡◌, ℕ, ◌+◌, ◌-◌, ◌<◌, ◌≤◌, List, [], ◌∷◌, ◌++◌, length, take, true, false, refl, sym, ap, ◌∙◌, arith, subst, Some, None, Ok, Err, Result, length-append}
+use Rattle.std.specs.Prelude.{nat_lt, IfSome}
+use Rattle.std.proofs.Math.ListN.{replicate}
+use Rattle.std.proofs.lemmas.List.{length-replicate}
+use Rattle.std.proofs.Math.Seq.{take-append_seam}
 use Rattle.std.proofs.lemmas.Bool.Decides.{nat_tests}
 use Rattle.dbformat.specs.File.{refusal, refusal_of, refusal_tests}
 use Rattle.dbformat.specs.FixedPages.{geometry_of, IsInRange}
@@ -11,10 +14,14 @@ use Rattle.dbformat.specs.declared.Refusal.{Refusal}
 use Rattle.dbformat.specs.declared.Refusal.TheVariants.{Short, Magic, PageSize, Usable, NoPage, TooManyPages, MapAtLock}
 use Rattle.dbformat.proofs.HeaderPrefix.{geometry_within, refusal_within}
 use Rattle.dbformat.proofs.TestsLemmas.{found_value}
-use Rattle.dbsource.specs.Headers.{IsHeaderOf, IsOpenLog}
+use Rattle.dbsource.specs.Headers.{IsHeaderOf, IsOpenLog, IsOpenOf, OnOpened, Opens}
 use Rattle.dbsource.specs.HeaderBytes.{HeaderBytes}
-use Rattle.dbsource.specs.Sources.{IsRangeOf}
-use Rattle.dbsource.specs.declared.error.OpenError.TheVariants.{Refused}
+use Rattle.dbsource.specs.Sources.{SourceState}
+use Rattle.dbsource.specs.Answers.{IsRangeOf, Step}
+use Rattle.dbsource.specs.declared.error.OpenError.{OpenError}
+use Rattle.dbsource.specs.declared.error.OpenError.TheVariants.{Refused, ReadFailed}
+use Rattle.dbsource.proofs.Logs.{has_told}
+use Rattle.dbsource.proofs.Told.{if_told_both, told_all}
 
 -- the numbers of a header that is not refused
 pub geometry_range : (bytes : List ℕ) (len : ℕ) (g : Geometry) → refusal_of bytes len ≡ None → g ≡ geometry_of bytes len → IsInRange g
@@ -71,3 +78,22 @@ read_once bytes n Usable h e = refl
 read_once bytes n NoPage h e = refl
 read_once bytes n TooManyPages h e = refl
 read_once bytes n MapAtLock h e = refl
+
+-- ---- what is said of each file that agrees with what was read
+
+-- a length that was answered, at any refusal
+pub opened_same : (r : Refusal) (P : Type 0) → P → OnOpened (Err (Refused r)) P
+opened_same r P p = p
+
+-- there is a file of so many bytes that begins with these
+pub beginning : (bytes : List ℕ) (len : ℕ) → length bytes ≤ len → (file : List ℕ) × (length file ≡ len) × IsRangeOf file 0 bytes
+beginning bytes len h =
+    let zeros : List ℕ = replicate (len - length bytes) 0 in
+    let whole : length (bytes ++ zeros) ≡ len = length-append bytes zeros ∙ ap (λ n. length bytes + n) (length-replicate (len - length bytes) 0) ∙ omega arith in
+    (bytes ++ zeros, whole, (omega arith, sym (take-append_seam bytes zeros)))
+
+-- so it is of told bytes
+pub opens_told : {step : Step} (r : Result HeaderBytes OpenError) {old new : SourceState} → Opens step r old new → IfSome old.bytes (IsOpenOf r)
+opens_told (Ok h) {old = old} o = if_told_both old.bytes (λ file f e. f e) (has_told o.asks.log) o.same
+opens_told (Err (Refused r)) {old = old} o = if_told_both old.bytes (λ file f e. f e) (has_told o.asks.log) o.same
+opens_told (Err ReadFailed) {old = old} o = told_all old.bytes (λ file. tt)

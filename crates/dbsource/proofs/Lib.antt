@@ -5,4 +5,5 @@ pub mod Headers
 pub mod Lines
 pub mod Logs
 pub mod Puts
+pub mod Ranges
 pub mod Told

@@ -1,11 +1,14 @@
 -- What a header is of a file, and what it takes to read it.
-use Rattle.std.specs.Prelude.{◌≡◌, ℕ, List, [], ◌∷◌, length, take, None, Some, Result, Err, ◌⊎◌}
+use Rattle.std.specs.Prelude.{◌≡◌, ℕ, List, [], ◌∷◌, length, take, None, Some, IfSome, Result, Ok, Err, ◌⊎◌}
 use Rattle.dbformat.specs.FixedPages.{geometry_of}
 use Rattle.dbformat.specs.File.{refusal, geometry}
 use Rattle.dbformat.specs.Log.{header_range}
 use Rattle.dbformat.specs.declared.ByteRange.{ByteRange}
 use Rattle.dbformat.specs.declared.Refusal.TheVariants.{Short}
+use Rattle.dbsource.specs.Answers.{Fits, Step}
+use Rattle.dbsource.specs.Errors.{is_open_failed}
 use Rattle.dbsource.specs.HeaderBytes.{HeaderBytes}
+use Rattle.dbsource.specs.Sources.{Asks, SourceState}
 use Rattle.dbsource.specs.declared.error.OpenError.{OpenError}
 use Rattle.dbsource.specs.declared.error.OpenError.TheVariants.{Refused, ReadFailed}
 
@@ -27,3 +30,21 @@ abbrev pub IsOpenLog : Result HeaderBytes OpenError → List ByteRange → Type 
 IsOpenLog (Err (Refused Short)) log = log ≡ []
 IsOpenLog (Err ReadFailed) log = (log ≡ []) ⊎ (log ≡ header_range ∷ [])
 IsOpenLog r log = log ≡ header_range ∷ []
+
+-- what is answered of a file: its header, or why it is refused
+abbrev pub IsOpenOf : Result HeaderBytes OpenError → List ℕ → Type 0
+IsOpenOf (Ok h) file = IsHeaderOf h file
+IsOpenOf (Err e) file = IsRefusalOf e file
+
+-- unless the source failed
+abbrev pub OnOpened : Result HeaderBytes OpenError → Type 0 → Type 0
+OnOpened (Err ReadFailed) P = Unit {0}
+OnOpened r P = P
+
+-- A length was answered, the told bytes' where there are any; and what is answered is so of each file of this length that
+-- agrees with what was read. There is one.
+pub record Opens (step : Step) (r : Result HeaderBytes OpenError) (old new : SourceState) : Type 0 where
+  pub len : ℕ
+  pub same : OnOpened r (IfSome old.bytes (λ file. length file ≡ len))
+  pub asks : Asks step (IsOpenLog r) (λ file. length file ≡ len → IsOpenOf r file) is_open_failed r old new
+  pub there_is : OnOpened r ((file : List ℕ) × (length file ≡ len) × Fits file asks.log.log)

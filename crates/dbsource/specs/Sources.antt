@@ -1,14 +1,14 @@
 -- What a source gives, and what it keeps of what it was asked for.
-use Rattle.std.specs.Prelude.{◌≡◌, ℕ, ◌+◌, ◌<◌, ◌≤◌, ◌^◌, Bool, List, [], ◌∷◌, ◌++◌, length, take, drop, slice_index, nat_lt, fold, Option, Some, None, Result, if◌then◌else◌}
-use Rattle.dbformat.specs.Log.{HasLog}
+use Rattle.std.specs.Prelude.{◌≡◌, ℕ, ◌+◌, ◌<◌, ◌≤◌, ◌^◌, Bool, List, [], ◌∷◌, ◌++◌, length, map, slice_index, nat_lt, Option, Some, None, IfSome, Result, if◌then◌else◌}
 use Rattle.dbformat.specs.declared.ByteRange.{ByteRange}
+use Rattle.dbsource.specs.Answers.{Answer, asked, Fits, Leads, Step, Trail}
 use Rattle.dbsource.specs.Failures.{failures_after}
 
 -- a source as contracts see it: the bytes that it tells, or that it tells none; what it keeps of the ranges that it was
 -- asked for; and how many calls failed
 pub record SourceState : Type 0 where
   pub bytes : Option (List ℕ)
-  pub trail : List ByteRange
+  pub trail : Trail
   pub failures : ℕ
 
 -- one that tells these bytes, and was asked for nothing yet
@@ -23,26 +23,46 @@ untold_source = record { bytes = None; trail = []; failures = 0 }
 abbrev pub AreBytes : List ℕ → Type 0
 AreBytes bytes = (length bytes < 2 ^ 64) × ((k : ℕ) → slice_index bytes k < 256)
 
--- the bytes of a range that lies in the file
-abbrev pub IsRangeOf : List ℕ → ℕ → List ℕ → Type 0
-IsRangeOf bytes offset piece = (offset + length piece ≤ length bytes) × (piece ≡ take (length piece) (drop offset bytes))
+-- There is a log of which P holds by its ranges: it leads the source's trail from old to new, and told bytes stay and agree
+-- with it. Of each file that agrees with it, Q holds.
+pub record HasLog (step : Step) (P : List ByteRange → Type 0) (Q : List ℕ → Type 0) (old new : SourceState) : Type 0 where
+  pub log : List Answer
+  pub leads : Leads step old.trail log new.trail
+  pub told : new.bytes ≡ old.bytes
+  pub tells : IfSome old.bytes (λ file. Fits file log)
+  pub holds : P (map asked log)
+  pub files : (file : List ℕ) → Fits file log → Q file
 
--- What a call makes of a source: told bytes stay; of what it was asked for P holds; and it failed in the call, once, exactly
--- where the answer is an error of this kind.
-pub record Asks {A E : Type 0} (step : List ByteRange → ByteRange → List ByteRange) (P : List ByteRange → Type 0) (is_failure : E → Bool)
+-- What a call makes of a source: of what it was asked for P holds, and of each file that agrees with what it answered Q; and
+-- it failed in the call, once, exactly where the call's answer is an error of this kind.
+pub record Asks {A E : Type 0} (step : Step) (P : List ByteRange → Type 0) (Q : List ℕ → Type 0) (is_failure : E → Bool)
+    (r : Result A E) (old new : SourceState) : Type 0 where
+  pub log : HasLog step P Q old new
+  pub count : new.failures ≡ failures_after is_failure r old.failures
+
+-- Less than a log: there is one of whose ranges P holds and that leads a trail from old to new. Of what was answered nothing
+-- is said.
+pub record HasRanges (step : Step) (P : List ByteRange → Type 0) (old new : Trail) : Type 0 where
+  pub log : List Answer
+  pub leads : Leads step old log new
+  pub holds : P (map asked log)
+
+-- What a call makes of a source, of what was answered nothing: told bytes stay; of what it was asked for P holds; and it
+-- failed in the call, once, exactly where the answer is an error of this kind.
+pub record AsksRanges {A E : Type 0} (step : Step) (P : List ByteRange → Type 0) (is_failure : E → Bool)
     (r : Result A E) (old new : SourceState) : Type 0 where
   pub told : new.bytes ≡ old.bytes
-  pub log : HasLog step P old.trail new.trail
+  pub log : HasRanges step P old.trail new.trail
   pub count : new.failures ≡ failures_after is_failure r old.failures
 
 -- a source that keeps no trail
-abbrev pub no_step : List ByteRange → ByteRange → List ByteRange
-no_step trail r = trail
+abbrev pub no_step : Step
+no_step old a new = new ≡ old
 
 -- a source that keeps the first 1024 ranges
-abbrev pub kept_step : List ByteRange → ByteRange → List ByteRange
-kept_step trail r = if nat_lt (length trail) 1024 then trail ++ r ∷ [] else trail
+abbrev pub kept_step : Step
+kept_step old a new = new ≡ (if nat_lt (length old) 1024 then old ++ asked a ∷ [] else old)
 
 -- Where there is room for them, the ranges that it kept in a call are the log of the call.
 abbrev pub KeepsItsLog : Type 0
-KeepsItsLog = (old log new : List ByteRange) → length old + length log ≤ 1024 → fold kept_step old log ≡ new → new ≡ old ++ log
+KeepsItsLog = (old : Trail) (log : List Answer) (new : Trail) → length old + length log ≤ 1024 → Leads kept_step old log new → new ≡ old ++ map asked log

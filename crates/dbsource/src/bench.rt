@@ -1,12 +1,11 @@
 // The page buffers of a walk.
 ghost use Rattle.std.specs.Borrow.{sem};
 ghost use Rattle.std.specs.Prelude.{◌≡◌, ◌-◌, ◌*◌, ◌<◌, ◌≤◌, length, slice_get, Some, IfSome, IfOk, OnOk};
-ghost use Rattle.dbformat.specs.Log.{page_range};
 ghost use Rattle.dbformat.specs.FixedPages.{IsInRange};
 ghost use Rattle.dbsource.specs.Bench.{Changes, bytes_at};
 ghost use Rattle.dbsource.specs.Failures.{failures_after, is_any};
 ghost use Rattle.dbsource.specs.Lending.{LendsChain, LendsUses};
-ghost use Rattle.dbsource.specs.Sources.{IsRangeOf};
+ghost use Rattle.dbsource.specs.Answers.{IsRangeOf, answer};
 
 use crate::{Geometry, ReadFailed, Source};
 use arrayvec::ArrayVec;
@@ -92,10 +91,10 @@ impl<A: Allocator> Bench<A> {
         requires level { level ≤ 20 }
         requires page { 1 ≤ page }
         ensures told { (S.held source.new).bytes ≡ (S.held source.old).bytes }
-        ensures trail { (S.held source.new).trail ≡ S.step (S.held source.old).trail (page_range self.old.geometry.page_size page) }
         ensures count { (S.held source.new).failures ≡ failures_after is_any result (S.held source.old).failures }
-        ensures level { Changes self.old level
-            (λ bytes. OnOk result (IfSome (S.held source.old).bytes (λ file. IsRangeOf file ((page - 1) * self.old.geometry.page_size) bytes)))
+        ensures level { Changes self.old level (λ bytes.
+            S.step (S.held source.old).trail (answer result ((page - 1) * self.old.geometry.page_size) bytes) (S.held source.new).trail
+            × OnOk result (IfSome (S.held source.old).bytes (λ file. IsRangeOf file ((page - 1) * self.old.geometry.page_size) bytes)))
             self.new }
     {
         let offset = (page as u64 - 1) * self.geometry.page_size as u64;

@@ -2,9 +2,8 @@
 ghost use Rattle.std.specs.Prelude.{◌≡◌, ◌<◌, ◌≤◌, length, IfOk, IfErr, IfSome, None};
 ghost use Rattle.dbformat.specs.FixedPages.{geometry_of, IsInRange};
 ghost use Rattle.dbformat.specs.File.{refusal_of};
-ghost use Rattle.dbsource.specs.Errors.{is_open_failed};
-ghost use Rattle.dbsource.specs.Headers.{IsHeaderOf, IsRefusalOf, IsOpenLog};
-ghost use Rattle.dbsource.specs.Sources.{Asks};
+ghost use Rattle.dbsource.specs.Answers.{given};
+ghost use Rattle.dbsource.specs.Headers.{Opens};
 
 use crate::geometry::{geometry_of, refusal_of};
 use crate::header_words::HEADER_LEN;
@@ -41,9 +40,10 @@ impl Header {
     /// [`OpenError::Refused`] where length and bytes say that the file is not to be read, [`OpenError::ReadFailed`]
     /// exactly where the source failed. A file of fewer than 100 bytes is refused by its length, before any read.
     pub fn read<S: Source>(source: &mut S) -> Result<Header, OpenError>
-        ensures asks { Asks S.step (IsOpenLog result) is_open_failed result (S.held source.old) (S.held source.new) }
-        ensures header { IfOk result (λ h. IfSome (S.held source.old).bytes (IsHeaderOf h)) }
-        ensures refusal { IfErr result (λ e. IfSome (S.held source.old).bytes (IsRefusalOf e)) }
+        ensures opens { Opens S.step result (S.held source.old) (S.held source.new) }
+        // What the header was read of.
+        ensures read { IfOk result (λ h. S.step (S.held source.old).trail (given 0 h.bytes) (S.held source.new).trail) }
+        ensures accepted { IfOk result (λ h. (refusal_of h.bytes h.file_len ≡ None) × (length h.bytes ≡ 100)) }
         // Of a file that is too short nothing is asked for but its length.
         ensures unread { IfSome (S.held source.old).bytes (λ file. length file < 100 → (S.held source.new).trail ≡ (S.held source.old).trail) }
     {

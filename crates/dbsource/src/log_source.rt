@@ -1,8 +1,8 @@
 // A source over memory that keeps the ranges it was asked for.
 ghost use Rattle.std.specs.Prelude.{◌≡◌, ◌+◌, ◌<◌, ◌≤◌, length, IfOk, IfSome, IsOk, OnOk, ◌↔◌};
-ghost use Rattle.dbformat.specs.Log.{range};
+ghost use Rattle.dbsource.specs.Answers.{IsRangeOf, answer};
 ghost use Rattle.dbsource.specs.Failures.{failures_after, is_any};
-ghost use Rattle.dbsource.specs.Sources.{AreBytes, IsRangeOf, KeepsItsLog, kept_step, source_of};
+ghost use Rattle.dbsource.specs.Sources.{AreBytes, KeepsItsLog, kept_step, source_of};
 
 use crate::memory_source::{byte_count, copy_range};
 use crate::{ByteRange, Failures, ReadFailed, Source};
@@ -71,7 +71,7 @@ impl Source for LogSource<'_> {
 
     fn read_at(&mut self, offset: u64, buf: &mut [u8]) -> Result<(), ReadFailed>
         ensures told { self.new.bytes ≡ self.old.bytes }
-        ensures trail { self.new.trail ≡ kept_step self.old.trail (range offset (length buf.old)) }
+        ensures trail { kept_step self.old.trail (answer result offset buf.new) self.new.trail }
         ensures count { self.new.failures ≡ failures_after is_any result self.old.failures }
         ensures bytes { OnOk result (IfSome self.old.bytes (λ bytes. IsRangeOf bytes offset buf.new)) }
         // It fails only where the range passes the end, or where the log is full.

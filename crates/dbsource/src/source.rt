@@ -1,8 +1,8 @@
 // What a database's bytes are read from.
 ghost use Rattle.std.specs.Prelude.{◌≡◌, length, IfSome, IfOk, OnOk};
-ghost use Rattle.dbformat.specs.Log.{range};
+ghost use Rattle.dbsource.specs.Answers.{IsRangeOf, answer};
 ghost use Rattle.dbsource.specs.Failures.{failures_after, is_any};
-ghost use Rattle.dbsource.specs.Sources.{AreBytes, IsRangeOf};
+ghost use Rattle.dbsource.specs.Sources.{AreBytes};
 
 use thiserror::Error;
 
@@ -13,14 +13,13 @@ pub struct ReadFailed;
 
 /// What can be asked for its bytes, range by range.
 pub trait Source {
-    ghost use Rattle.std.specs.Prelude.{List};
-    ghost use Rattle.dbformat.specs.declared.ByteRange.{ByteRange};
+    ghost use Rattle.dbsource.specs.Answers.{Step};
     ghost use Rattle.dbsource.specs.Sources.{SourceState};
 
     // The bytes that it tells, if it does, what it keeps of the ranges that it was asked for, and its failures.
     ghost held: { Self → SourceState };
-    // What a read of one range, Ok or not, makes of the trail.
-    ghost step: { List ByteRange → ByteRange → List ByteRange };
+    // What a read, by its answer, makes of the trail.
+    ghost step: { Step };
 
     /// How many bytes there are.
     ///
@@ -41,7 +40,7 @@ pub trait Source {
     /// [`ReadFailed`] where not all of them could be read; one failure is counted then, and what `buf` holds is open.
     fn read_at(&mut self, offset: u64, buf: &mut [u8]) -> Result<(), ReadFailed>
         ensures told { (held self.new).bytes ≡ (held self.old).bytes }
-        ensures trail { (held self.new).trail ≡ step (held self.old).trail (range offset (length buf.old)) }
+        ensures trail { step (held self.old).trail (answer result offset buf.new) (held self.new).trail }
         ensures count { (held self.new).failures ≡ failures_after is_any result (held self.old).failures }
         ensures bytes { OnOk result (IfSome (held self.old).bytes (λ bytes. IsRangeOf bytes offset buf.new)) };
 }

@@ -3,7 +3,6 @@ ghost use Rattle.std.specs.Prelude.{◌≡◌, ◌-◌, ◌<◌, ◌≤◌, leng
 ghost use Rattle.dbformat.specs.Payload.{most_payload};
 ghost use Rattle.dbformat.specs.FixedPages.{IsPageNumber};
 ghost use Rattle.dbformat.specs.File.{geometry as shape_of};
-ghost use Rattle.dbformat.specs.Log.{HasLog};
 ghost use Rattle.dbwalk.specs.LeafCells.{overflow_errands, late_faults, top_after};
 ghost use Rattle.dbwalk.specs.Sieving.{FeedsPayload};
 ghost use Rattle.dbwalk.specs.Standing.{AtOverflow, AtCell, IsSameButGreatest};
@@ -14,6 +13,7 @@ ghost use Rattle.dbwalk.specs.Outcomes.{IsReadOrWrite};
 ghost use Rattle.dbwalk.specs.Reads.{Reads};
 ghost use Rattle.dbsource.specs.Errors.{is_read_failed, is_write_failed};
 ghost use Rattle.dbsource.specs.Failures.{failures_after};
+ghost use Rattle.dbsource.specs.Sources.{HasRanges};
 ghost use Rattle.dbwalk.specs.Sinks.{SinkAfter};
 
 use crate::cells::leaf_cell;
@@ -47,7 +47,7 @@ pub(crate) fn walk_overflow<A: Allocator, S: Source, K: Sink>(
     ensures told { (S.held source.new).bytes ≡ (S.held source.old).bytes }
     ensures reads { (S.held source.new).failures ≡ failures_after is_read_failed result (S.held source.old).failures }
     ensures writes { SinkAfter is_write_failed result (K.held sink.old) (K.held sink.new) }
-    ensures log { HasLog S.step (Reads bench.old.geometry.page_size marks.old marks.new) (S.held source.old).trail (S.held source.new).trail }
+    ensures log { HasRanges S.step (Reads bench.old.geometry.page_size marks.old marks.new) (S.held source.old).trail (S.held source.new).trail }
     ensures only { IfErr result IsReadOrWrite }
     ensures kept { is_some sieve.new ≡ is_some sieve.old }
     ensures done { IfSome (S.held source.old).bytes (λ file. bench.old.geometry ≡ shape_of file
@@ -114,7 +114,7 @@ pub(crate) fn walk_cell<A: Allocator, S: Source, K: Sink>(
     ensures told { (S.held source.new).bytes ≡ (S.held source.old).bytes }
     ensures reads { (S.held source.new).failures ≡ failures_after is_read_failed result (S.held source.old).failures }
     ensures writes { SinkAfter is_write_failed result (K.held sink.old) (K.held sink.new) }
-    ensures log { HasLog S.step (Reads bench.old.geometry.page_size marks.old marks.new) (S.held source.old).trail (S.held source.new).trail }
+    ensures log { HasRanges S.step (Reads bench.old.geometry.page_size marks.old marks.new) (S.held source.old).trail (S.held source.new).trail }
     ensures only { IfErr result IsReadOrWrite }
     ensures done { IfSome (S.held source.old).bytes (λ file. bench.old.geometry ≡ shape_of file
         → AtCell file tree.old bench.old.levels page i marks.old (λ U c v.

@@ -3,7 +3,7 @@ ghost use Rattle.std.specs.Prelude.{◌≡◌, ◌+◌, ◌≤◌, ◌<◌, ◌�
 ghost use Rattle.dbformat.specs.FixedPages.{IsPageNumber};
 ghost use Rattle.dbsurvey.specs.Story.{Go};
 ghost use Rattle.dbformat.specs.File.{geometry, page_bytes};
-ghost use Rattle.dbformat.specs.Log.{HasLog, page_range};
+ghost use Rattle.dbformat.specs.Log.{page_range};
 ghost use Rattle.dbformat.specs.Payload.{most_payload, overflow_next};
 ghost use Rattle.dbformat.specs.Reference.{Reference, role_of, bytes_left};
 ghost use Rattle.dbformat.specs.Schema.{held_bytes};
@@ -21,6 +21,8 @@ ghost use Rattle.dbwalk.specs.Outcomes.{Tells, IsReadOrWrite};
 ghost use Rattle.dbwalk.specs.Reads.{Reads};
 ghost use Rattle.dbsource.specs.Errors.{is_read_failed, is_write_failed};
 ghost use Rattle.dbsource.specs.Failures.{failures_after};
+ghost use Rattle.dbsource.specs.Answers.{LeadsBy};
+ghost use Rattle.dbsource.specs.Sources.{HasRanges};
 ghost use Rattle.dbwalk.specs.Sinks.{SinkAfter};
 
 use crate::entering::{Step, enter};
@@ -71,7 +73,7 @@ fn visit_overflow<S: Source, K: Sink, A: Allocator>(
 ) -> Result<u32, RunError>
     requires { 1 ≤ page }
     ensures told { (S.held source.new).bytes ≡ (S.held source.old).bytes }
-    ensures trail { (S.held source.new).trail ≡ S.step (S.held source.old).trail (page_range bench.old.geometry.page_size page) }
+    ensures trail { LeadsBy S.step (S.held source.old).trail (page_range bench.old.geometry.page_size page) (S.held source.new).trail }
     ensures reads { (S.held source.new).failures ≡ failures_after is_read_failed result (S.held source.old).failures }
     ensures writes { SinkAfter is_write_failed result (K.held sink.old) (K.held sink.new) }
     ensures only { IfErr result IsReadOrWrite }
@@ -108,7 +110,7 @@ fn turn<S: Source, K: Sink, A: Allocator>(
     requires used { IsUse place.step.mark }
     requires counted { place.number + place.left ≤ most_payload }
     ensures told { (S.held source.new).bytes ≡ (S.held source.old).bytes }
-    ensures log { HasLog S.step (Reads bench.old.geometry.page_size marks.old marks.new) (S.held source.old).trail (S.held source.new).trail }
+    ensures log { HasRanges S.step (Reads bench.old.geometry.page_size marks.old marks.new) (S.held source.old).trail (S.held source.new).trail }
     ensures reads { (S.held source.new).failures ≡ failures_after is_read_failed result (S.held source.old).failures }
     ensures writes { SinkAfter is_write_failed result (K.held sink.old) (K.held sink.new) }
     ensures only { IfErr result IsReadOrWrite }
@@ -173,7 +175,7 @@ pub(crate) fn walk_chain<S: Source, K: Sink, A: Allocator>(
     requires page { IsPageNumber chain.now.page }
     requires left { chain.now.left ≤ most_payload }
     ensures told { (S.held source.new).bytes ≡ (S.held source.old).bytes }
-    ensures log { HasLog S.step (Reads bench.old.geometry.page_size marks.old marks.new) (S.held source.old).trail (S.held source.new).trail }
+    ensures log { HasRanges S.step (Reads bench.old.geometry.page_size marks.old marks.new) (S.held source.old).trail (S.held source.new).trail }
     ensures reads { (S.held source.new).failures ≡ failures_after is_read_failed result (S.held source.old).failures }
     ensures writes { SinkAfter is_write_failed result (K.held sink.old) (K.held sink.new) }
     ensures only { IfErr result IsReadOrWrite }
@@ -221,7 +223,7 @@ pub(crate) fn walk_unfed<S: Source, K: Sink, A: Allocator>(
     requires page { IsPageNumber chain.now.page }
     requires left { chain.now.left ≤ most_payload }
     ensures told { (S.held source.new).bytes ≡ (S.held source.old).bytes }
-    ensures log { HasLog S.step (Reads bench.old.geometry.page_size marks.old marks.new) (S.held source.old).trail (S.held source.new).trail }
+    ensures log { HasRanges S.step (Reads bench.old.geometry.page_size marks.old marks.new) (S.held source.old).trail (S.held source.new).trail }
     ensures reads { (S.held source.new).failures ≡ failures_after is_read_failed result (S.held source.old).failures }
     ensures writes { SinkAfter is_write_failed result (K.held sink.old) (K.held sink.new) }
     ensures only { IfErr result IsReadOrWrite }

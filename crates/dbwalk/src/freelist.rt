@@ -6,7 +6,6 @@ ghost use Rattle.dbformat.specs.Errands.{leaf_errands};
 ghost use Rattle.dbformat.specs.Faults.{fault};
 ghost use Rattle.dbformat.specs.File.{geometry, page_bytes};
 ghost use Rattle.dbformat.specs.Header.{usable_size};
-ghost use Rattle.dbformat.specs.Log.{HasLog};
 ghost use Rattle.dbformat.specs.Numbers.{u32_at};
 ghost use Rattle.dbformat.specs.Reference.{trunk, Way, Reference, role_of};
 ghost use Rattle.dbformat.specs.Survey.{rules_of};
@@ -26,7 +25,7 @@ ghost use Rattle.dbwalk.specs.declared.mark.Mark.{Mark};
 ghost use Rattle.dbwalk.specs.declared.mark.Mark.TheVariants as use_mark;
 ghost use Rattle.dbsource.specs.Errors.{is_read_failed, is_write_failed};
 ghost use Rattle.dbsource.specs.Failures.{failures_after};
-ghost use Rattle.dbsource.specs.Sources.{Asks};
+ghost use Rattle.dbsource.specs.Sources.{AsksRanges, HasRanges};
 ghost use Rattle.dbwalk.specs.Sinks.{SinkAfter};
 
 use crate::chain::CHAIN;
@@ -132,7 +131,7 @@ fn turn<S: Source, K: Sink, A: Allocator>(
 ) -> Result<Option<Step>, RunError>
     requires { step.mark ≡ use_mark.Trunk }
     ensures told { (S.held source.new).bytes ≡ (S.held source.old).bytes }
-    ensures log { HasLog S.step (Reads bench.old.geometry.page_size marks.old marks.new) (S.held source.old).trail (S.held source.new).trail }
+    ensures log { HasRanges S.step (Reads bench.old.geometry.page_size marks.old marks.new) (S.held source.old).trail (S.held source.new).trail }
     ensures reads { (S.held source.new).failures ≡ failures_after is_read_failed result (S.held source.old).failures }
     ensures writes { SinkAfter is_write_failed result (K.held sink.old) (K.held sink.new) }
     ensures only { IfErr result IsReadOrWrite }
@@ -167,7 +166,7 @@ pub fn walk_freelist<S: Source, K: Sink, A: Allocator>(
     first: u32,
     sink: &mut K,
 ) -> Result<(), RunError>
-    ensures asks { Asks S.step (Reads bench.old.geometry.page_size marks.old marks.new) is_read_failed result (S.held source.old) (S.held source.new) }
+    ensures asks { AsksRanges S.step (Reads bench.old.geometry.page_size marks.old marks.new) is_read_failed result (S.held source.old) (S.held source.new) }
     ensures writes { SinkAfter is_write_failed result (K.held sink.old) (K.held sink.new) }
     ensures only { IfErr result IsReadOrWrite }
     ensures bench { bench.new ≡ record bench.old { chain = bench.new.chain } }

@@ -6,12 +6,11 @@ ghost use Rattle.dbsurvey.specs.Traverse.{is_followed};
 ghost use Rattle.dbformat.specs.Address.{schema_start};
 ghost use Rattle.dbformat.specs.File.{geometry as shape_of, page_bytes};
 ghost use Rattle.dbformat.specs.Header.{encoding as encoding_of};
-ghost use Rattle.dbformat.specs.Log.{HasLog};
 ghost use Rattle.dbformat.specs.Reference.{Reference};
 ghost use Rattle.dbformat.specs.Survey.{rules_of};
 ghost use Rattle.dbsource.specs.Errors.{is_out_of_memory, is_read_failed, is_write_failed};
 ghost use Rattle.dbsource.specs.Failures.{failures_after};
-ghost use Rattle.dbsource.specs.Sources.{Asks};
+ghost use Rattle.dbsource.specs.Sources.{AsksRanges, HasRanges};
 ghost use Rattle.dbwalk.specs.Done.{IsDone};
 ghost use Rattle.dbwalk.specs.Finding.{visited_below};
 ghost use Rattle.dbwalk.specs.Found.{StandsAt};
@@ -57,7 +56,7 @@ fn walk_pages<A: Allocator, S: Source, K: Sink, T: Taker>(
     ensures reads { (S.held source.new).failures ≡ failures_after is_read_failed result (S.held source.old).failures }
     ensures writes { SinkAfter is_write_failed result (K.held sink.old) (K.held sink.new) }
     ensures refusals { T.refusals taker.new ≡ failures_after is_out_of_memory result (T.refusals taker.old) }
-    ensures log { HasLog S.step (Reads bench.old.geometry.page_size marks.old marks.new) (S.held source.old).trail (S.held source.new).trail }
+    ensures log { HasRanges S.step (Reads bench.old.geometry.page_size marks.old marks.new) (S.held source.old).trail (S.held source.new).trail }
     ensures only { IfErr result IsReadWriteOrMemory }
     ensures others { 1 ≤ tree.old.start → (taker.new ≡ taker.old) × IfErr result IsReadOrWrite }
     ensures done { IfSome (S.held source.old).bytes (λ file. bench.old.geometry ≡ shape_of file → encoding ≡ encoding_of file
@@ -106,7 +105,7 @@ pub fn walk_tree<A: Allocator, S: Source, K: Sink, T: Taker>(
 ) -> Result<(), RunError>
     requires schema { (root.kind ≡ root_kind.Schema) ↔ (root.start ≡ schema_start) }
     ensures shape { bench.new.geometry ≡ bench.old.geometry }
-    ensures asks { Asks S.step (Reads bench.old.geometry.page_size marks.old marks.new) is_read_failed result (S.held source.old) (S.held source.new) }
+    ensures asks { AsksRanges S.step (Reads bench.old.geometry.page_size marks.old marks.new) is_read_failed result (S.held source.old) (S.held source.new) }
     ensures writes { SinkAfter is_write_failed result (K.held sink.old) (K.held sink.new) }
     ensures refusals { T.refusals taker.new ≡ failures_after is_out_of_memory result (T.refusals taker.old) }
     ensures only { IfErr result IsReadWriteOrMemory }

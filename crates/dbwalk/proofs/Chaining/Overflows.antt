@@ -23,7 +23,7 @@ use Rattle.dbwalk.specs.Rows.{row_of}
 use Rattle.dbformat.specs.declared.PageType.{PageType}
 use Rattle.dbformat.specs.declared.PageType.TheVariants.{Overflow}
 use Rattle.dbformat.proofs.Looping.{by_chain}
-use Rattle.dbsource.specs.Sources.{IsRangeOf}
+use Rattle.dbsource.specs.Answers.{IsRangeOf}
 use Rattle.dbwalk.specs.declared.chain.Chain.{Chain}
 use Rattle.dbwalk.specs.Chains.{IsOnChain, next_of}
 use Rattle.dbwalk.specs.Finding.{told_row, told_fault, told_at}

@@ -8,12 +8,14 @@ use Rattle.std.proofs.lemmas.List.{map-append}
 use Rattle.std.proofs.lemmas.List.Sums.{sum_by-set}
 use Rattle.std.proofs.lemmas.Option.{slice_get_within, get_or_from_slice_get}
 use Rattle.dbsurvey.proofs.Order.{IsIn-cases, EachPair-append}
-use Rattle.dbformat.specs.Log.{HasLog, page_range}
+use Rattle.dbformat.specs.Log.{page_range}
 use Rattle.dbformat.specs.declared.ByteRange.{ByteRange}
 use Rattle.dbwalk.specs.declared.mark.Mark.{Mark}
 use Rattle.dbwalk.specs.declared.mark.Mark.TheVariants.{Unmarked}
 use Rattle.dbwalk.specs.Marking.{page_mark, is_none, is_unmarked, unmarked_pages, IsUse, cleared, Keeps}
-use Rattle.dbsource.proofs.Logs.{has_append}
+use Rattle.dbsource.specs.Answers.{LeadsBy, Step, Trail}
+use Rattle.dbsource.specs.Sources.{HasRanges}
+use Rattle.dbsource.proofs.Ranges.{has_append, has_none, has_one}
 use Rattle.dbwalk.specs.Reads.{Reads}
 
 -- marks
@@ -146,26 +148,23 @@ reads_then size a b c l m h k = record {
 -- logs
 
 -- nothing was marked and nothing read
-pub log_none : (step : List ByteRange → ByteRange → List ByteRange) (size : ℕ) (marks marks' : List Mark) (trail : List ByteRange) → marks' ≡ marks → HasLog step (Reads size marks marks') trail trail
-log_none step size marks marks' trail e = record { log = []; leads = refl; holds = reads_none size marks marks' (subst (λ m. Keeps marks m) (sym e) (keeps_same marks)) }
+pub log_none : (step : Step) (size : ℕ) (marks marks' : List Mark) (trail : Trail) → marks' ≡ marks → HasRanges step (Reads size marks marks') trail trail
+log_none step size marks marks' trail e = has_none trail (reads_none size marks marks' (subst (λ m. Keeps marks m) (sym e) (keeps_same marks)))
 
 -- a page was marked, and then read
-pub log_page : (step : List ByteRange → ByteRange → List ByteRange) (size : ℕ) (marks marks' : List Mark) (p : ℕ) (m : Mark) (old new : List ByteRange)
-    → page_mark marks p ≡ Some Unmarked → marks' ≡ set marks (p - 1) m → IsUse m → new ≡ step old (page_range size p) → HasLog step (Reads size marks marks') old new
-log_page step size marks marks' p m old new h e used t = record {
-  log = page_range size p ∷ [];
-  leads = sym t;
-  holds = subst (λ l. Reads size marks l (page_range size p ∷ [])) (sym e) (reads_page size marks p m h used.cleared used.some);
-}
+pub log_page : (step : Step) (size : ℕ) (marks marks' : List Mark) (p : ℕ) (m : Mark) (old new : Trail)
+    → page_mark marks p ≡ Some Unmarked → marks' ≡ set marks (p - 1) m → IsUse m → LeadsBy step old (page_range size p) new → HasRanges step (Reads size marks marks') old new
+log_page step size marks marks' p m old new h e used t =
+    has_one (page_range size p) t (subst (λ l. Reads size marks l (page_range size p ∷ [])) (sym e) (reads_page size marks p m h used.cleared used.some))
 
 -- one log after another
-pub log_then : (step : List ByteRange → ByteRange → List ByteRange) (size size' : ℕ) (a b c : List Mark) (old mid new : List ByteRange) → size' ≡ size
-    → HasLog step (Reads size a b) old mid → HasLog step (Reads size' b c) mid new → HasLog step (Reads size a c) old new
+pub log_then : (step : Step) (size size' : ℕ) (a b c : List Mark) (old mid new : Trail) → size' ≡ size
+    → HasRanges step (Reads size a b) old mid → HasRanges step (Reads size' b c) mid new → HasRanges step (Reads size a c) old new
 log_then step size size' a b c old mid new e h k =
-    has_append (Reads size a b) (Reads size b c) h (subst (λ n. HasLog step (Reads n b c) mid new) e k) (λ l m p q. reads_then size a b c l m p q)
+    has_append (Reads size a b) (Reads size b c) h (subst (λ n. HasRanges step (Reads n b c) mid new) e k) (λ l m p q. reads_then size a b c l m p q)
 
 -- a page was marked and read, and then more pages were marked
-pub log_opened : (step : List ByteRange → ByteRange → List ByteRange) (size : ℕ) (a b c : List Mark) (p : ℕ) (m : Mark) (old new : List ByteRange)
-    → page_mark a p ≡ Some Unmarked → b ≡ set a (p - 1) m → IsUse m → new ≡ step old (page_range size p) → Keeps b c → HasLog step (Reads size a c) old new
+pub log_opened : (step : Step) (size : ℕ) (a b c : List Mark) (p : ℕ) (m : Mark) (old new : Trail)
+    → page_mark a p ≡ Some Unmarked → b ≡ set a (p - 1) m → IsUse m → LeadsBy step old (page_range size p) new → Keeps b c → HasRanges step (Reads size a c) old new
 log_opened step size a b c p m old new h e used t k =
-    log_then step size size a b c old new new refl (log_page step size a b p m old new h e used t) (record { log = []; leads = refl; holds = reads_none size b c k })
+    log_then step size size a b c old new new refl (log_page step size a b p m old new h e used t) (has_none new (reads_none size b c k))

@@ -9,7 +9,7 @@ use Rattle.dbformat.specs.Log.{page_range}
 use Rattle.dbformat.specs.declared.Fixed.TheVariants.{Map}
 use Rattle.dbformat.specs.declared.Geometry.{Geometry}
 use Rattle.dbsource.specs.Bench.{Pages}
-use Rattle.dbsource.proofs.Logs.{asks_one}
+use Rattle.dbsource.proofs.Ranges.{asks_one, leads_read}
 use Rattle.dbsource.proofs.Told.{if_told, told_all}
 use Rattle.dbwalk.specs.EndMarks.{mark_fault, late_fault}
 use Rattle.dbwalk.specs.Outcomes.{Tells}
@@ -25,14 +25,16 @@ pub returns-in_err-load-clause-asks : goal.returns-in_err-load-clause-asks
 returns-in_err-load-clause-asks g c =
     let q = err_from_is_err_and c.from_residual.result c.from_residual.ensures.1 in
     let used = subst (λ (g : Geometry). IsMapInUse g c.args.page) c.geometry.ensures.value (c.is_map_in_use.ensures.0 c.if-is_map_in_use.true) in
-    rw q.1 (rw q.2 (asks_one g.S.Source.step _ _ _ _ _ _ (page_range c.args.bench.now.geometry.page_size c.args.page) refl refl refl
-    c.in_err-load.ensures.told c.in_err-load.ensures.trail c.in_err-load.ensures.count (inr (refl, used))))
+    let level = c.load.ensures.level in
+    rw q.1 (rw q.2 (asks_one _ _ _ (page_range c.args.bench.now.geometry.page_size c.args.page)
+    c.in_err-load.ensures.told (leads_read g.S.Source.step _ _ c.load.result _ _ _ level.size level.holds.0) c.in_err-load.ensures.count (inr (refl, used))))
 
 pub returns-in_ok-load-clause-asks : goal.returns-in_ok-load-clause-asks
 returns-in_ok-load-clause-asks g c =
     let used = subst (λ (g : Geometry). IsMapInUse g c.args.page) c.geometry.ensures.value (c.is_map_in_use.ensures.0 c.if-is_map_in_use.true) in
-    asks_one g.S.Source.step _ _ _ _ _ _ (page_range c.args.bench.now.geometry.page_size c.args.page) refl refl refl
-    c.in_ok-load.ensures.told c.in_ok-load.ensures.trail c.in_ok-load.ensures.count (inr (refl, used))
+    let level = c.load.ensures.level in
+    asks_one _ _ _ (page_range c.args.bench.now.geometry.page_size c.args.page)
+    c.in_ok-load.ensures.told (leads_read g.S.Source.step _ _ c.load.result _ _ _ level.size level.holds.0) c.in_ok-load.ensures.count (inr (refl, used))
 
 pub returns-in_ok-load-clause-done : goal.returns-in_ok-load-clause-done
 returns-in_ok-load-clause-done g c =
@@ -47,7 +49,7 @@ returns-in_ok-load-clause-done g c =
       subst (λ l. Moves g.K.Sink.takes c.args.sink.now l c.args.sink.now) (sym (fixed_items file c.args.least_other c.args.page mark fixed)) refl,
       next_read file c.load.new.self.chain c.args.page map (read ∙ page_read file level.bytes c.args.bench.now.geometry.page_size c.args.page level.size bytes (ap (λ (g : Geometry). g.page_size) (sym e))),
     ))
-    level.holds
+    level.holds.1
 
 pub returns-else-is_map_in_use-clause-asks : goal.returns-else-is_map_in_use-clause-asks
 returns-else-is_map_in_use-clause-asks g c = asks_nothing g.S.Source.step _ _ _ tt (inl refl)

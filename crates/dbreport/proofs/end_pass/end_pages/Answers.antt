@@ -5,7 +5,7 @@ use Rattle.dbsurvey.proofs.Moving.{Moves-append}
 use Rattle.dbformat.specs.File.{geometry}
 use Rattle.dbformat.specs.declared.Geometry.{Geometry}
 use Rattle.dbsource.specs.Bench.{Pages}
-use Rattle.dbsource.proofs.Logs.{asks_then, asks_weaker}
+use Rattle.dbsource.proofs.Ranges.{asks_then, asks_weaker}
 use Rattle.dbsource.proofs.Told.{if_told_both, if_told, told_all}
 use Rattle.dbwalk.specs.Outcomes.{StopsBy, Tells}
 use Rattle.dbwalk.specs.Marking.{mark_of, page_mark}

@@ -2,7 +2,7 @@ use Rattle.std.proofs.Common.{◌≡◌, ◌+◌, List, drop}
 use Rattle.std.specs.Prelude.{IfSome}
 use Rattle.dbformat.specs.File.{geometry}
 use Rattle.dbformat.specs.Header.{encoding}
-use Rattle.dbformat.specs.Log.{HasLog}
+use Rattle.dbsource.specs.Sources.{HasRanges}
 use Rattle.dbformat.specs.Reference.{Reference}
 use Rattle.dbformat.specs.Survey.{Survey}
 use Rattle.dbwalk.specs.Reads.{Reads}
@@ -19,7 +19,7 @@ invariant-loop-index g l = record {
   shape : l.bench.geometry ≡ l.initial.bench.geometry;
   roots : l.roots ≡ l.initial.roots;
   told : (g.S.Source.held l.source).bytes ≡ (g.S.Source.held l.initial.source).bytes;
-  log : HasLog g.S.Source.step (Reads l.initial.bench.geometry.page_size l.initial.marks l.marks) (g.S.Source.held l.initial.source).trail (g.S.Source.held l.source).trail;
+  log : HasRanges g.S.Source.step (Reads l.initial.bench.geometry.page_size l.initial.marks l.marks) (g.S.Source.held l.initial.source).trail (g.S.Source.held l.source).trail;
   reads : (g.S.Source.held l.source).failures ≡ (g.S.Source.held l.initial.source).failures;
   writes : failures_of_each (g.O.Out.held l.sink.out.now) (g.E.Out.held l.sink.err.now) ≡ failures_of_each (g.O.Out.held l.initial.sink.out.now) (g.E.Out.held l.initial.sink.err.now);
   left : IfSome (g.S.Source.held l.initial.source).bytes (λ file. l.initial.bench.geometry ≡ geometry file → l.encoding ≡ encoding file

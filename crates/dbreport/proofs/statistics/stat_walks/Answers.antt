@@ -1,9 +1,10 @@
-use Rattle.std.proofs.Common.{Err, [], refl, sym, ap, ◌∙◌, subst}
+use Rattle.std.proofs.Common.{Err, [], map, refl, sym, ap, ◌∙◌, subst}
 use Rattle.std.proofs.lemmas.Result.{err_from_is_err_and}
-use Rattle.dbformat.specs.Log.{HasLog}
+use Rattle.dbsource.specs.Answers.{asked}
 use Rattle.dbsource.specs.Errors.{is_read_failed}
 use Rattle.dbsource.specs.Failures.{failures_after}
-use Rattle.dbsource.proofs.Logs.{asks_weaker, has_append}
+use Rattle.dbsource.specs.Sources.{HasRanges}
+use Rattle.dbsource.proofs.Ranges.{asks_weaker, has_append}
 use Rattle.dbsource.proofs.Told.{if_told}
 use Rattle.dbwalk.specs.Marking.{AreMarksFor, marks_of}
 use Rattle.dbwalk.specs.Reads.{Reads}
@@ -22,7 +23,7 @@ pub returns-in_err-stat_pages-clause-marks : goal.returns-in_err-stat_pages-clau
 returns-in_err-stat_pages-clause-marks g c =
     let geo = c.args.bench.now.geometry in
     let log = c.in_err-stat_pages.ensures.asks.log in
-    (read_once geo).marks c.args.marks.now c.stat_pages.new.marks log.log (subst (AreMarksFor geo) (sym c.requires.fresh) (first_marks geo)) log.holds
+    (read_once geo).marks c.args.marks.now c.stat_pages.new.marks (map asked log.log) (subst (AreMarksFor geo) (sym c.requires.fresh) (first_marks geo)) log.holds
 
 pub returns-in_err-stat_pages-clause-asks : goal.returns-in_err-stat_pages-clause-asks
 returns-in_err-stat_pages-clause-asks g c =
@@ -43,7 +44,7 @@ pub returns-clause-marks : goal.returns-clause-marks
 returns-clause-marks g c =
     let geo = c.args.bench.now.geometry in
     let log = c.in_ok-stat_pages.ensures.asks.log in
-    (read_once geo).marks c.args.marks.now c.stat_pages.new.marks log.log (subst (AreMarksFor geo) (sym c.requires.fresh) (first_marks geo)) log.holds
+    (read_once geo).marks c.args.marks.now c.stat_pages.new.marks (map asked log.log) (subst (AreMarksFor geo) (sym c.requires.fresh) (first_marks geo)) log.holds
 
 pub returns-clause-asks : goal.returns-clause-asks
 returns-clause-asks g c =
@@ -53,7 +54,7 @@ returns-clause-asks g c =
     record {
       told = b.told ∙ a.told;
       log = has_append (Reads geo.page_size c.args.marks.now c.stat_pages.new.marks) (MapReads geo) a.log
-          (subst (λ g'. HasLog g.S.Source.step (MapReads g') (g.S.Source.held c.stat_pages.new.source).trail (g.S.Source.held c.tell_end.new.source).trail) c.in_ok-stat_pages.ensures.shape b.log)
+          (subst (λ g'. HasRanges g.S.Source.step (MapReads g') (g.S.Source.held c.stat_pages.new.source).trail (g.S.Source.held c.tell_end.new.source).trail) c.in_ok-stat_pages.ensures.shape b.log)
           (λ l m r k. walk_then_map_log geo c.args.marks.now c.stat_pages.new.marks l m (subst (AreMarksFor geo) (sym c.requires.fresh) (first_marks geo)) r k);
       count = b.count ∙ ap (failures_after is_read_failed c.tell_end.result) a.count;
     }

@@ -1,11 +1,12 @@
-use Rattle.std.proofs.Common.{Err, [], refl, sym, ap, ◌∙◌, subst}
+use Rattle.std.proofs.Common.{Err, [], map, refl, sym, ap, ◌∙◌, subst}
 use Rattle.std.proofs.lemmas.Result.{err_from_is_err_and}
 use Rattle.dbformat.specs.EndFaults.{end_faults}
-use Rattle.dbformat.specs.Log.{HasLog}
 use Rattle.dbformat.specs.Story.{start_errands}
+use Rattle.dbsource.specs.Answers.{asked}
 use Rattle.dbsource.specs.Errors.{is_read_failed}
 use Rattle.dbsource.specs.Failures.{failures_after}
-use Rattle.dbsource.proofs.Logs.{asks_weaker, has_append}
+use Rattle.dbsource.specs.Sources.{HasRanges}
+use Rattle.dbsource.proofs.Ranges.{asks_weaker, has_append}
 use Rattle.dbsource.proofs.Told.{if_told}
 use Rattle.dbwalk.specs.Finding.{told_below}
 use Rattle.dbwalk.specs.Marking.{AreMarksFor, marks_of}
@@ -27,7 +28,7 @@ pub returns-in_err-walk_starts-clause-marks : goal.returns-in_err-walk_starts-cl
 returns-in_err-walk_starts-clause-marks g c =
     let geo = c.args.bench.now.geometry in
     let log = c.in_err-walk_starts.ensures.asks.log in
-    (read_once geo).marks c.args.marks.now c.walk_starts.new.marks log.log (subst (AreMarksFor geo) (sym c.requires.fresh) (first_marks geo)) log.holds
+    (read_once geo).marks c.args.marks.now c.walk_starts.new.marks (map asked log.log) (subst (AreMarksFor geo) (sym c.requires.fresh) (first_marks geo)) log.holds
 
 pub returns-in_err-walk_starts-clause-asks : goal.returns-in_err-walk_starts-clause-asks
 returns-in_err-walk_starts-clause-asks g c =
@@ -48,7 +49,7 @@ pub returns-clause-marks : goal.returns-clause-marks
 returns-clause-marks g c =
     let geo = c.args.bench.now.geometry in
     let log = c.in_ok-walk_starts.ensures.asks.log in
-    (read_once geo).marks c.args.marks.now c.walk_starts.new.marks log.log (subst (AreMarksFor geo) (sym c.requires.fresh) (first_marks geo)) log.holds
+    (read_once geo).marks c.args.marks.now c.walk_starts.new.marks (map asked log.log) (subst (AreMarksFor geo) (sym c.requires.fresh) (first_marks geo)) log.holds
 
 pub returns-clause-asks : goal.returns-clause-asks
 returns-clause-asks g c =
@@ -58,7 +59,7 @@ returns-clause-asks g c =
     record {
       told = b.told ∙ a.told;
       log = has_append (Reads geo.page_size c.args.marks.now c.walk_starts.new.marks) (MapReads geo) a.log
-          (subst (λ g'. HasLog g.S.Source.step (MapReads g') (g.S.Source.held c.walk_starts.new.source).trail (g.S.Source.held c.tell_end.new.source).trail) c.in_ok-walk_starts.ensures.shape b.log)
+          (subst (λ g'. HasRanges g.S.Source.step (MapReads g') (g.S.Source.held c.walk_starts.new.source).trail (g.S.Source.held c.tell_end.new.source).trail) c.in_ok-walk_starts.ensures.shape b.log)
           (λ l m r k. walk_then_map_log geo c.args.marks.now c.walk_starts.new.marks l m (subst (AreMarksFor geo) (sym c.requires.fresh) (first_marks geo)) r k);
       count = b.count ∙ ap (failures_after is_read_failed c.tell_end.result) a.count;
     }

@@ -3,7 +3,7 @@ use Rattle.std.specs.Prelude.{IfSome}
 use Rattle.dbsurvey.specs.Story.{Errand}
 use Rattle.dbformat.specs.File.{geometry}
 use Rattle.dbformat.specs.Header.{encoding}
-use Rattle.dbformat.specs.Log.{HasLog}
+use Rattle.dbsource.specs.Sources.{HasRanges}
 use Rattle.dbformat.specs.Reference.{Way, Reference}
 use Rattle.dbformat.specs.Story.{Event}
 use Rattle.dbwalk.specs.Finding.{visited_below}
@@ -17,7 +17,7 @@ invariant-loop-index g l = record {
   shape : l.bench.geometry ≡ l.initial.bench.geometry;
   roots : l.roots ≡ l.initial.roots;
   told : (g.S.Source.held l.source).bytes ≡ (g.S.Source.held l.initial.source).bytes;
-  log : HasLog g.S.Source.step (Reads l.initial.bench.geometry.page_size l.initial.marks l.marks) (g.S.Source.held l.initial.source).trail (g.S.Source.held l.source).trail;
+  log : HasRanges g.S.Source.step (Reads l.initial.bench.geometry.page_size l.initial.marks l.marks) (g.S.Source.held l.initial.source).trail (g.S.Source.held l.source).trail;
   reads : (g.S.Source.held l.source).failures ≡ (g.S.Source.held l.initial.source).failures;
   writes : g.K.Sink.held l.sink ≡ g.K.Sink.held l.initial.sink;
   left : IfSome (g.S.Source.held l.initial.source).bytes (λ file. l.initial.bench.geometry ≡ geometry file → l.encoding ≡ encoding file

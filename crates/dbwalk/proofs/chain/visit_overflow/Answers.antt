@@ -7,22 +7,32 @@ use Rattle.dbformat.specs.Header.{usable_size}
 use Rattle.dbformat.specs.Payload.{overflow_bytes, overflow_next}
 use Rattle.dbwalk.specs.Feeding.{Feeds}
 use Rattle.dbwalk.proofs.Chaining.Feedings.{held_is}
-use Rattle.dbsource.specs.Sources.{IsRangeOf}
+use Rattle.dbsource.specs.Answers.{IsRangeOf}
+use Rattle.dbsource.proofs.Ranges.{leads_read}
 use Rattle.dbwalk.specs.Finding.{told_row, told_fault}
 use Rattle.dbwalk.specs.Outcomes.{Tells}
 use Rattle.dbwalk.specs.Rows.{row_of}
 use Rattle.dbwalk.proofs.Chaining.Overflows.{if_some_map, page_read, told_is}
 use Rattle.dbwalk.proofs.chain.visit_overflow.Goals as goal
 
+pub returns-in_err-load-clause-trail : goal.returns-in_err-load-clause-trail
+returns-in_err-load-clause-trail g c = leads_read g.S.Source.step _ _ c.load.result _ _ _ c.load.ensures.level.size c.load.ensures.level.holds.0
+
+pub returns-in_err-tell-clause-trail : goal.returns-in_err-tell-clause-trail
+returns-in_err-tell-clause-trail g c = leads_read g.S.Source.step _ _ c.load.result _ _ _ c.load.ensures.level.size c.load.ensures.level.holds.0
+
+pub returns-clause-trail : goal.returns-clause-trail
+returns-clause-trail g c = leads_read g.S.Source.step _ _ c.load.result _ _ _ c.load.ensures.level.size c.load.ensures.level.holds.0
+
 pub returns-clause-next : goal.returns-clause-next
 returns-clause-next g c =
-    if_some_map (λ file. IsRangeOf file ((c.args.page - 1) * c.args.bench.now.geometry.page_size) c.in_ok-load.ensures.level.bytes) _ (g.S.Source.held c.args.source.now).bytes c.in_ok-load.ensures.level.holds
+    if_some_map (λ file. IsRangeOf file ((c.args.page - 1) * c.args.bench.now.geometry.page_size) c.in_ok-load.ensures.level.bytes) _ (g.S.Source.held c.args.source.now).bytes c.in_ok-load.ensures.level.holds.1
     (λ file h e. let k = page_read file c.in_ok-load.ensures.level.bytes c.args.bench.now.geometry.page_size c.args.page c.in_ok-load.ensures.level.size h (sym (ap (λ g. g.page_size) e)) in
     c.next_page-next.ensures ∙ ap overflow_next (c.page.ensures.bytes ∙ ap (λ b. b.chain) c.in_ok-load.ensures.level.only ∙ k))
 
 pub returns-clause-visited : goal.returns-clause-visited
 returns-clause-visited g c =
-    if_some_map (λ file. IsRangeOf file ((c.args.page - 1) * c.args.bench.now.geometry.page_size) c.in_ok-load.ensures.level.bytes) _ (g.S.Source.held c.args.source.now).bytes c.in_ok-load.ensures.level.holds
+    if_some_map (λ file. IsRangeOf file ((c.args.page - 1) * c.args.bench.now.geometry.page_size) c.in_ok-load.ensures.level.bytes) _ (g.S.Source.held c.args.source.now).bytes c.in_ok-load.ensures.level.holds.1
     (λ file h e U d p l on.
     let k = page_read file c.in_ok-load.ensures.level.bytes c.args.bench.now.geometry.page_size c.args.page c.in_ok-load.ensures.level.size h (sym (ap (λ g. g.page_size) e)) in
     let n = c.next_page-next.ensures ∙ ap overflow_next (c.page.ensures.bytes ∙ ap (λ b. b.chain) c.in_ok-load.ensures.level.only ∙ k) in
@@ -35,7 +45,7 @@ returns-clause-visited g c =
 
 pub returns-in_err-tell-clause-visited : goal.returns-in_err-tell-clause-visited
 returns-in_err-tell-clause-visited g c =
-    if_some_map (λ file. IsRangeOf file ((c.args.page - 1) * c.args.bench.now.geometry.page_size) c.in_ok-load.ensures.level.bytes) _ (g.S.Source.held c.args.source.now).bytes c.in_ok-load.ensures.level.holds
+    if_some_map (λ file. IsRangeOf file ((c.args.page - 1) * c.args.bench.now.geometry.page_size) c.in_ok-load.ensures.level.bytes) _ (g.S.Source.held c.args.source.now).bytes c.in_ok-load.ensures.level.holds.1
     (λ file h e U d p l on.
     let k = page_read file c.in_ok-load.ensures.level.bytes c.args.bench.now.geometry.page_size c.args.page c.in_ok-load.ensures.level.size h (sym (ap (λ g. g.page_size) e)) in
     let n = c.next_page-next.ensures ∙ ap overflow_next (c.page.ensures.bytes ∙ ap (λ b. b.chain) c.in_ok-load.ensures.level.only ∙ k) in
@@ -49,7 +59,7 @@ returns-in_err-tell-clause-visited g c =
 
 pub returns-clause-fed : goal.returns-clause-fed
 returns-clause-fed g c =
-    if_some_map (λ file. IsRangeOf file ((c.args.page - 1) * c.args.bench.now.geometry.page_size) c.in_ok-load.ensures.level.bytes) _ (g.S.Source.held c.args.source.now).bytes c.in_ok-load.ensures.level.holds
+    if_some_map (λ file. IsRangeOf file ((c.args.page - 1) * c.args.bench.now.geometry.page_size) c.in_ok-load.ensures.level.bytes) _ (g.S.Source.held c.args.source.now).bytes c.in_ok-load.ensures.level.holds.1
     (λ file h e d p l.
     let k = page_read file c.in_ok-load.ensures.level.bytes c.args.bench.now.geometry.page_size c.args.page c.in_ok-load.ensures.level.size h (sym (ap (λ g. g.page_size) e)) in
     let u = ap (λ g. g.usable) (c.geometry-usable.ensures.value ∙ ap (λ b. b.geometry) c.in_ok-load.ensures.level.only ∙ e) in

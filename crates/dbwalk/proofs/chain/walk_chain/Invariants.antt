@@ -3,7 +3,7 @@ use Rattle.std.specs.Prelude.{IfSome, is_some}
 use Rattle.dbformat.specs.Payload.{most_payload}
 use Rattle.dbformat.specs.FixedPages.{IsPageNumber}
 use Rattle.dbformat.specs.File.{geometry}
-use Rattle.dbformat.specs.Log.{HasLog}
+use Rattle.dbsource.specs.Sources.{HasRanges}
 use Rattle.dbformat.specs.Reference.{Reference}
 use Rattle.dbwalk.specs.Chains.{IsChainOf, IsOnWay}
 use Rattle.dbwalk.specs.Entered.{IsNext}
@@ -18,7 +18,7 @@ decreases-loop-next g l = l.place.left
 abbrev pub invariant-loop-next : goal.invariant-loop-next
 invariant-loop-next g l = record {
   told : (g.S.Source.held l.source).bytes ≡ (g.S.Source.held l.initial.source).bytes;
-  log : HasLog g.S.Source.step (Reads l.initial.bench.geometry.page_size l.initial.marks l.marks) (g.S.Source.held l.initial.source).trail (g.S.Source.held l.source).trail;
+  log : HasRanges g.S.Source.step (Reads l.initial.bench.geometry.page_size l.initial.marks l.marks) (g.S.Source.held l.initial.source).trail (g.S.Source.held l.source).trail;
   reads : (g.S.Source.held l.source).failures ≡ (g.S.Source.held l.initial.source).failures;
   writes : g.K.Sink.held l.sink ≡ g.K.Sink.held l.initial.sink;
   bench : l.bench ≡ record l.initial.bench { chain = l.bench.chain };

@@ -2,8 +2,9 @@ use Rattle.std.proofs.Common.{rules, arith, ◌≡◌, ◌+◌, ◌-◌, ◌*◌
 use Rattle.std.proofs.lemmas.Result.{err_from_is_err_and}
 use Rattle.dbsurvey.specs.Story.{Go}
 use Rattle.dbformat.specs.Numbers.{u32_at}
-use Rattle.dbsource.specs.Sources.{IsRangeOf}
+use Rattle.dbsource.specs.Answers.{IsRangeOf}
 use Rattle.dbsource.specs.declared.error.RunError.TheVariants.{ReadFailed}
+use Rattle.dbsource.proofs.Ranges.{leads_read}
 use Rattle.dbwalk.specs.Entered.{Enters}
 use Rattle.dbwalk.specs.Left.{IsLeft}
 use Rattle.dbwalk.specs.Marking.{IsUse, is_none, unmarked_pages}
@@ -24,19 +25,19 @@ pub returns-in_err-load-clause-log : goal.returns-in_err-load-clause-log
 returns-in_err-load-clause-log g c =
     let k = c.in_ok-enter.ensures.marked (search rules) in
     log_page g.S.Source.step c.args.bench.now.geometry.page_size c.args.marks.now c.enter.new.marks c.args.step.page c.args.step.mark (g.S.Source.held c.args.source.now).trail (g.S.Source.held c.load.new.source).trail
-    k.0 k.1 (subst IsUse (sym c.requires) (record { some = refl; cleared = refl })) c.load.ensures.trail
+    k.0 k.1 (subst IsUse (sym c.requires) (record { some = refl; cleared = refl })) (leads_read g.S.Source.step _ _ c.load.result _ _ _ c.load.ensures.level.size c.load.ensures.level.holds.0)
 
 pub returns-in_err-item-clause-log : goal.returns-in_err-item-clause-log
 returns-in_err-item-clause-log g c =
     let k = c.in_ok-enter.ensures.marked (search rules) in
     log_opened g.S.Source.step c.args.bench.now.geometry.page_size c.args.marks.now c.enter.new.marks c.open_trunk.new.marks c.args.step.page c.args.step.mark (g.S.Source.held c.args.source.now).trail (g.S.Source.held c.load.new.source).trail
-    k.0 k.1 (subst IsUse (sym c.requires) (record { some = refl; cleared = refl })) c.load.ensures.trail c.open_trunk.ensures.keeps
+    k.0 k.1 (subst IsUse (sym c.requires) (record { some = refl; cleared = refl })) (leads_read g.S.Source.step _ _ c.load.result _ _ _ c.load.ensures.level.size c.load.ensures.level.holds.0) c.open_trunk.ensures.keeps
 
 pub returns-clause-log : goal.returns-clause-log
 returns-clause-log g c =
     let k = c.in_ok-enter.ensures.marked (search rules) in
     log_opened g.S.Source.step c.args.bench.now.geometry.page_size c.args.marks.now c.enter.new.marks c.open_trunk.new.marks c.args.step.page c.args.step.mark (g.S.Source.held c.args.source.now).trail (g.S.Source.held c.load.new.source).trail
-    k.0 k.1 (subst IsUse (sym c.requires) (record { some = refl; cleared = refl })) c.load.ensures.trail c.open_trunk.ensures.keeps
+    k.0 k.1 (subst IsUse (sym c.requires) (record { some = refl; cleared = refl })) (leads_read g.S.Source.step _ _ c.load.result _ _ _ c.load.ensures.level.size c.load.ensures.level.holds.0) c.open_trunk.ensures.keeps
 
 pub returns-clause-less : goal.returns-clause-less
 returns-clause-less g c = if_some_all _ c.next_trunk.result (λ next.
@@ -67,7 +68,7 @@ returns-in_err-load-clause-turned g c = if_some_all _ (g.S.Source.held c.args.so
     (trunk_unread g.K.Sink.takes g.K.Sink.drops file W d before c.args.step c.args.marks.now c.args.sink.now on ReadFailed c.enter.new.marks c.enter.new.sink n refl))
 
 pub returns-in_err-item-clause-turned : goal.returns-in_err-item-clause-turned
-returns-in_err-item-clause-turned g c = if_some_map (λ file. IsRangeOf file ((c.args.step.page - 1) * c.args.bench.now.geometry.page_size) c.in_ok-load.ensures.level.bytes) _ (g.S.Source.held c.args.source.now).bytes c.in_ok-load.ensures.level.holds (λ file h e W d before on.
+returns-in_err-item-clause-turned g c = if_some_map (λ file. IsRangeOf file ((c.args.step.page - 1) * c.args.bench.now.geometry.page_size) c.in_ok-load.ensures.level.bytes) _ (g.S.Source.held c.args.source.now).bytes c.in_ok-load.ensures.level.holds.1 (λ file h e W d before on.
     let k = page_read file c.in_ok-load.ensures.level.bytes c.args.bench.now.geometry.page_size c.args.step.page c.in_ok-load.ensures.level.size h (sym (ap (λ g. g.page_size) e)) in
     let b = c.page-bytes.ensures.bytes ∙ ap (λ b. b.chain) c.in_ok-load.ensures.level.only ∙ k in
     let u = ap (λ g. g.usable) (c.geometry-usable.ensures.value ∙ ap (λ b. b.geometry) c.in_ok-load.ensures.level.only ∙ e) in
@@ -79,7 +80,7 @@ returns-in_err-item-clause-turned g c = if_some_map (λ file. IsRangeOf file ((c
     subst (λ r. TrunkTurns g.K.Sink.takes g.K.Sink.drops file W d before r c.open_trunk.new.marks c.open_trunk.new.sink) (sym (q.1 ∙ ap Err q.2)) o)
 
 pub returns-clause-turned : goal.returns-clause-turned
-returns-clause-turned g c = if_some_map (λ file. IsRangeOf file ((c.args.step.page - 1) * c.args.bench.now.geometry.page_size) c.in_ok-load.ensures.level.bytes) _ (g.S.Source.held c.args.source.now).bytes c.in_ok-load.ensures.level.holds (λ file h e W d before on.
+returns-clause-turned g c = if_some_map (λ file. IsRangeOf file ((c.args.step.page - 1) * c.args.bench.now.geometry.page_size) c.in_ok-load.ensures.level.bytes) _ (g.S.Source.held c.args.source.now).bytes c.in_ok-load.ensures.level.holds.1 (λ file h e W d before on.
     let k = page_read file c.in_ok-load.ensures.level.bytes c.args.bench.now.geometry.page_size c.args.step.page c.in_ok-load.ensures.level.size h (sym (ap (λ g. g.page_size) e)) in
     let b = c.page-bytes.ensures.bytes ∙ ap (λ b. b.chain) c.in_ok-load.ensures.level.only ∙ k in
     let u = ap (λ g. g.usable) (c.geometry-usable.ensures.value ∙ ap (λ b. b.geometry) c.in_ok-load.ensures.level.only ∙ e) in

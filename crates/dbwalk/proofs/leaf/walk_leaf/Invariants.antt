@@ -7,7 +7,7 @@ use Rattle.dbformat.specs.Cell.{count}
 use Rattle.dbformat.specs.File.{geometry}
 use Rattle.dbformat.specs.Head.{View, is_interior}
 use Rattle.dbformat.specs.Header.{encoding}
-use Rattle.dbformat.specs.Log.{HasLog}
+use Rattle.dbsource.specs.Sources.{HasRanges}
 use Rattle.dbformat.specs.Reference.{Reference, tree_view}
 use Rattle.dbformat.specs.Story.{story_of}
 use Rattle.dbwalk.specs.Walking.{IsLeafAt, IsRunning}
@@ -29,7 +29,7 @@ invariant-loop-i g l = record {
   reads : (g.S.Source.held l.source).failures ≡ (g.S.Source.held l.initial.source).failures;
   writes : g.K.Sink.held l.sink ≡ g.K.Sink.held l.initial.sink;
   refusals : g.T.Taker.refusals l.taker ≡ g.T.Taker.refusals l.initial.taker;
-  log : HasLog g.S.Source.step (Reads l.initial.bench.geometry.page_size l.initial.marks l.marks) (g.S.Source.held l.initial.source).trail (g.S.Source.held l.source).trail;
+  log : HasRanges g.S.Source.step (Reads l.initial.bench.geometry.page_size l.initial.marks l.marks) (g.S.Source.held l.initial.source).trail (g.S.Source.held l.source).trail;
   others : 1 ≤ l.fn.tree.start → l.taker ≡ l.initial.taker;
   on : IfSome (g.S.Source.held l.initial.source).bytes (λ file. l.initial.bench.geometry ≡ geometry file → l.encoding ≡ encoding file → (U : List Reference) (c : Reference) (v : View)
       → IsLeafAt file l.fn.tree.kind l.fn.tree.start l.fn.tree.path.items U c l.initial.bench.levels l.page → tree_view file c ≡ Some v → is_interior v.kind ≡ false

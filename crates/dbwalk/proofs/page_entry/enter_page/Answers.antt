@@ -3,8 +3,9 @@ use Rattle.std.specs.Prelude.{slice_get, IfErr}
 use Rattle.std.proofs.lemmas.Result.{err_from_is_err_and}
 use Rattle.dbformat.specs.File.{page_bytes}
 use Rattle.dbformat.specs.Log.{page_range}
-use Rattle.dbsource.specs.Sources.{IsRangeOf}
+use Rattle.dbsource.specs.Answers.{IsRangeOf, LeadsBy}
 use Rattle.dbsource.specs.declared.error.RunError.TheVariants.{ReadFailed}
+use Rattle.dbsource.proofs.Ranges.{leads_read}
 use Rattle.dbwalk.specs.Entered.{Enters}
 use Rattle.dbwalk.specs.Marking.{unmarked_pages}
 use Rattle.dbwalk.proofs.Chaining.ChainTurns.{if_some_all, if_some_moved}
@@ -68,7 +69,8 @@ pub returns-in_err-load-clause-log : goal.returns-in_err-load-clause-log
 returns-in_err-load-clause-log g c =
     let k = c.in_ok-enter.ensures.marked (search rules) in
     log_page g.S.Source.step c.args.bench.now.geometry.page_size c.args.marks.now c.enter.new.marks c.tree_step-step.result.page c.tree_step-step.result.mark (g.S.Source.held c.args.source.now).trail (g.S.Source.held c.load.new.source).trail
-    k.0 k.1 c.tree_step-step.ensures.used (c.load.ensures.trail ∙ ap (λ p. g.S.Source.step (g.S.Source.held c.args.source.now).trail (page_range c.args.bench.now.geometry.page_size p)) (sym c.tree_step-step.ensures.page))
+    k.0 k.1 c.tree_step-step.ensures.used (subst (λ p. LeadsBy g.S.Source.step (g.S.Source.held c.args.source.now).trail (page_range c.args.bench.now.geometry.page_size p) (g.S.Source.held c.load.new.source).trail) (sym c.tree_step-step.ensures.page)
+    (leads_read g.S.Source.step _ _ c.load.result _ _ _ c.load.ensures.level.size c.load.ensures.level.holds.0))
 
 pub returns-in_err-load-clause-done : goal.returns-in_err-load-clause-done
 returns-in_err-load-clause-done g c = if_some_all _ (g.S.Source.held c.args.source.now).bytes (λ file e coded W d candidate next early m run held first given.
@@ -98,7 +100,8 @@ returns-clause-log g c =
     (g.S.Source.held c.args.source.now).trail (g.S.Source.held c.load.new.source).trail (g.S.Source.held c.visit_page.new.source).trail
     (ap (λ s. s.page_size) (geometry_kept c.args.bench.now c.load.new.self c.len-level.result low change.bytes change.only))
     (log_page g.S.Source.step c.args.bench.now.geometry.page_size c.args.marks.now c.enter.new.marks c.tree_step-step.result.page c.tree_step-step.result.mark (g.S.Source.held c.args.source.now).trail (g.S.Source.held c.load.new.source).trail
-    k.0 k.1 c.tree_step-step.ensures.used (c.load.ensures.trail ∙ ap (λ p. g.S.Source.step (g.S.Source.held c.args.source.now).trail (page_range c.args.bench.now.geometry.page_size p)) (sym c.tree_step-step.ensures.page)))
+    k.0 k.1 c.tree_step-step.ensures.used (subst (λ p. LeadsBy g.S.Source.step (g.S.Source.held c.args.source.now).trail (page_range c.args.bench.now.geometry.page_size p) (g.S.Source.held c.load.new.source).trail) (sym c.tree_step-step.ensures.page)
+    (leads_read g.S.Source.step _ _ c.load.result _ _ _ c.load.ensures.level.size c.load.ensures.level.holds.0)))
     c.visit_page.ensures.log
 
 pub returns-clause-fewer : goal.returns-clause-fewer
@@ -114,7 +117,7 @@ returns-clause-fewer g c =
 pub returns-clause-done : goal.returns-clause-done
 returns-clause-done g c =
     let change = c.in_ok-load.ensures.level in
-    if_some_moved (λ file. IsRangeOf file ((c.args.page - 1) * c.args.bench.now.geometry.page_size) change.bytes) _ _ (g.S.Source.held c.args.source.now).bytes (g.S.Source.held c.load.new.source).bytes c.load.ensures.told change.holds c.visit_page.ensures.done
+    if_some_moved (λ file. IsRangeOf file ((c.args.page - 1) * c.args.bench.now.geometry.page_size) change.bytes) _ _ (g.S.Source.held c.args.source.now).bytes (g.S.Source.held c.load.new.source).bytes c.load.ensures.told change.holds.1 c.visit_page.ensures.done
     (λ file h done e coded W d candidate next early m run held first given.
     let t = c.args.tree.now in
     let low = c.tree_step-step.ensures.shallow (c.in_ok-enter.ensures.shallow (search rules)) in

@@ -4,7 +4,7 @@ use Rattle.dbsurvey.specs.Traverse.{is_followed}
 use Rattle.dbformat.specs.Address.{schema_start}
 use Rattle.dbformat.specs.File.{geometry, page_bytes}
 use Rattle.dbformat.specs.Header.{encoding}
-use Rattle.dbformat.specs.Log.{HasLog}
+use Rattle.dbsource.specs.Sources.{HasRanges}
 use Rattle.dbformat.specs.Reference.{Reference}
 use Rattle.dbformat.specs.Survey.{rules_of}
 use Rattle.dbwalk.specs.Found.{StandsAt}
@@ -26,7 +26,7 @@ invariant-loop-frame g l = record {
   opened : AreOpen l.bench.geometry.usable l.tree.kind l.bench.levels 0 l.frames.items;
   path : (fs : List Frame) (f : Frame) → l.frames.items ≡ fs ++ (f ∷ []) → l.tree.path.items ≡ path_of fs;
   told : (g.S.Source.held l.source).bytes ≡ (g.S.Source.held l.fn.source).bytes;
-  log : HasLog g.S.Source.step (Reads l.fn.bench.geometry.page_size l.fn.marks l.marks) (g.S.Source.held l.fn.source).trail (g.S.Source.held l.source).trail;
+  log : HasRanges g.S.Source.step (Reads l.fn.bench.geometry.page_size l.fn.marks l.marks) (g.S.Source.held l.fn.source).trail (g.S.Source.held l.source).trail;
   reads : (g.S.Source.held l.source).failures ≡ (g.S.Source.held l.fn.source).failures;
   writes : g.K.Sink.held l.sink ≡ g.K.Sink.held l.fn.sink;
   refusals : g.T.Taker.refusals l.taker ≡ g.T.Taker.refusals l.fn.taker;

@@ -7,8 +7,9 @@ use Rattle.dbformat.specs.Log.{page_range}
 use Rattle.dbsource.specs.Bench.{bytes_at}
 use Rattle.dbsource.specs.Errors.{is_read_failed}
 use Rattle.dbsource.specs.Failures.{failures_after}
-use Rattle.dbsource.specs.Sources.{IsRangeOf}
+use Rattle.dbsource.specs.Answers.{IsRangeOf, LeadsBy}
 use Rattle.dbsource.specs.declared.error.RunError.TheVariants.{ReadFailed}
+use Rattle.dbsource.proofs.Ranges.{leads_read}
 use Rattle.dbwalk.specs.Done.{IsDone}
 use Rattle.dbwalk.specs.Entered.{Enters}
 use Rattle.dbwalk.specs.Finding.{visited_below}
@@ -95,7 +96,8 @@ returns-in_err-load-clause-asks g c =
     record {
       told = c.load.ensures.told;
       log = log_page g.S.Source.step c.args.bench.now.geometry.page_size c.args.marks.now c.enter.new.marks c.tree_step-step.result.page c.tree_step-step.result.mark (g.S.Source.held c.args.source.now).trail (g.S.Source.held c.load.new.source).trail
-          k.0 k.1 c.tree_step-step.ensures.used (c.load.ensures.trail ∙ ap (λ p. g.S.Source.step (g.S.Source.held c.args.source.now).trail (page_range c.args.bench.now.geometry.page_size p)) (sym c.tree_step-step.ensures.page));
+          k.0 k.1 c.tree_step-step.ensures.used (subst (λ p. LeadsBy g.S.Source.step (g.S.Source.held c.args.source.now).trail (page_range c.args.bench.now.geometry.page_size p) (g.S.Source.held c.load.new.source).trail) (sym c.tree_step-step.ensures.page)
+          (leads_read g.S.Source.step _ _ c.load.result _ _ _ c.load.ensures.level.size c.load.ensures.level.holds.0));
       count = subst (λ r. (g.S.Source.held c.load.new.source).failures ≡ failures_after is_read_failed r (g.S.Source.held c.args.source.now).failures) (sym (q.1 ∙ ap Err q.2)) c.in_err-load.ensures.count;
     }
 
@@ -134,7 +136,8 @@ returns-clause-asks g c =
           (g.S.Source.held c.args.source.now).trail (g.S.Source.held c.load.new.source).trail (g.S.Source.held c.walk_pages.new.source).trail
           (ap (λ s. s.page_size) (geometry_kept c.args.bench.now c.load.new.self 0 low change.bytes change.only))
           (log_page g.S.Source.step c.args.bench.now.geometry.page_size c.args.marks.now c.enter.new.marks c.tree_step-step.result.page c.tree_step-step.result.mark (g.S.Source.held c.args.source.now).trail (g.S.Source.held c.load.new.source).trail
-          k.0 k.1 c.tree_step-step.ensures.used (c.load.ensures.trail ∙ ap (λ p. g.S.Source.step (g.S.Source.held c.args.source.now).trail (page_range c.args.bench.now.geometry.page_size p)) (sym c.tree_step-step.ensures.page)))
+          k.0 k.1 c.tree_step-step.ensures.used (subst (λ p. LeadsBy g.S.Source.step (g.S.Source.held c.args.source.now).trail (page_range c.args.bench.now.geometry.page_size p) (g.S.Source.held c.load.new.source).trail) (sym c.tree_step-step.ensures.page)
+          (leads_read g.S.Source.step _ _ c.load.result _ _ _ c.load.ensures.level.size c.load.ensures.level.holds.0)))
           c.walk_pages.ensures.log;
       count = c.walk_pages.ensures.reads ∙ ap (failures_after is_read_failed c.walk_pages.result) c.in_ok-load.ensures.count;
     }
@@ -145,7 +148,7 @@ returns-clause-others g c = λ l. c.walk_pages.ensures.others (subst (λ k. 1 �
 pub returns-clause-done : goal.returns-clause-done
 returns-clause-done g c =
     let change = c.in_ok-load.ensures.level in
-    if_some_moved (λ file. IsRangeOf file ((c.args.root.page - 1) * c.args.bench.now.geometry.page_size) change.bytes) _ _ (g.S.Source.held c.args.source.now).bytes (g.S.Source.held c.load.new.source).bytes c.load.ensures.told change.holds c.walk_pages.ensures.done
+    if_some_moved (λ file. IsRangeOf file ((c.args.root.page - 1) * c.args.bench.now.geometry.page_size) change.bytes) _ _ (g.S.Source.held c.args.source.now).bytes (g.S.Source.held c.load.new.source).bytes c.load.ensures.told change.holds.1 c.walk_pages.ensures.done
     (λ file h done e coded W d at held empty.
     let root = c.args.root in
     let is = c.tree_step-step.ensures.step (kind_in file root) root.start [] d refl at.candidate in
@@ -166,7 +169,7 @@ returns-clause-done g c =
 pub returns-clause-rows : goal.returns-clause-rows
 returns-clause-rows g c =
     let change = c.in_ok-load.ensures.level in
-    if_some_moved (λ file. IsRangeOf file ((c.args.root.page - 1) * c.args.bench.now.geometry.page_size) change.bytes) _ _ (g.S.Source.held c.args.source.now).bytes (g.S.Source.held c.load.new.source).bytes c.load.ensures.told change.holds c.walk_pages.ensures.done
+    if_some_moved (λ file. IsRangeOf file ((c.args.root.page - 1) * c.args.bench.now.geometry.page_size) change.bytes) _ _ (g.S.Source.held c.args.source.now).bytes (g.S.Source.held c.load.new.source).bytes c.load.ensures.told change.holds.1 c.walk_pages.ensures.done
     (λ file h done e coded W d at held empty schema.
     let root = c.args.root in
     let is = c.tree_step-step.ensures.step (kind_in file root) root.start [] d refl at.candidate in

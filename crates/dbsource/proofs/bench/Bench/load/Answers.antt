@@ -1,4 +1,4 @@
-use Rattle.std.proofs.Common.{rules, ◌≡◌, ◌<◌, length, arith, ap, ◌∙◌, refl}
+use Rattle.std.proofs.Common.{◌≡◌, ◌<◌, length, arith, ap, ◌∙◌, refl}
 use Rattle.dbsource.proofs.Benches.{level_set, whole_after}
 use Rattle.dbsource.proofs.bench.Bench.load.Goals as goal
 use Rattle.dbsource.proofs.bench.Bench.load.Goals.{In-Some}
@@ -22,5 +22,5 @@ returns-in-Some-clause-level g c =
       only = rw (← c.self.view_is)
           (level_set c.self.inside.geometry c.self.inside.levels.items c.self.inside.chain.items c.self.inside.uses.items c.args.level c.in-Some.buffer.now
           c.read_at.new.buf below (c.read_at.auto.buf ∙ ap length c.as_mut_slice.ensures.value));
-      holds = search rules;
+      holds = rw (← c.self.view_is) (c.read_at.ensures.trail, c.read_at.ensures.bytes);
     }
