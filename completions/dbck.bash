@@ -9,8 +9,8 @@ _dbck() {
         return
     else
         case $command in
-            check) words='--limit --help' ;;
-            stat) words='--aggregate --all --help' ;;
+            check) words='--limit --no-progress --help' ;;
+            stat) words='--aggregate --all --no-progress --help' ;;
             help) words='check stat' ;;
             *) return ;;
         esac

@@ -81,6 +81,15 @@ done
 expect 0 $'dbck +([0-9.])\n' '' --version
 expect 0 $'dbck +([0-9.])\n' '' -V
 
+# 6: help and the version that cannot be printed.
+for words in --help --version help 'check --help'; do
+    # shellcheck disable=SC2086
+    "$dbck" $words > /dev/full 2> "$work/err"
+    status=$?
+    : > "$work/out"
+    count "$words to a full disk" ended 6 '' "$unwritten"
+done
+
 # 2: nothing stands on standard output where the line is refused.
 for words in '' check stat 'repair x' 'check x y' 'check --limit 0 x' 'check --limit 1000001 x' 'check --limit x' \
     'check --limit 1 --limit 1 x' 'check --all x' 'stat --limit 1 x' 'stat --all --all x' 'stat --all=true x' --limit; do
@@ -88,20 +97,34 @@ for words in '' check stat 'repair x' 'check x y' 'check --limit 0 x' 'check --l
     expect 2 '' 'error: *' $words
 done
 expect 2 '' $'error: a word of the command line is not UTF-8\n' check $'\xff'
+expect 2 '' "error: unexpected argument 'y\\\\x1b\\[2J\\\\x0az' found"$'\n*' check x $'y\x1b[2J\nz'
+expect 2 '' "error: unrecognized subcommand 'a\\\\x0ab\\\\x9b'"$'\n*' $'a\nb\xc2\x9b'
+expect 2 '' "error: invalid value '5\\\\x0a' for '--limit <N>'*" check --limit $'5\n' x
 
 # 3: refused files.
 : > "$work/no-bytes.db"
 for command in check stat; do
-    expect 3 '' $'dbck: E1 file is shorter than 100 bytes\n' "$command" "$work/no-bytes.db"
-    expect 3 '' $'dbck: E2 file is not a SQLite 3 database\n' "$command" tests/program.sh
+    expect 3 '' "dbck: note: $work/no-bytes.db is not checked"$'\ndbck: E1 file is shorter than 100 bytes\n' "$command" "$work/no-bytes.db"
+    expect 3 '' $'dbck: note: tests/program.sh is not checked\ndbck: E2 file is not a SQLite 3 database\n' "$command" tests/program.sh
 done
 
 # 4: what cannot be read.
 for command in check stat; do
-    for path in "$work/missing.db" "$work" /dev/null /dev/zero ''; do
-        expect 4 '' "$unread" "$command" "$path"
+    for path in "$work" /dev/null /dev/zero; do
+        expect 4 '' "dbck: note: $path: not a regular file"$'\n'"$unread" "$command" "$path"
     done
+    for path in "$work/missing.db" '' "$work/"$'no\e'; do
+        expect 4 '' "dbck: note: ${path/$'\e'/\\\\x1b}: No such file or directory"$'\n'"$unread" "$command" "$path"
+    done
+    expect 4 '' "dbck: note: $work/no-bytes.db/x: Not a directory"$'\n'"$unread" "$command" "$work/no-bytes.db/x"
 done
+# A file that has fewer bytes than it says.
+lying=/sys/devices/system/cpu/online
+if [ -f "$lying" ]; then
+    expect 4 '' "dbck: note: $lying: the 100 bytes at 0 cannot be read"$'\n'"$unread" check "$lying"
+else
+    echo "no run over a file that lies: there is no $lying"
+fi
 
 # 5: the marks of as many pages as there may be take more than the memory that is allowed.
 cp "$data/empty.db" "$work/many-pages.db"
@@ -124,10 +147,64 @@ for words in check stat 'stat --all' 'stat --aggregate'; do
     count "$words to a full disk" ended 6 '' "$unwritten"
 done
 
-# The note on a log.
+# Notes: on a log, before all else, and on bytes after the last page.
 cp "$data/empty.db" "$work/noted.db"
 echo log > "$work/noted.db-wal"
 expect 0 $'ok\n' "dbck: note: $work/noted.db-wal is not read; *" check "$work/noted.db"
+cp tests/program.sh "$work/text.db"
+echo log > "$work/text.db-wal"
+expect 3 '' "dbck: note: $work/text.db-wal is not read; *dbck: note: $work/text.db is not checked"$'\ndbck: E2 *' check "$work/text.db"
+rm "$work"/*-wal
+printf 'sevenby' >> "$work/noted.db"
+expect 0 $'ok\n' $'dbck: note: 7 bytes after page 1 are not read\n' check "$work/noted.db"
+expect 0 "$page" $'dbck: note: 7 bytes after page 1 are not read\n' stat "$work/noted.db"
+
+# Notes change no status, and fault lines of statistics are written many at a time.
+"$dbck" check "$work/noted.db" > "$work/out" 2> /dev/full
+status=$?
+: > "$work/err"
+count 'notes to a full disk' ended 0 $'ok\n' ''
+
+# A file that is written while a run waits for its reader: the rows of so many pages fit into no pipe.
+changed() {
+    local started
+    truncate -s 8192000 "$work/noted.db"
+    rm -f "$work/pipe"
+    mkfifo "$work/pipe"
+    "$dbck" stat --all "$work/noted.db" > "$work/pipe" 2> "$work/err" &
+    started=$!
+    { head -c 1 > "$work/out" && touch -d 2001-01-01 "$work/noted.db" && cat >> "$work/out"; } < "$work/pipe"
+    wait "$started"
+    status=$?
+}
+changed
+count 'a file that is written meanwhile' ended 1 "$page*" \
+    "*dbck: note: $work/noted.db was changed while it was read; the report may be of no state that it had"$'\n'
+
+# on_terminal LINE: runs a line of the shell on a terminal, whose text is the output.
+on_terminal() {
+    script -qec "$1" /dev/null > "$work/out" 2> "$work/err" < /dev/null
+    status=$?
+}
+
+# Progress, which is wiped before another line and at the end, on a terminal alone: a table of one row of 66930 overflow pages.
+if on_terminal true && sqlite3 "$work/large.db" 'PRAGMA page_size = 512; CREATE TABLE t (b); INSERT INTO t VALUES (zeroblob(34000000));'; then
+    pages=$(($(wc -c < "$work/large.db") / 512))
+    line=$'\r'"dbck: 65536 of $pages pages, 97%"
+    wiped=$line$'\r                                        \r'
+    on_terminal "'$dbck' check '$work/large.db'"
+    count 'progress' ended 0 "$wiped"$'ok\r\n' ''
+    on_terminal "'$dbck' check '$work/large.db' > '$work/report'"
+    count 'progress beside a report' ended 0 "$wiped" ''
+    count 'a report beside progress' grep -qx ok "$work/report"
+    on_terminal "'$dbck' check --no-progress '$work/large.db'"
+    count '--no-progress' ended 0 $'ok\r\n' ''
+    on_terminal "'$dbck' check '$work/large.db' 2> '$work/report'"
+    count 'no progress where standard error is a file' ended 0 $'ok\r\n' ''
+    expect 0 $'ok\n' '' check "$work/large.db"
+else
+    echo 'no progress to look at: there is no sqlite3, or no script'
+fi
 
 # has_rows_of FILE: whether the rows of the last run are ten columns, and show the bytes of the file.
 has_rows_of() {

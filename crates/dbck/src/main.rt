@@ -1,11 +1,11 @@
 //! `dbck`: checks the structure of a SQLite 3 database file.
 #![tactic(auto)]
 
-use dbcli::{LineError, run_words, tell};
+use dbcli::{LineError, LineOut, Progress, run_words, tell};
 use dbsource::{BufferedOut, StreamOut};
 use std::alloc::AllocError;
 use std::env;
-use std::io::ErrorKind;
+use std::io::{ErrorKind, IsTerminal};
 use std::process::ExitCode;
 
 // Why no words were read, as an error of the line.
@@ -31,9 +31,21 @@ fn run(rt: &HostRuntime) -> Result<u8, LineError> {
     for word in words.iter() {
         texts.push(word.as_str()).map_err(clap::Error::from)?;
     }
-    let mut out = BufferedOut::new(rt.alloc(), rt.stdout()).map_err(clap::Error::from)?;
-    let mut err = StreamOut::new(rt.stderr());
-    run_words(rt, texts.as_slice(), &mut out, &mut err)
+    let out = BufferedOut::new(rt.alloc(), rt.stdout()).map_err(clap::Error::from)?;
+    let err = BufferedOut::new(rt.alloc(), rt.stderr()).map_err(clap::Error::from)?;
+    let is_terminal = rt.stderr().is_terminal();
+    let progress = Progress::new(rt.stderr(), is_terminal);
+    let mut out = LineOut::new(out, rt.stdout().is_terminal(), &progress);
+    let mut err = LineOut::new(err, is_terminal, &progress);
+    let mut notes = LineOut::new(StreamOut::new(rt.stderr()), is_terminal, &progress);
+    run_words(
+        rt,
+        texts.as_slice(),
+        &mut out,
+        &mut err,
+        &mut notes,
+        &progress,
+    )
 }
 
 fn main(rt: HostRuntime) -> ExitCode {

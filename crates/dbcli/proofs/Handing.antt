@@ -1,20 +1,20 @@
 -- What handing on makes of the outcome of a run, and of what is said of it.
-use Rattle.std.proofs.Common.{◌≡◌, ◌∙◌, ℕ, ◌+◌, ◌%◌, ◌^◌, ◌≤◌, List, [], ◌∷◌, Option, Result, Ok, Err, inl, inr, refl, sym, ap, subst, arith, length, length-append}
-use Rattle.std.specs.Prelude.{IfOk, OnErr, OnOk, ◌≢◌, ◌⊎◌}
+use Rattle.std.proofs.Common.{◌≡◌, ◌∙◌, ℕ, ◌+◌, ◌%◌, ◌^◌, ◌≤◌, List, Option, Result, Ok, Err, inl, inr, refl, sym, ap, subst, arith, true}
+use Rattle.std.specs.Prelude.{IfOk, OnErr, OnOk, ◌≢◌, ◌⊎◌, is_ok}
 use Rattle.std.specs.Io.KnownBytes.{Keeps}
 use Rattle.std.proofs.Math.Nat.{mod-add-mod, mod-mod}
 use Rattle.dbformat.specs.declared.Verdict.{Verdict}
 use Rattle.dbformat.specs.declared.Verdict.TheVariants.{Clean, Faulty}
 use Rattle.dbreport.specs.Runs.{IsAnswerOf, IsUnwritten}
-use Rattle.dbreport.specs.StatSink.{IsFlushed, failures_of_each}
+use Rattle.dbreport.specs.StatSink.{failures_of_each}
 use Rattle.dbsource.proofs.Beginnings.{all_begun}
 use Rattle.dbsource.proofs.Puts.{appends_kept}
 use Rattle.dbsource.specs.Errors.{is_read_failed, is_write_failed}
-use Rattle.dbsource.specs.Failures.{CountsAfter, HasOneMore, failures_after, one_more}
-use Rattle.dbsource.specs.Outs.{Begins, OutState, Writes}
+use Rattle.dbsource.specs.Failures.{CountsAfter, HasOneMore, failures_after, is_any, one_more}
+use Rattle.dbsource.specs.Outs.{Begins, Flushes, OutState, Writes}
 use Rattle.dbsource.specs.declared.error.RunError.{RunError}
 use Rattle.dbsource.specs.declared.error.RunError.TheVariants.{Refused, ReadFailed, OutOfMemory, WriteFailed}
-use Rattle.dbcli.specs.Exit.{HasFailed, IsHandedOn, IsHandedOnOrFailed, PutsLine, failures_at_4, first_most, second_most}
+use Rattle.dbcli.specs.Exit.{HasFailed, IsHandedOn, IsHandedOnOrFailed, failures_at_4, first_most, second_most}
 use Rattle.dbcli.specs.Handing.{IsHanded, StopsFlushing, TriesToFlush}
 use Rattle.dbcli.specs.Status.{exit_status}
 
@@ -234,13 +234,17 @@ module _ (out err out1 err1 out2 err2 err3 : OutState) where
       let u : IsHandedOnOrFailed 2 err2 err3 = rw h.0 at t in
       run_failed one h.1 (subst (λ x. IsHandedOnOrFailed 2 x err3) h.2 u)
 
--- ---- the line
+-- ---- the line of an error
 
--- so few bytes were put
-pub line_put : {A X : Type 0} (r : Result A X) (old new : OutState) (bytes : List ℕ) → length bytes ≤ 96 → Writes r old.bytes new.bytes bytes → PutsLine old new
-line_put (Ok a) old new bytes few w = record { line = bytes; short = few; added = w }
-line_put (Err e) old new bytes few w = let l = length-append w.part w.rest in let n = ap length w.whole in record { line = w.part; short = omega (arith, few, l, n); added = w.added }
+flushed_once : {C Z : Type 0} (r : Result C Z) (old new : OutState) → Flushes r old new → IsHandedOnOrFailed 1 old new
+flushed_once (Ok x) old new f = record { failed = 0; bound = omega arith; count = same_count old.failures new.failures f.count; all = λ e. f.empty }
+flushed_once (Err x) old new f = record { failed = 1; bound = omega arith; count = more_count old.failures new.failures f.count; all = λ e. absurd (omega arith) }
 
--- it was put, and flushed
-pub line_flushed : (old mid new : OutState) → PutsLine old mid → Keeps mid.bytes new.bytes → PutsLine old new
-line_flushed old mid new l k = record { line = l.line; short = l.short; added = appends_kept old.bytes mid.bytes new.bytes l.line l.added k }
+-- of the two calls before a flush one did not fail
+pub line_tried : {A B C X Y Z : Type 0} (r : Result A X) (q : Result B Y) (t : Result C Z) (a b c d : OutState) → (is_ok r ≡ true) ⊎ (is_ok q ≡ true)
+    → b.failures ≡ failures_after is_any r a.failures → c.failures ≡ failures_after is_any q b.failures → Flushes t c d → IsHandedOnOrFailed 2 a d
+line_tried (Ok x) (Ok y) t a b c d h m n f = failed_then 0 1 2 a c d (omega arith) (same_count a.failures c.failures (n ∙ m)) (flushed_once t c d f)
+line_tried (Ok x) (Err y) t a b c d h m n f = failed_then 1 1 2 a c d (omega arith) (more_count a.failures c.failures (n ∙ ap one_more m)) (flushed_once t c d f)
+line_tried (Err x) (Ok y) t a b c d h m n f = failed_then 1 1 2 a c d (omega arith) (more_count a.failures c.failures (n ∙ m)) (flushed_once t c d f)
+line_tried (Err x) (Err y) t a b c d (inl e) m n f = cc
+line_tried (Err x) (Err y) t a b c d (inr e) m n f = cc

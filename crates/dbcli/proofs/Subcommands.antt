@@ -1,6 +1,6 @@
 -- The subcommand that a parse met.
 use Rattle.std.proofs.Common.{◌≡◌, ◌∙◌, ℕ, List, Option, Some, None, Result, Ok, Err, refl, sym, ap, subst, true, codes, slice_index, arith}
-use Rattle.std.specs.Prelude.{IfErr, IfNone, option_map}
+use Rattle.std.specs.Prelude.{Bool, IfErr, IfNone, not, option_map}
 use Rattle.std.specs.Result.{IsErrAnd}
 use Rattle.std.specs.Box.{box_value}
 use Rattle.clap.specs.Words.{App, HasKind, Row, Text, fault_of, first_of, found_of, is_simple, is_simple_and_free, rows_of}
@@ -11,7 +11,7 @@ use Rattle.clap.specs.declared.error.Error.{Error}
 use Rattle.dbcli.specs.declared.command_line.LineError.{LineError}
 use Rattle.dbcli.specs.declared.command_line.LineError.TheVariants.{Words}
 use Rattle.clap.proofs.OnLiterals.{clap_on_literals}
-use Rattle.dbcli.specs.CommandLine.{AsksFor, HasLimit, IsErrorOf, IsLimitOf, dbck_app, name_of}
+use Rattle.dbcli.specs.CommandLine.{AsksFor, HasLimit, IsErrorOf, IsFlag, IsLimitOf, IsProgressOf, dbck_app, name_of}
 use Rattle.dbformat.specs.declared.Command.{Command}
 use Rattle.dbformat.specs.declared.Command.TheVariants.{Check, Stat}
 
@@ -75,6 +75,11 @@ only_checks (Stat aggregate all) name rows e none range named value =
     let P : Text → Type 0 = λ l. slice_index l 0 ≡ 99 in
     let first : slice_index (codes "stat") 0 ≡ 99 = subst P (sym e ∙ named) refl in
     absurd (omega arith)
+
+-- the flag that turns progress off, by the rows that were met
+pub progress_of : (met : Option (Text × List Row)) (name : Text) (rows : List Row) (shown : Bool) → met ≡ Some (name, rows)
+    → IsFlag (not shown) (codes "no-progress") rows → IsProgressOf shown met
+progress_of met name rows shown e flag = rw e flag
 
 -- a row that is there is not away
 pub not_away : (row : Option Text) (text : Text) → row ≡ None → row ≡ Some text → ⊥

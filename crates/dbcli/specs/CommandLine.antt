@@ -1,5 +1,5 @@
 -- The command line, as `clap` sees it, and what a line that it takes says.
-use Rattle.std.specs.Prelude.{◌≡◌, ◌≤◌, ℕ, pos, Bool, true, false, List, [], ◌∷◌, Option, Some, None, codes, ⊤}
+use Rattle.std.specs.Prelude.{◌≡◌, ◌≤◌, ℕ, pos, Bool, true, false, not, List, [], ◌∷◌, Option, Some, None, codes, ⊤}
 use Rattle.std.specs.Str.Parse.{IsNumeral, digits_value, without_leading_plus}
 use Rattle.clap.specs.Words.{App, Row, Rule, Text, first_of, new_app, new_rule, one_of, with_rule, with_subcommand}
 use Rattle.clap.specs.Words.{HasKind, fault_of, subcommand_of}
@@ -26,13 +26,21 @@ limit_rule = record (new_rule (codes "N")) {
 abbrev pub flag_rule : Text → Rule
 flag_rule name = record (new_rule name) { long = Some name; action = Some SetTrue }
 
--- the subcommand check, with its limit and its file
+-- the flag that turns progress off
+abbrev pub no_progress_rule : Rule
+no_progress_rule = flag_rule (codes "no-progress")
+
+-- the subcommand check, with its limit, its flag and its file
 abbrev pub check_app : App
-check_app = with_rule (with_rule (new_app (codes "check")) limit_rule) file_rule
+check_app = with_rule (with_rule (with_rule (new_app (codes "check")) limit_rule) no_progress_rule) file_rule
+
+-- the subcommand stat with its own flags
+abbrev pub stat_flags : App
+stat_flags = with_rule (with_rule (new_app (codes "stat")) (flag_rule (codes "aggregate"))) (flag_rule (codes "all"))
 
 -- the subcommand stat, with its flags and its file
 abbrev pub stat_app : App
-stat_app = with_rule (with_rule (with_rule (new_app (codes "stat")) (flag_rule (codes "aggregate"))) (flag_rule (codes "all"))) file_rule
+stat_app = with_rule (with_rule stat_flags no_progress_rule) file_rule
 
 abbrev pub top_app : App
 top_app = let a = new_app (codes "dbck") in record a { top = record a.top { has_version = true; subcommand_required = true } }
@@ -70,6 +78,11 @@ pub record IsFlag (set : Bool) (name : Text) (rows : List Row) : Type 0 where
 abbrev pub HasFlags : Command → List Row → Type 0
 HasFlags (Check limit) rows = ⊤
 HasFlags (Stat aggregate all) rows = IsFlag aggregate (codes "aggregate") rows × IsFlag all (codes "all") rows
+
+-- progress is shown unless a flag of the subcommand turns it off
+abbrev pub IsProgressOf : Bool → Option (Text × List Row) → Type 0
+IsProgressOf shown None = ⊥
+IsProgressOf shown (Some (name, rows)) = IsFlag (not shown) (codes "no-progress") rows
 
 -- The subcommand that the words name, with its rows, asks for this command and this file.
 pub record AsksFor (met : Option (Text × List Row)) (command : Command) (file : Text) : Type 0 where

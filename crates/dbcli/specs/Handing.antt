@@ -1,5 +1,5 @@
 -- What handing on leaves of the outcome of a run.
-use Rattle.std.specs.Prelude.{◌≡◌, ◌≤◌, ℕ, ◌+◌, ◌%◌, ◌^◌, [], Result, Ok, Err}
+use Rattle.std.specs.Prelude.{◌≡◌, ℕ, ◌-◌, List, [], length, slice_get, Some, Result, Ok, Err}
 use Rattle.std.specs.Io.KnownBytes.{Keeps}
 use Rattle.dbformat.specs.declared.Verdict.{Verdict}
 use Rattle.dbreport.specs.StatSink.{IsFlushed, failures_of_each}
@@ -8,6 +8,10 @@ use Rattle.dbsource.specs.Outs.{OutState}
 use Rattle.dbsource.specs.declared.error.RunError.{RunError}
 use Rattle.dbsource.specs.declared.error.RunError.TheVariants.{Refused, WriteFailed}
 use Rattle.dbcli.specs.Exit.{IsHandedOnOrFailed}
+
+-- a piece whose last byte is a line feed
+abbrev pub EndsLine : List ℕ → Type 0
+EndsLine piece = slice_get piece (length piece - 1) ≡ Some 10
 
 -- it was tried to flush an Out, once: told bytes stay
 pub record TriesToFlush (old new : OutState) : Type 0 where

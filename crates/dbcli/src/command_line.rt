@@ -1,13 +1,15 @@
 // The command line of the program.
-ghost use Rattle.std.specs.Prelude.{◌≡◌, ℕ, [], IfOk, IfErr, IfSome, IfNone, codes, map, false};
+ghost use Rattle.std.specs.Prelude.{◌≡◌, ℕ, List, [], IfOk, IfErr, IfSome, IfNone, codes, map, not, false};
 ghost use Rattle.clap.specs.Words.{app_of, fault_of, found_of, kind_of, new_app, rows_of, rule_of, subcommand_of};
 ghost use Rattle.clap.specs.declared.error.kind.ErrorKind.TheVariants as error_kind;
 ghost use Rattle.clap.specs.declared.builder.command.Command.TheViews.{out-Command as fields_of};
 ghost use Rattle.dbcli.specs.CommandLine.{dbck_app, check_app, stat_app, file_rule, flag_rule, limit_rule, name_of};
-ghost use Rattle.dbcli.specs.CommandLine.{AsksFor, HasFlags, HasLimit, IsErrorOf, IsLimitOf};
+ghost use Rattle.dbcli.specs.Status.{line_status};
+ghost use Rattle.dbcli.specs.CommandLine.{AsksFor, HasFlags, HasLimit, IsErrorOf, IsFlag, IsLimitOf, IsProgressOf};
 ghost use Rattle.dbformat.specs.declared.Command.{Command as command_type};
 ghost use Rattle.dbformat.specs.declared.Command.TheVariants.{Check as check};
 
+use crate::shown::shown;
 use clap::{Arg, ArgAction, ArgMatches, Command as Words, value_parser};
 use dbreport::Command;
 use std::alloc::{AllocError, Global};
@@ -20,6 +22,8 @@ pub struct Line<'a> {
     pub command: Command,
     /// Where the file is.
     pub file: &'a str,
+    /// Whether progress is shown.
+    pub progress: bool,
 }
 
 /// Why a command line is not one of the program's, or that it asks for help or the version.
@@ -113,6 +117,14 @@ fn flag_arg<'a>(alloc: Global, name: &'a str, help: &'a str) -> Arg<'a>
         .help(help)
 }
 
+fn no_progress_arg<'a>(alloc: Global) -> Arg<'a>
+    ensures rule { rule_of result ≡ flag_rule (codes "no-progress") }
+    ensures local { result.global ≡ false }
+{
+    let help = "Show no progress where standard error is a terminal";
+    flag_arg(alloc, "no-progress", help)
+}
+
 // A command of this name, with the texts at the top and at the end of its help.
 fn described<'a>(alloc: Global, name: &'a str, about: &'a str, after: &'a str) -> Words<'a>
     ensures app { app_of result ≡ new_app name.entry.now }
@@ -126,6 +138,7 @@ fn check_command<'a>(alloc: Global) -> Result<Words<'a>, AllocError>
 {
     described(alloc, "check", CHECK_ABOUT, CHECK_EXAMPLES)
         .arg(limit_arg(alloc))?
+        .arg(no_progress_arg(alloc))?
         .arg(file_arg(alloc))
 }
 
@@ -141,6 +154,7 @@ fn stat_command<'a>(alloc: Global) -> Result<Words<'a>, AllocError>
     described(alloc, "stat", STAT_ABOUT, STAT_EXAMPLES)
         .arg(aggregate)?
         .arg(all)?
+        .arg(no_progress_arg(alloc))?
         .arg(file_arg(alloc))
 }
 
@@ -184,6 +198,13 @@ fn stat_of(given: &ArgMatches<'_>) -> Command
     }
 }
 
+// Whether progress is not turned off.
+fn shows_progress(given: &ArgMatches<'_>) -> bool
+    ensures { IsFlag (not result) (codes "no-progress") (rows_of (found_of given.now)) }
+{
+    !given.get_flag("no-progress")
+}
+
 // What the subcommand that was met asks for.
 fn command_of(name: &str, given: &ArgMatches<'_>) -> Option<Command>
     ensures named { IfSome result (λ command. name.now ≡ name_of command) }
@@ -209,6 +230,7 @@ fn command_of(name: &str, given: &ArgMatches<'_>) -> Option<Command>
 pub fn line_of<'a>(alloc: Global, words: &'a [&'a str]) -> Result<Line<'a>, LineError>
     ensures asks { IfOk result (λ line. AsksFor (subcommand_of dbck_app (map (λ word. word.now) words.entry.now)) line.command line.file.now) }
     ensures limit { IfOk result (λ line. HasLimit line.command) }
+    ensures progress { IfOk result (λ line. IsProgressOf line.progress (subcommand_of dbck_app (map (λ word. word.now) words.entry.now))) }
     // Only words in which the parser finds no fault are taken, and its fault is why others are not.
     ensures taken { IfOk result (λ line. fault_of dbck_app (map (λ word. word.now) words.entry.now) ≡ []) }
     ensures refused { IfErr result (λ error. IsErrorOf error (map (λ word. word.now) words.entry.now)) }
@@ -222,7 +244,48 @@ pub fn line_of<'a>(alloc: Global, words: &'a [&'a str]) -> Result<Line<'a>, Line
         return Err(LineError::Limit);
     };
     match command_of(name, given) {
-        Some(command) => Ok(Line { command, file }),
+        Some(command) => Ok(Line {
+            command,
+            file,
+            progress: shows_progress(given),
+        }),
         None => Err(LineError::Limit),
+    }
+}
+
+// The words as one line shows them.
+fn shown_words(alloc: Global, words: &[&str]) -> Result<Vec<String>, AllocError> {
+    let mut lines = Vec::new(alloc);
+    for word in words {
+        lines.push(shown(alloc, word)?)?;
+    }
+    Ok(lines)
+}
+
+// The error of words as one line shows them, if they have one.
+fn error_of_shown(alloc: Global, words: &[&str]) -> Result<Option<clap::Error>, AllocError> {
+    let lines = shown_words(alloc, words)?;
+    let mut texts: Vec<&str> = Vec::new(alloc);
+    for line in lines.iter() {
+        texts.push(line.as_str())?;
+    }
+    match line_of(alloc, texts.as_slice()) {
+        Err(LineError::Words(error)) => Ok(Some(error)),
+        _ => Ok(None),
+    }
+}
+
+/// An error of the words with the text that it has of them as one line shows them, so that no control character of a word
+/// reaches a terminal.
+pub fn shown_error(alloc: Global, words: &[&str], error: LineError) -> LineError
+    ensures kept { (texts : List (List ℕ)) → IsErrorOf error texts → IsErrorOf result texts }
+    ensures status { line_status result ≡ line_status error }
+{
+    let LineError::Words(error) = error else {
+        return error;
+    };
+    match error_of_shown(alloc, words) {
+        Ok(Some(shown)) if shown.kind() == error.kind() => LineError::Words(shown),
+        _ => LineError::Words(error),
     }
 }

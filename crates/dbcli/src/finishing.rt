@@ -9,35 +9,58 @@ ghost use Rattle.dbcli.specs.Exit.{HasFailed, IsExitOf, IsHandedOn, IsHandedOnOr
 ghost use Rattle.dbcli.specs.Exit.{failures_at_4, first_most, second_most};
 ghost use Rattle.dbcli.specs.Handing.{IsHanded};
 ghost use Rattle.dbcli.specs.Status.{exit_status};
+ghost use Rattle.dbsource.specs.Failures.{failures_after, is_any};
 
 use crate::status::status_of;
 use arrayvec::ArrayString;
 use dbreport::{Command, Verdict, run};
-use dbsource::{Out, ReadFailed, RunError, Source};
+use dbsource::{Out, ReadFailed, RunError, Source, WriteFailed};
 use std::alloc::Global;
 use std::fmt::Write;
 
+/// What is told of a run beside its two Outs, which it does nothing to.
+pub trait Notes {
+    /// The run has come to this. The line of an error is not yet put.
+    fn tell(&mut self, outcome: &Result<Verdict, RunError>);
+}
+
 // Tries to put the line of an error, and to hand it on. That this fails changes nothing.
-fn put_error<E: Out>(err: &mut E, error: RunError)
+fn put_line<E: Out>(err: &mut E, error: RunError) -> Result<(), WriteFailed>
+    ensures line { PutsLine (E.held err.old) (E.held err.new) }
+    ensures count { (E.held err.new).failures ≡ failures_after is_any result (E.held err.old).failures }
+{
+    let mut line: ArrayString<96> = ArrayString::new();
+    if writeln!(line, "dbck: {error}").is_err() {
+        return Ok(());
+    }
+    err.put(line.as_str().as_bytes())
+}
+
+// Hands on what is pending, then tells the notes of an error and puts its line, and hands it on, as far as that can be. Where
+// both the first and the line fail no more is tried.
+fn put_error<E: Out, N: Notes>(err: &mut E, error: RunError, notes: &mut N)
     ensures line { PutsLine (E.held err.old) (E.held err.new) }
     ensures tried { IsHandedOnOrFailed 2 (E.held err.old) (E.held err.new) }
 {
-    let mut line: ArrayString<96> = ArrayString::new();
-    if writeln!(line, "dbck: {error}").is_ok() {
-        let _ = err.put(line.as_str().as_bytes());
+    let is_flushed = err.flush().is_ok();
+    notes.tell(&Err(error));
+    let is_put = put_line(err, error).is_ok();
+    if is_flushed || is_put {
+        let _ = err.flush();
     }
-    let _ = err.flush();
 }
 
-/// Puts the line of an error to `err` and hands it on, if that can be, and answers the status of the outcome.
-pub fn end<E: Out>(err: &mut E, outcome: Result<Verdict, RunError>) -> u8
+/// Puts the line of an error to `err`, after its notes, and hands it on, as far as that can be; answers the status of the
+/// outcome.
+pub fn end<E: Out, N: Notes>(err: &mut E, outcome: Result<Verdict, RunError>, notes: &mut N) -> u8
     ensures status { result ≡ exit_status outcome }
     ensures quiet { OnOk outcome (E.held err.new ≡ E.held err.old) }
     ensures line { PutsLine (E.held err.old) (E.held err.new) }
     ensures tried { OnErr outcome (IsHandedOnOrFailed 2 (E.held err.old) (E.held err.new)) }
 {
-    if let Err(error) = outcome {
-        put_error(err, error);
+    match outcome {
+        Ok(_) => notes.tell(&outcome),
+        Err(error) => put_error(err, error, notes),
     }
     status_of(&outcome)
 }
@@ -47,7 +70,7 @@ pub fn end<E: Out>(err: &mut E, outcome: Result<Verdict, RunError>) -> u8
 ///
 /// # Errors
 ///
-/// The error of `outcome`, and [`RunError::WriteFailed`] where an Out fails behind a verdict.
+/// The error of `outcome`, and [`RunError::WriteFailed`] where an Out fails after a verdict.
 pub fn hand_on<O: Out, E: Out>(
     out: &mut O,
     err: &mut E,
@@ -73,12 +96,13 @@ pub fn hand_on<O: Out, E: Out>(
 /// Runs `command` on the source, and answers the exit status. What was put to `out` and then what was put to `err` is handed
 /// on before the status is decided. After an error that is tried of `out`, unless the file is refused; then the line of the
 /// error is put to `err`, if that can be, and handed on, if that can be.
-pub fn finish_opened<S: Source, O: Out, E: Out>(
+pub fn finish_opened<S: Source, O: Out, E: Out, N: Notes>(
     alloc: Global,
     command: Command,
     source: &mut S,
     out: &mut O,
     err: &mut E,
+    notes: &mut N,
 ) -> u8
     // Where the source tells its bytes: what the status says of their report, and of what was written of it; 0 for a sound
     // file, and 1 for any other that is checked to its end; and each page is asked for once at most.
@@ -106,17 +130,18 @@ pub fn finish_opened<S: Source, O: Out, E: Out>(
 {
     let outcome = run(alloc, command, source, out, err);
     let outcome = hand_on(out, err, outcome);
-    end(err, outcome)
+    end(err, outcome, notes)
 }
 
 /// Runs `command` on the file that was opened, as [`finish_opened`], or that could not be, and answers the exit status. Where
 /// it could not be opened the line of the error is put to `err`, and `out` is left alone.
-pub fn finish<S: Source + Drop, O: Out, E: Out>(
+pub fn finish<S: Source + Drop, O: Out, E: Out, N: Notes>(
     alloc: Global,
     command: Command,
     opened: Result<S, ReadFailed>,
     out: &mut O,
     err: &mut E,
+    notes: &mut N,
 ) -> u8
     // Where the source tells its bytes.
     ensures opened { IfOk opened (λ source. IfSome (S.held source).bytes (λ file.
@@ -137,7 +162,7 @@ pub fn finish<S: Source + Drop, O: Out, E: Out>(
     ensures unopened { IsErr opened → (result ≡ 4) × (out.new ≡ out.old) × PutsLine (E.held err.old) (E.held err.new) }
 {
     match opened {
-        Ok(mut source) => finish_opened(alloc, command, &mut source, out, err),
-        Err(error) => end(err, Err(RunError::from(error))),
+        Ok(mut source) => finish_opened(alloc, command, &mut source, out, err, notes),
+        Err(error) => end(err, Err(RunError::from(error)), notes),
     }
 }

@@ -1,15 +1,24 @@
 //! What the program `dbck` does between its words and its exit status: it reads the command line, opens the file, runs what is
-//! asked for, and tells errors and notes.
+//! asked for, and reports errors, notes and progress.
 #![tactic(auto)]
 
 mod command_line;
 mod finishing;
+mod line_out;
 mod logs;
+mod notes;
+mod progress;
 mod running;
+mod shown;
 mod status;
+mod watched;
 
-pub use command_line::{Line, LineError, line_of};
-pub use finishing::{end, finish, finish_opened, hand_on};
-pub use logs::put_notes;
+pub use command_line::{Line, LineError, line_of, shown_error};
+pub use dbreport::{Command, Verdict};
+pub use dbsource::{Out, ReadFailed, RunError, Source};
+pub use finishing::{Notes, end, finish, finish_opened, hand_on};
+pub use line_out::LineOut;
+pub use logs::put_log_notes;
+pub use progress::Progress;
 pub use running::{run_line, run_words, tell};
 pub use status::{line_status, status_of};

@@ -1,26 +1,11 @@
 // The logs of SQLite that lie beside a database, of which a check reads nothing.
+use crate::shown::shown;
 use dbsource::Out;
-use std::alloc::{AllocError, Global};
-use std::fmt::Write;
 use std::rt::Files;
 use std::{fs, io};
 
 // What a log's name has behind that of its database, and what SQLite has to do with it.
 const LOGS: [(&str, &str); 2] = [("-wal", "checkpoint"), ("-journal", "recover")];
-
-// The path as one line shows it: a control character stands as in a shown name.
-fn shown(alloc: Global, path: &str) -> Result<String, AllocError> {
-    let mut text = String::new(alloc);
-    for c in path.chars() {
-        if c.is_control() {
-            let code = u32::from(c);
-            write!(text, "\\x{code:02x}")?;
-        } else {
-            text.push(c)?;
-        }
-    }
-    Ok(text)
-}
 
 // Where the database itself lies, if `file` is a link to it: there SQLite looks for the logs.
 fn behind_links<R: Files + AllocGlobal>(rt: &R, file: &str) -> io::Result<String> {
@@ -32,11 +17,11 @@ fn behind_links<R: Files + AllocGlobal>(rt: &R, file: &str) -> io::Result<String
 }
 
 // Puts the line of a log that lies at `path` and is not empty.
-fn put_note<R: Files + AllocGlobal, E: Out>(
+fn put_note<R: Files + AllocGlobal, N: Out>(
     rt: &R,
     path: &str,
     duty: &str,
-    err: &mut E,
+    notes: &mut N,
 ) -> io::Result<()> {
     let metadata = fs::metadata(rt, path)?;
     if metadata.is_file() && metadata.len() > 0 {
@@ -44,26 +29,22 @@ fn put_note<R: Files + AllocGlobal, E: Out>(
         let line = format!(in rt.alloc();
             "dbck: note: {name} is not read; let SQLite open a copy of both files to {duty} it, and check that copy\n"
         )?;
-        let _ = err.put(line.as_str().as_bytes());
+        let _ = notes.put(line.as_str().as_bytes());
     }
     Ok(())
 }
 
-fn put_each_note<R: Files + AllocGlobal, E: Out>(
-    rt: &R,
-    file: &str,
-    err: &mut E,
-) -> io::Result<()> {
+fn put_each<R: Files + AllocGlobal, N: Out>(rt: &R, file: &str, notes: &mut N) -> io::Result<()> {
     let database = behind_links(rt, file)?;
     for (suffix, duty) in LOGS {
         let path = format!(in rt.alloc(); "{database}{suffix}")?;
-        let _ = put_note(rt, path.as_str(), duty, err);
+        let _ = put_note(rt, path.as_str(), duty, notes);
     }
     Ok(())
 }
 
-/// Puts a line to `err` for each log of SQLite that lies beside the database at `file` and is not empty, if that can be.
+/// Puts a line to `notes` for each log of SQLite that lies beside the database at `file` and is not empty, if that can be.
 /// An error while one is looked for is ignored.
-pub fn put_notes<R: Files + AllocGlobal, E: Out>(rt: &R, file: &str, err: &mut E) {
-    let _ = put_each_note(rt, file, err);
+pub fn put_log_notes<R: Files + AllocGlobal, N: Out>(rt: &R, file: &str, notes: &mut N) {
+    let _ = put_each(rt, file, notes);
 }

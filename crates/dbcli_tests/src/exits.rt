@@ -1,4 +1,5 @@
 // The exit status of a run, and what stands in the outs.
+use crate::no_notes::NoNotes;
 use dbcli::finish;
 use dbfiles::{TestFile, patch};
 use dbreport::Command;
@@ -66,7 +67,14 @@ fn finishes(rt: HostRuntime) -> Result<(), Fail> {
         let mut err = MemOut::new(rt.alloc());
         let command = Command::Check { limit: 100 };
         let opened = Ok(MemSource::new(file.as_slice()));
-        let found = finish(rt.alloc(), command, opened, &mut out, &mut err);
+        let found = finish(
+            rt.alloc(),
+            command,
+            opened,
+            &mut out,
+            &mut err,
+            &mut NoNotes,
+        );
         assert!(rt; found == status, "byte {at}");
         assert!(rt; out.writer().as_slice() == written.as_bytes(), "byte {at}");
         assert!(rt; err.bytes() == told.as_bytes(), "byte {at}");
@@ -168,7 +176,14 @@ fn finishes_statistics(rt: HostRuntime) -> Result<(), Fail> {
         let mut err = MemOut::new(rt.alloc());
         let command = Command::Stat { aggregate, all };
         let opened = Ok(MemSource::new(file.as_slice()));
-        let found = finish(rt.alloc(), command, opened, &mut out, &mut err);
+        let found = finish(
+            rt.alloc(),
+            command,
+            opened,
+            &mut out,
+            &mut err,
+            &mut NoNotes,
+        );
         assert!(rt; found == status, "byte {at}");
         assert!(rt; out.writer().as_slice() == written.as_bytes(), "byte {at}");
         assert!(rt; err.bytes() == told.as_bytes(), "byte {at}");
@@ -188,7 +203,16 @@ fn finishes_statistics_without_room(rt: HostRuntime) -> Result<(), Fail> {
             all: false,
         };
         let opened = Ok(MemSource::new(file.as_slice()));
-        assert!(rt; finish(rt.alloc(), command, opened, &mut out, &mut no_room) == status);
+        assert!(rt;
+            finish(
+                rt.alloc(),
+                command,
+                opened,
+                &mut out,
+                &mut no_room,
+                &mut NoNotes
+            ) == status
+        );
         assert!(rt;
             out.writer().as_slice()
                 == "sqlite_schema\t/\t1\tleaf\t0\t0\t404\t0\t0\t512\n".as_bytes()
@@ -204,12 +228,30 @@ fn finishes_without_file(rt: HostRuntime) -> Result<(), Fail> {
     let mut out = BufferedOut::new(rt.alloc(), Vec::new(rt.alloc()))?;
     let mut err = MemOut::new(rt.alloc());
     let missing: Result<MemSource<'_>, ReadFailed> = Err(ReadFailed);
-    assert!(rt; finish(rt.alloc(), command, missing, &mut out, &mut err) == 4);
+    assert!(rt;
+        finish(
+            rt.alloc(),
+            command,
+            missing,
+            &mut out,
+            &mut err,
+            &mut NoNotes
+        ) == 4
+    );
     assert!(rt; err.bytes() == "dbck: E8 the file cannot be read\n".as_bytes());
     assert!(rt; out.writer().is_empty());
     let mut out = BufferedOut::new(rt.alloc(), Vec::new(rt.alloc()))?;
     let empty = Ok(MemSource::new(&[]));
-    assert!(rt; finish(rt.alloc(), command, empty, &mut out, &mut NoRoom::new()) == 3);
+    assert!(rt;
+        finish(
+            rt.alloc(),
+            command,
+            empty,
+            &mut out,
+            &mut NoRoom::new(),
+            &mut NoNotes
+        ) == 3
+    );
     assert!(rt; out.writer().is_empty());
     Ok(())
 }
@@ -230,7 +272,14 @@ fn finishes_on_a_full_disk(rt: HostRuntime) -> Result<(), Fail> {
             let mut err = MemOut::new(rt.alloc());
             let mut out = BufferedOut::new(rt.alloc(), &mut disk[..room])?;
             let opened = Ok(MemSource::new(file.as_slice()));
-            let found = finish(rt.alloc(), command, opened, &mut out, &mut err);
+            let found = finish(
+                rt.alloc(),
+                command,
+                opened,
+                &mut out,
+                &mut err,
+                &mut NoNotes,
+            );
             drop(out);
             let is_full = room < text.len();
             assert!(rt; found == if is_full { 6 } else { 0 }, "room for {room}");
@@ -301,7 +350,7 @@ fn hands_on_before_an_error(rt: HostRuntime) -> Result<(), Fail> {
             reads,
             failures: Failures::new(),
         });
-        assert!(rt; finish(rt.alloc(), command, torn, &mut out, &mut err) == 4);
+        assert!(rt; finish(rt.alloc(), command, torn, &mut out, &mut err, &mut NoNotes) == 4);
         assert!(rt;
             out.writer().as_slice() == written.as_bytes(),
             "{reads} reads"

@@ -1,4 +1,5 @@
 // What a flush that fails makes of the exit status, and what is handed on before it is decided.
+use crate::no_notes::NoNotes;
 use dbcli::{end, finish, hand_on};
 use dbfiles::TestFile;
 use dbreport::Command;
@@ -47,22 +48,58 @@ fn failed_flushes_of_each(rt: HostRuntime) -> Result<(), Fail> {
     let mut first = NoFlush::new();
     let mut err = MemOut::new(rt.alloc());
     let opened = Ok(MemSource::new(file.as_slice()));
-    assert!(rt; finish(rt.alloc(), CHECK, opened, &mut first, &mut err) == 6);
+    assert!(rt;
+        finish(
+            rt.alloc(),
+            CHECK,
+            opened,
+            &mut first,
+            &mut err,
+            &mut NoNotes
+        ) == 6
+    );
     assert!(rt; first.flushes == 1);
     assert!(rt; err.bytes() == "dbck: E10 the output cannot be written\n".as_bytes());
     let mut out = BufferedOut::new(rt.alloc(), Vec::new(rt.alloc()))?;
     let mut second = NoFlush::new();
     let opened = Ok(MemSource::new(file.as_slice()));
-    assert!(rt; finish(rt.alloc(), CHECK, opened, &mut out, &mut second) == 6);
-    assert!(rt; second.flushes == 2);
+    assert!(rt;
+        finish(
+            rt.alloc(),
+            CHECK,
+            opened,
+            &mut out,
+            &mut second,
+            &mut NoNotes
+        ) == 6
+    );
+    assert!(rt; second.flushes == 3);
     assert!(rt; out.writer().as_slice() == "ok\n".as_bytes());
     let (mut first, mut second) = (NoFlush::new(), NoFlush::new());
     let empty = Ok(MemSource::new(&[]));
-    assert!(rt; finish(rt.alloc(), CHECK, empty, &mut first, &mut second) == 3);
-    assert!(rt; first.flushes == 0 && second.flushes == 1);
-    let missing: Result<MemSource<'_>, ReadFailed> = Err(ReadFailed);
-    assert!(rt; finish(rt.alloc(), CHECK, missing, &mut first, &mut second) == 4);
+    assert!(rt;
+        finish(
+            rt.alloc(),
+            CHECK,
+            empty,
+            &mut first,
+            &mut second,
+            &mut NoNotes
+        ) == 3
+    );
     assert!(rt; first.flushes == 0 && second.flushes == 2);
+    let missing: Result<MemSource<'_>, ReadFailed> = Err(ReadFailed);
+    assert!(rt;
+        finish(
+            rt.alloc(),
+            CHECK,
+            missing,
+            &mut first,
+            &mut second,
+            &mut NoNotes
+        ) == 4
+    );
+    assert!(rt; first.flushes == 0 && second.flushes == 4);
     Ok(())
 }
 
@@ -73,7 +110,7 @@ fn lines_of_errors_are_handed_on(rt: HostRuntime) -> Result<(), Fail> {
     let mut err = BufferedOut::new(rt.alloc(), Vec::new(rt.alloc()))?;
     assert!(rt; err.put("dbck: note\n".as_bytes()).is_ok());
     let missing: Result<MemSource<'_>, ReadFailed> = Err(ReadFailed);
-    assert!(rt; finish(rt.alloc(), CHECK, missing, &mut out, &mut err) == 4);
+    assert!(rt; finish(rt.alloc(), CHECK, missing, &mut out, &mut err, &mut NoNotes) == 4);
     assert!(rt;
         err.writer().as_slice() == "dbck: note\ndbck: E8 the file cannot be read\n".as_bytes()
     );
@@ -88,7 +125,7 @@ fn want_of_memory_is_status_5(rt: HostRuntime) -> Result<(), Fail> {
     let mut err = BufferedOut::new(rt.alloc(), Vec::new(rt.alloc()))?;
     assert!(rt; out.put("row\n".as_bytes()).is_ok());
     let outcome = hand_on(&mut out, &mut err, Err(RunError::OutOfMemory));
-    assert!(rt; end(&mut err, outcome) == 5);
+    assert!(rt; end(&mut err, outcome, &mut NoNotes) == 5);
     assert!(rt; out.writer().as_slice() == "row\n".as_bytes());
     assert!(rt; err.writer().as_slice() == "dbck: E9 out of memory\n".as_bytes());
     Ok(())

@@ -14,6 +14,8 @@ mod lines;
 #[cfg(test)]
 mod logs;
 #[cfg(test)]
+mod no_notes;
+#[cfg(test)]
 mod one_log;
 #[cfg(test)]
 mod runs;

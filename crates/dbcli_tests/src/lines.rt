@@ -34,8 +34,9 @@ Arguments:
   <FILE>  The database file
 
 Options:
-      --limit <N>  How many fault lines are written at most, from 1 to 1000000 [default: 100]
-  -h, --help       Print help
+      --limit <N>    How many fault lines are written at most, from 1 to 1000000 [default: 100]
+      --no-progress  Show no progress where standard error is a terminal
+  -h, --help         Print help
 
 Examples:
   dbck check notes.db            The first 100 faults of notes.db, or 'ok'
@@ -53,9 +54,10 @@ Arguments:
   <FILE>  The database file
 
 Options:
-      --aggregate  One row for each tree, with the sums of its pages
-      --all        Rows for the pages that are in no tree, too
-  -h, --help       Print help
+      --aggregate    One row for each tree, with the sums of its pages
+      --all          Rows for the pages that are in no tree, too
+      --no-progress  Show no progress where standard error is a terminal
+  -h, --help         Print help
 
 Columns, with a tab between each two:
   name path pageno pagetype ncell payload unused mx_payload pgoffset pgsize
@@ -76,14 +78,15 @@ fn takes_lines(rt: HostRuntime) -> Result<(), Fail> {
         (&["dbck", "check", "--limit", "1", "x"], 1, "x"),
         (&["dbck", "check", "x", "--limit=1000000"], 1000000, "x"),
         (&["dbck", "check", "--limit", "+7", "x"], 7, "x"),
-        (&["dbck", "check", "--", "x"], 100, "x"),
         (&["dbck", "check", "--", "-x"], 100, "-x"),
+        (&["dbck", "check", "--no-progress", "x"], 100, "x"),
     ];
     for (words, limit, file) in lines {
         match line_of(rt.alloc(), words) {
             Ok(line) => {
                 assert!(rt; line.command == Command::Check { limit });
                 assert!(rt; line.file == file);
+                assert!(rt; line.progress != words.contains(&"--no-progress"));
             }
             Err(_) => assert!(rt; false, "a line of limit {limit}"),
         }
@@ -110,7 +113,12 @@ fn takes_statistics(rt: HostRuntime) -> Result<(), Fail> {
             true,
             "x",
         ),
-        (&["dbck", "stat", "x", "--aggregate"], true, false, "x"),
+        (
+            &["dbck", "stat", "--no-progress", "x", "--aggregate"],
+            true,
+            false,
+            "x",
+        ),
         (
             &["dbck", "stat", "--all", "x", "--aggregate"],
             true,
@@ -124,6 +132,7 @@ fn takes_statistics(rt: HostRuntime) -> Result<(), Fail> {
             Ok(line) => {
                 assert!(rt; line.command == Command::Stat { aggregate, all });
                 assert!(rt; line.file == file);
+                assert!(rt; line.progress != words.contains(&"--no-progress"));
             }
             Err(_) => assert!(rt; false, "a line of the statistics of {file}"),
         }

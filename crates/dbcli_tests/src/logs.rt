@@ -1,6 +1,6 @@
 // The notes on logs that lie beside a database.
 use crate::fake_files::{Allowed, FakeFiles};
-use dbcli::put_notes;
+use dbcli::put_log_notes;
 use dbsource::MemOut;
 use std::fs;
 use std::os::unix::fs::symlink;
@@ -16,7 +16,7 @@ const JOURNAL: &str =
 fn has_notes(rt: &HostRuntime, path: &str, notes: &[&str]) -> Result<bool, Fail> {
     let files = FakeFiles::new(rt, Allowed::Looking);
     let mut err = MemOut::new(rt.alloc());
-    put_notes(&files, path, &mut err);
+    put_log_notes(&files, path, &mut err);
     let mut text = String::new(rt.alloc());
     for note in notes {
         text.push_str(note)?;
@@ -58,9 +58,9 @@ fn tells_of_logs_behind_links(rt: HostRuntime) -> Result<(), Fail> {
     symlink(&rt, "far/x.db", "links/near.db")?;
     let far = fs::canonicalize(&rt, "links/far/x.db")?;
     let mut err = MemOut::new(rt.alloc());
-    put_notes(&rt, "links/near.db", &mut err);
+    put_log_notes(&rt, "links/near.db", &mut err);
     let mut at_link = MemOut::new(rt.alloc());
-    put_notes(&rt, far.as_str(), &mut at_link);
+    put_log_notes(&rt, far.as_str(), &mut at_link);
     assert!(rt; !err.bytes().is_empty());
     assert!(rt; err.bytes() == at_link.bytes());
     fs::remove_dir_all(&rt, "links")?;

@@ -1,4 +1,5 @@
 // Rows and faults in one log, as of `dbck stat FILE > log 2>&1`.
+use crate::no_notes::NoNotes;
 use dbcli::finish;
 use dbfiles::{TestFile, patch};
 use dbreport::Command;
@@ -129,10 +130,10 @@ fn rows_and_faults_keep_their_order(rt: HostRuntime) -> Result<(), Fail> {
         let opened = Ok(MemSource::new(file.as_slice()));
         let status = if is_buffered {
             let mut err = BufferedOut::new(rt.alloc(), Shared { log: &log })?;
-            finish(rt.alloc(), ALL, opened, &mut out, &mut err)
+            finish(rt.alloc(), ALL, opened, &mut out, &mut err, &mut NoNotes)
         } else {
             let mut err = StreamOut::new(Shared { log: &log });
-            finish(rt.alloc(), ALL, opened, &mut out, &mut err)
+            finish(rt.alloc(), ALL, opened, &mut out, &mut err, &mut NoNotes)
         };
         assert!(rt; status == 1, "buffered {is_buffered}");
         drop(out);
@@ -157,7 +158,16 @@ fn rows_of_trees_stand_behind_their_faults(rt: HostRuntime) -> Result<(), Fail> 
     let mut out = BufferedOut::new(rt.alloc(), Shared { log: &log })?;
     let mut err = BufferedOut::new(rt.alloc(), Shared { log: &log })?;
     let opened = Ok(MemSource::new(file.as_slice()));
-    assert!(rt; finish(rt.alloc(), command, opened, &mut out, &mut err) == 1);
+    assert!(rt;
+        finish(
+            rt.alloc(),
+            command,
+            opened,
+            &mut out,
+            &mut err,
+            &mut NoNotes
+        ) == 1
+    );
     drop(out);
     drop(err);
     assert!(rt;

@@ -1,6 +1,6 @@
 // Lines that are run on real files: the status, and what stands in the outs.
 use crate::fake_files::{Allowed, FakeFiles};
-use dbcli::run_words;
+use dbcli::{Progress, run_words};
 use dbfiles::{TestFile, patch};
 use dbsource::{BufferedOut, MemOut};
 use std::fs;
@@ -36,6 +36,22 @@ const E2: &str = "dbck: E2 file is not a SQLite 3 database\n";
 
 const E8: &str = "dbck: E8 the file cannot be read\n";
 
+// The notes: on a log, on what is not checked, and on what is not opened or not read.
+const TEXT: &str =
+    "dbck: note: runs/text.db-wal is not read; let SQLite open a copy of both files to checkpoint it, and check that copy
+dbck: note: runs/text.db is not checked
+";
+
+const SHORT: &str = "dbck: note: runs/short.db is not checked\n";
+
+const MISSING: &str = "dbck: note: runs/missing.db: No such file or directory\n";
+
+const FOLDER: &str = "dbck: note: runs: not a regular file\n";
+
+const DEVICE: &str = "dbck: note: /dev/null: not a regular file\n";
+
+const ONE_BYTE: &str = "dbck: note: 1 byte after page 1 is not read\n";
+
 // The files: name, pages, and what is patched at which places of the smallest database.
 const FILES: [(&str, u32, &[(usize, u8)]); 4] = [
     ("whole.db", 1, &[]),
@@ -64,42 +80,57 @@ fn make_files<R: Files + AllocGlobal + Abort>(rt: &R, folder: &str) -> Result<()
 #[test]
 fn runs_lines(rt: HostRuntime) -> Result<(), Fail> {
     make_files(&rt, "runs")?;
+    fs::write(&rt, "runs/text.db-wal", b"x".as_slice())?;
+    let mut longer = TestFile::new(rt.alloc(), 512, 1)?.into_bytes();
+    longer.push(0)?;
+    fs::write(&rt, "runs/longer.db", longer.as_slice())?;
     let lines = [
-        ("dbck check runs/whole.db", 0, "ok\n", ""),
-        ("dbck check runs/faulty.db", 1, BOTH, ""),
-        ("dbck check --limit 1 runs/faulty.db", 1, FIRST, ""),
-        ("dbck check --limit 2 runs/faulty.db", 1, BOTH, ""),
-        ("dbck check runs/unowned.db", 1, N01, ""),
-        ("dbck check runs/text.db", 3, "", E2),
-        ("dbck check runs/short.db", 3, "", E1),
-        ("dbck check runs/missing.db", 4, "", E8),
-        ("dbck check runs", 4, "", E8),
-        ("dbck check /dev/null", 4, "", E8),
-        ("dbck check /dev/zero", 4, "", E8),
-        ("dbck stat runs/whole.db", 0, PAGE_ROW, ""),
-        ("dbck stat --aggregate runs/whole.db", 0, TREE_ROW, ""),
-        ("dbck stat runs/unowned.db", 1, PAGE_ROW, N01),
-        ("dbck stat --aggregate runs/unowned.db", 1, TREE_ROW, N01),
-        ("dbck stat --all runs/unowned.db", 1, ALL_ROWS, N01),
+        ("check runs/whole.db", 0, "ok\n", "", ""),
+        ("check runs/longer.db", 0, "ok\n", "", ONE_BYTE),
+        ("check runs/faulty.db", 1, BOTH, "", ""),
+        ("check --limit 1 runs/faulty.db", 1, FIRST, "", ""),
+        ("check --limit 2 runs/faulty.db", 1, BOTH, "", ""),
+        ("check runs/unowned.db", 1, N01, "", ""),
+        ("check runs/text.db", 3, "", E2, TEXT),
+        ("check runs/short.db", 3, "", E1, SHORT),
+        ("check runs/missing.db", 4, "", E8, MISSING),
+        ("check runs", 4, "", E8, FOLDER),
+        ("check /dev/null", 4, "", E8, DEVICE),
+        ("stat runs/whole.db", 0, PAGE_ROW, "", ""),
+        ("stat --aggregate runs/whole.db", 0, TREE_ROW, "", ""),
+        ("stat runs/unowned.db", 1, PAGE_ROW, N01, ""),
+        ("stat --aggregate runs/unowned.db", 1, TREE_ROW, N01, ""),
+        ("stat --all runs/unowned.db", 1, ALL_ROWS, N01, ""),
         (
-            "dbck stat --all --aggregate runs/unowned.db",
+            "stat --all --aggregate runs/unowned.db",
             1,
             ALL_TREES,
             N01,
+            "",
         ),
-        ("dbck stat runs/text.db", 3, "", E2),
-        ("dbck stat --all runs/short.db", 3, "", E1),
-        ("dbck stat --aggregate runs/missing.db", 4, "", E8),
+        ("stat runs/text.db", 3, "", E2, TEXT),
+        ("stat --all runs/short.db", 3, "", E1, SHORT),
+        ("stat --aggregate runs/missing.db", 4, "", E8, MISSING),
     ];
-    for (line, status, written, told) in lines {
-        let words: Vec<&str> = line.split(' ').collect(rt.alloc())?;
+    for (line, status, written, told, noted) in lines {
+        let line = format!(in rt.alloc(); "dbck {line}")?;
+        let words: Vec<&str> = line.as_str().split(' ').collect(rt.alloc())?;
         let files = FakeFiles::new(&rt, Allowed::Reading);
         let mut out = BufferedOut::new(rt.alloc(), Vec::new(rt.alloc()))?;
-        let mut err = MemOut::new(rt.alloc());
-        let found = run_words(&files, words.as_slice(), &mut out, &mut err);
+        let (mut err, mut notes) = (MemOut::new(rt.alloc()), MemOut::new(rt.alloc()));
+        let progress = Progress::new(rt.stderr(), false);
+        let found = run_words(
+            &files,
+            words.as_slice(),
+            &mut out,
+            &mut err,
+            &mut notes,
+            &progress,
+        );
         assert!(rt; found.is_ok_and(|found| found == status), "{line}");
         assert!(rt; out.writer().as_slice() == written.as_bytes(), "{line}");
         assert!(rt; err.bytes() == told.as_bytes(), "{line}");
+        assert!(rt; notes.bytes() == noted.as_bytes(), "{line}");
         assert!(rt; !files.has_refused(), "{line}");
     }
     fs::remove_dir_all(&rt, "runs")?;
@@ -114,30 +145,14 @@ fn runs_without_room(rt: HostRuntime) -> Result<(), Fail> {
         let mut room = [0u8; 2];
         let mut out = BufferedOut::new(rt.alloc(), &mut room[..])?;
         let mut err = MemOut::new(rt.alloc());
+        let mut notes = MemOut::new(rt.alloc());
         let words = ["dbck", command, "full/whole.db"];
-        let found = run_words(&rt, &words, &mut out, &mut err);
+        let progress = Progress::new(rt.stderr(), false);
+        let found = run_words(&rt, &words, &mut out, &mut err, &mut notes, &progress);
         assert!(rt; found.is_ok_and(|found| found == 6), "{command}");
         let told = "dbck: E10 the output cannot be written\n";
         assert!(rt; err.bytes() == told.as_bytes(), "{command}");
     }
     fs::remove_dir_all(&rt, "full")?;
-    Ok(())
-}
-
-// The note on a log comes before all else.
-#[test]
-fn notes_come_first(rt: HostRuntime) -> Result<(), Fail> {
-    make_files(&rt, "notes")?;
-    fs::write(&rt, "notes/text.db-wal", b"x".as_slice())?;
-    let mut out = BufferedOut::new(rt.alloc(), Vec::new(rt.alloc()))?;
-    let mut err = MemOut::new(rt.alloc());
-    let found = run_words(&rt, &["dbck", "check", "notes/text.db"], &mut out, &mut err);
-    assert!(rt; found.is_ok_and(|found| found == 3));
-    let told =
-        "dbck: note: notes/text.db-wal is not read; let SQLite open a copy of both files to checkpoint it, and check that copy
-dbck: E2 file is not a SQLite 3 database
-";
-    assert!(rt; err.bytes() == told.as_bytes());
-    fs::remove_dir_all(&rt, "notes")?;
     Ok(())
 }

@@ -1,7 +1,7 @@
 use Rattle.std.proofs.Common.{ap, ◌∙◌, sym, subst, map, codes, inl}
 use Rattle.clap.specs.Words.{HasKind, fault_of, first_of, found_of, is_simple, is_simple_and_free, rows_of}
 use Rattle.clap.proofs.WalkLemmas.{first_value-rows}
-use Rattle.dbcli.proofs.Subcommands.{asked_of, is_free_dbck, is_simple_dbck, named_by, named_command, not_away, words_error}
+use Rattle.dbcli.proofs.Subcommands.{asked_of, is_free_dbck, is_simple_dbck, named_by, named_command, not_away, progress_of, words_error}
 use Rattle.dbcli.proofs.command_line.line_of.Goals as goal
 
 pub returns-in-Some-command_of-clause-asks : goal.returns-in-Some-command_of-clause-asks
@@ -24,6 +24,15 @@ returns-in-Some-command_of-clause-taken c =
     let app = c.in_ok-command.ensures.app in
     let words = map (λ word. word.now) c.args.words.now in
     sym (ap (λ a. fault_of a words) app) ∙ c.in_ok-matches.ensures.kinds (ap is_simple_and_free app ∙ is_free_dbck)
+
+pub returns-in-Some-command_of-clause-progress : goal.returns-in-Some-command_of-clause-progress
+returns-in-Some-command_of-clause-progress c =
+    let app = c.in_ok-command.ensures.app in
+    let words = map (λ word. word.now) c.args.words.now in
+    let matched = c.in_ok-matches.ensures.matches (ap is_simple app ∙ is_simple_dbck) in
+    let rows = rows_of (found_of c.in-Some.given.now) in
+    let met = named_by _ words c.in_ok-matches.matches c.in-Some.name.now rows app matched.1 c.in-Some.ensures.name c.in-Some.ensures.rows in
+    progress_of _ c.in-Some.name.now rows c.shows_progress.result met c.shows_progress.ensures
 
 pub returns-in_default-get_str-clause-refused : goal.returns-in_default-get_str-clause-refused
 returns-in_default-get_str-clause-refused c =

@@ -1,0 +1,168 @@
+// Notes on a file: lines beside the report, which they do not change.
+use crate::finishing::Notes;
+use crate::logs::put_log_notes;
+use crate::shown::shown;
+use crate::watched::Watch;
+use dbreport::Verdict;
+use dbsource::{Out, RunError};
+use std::alloc::{AllocError, Global};
+use std::fs::{File, Metadata};
+use std::os::unix::fs::{FileTypeExt, MetadataExt};
+use std::rt::Files;
+use std::{fs, io};
+
+/// What notes are put on: the file at a path, of which a run asks what `watch` sees.
+#[derive(Drop)]
+pub struct FileNotes<'a, R, N> {
+    rt: &'a R,
+    file: &'a str,
+    watch: &'a Watch,
+    notes: &'a mut N,
+    before: Option<Metadata>,
+    is_open: bool,
+}
+
+impl<'a, R: Files<File = File> + AllocGlobal, N: Out> FileNotes<'a, R, N> {
+    /// Notes on a file that is not yet opened.
+    pub fn new(
+        rt: &'a R,
+        file: &'a str,
+        watch: &'a Watch,
+        notes: &'a mut N,
+    ) -> FileNotes<'a, R, N> {
+        FileNotes {
+            rt,
+            file,
+            watch,
+            notes,
+            before: fs::metadata(rt, file).ok(),
+            is_open: false,
+        }
+    }
+
+    /// The file was opened. A note is put on each log beside it.
+    pub fn opened(&mut self) {
+        self.is_open = true;
+        put_log_notes(self.rt, self.file, self.notes);
+    }
+
+    // Puts the line of a text, if there is one.
+    fn put(&mut self, text: Result<Option<String>, AllocError>) {
+        if let Ok(Some(text)) = text {
+            if let Ok(line) = format!(in self.rt.alloc(); "dbck: note: {text}\n") {
+                let _ = self.notes.put(line.as_str().as_bytes());
+            }
+        }
+    }
+
+    // Why the file cannot be read.
+    fn unread(&self) -> Result<Option<String>, AllocError> {
+        let alloc = self.rt.alloc();
+        let reason = if self.is_open {
+            Some(read_reason(alloc, self.watch)?)
+        } else {
+            open_reason(self.rt, self.file)?
+        };
+        let Some(reason) = reason else {
+            return Ok(None);
+        };
+        let name = shown(alloc, self.file)?;
+        Ok(Some(format!(in alloc; "{name}: {reason}")?))
+    }
+
+    // That the file is refused.
+    fn refused(&self) -> Result<Option<String>, AllocError> {
+        let name = shown(self.rt.alloc(), self.file)?;
+        Ok(Some(format!(in self.rt.alloc(); "{name} is not checked")?))
+    }
+
+    // That the file was changed, if its name still leads to it.
+    fn changed(&self) -> Result<Option<String>, AllocError> {
+        let Some(before) = &self.before else {
+            return Ok(None);
+        };
+        match fs::metadata(self.rt, self.file) {
+            Ok(after) if is_changed(before, &after) => {
+                let name = shown(self.rt.alloc(), self.file)?;
+                Ok(Some(format!(in self.rt.alloc();
+                    "{name} was changed while it was read; the report may be of no state that it had"
+                )?))
+            }
+            _ => Ok(None),
+        }
+    }
+}
+
+impl<R: Files<File = File> + AllocGlobal, N: Out> Notes for FileNotes<'_, R, N> {
+    fn tell(&mut self, outcome: &Result<Verdict, RunError>) {
+        let text = match outcome {
+            Ok(_) => rest(self.rt.alloc(), self.watch),
+            Err(RunError::Refused(_)) => self.refused(),
+            Err(RunError::ReadFailed) => self.unread(),
+            Err(_) => Ok(None),
+        };
+        self.put(text);
+        if self.is_open {
+            let changed = self.changed();
+            self.put(changed);
+        }
+    }
+}
+
+// Whether one file has another length, or was written, between two looks at it.
+fn is_changed(before: &Metadata, after: &Metadata) -> bool {
+    let is_same = before.dev() == after.dev() && before.ino() == after.ino();
+    let is_written = before.mtime() != after.mtime() || before.mtime_nsec() != after.mtime_nsec();
+    is_same && (is_written || before.len() != after.len())
+}
+
+// The bytes after the last page, if there are some.
+fn rest(alloc: Global, watch: &Watch) -> Result<Option<String>, AllocError> {
+    let page = watch.pages();
+    match watch.len().checked_rem(watch.page_size()).unwrap_or(0) {
+        0 => Ok(None),
+        1 => Ok(Some(format!(in alloc; "1 byte after page {page} is not read")?)),
+        count => Ok(Some(format!(in alloc; "{count} bytes after page {page} are not read")?)),
+    }
+}
+
+// Which read of an open file failed.
+fn read_reason(alloc: Global, watch: &Watch) -> Result<String, AllocError> {
+    match watch.failed() {
+        Some(range) => {
+            let (offset, len) = (range.offset, range.len);
+            format!(in alloc; "the {len} bytes at {offset} cannot be read")
+        }
+        None => String::from_str(alloc, "its length is not known"),
+    }
+}
+
+// Why a file cannot be opened, if it still cannot.
+fn open_reason<R: Files<File = File> + AllocGlobal>(
+    rt: &R,
+    file: &str,
+) -> Result<Option<String>, AllocError> {
+    let opened = match fs::metadata(rt, file) {
+        Ok(metadata) if metadata.is_file() || metadata.file_type().is_block_device() => {
+            fs::open(rt, file).map(|_| ())
+        }
+        Ok(_) => {
+            let text = String::from_str(rt.alloc(), "not a regular file")?;
+            return Ok(Some(text));
+        }
+        Err(error) => Err(error),
+    };
+    match opened {
+        Ok(()) => Ok(None),
+        Err(error) => Ok(Some(text_of(rt.alloc(), &error)?)),
+    }
+}
+
+// What the system says of an error, without its number.
+fn text_of(alloc: Global, error: &io::Error) -> Result<String, AllocError> {
+    let text = error.to_string(alloc)?;
+    match text.as_str().split_once(" (os error ") {
+        Some((reason, _)) => String::from_str(alloc, reason),
+        None => Ok(text),
+    }
+}
