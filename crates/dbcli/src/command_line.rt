@@ -67,7 +67,7 @@ const CHECK_EXAMPLES: &str = "Examples:
 
 const STAT_ABOUT: &str = "Writes a row for each page of a tree, and the faults to standard error";
 
-const STAT_EXAMPLES: &str = "Columns, with a tab between each two:
+const STAT_EXAMPLES: &str = "Columns, separated by tabs:
   name path pageno pagetype ncell payload unused mx_payload pgoffset pgsize
 
 Examples:
@@ -81,7 +81,7 @@ const STATUSES: &str = "Exit status:
   0  no fault was found, or help or the version was asked for
   1  the file has faults
   2  the command line is wrong
-  3  the file is no database that is checked (E1 to E7)
+  3  the file is not a database that dbck checks (E1 to E7)
   4  the file cannot be read (E8)
   5  out of memory (E9)
   6  the output cannot be written (E10)";
