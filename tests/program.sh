@@ -158,6 +158,10 @@ rm "$work"/*-wal
 printf 'sevenby' >> "$work/noted.db"
 expect 0 $'ok\n' $'dbck: note: 7 bytes after page 1 are not read\n' check "$work/noted.db"
 expect 0 "$page" $'dbck: note: 7 bytes after page 1 are not read\n' stat "$work/noted.db"
+# A whole page more than its header states.
+cp "$data/whole.db" "$work/longer.db"
+printf '%0700d' 0 >> "$work/longer.db"
+expect 0 $'ok\n' $'dbck: note: 700 bytes after page 13 are not read\n' check "$work/longer.db"
 
 # Notes change no status, and fault lines of statistics are written many at a time.
 "$dbck" check "$work/noted.db" > "$work/out" 2> /dev/full

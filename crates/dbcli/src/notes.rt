@@ -118,8 +118,12 @@ fn is_changed(before: &Metadata, after: &Metadata) -> bool {
 
 // The bytes after the last page, if there are some.
 fn rest(alloc: Global, watch: &Watch) -> Result<Option<String>, AllocError> {
-    let page = watch.pages();
-    match watch.len().checked_rem(watch.page_size()).unwrap_or(0) {
+    let Some(geometry) = watch.geometry() else {
+        return Ok(None);
+    };
+    let page = geometry.pages;
+    let end = u64::from(page) * u64::from(geometry.page_size);
+    match watch.len().saturating_sub(end) {
         0 => Ok(None),
         1 => Ok(Some(format!(in alloc; "1 byte after page {page} is not read")?)),
         count => Ok(Some(format!(in alloc; "{count} bytes after page {page} are not read")?)),

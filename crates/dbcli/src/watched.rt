@@ -2,14 +2,14 @@
 ghost use Rattle.std.specs.Prelude.{◌≡◌};
 
 use crate::progress::Progress;
-use dbsource::{ByteRange, ReadFailed, Source};
+use dbsource::{ByteRange, Failures, Geometry, Header, MemSource, ReadFailed, Source};
 use std::cell::Cell;
 
 /// What was seen of a source.
 #[derive(Drop)]
 pub struct Watch {
     len: Cell<u64>,
-    longest: Cell<u64>,
+    geometry: Cell<Option<Geometry>>,
     reads: Cell<u64>,
     failed: Cell<Option<ByteRange>>,
 }
@@ -19,7 +19,7 @@ impl Watch {
     pub fn new() -> Watch {
         Watch {
             len: Cell::new(0),
-            longest: Cell::new(0),
+            geometry: Cell::new(None),
             reads: Cell::new(0),
             failed: Cell::new(None),
         }
@@ -30,14 +30,9 @@ impl Watch {
         self.len.get()
     }
 
-    /// The length of a page, once one was read: nothing longer is.
-    pub fn page_size(&self) -> u64 {
-        self.longest.get()
-    }
-
-    /// How many pages there are, once one was read.
-    pub fn pages(&self) -> u64 {
-        self.len().checked_div(self.page_size()).unwrap_or(0)
+    /// The shape of the file, once its header was read and accepted.
+    pub fn geometry(&self) -> Option<Geometry> {
+        self.geometry.get()
     }
 
     /// The range that could not be read.
@@ -50,13 +45,56 @@ impl Watch {
         self.reads.get().saturating_sub(1)
     }
 
-    fn see_read(&self, range: ByteRange, is_read: bool) {
-        self.reads.set(self.reads.get().saturating_add(1));
-        if is_read {
-            self.longest.set(self.longest.get().max(range.len));
-        } else {
-            self.failed.set(Some(range));
+    fn see_read(&self, offset: u64, bytes: &[u8], is_read: bool) {
+        if !is_read {
+            let len = bytes.len() as u64;
+            self.failed.set(Some(ByteRange { offset, len }));
+        } else if self.reads.get() == 0 {
+            self.geometry.set(geometry_of(bytes, self.len()));
         }
+        self.reads.set(self.reads.get().saturating_add(1));
+    }
+}
+
+// The first bytes of a file of so many.
+#[derive(Drop)]
+struct Beginning<'a> {
+    bytes: &'a [u8],
+    file_len: u64,
+    failures: Failures,
+}
+
+impl Source for Beginning<'_> {
+    ghost use Rattle.std.specs.Prelude.{None, []};
+    ghost use Rattle.dbsource.specs.Sources.{no_step};
+
+    ghost held = { λ s. record { bytes = None; trail = []; failures = s.failures } };
+
+    ghost step = { no_step };
+
+    fn len(&mut self) -> Result<u64, ReadFailed> {
+        Ok(self.file_len)
+    }
+
+    fn read_at(&mut self, offset: u64, buf: &mut [u8]) -> Result<(), ReadFailed> {
+        let read = MemSource::new(self.bytes).read_at(offset, buf);
+        if read.is_err() {
+            self.failures.add();
+        }
+        read
+    }
+}
+
+// The shape of a file of so many bytes that begins with these, if its header is accepted.
+fn geometry_of(bytes: &[u8], file_len: u64) -> Option<Geometry> {
+    let mut beginning = Beginning {
+        bytes,
+        file_len,
+        failures: Failures::new(),
+    };
+    match Header::read(&mut beginning) {
+        Ok(header) => Some(header.geometry()),
+        Err(_) => None,
     }
 }
 
@@ -93,12 +131,13 @@ impl<S: Source, W: Print> Source for Watched<'_, '_, S, W> {
     }
 
     fn read_at(&mut self, offset: u64, buf: &mut [u8]) -> Result<(), ReadFailed> {
-        let len = buf.len() as u64;
         let read = self.source.read_at(offset, buf);
-        self.watch.see_read(ByteRange { offset, len }, read.is_ok());
+        self.watch.see_read(offset, buf, read.is_ok());
         let count = self.watch.pages_read();
-        if self.progress.is_due(count) {
-            self.progress.show(count, self.watch.pages());
+        if self.progress.is_due(count)
+            && let Some(geometry) = self.watch.geometry()
+        {
+            self.progress.show(count, u64::from(geometry.pages));
         }
         read
     }
