@@ -2,7 +2,7 @@
 use Rattle.std.proofs.Common.{inl, inr, ◌≡◌, ◌↔◌, ℕ, List, [], Option, None, Some, Result, Ok, Err, ◌≤◌, refl, sym, ap, subst, arith}
 use Rattle.std.specs.Prelude.{OnOk, IfOk, IfSome}
 use Rattle.std.specs.Io.KnownBytes.{Appends}
-use Rattle.std.proofs.KnownBytes.{Appends-nil, Appends-trans}
+use Rattle.std.proofs.KnownBytes.{Appends-trans}
 use Rattle.std.proofs.lemmas.List.{append-nil}
 use Rattle.dbformat.specs.File.{refusal}
 use Rattle.dbformat.specs.Reference.{Reference}
@@ -111,10 +111,6 @@ exits command outcome None out out' err mid err' answer written second verdict u
 exits command outcome (Some file) out out' err mid err' answer written second verdict unwritten quiet line = λ V s.
     exit_by_outcome command file V outcome out out' err mid err' answer (written V s) (second V s)
     (at_survey (λ v U. (report command file U).answer ≡ Ok v) file outcome V s verdict) unwritten quiet line
-
--- no line was put
-pub puts_none : (s : OutState) → PutsLine s s
-puts_none s = record { line = []; short = omega arith; added = Appends-nil s.bytes }
 
 -- a status by its outcome
 status_by : (outcome : Result Verdict RunError) (file : List ℕ) → IsAnswerOf outcome file → IsStatusOf (exit_status outcome) file
