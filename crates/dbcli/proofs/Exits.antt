@@ -1,6 +1,6 @@
 -- What a status says of a report, by the outcome that it stands for.
-use Rattle.std.proofs.Common.{inl, inr, ◌≡◌, ◌↔◌, ℕ, List, [], Option, None, Some, Result, Ok, Err, ◌≤◌, refl, sym, ap, subst, arith}
-use Rattle.std.specs.Prelude.{OnOk, IfOk, IfSome}
+use Rattle.std.proofs.Common.{inl, inr, ◌≡◌, ◌↔◌, ℕ, List, [], Option, Some, Result, Ok, Err, ◌≤◌, refl, sym, ap, subst, arith}
+use Rattle.std.specs.Prelude.{OnOk, IfOk}
 use Rattle.std.specs.Io.KnownBytes.{Appends}
 use Rattle.std.proofs.KnownBytes.{Appends-trans}
 use Rattle.std.proofs.lemmas.List.{append-nil}
@@ -8,17 +8,16 @@ use Rattle.dbformat.specs.File.{refusal}
 use Rattle.dbformat.specs.Reference.{Reference}
 use Rattle.dbformat.specs.Report.{Report, report}
 use Rattle.dbformat.specs.Sound.{Sound}
-use Rattle.dbformat.specs.Survey.{Survey}
 use Rattle.dbformat.specs.declared.Command.{Command}
 use Rattle.dbformat.specs.declared.Refusal.{Refusal}
 use Rattle.dbformat.specs.declared.Verdict.{Verdict}
 use Rattle.dbformat.specs.declared.Verdict.TheVariants.{Clean, Faulty}
-use Rattle.dbreport.specs.Runs.{IsAnswerOf, IsUnwritten}
+use Rattle.dbreport.specs.Runs.{IsAnswerOf, IsRunOf, IsUnwritten}
 use Rattle.dbsource.proofs.Beginnings.{all_begun}
 use Rattle.dbsource.specs.Outs.{Begins, OutState, Writes}
 use Rattle.dbsource.specs.declared.error.RunError.{RunError}
 use Rattle.dbsource.specs.declared.error.RunError.TheVariants.{Refused, ReadFailed, OutOfMemory, WriteFailed}
-use Rattle.dbcli.specs.Exit.{BeginsThenLine, IsExit, IsExitOf, IsKnown, IsOkIfSound, IsStatusOf, PutsLine}
+use Rattle.dbcli.specs.Exit.{BeginsThenLine, IsExit, IsFinishOf, IsKnown, IsOkIfSound, IsStatusOf, PutsLine}
 use Rattle.dbcli.specs.Status.{exit_status}
 
 -- the report of a refused file
@@ -95,23 +94,6 @@ exit_by_outcome command file V (Err OutOfMemory) out out' err mid err' answer wr
 exit_by_outcome command file V (Err WriteFailed) out out' err mid err' answer written second verdict unwritten quiet line =
     neither 6 (report command file V) out out' err err' (omega arith) written (begins_then_line err mid err' (report command file V).err second line)
 
-at_survey : (P : Verdict → List Reference → Type 0) (file : List ℕ) (outcome : Result Verdict RunError) (V : List Reference) → Survey file V
-    → IfOk outcome (λ v. (U : List Reference) → Survey file U → P v U) → IfOk outcome (λ v. P v V)
-at_survey P file (Ok v) V s h = h V s
-at_survey P file (Err e) V s h = tt
-
--- the same where bytes are told, if they are
-pub exits : (command : Command) (outcome : Result Verdict RunError) (told : Option (List ℕ)) (out out' err mid err' : OutState) → IfSome told (IsAnswerOf outcome)
-    → IfSome told (λ file. (V : List Reference) → Survey file V → Writes outcome out.bytes out'.bytes (report command file V).out)
-    → IfSome told (λ file. (V : List Reference) → Survey file V → Writes outcome err.bytes mid.bytes (report command file V).err)
-    → IfOk outcome (λ v. IfSome told (λ file. (V : List Reference) → Survey file V → (report command file V).answer ≡ Ok v))
-    → IsUnwritten outcome out.bytes out'.bytes → OnOk outcome (err' ≡ mid) → PutsLine mid err'
-    → IfSome told (λ file. IsExitOf (exit_status outcome) command file out out' err err')
-exits command outcome None out out' err mid err' answer written second verdict unwritten quiet line = tt
-exits command outcome (Some file) out out' err mid err' answer written second verdict unwritten quiet line = λ V s.
-    exit_by_outcome command file V outcome out out' err mid err' answer (written V s) (second V s)
-    (at_survey (λ v U. (report command file U).answer ≡ Ok v) file outcome V s verdict) unwritten quiet line
-
 -- a status by its outcome
 status_by : (outcome : Result Verdict RunError) (file : List ℕ) → IsAnswerOf outcome file → IsStatusOf (exit_status outcome) file
 status_by (Ok Clean) file answer = record { memory = λ e. absurd (omega arith); unwritable = λ e. absurd (omega arith) }
@@ -130,11 +112,6 @@ known (Err ReadFailed) = inr (omega arith, omega arith)
 known (Err OutOfMemory) = inr (omega arith, omega arith)
 known (Err WriteFailed) = inr (omega arith, omega arith)
 
--- the same where bytes are told, if they are
-pub statuses : (outcome : Result Verdict RunError) (told : Option (List ℕ)) → IfSome told (IsAnswerOf outcome) → IfSome told (IsStatusOf (exit_status outcome))
-statuses outcome None h = tt
-statuses outcome (Some file) h = status_by outcome file h
-
 -- of the two statuses of a verdict 0 is that of a sound file
 sound_by : (outcome : Result Verdict RunError) (file : List ℕ) → IfOk outcome (λ v. v ≡ Clean ↔ Sound file) → IsOkIfSound (exit_status outcome) file
 sound_by (Ok Clean) file h = λ m. (λ e. h.0 refl, λ s. refl)
@@ -144,11 +121,15 @@ sound_by (Err ReadFailed) file h = λ m. absurd (omega arith)
 sound_by (Err OutOfMemory) file h = λ m. absurd (omega arith)
 sound_by (Err WriteFailed) file h = λ m. absurd (omega arith)
 
--- the same where bytes are told, if they are
-pub ok_if_sound : (outcome : Result Verdict RunError) (told : Option (List ℕ)) → IfOk outcome (λ v. IfSome told (λ file. v ≡ Clean ↔ Sound file))
-    → IfSome told (IsOkIfSound (exit_status outcome))
-ok_if_sound outcome None h = tt
-ok_if_sound outcome (Some file) h = sound_by outcome file h
+-- what finishing left of a file, by what its run left of it
+pub finish_of : (command : Command) (file : List ℕ) (outcome : Result Verdict RunError) (out out' err mid err' : OutState)
+    → IsRunOf command file outcome out.bytes out'.bytes err.bytes mid.bytes → IsUnwritten outcome out.bytes out'.bytes → OnOk outcome (err' ≡ mid) → PutsLine mid err'
+    → IsFinishOf (exit_status outcome) command file out out' err err'
+finish_of command file outcome out out' err mid err' run unwritten quiet line = record {
+  exit = λ V s. let k = run.reported V s in exit_by_outcome command file V outcome out out' err mid err' run.answer k.out k.err k.verdict unwritten quiet line;
+  errors = status_by outcome file run.answer;
+  sound = sound_by outcome file run.sound;
+}
 
 -- at a refusal it is as it was
 pub unwritten_at_3 : {X : Type 0} (outcome : Result Verdict RunError) (old new : X) → IsUnwritten outcome old new → exit_status outcome ≡ 3 → new ≡ old

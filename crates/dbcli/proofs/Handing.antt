@@ -1,11 +1,14 @@
 -- What handing on makes of the outcome of a run, and of what is said of it.
-use Rattle.std.proofs.Common.{◌≡◌, ◌∙◌, ℕ, ◌+◌, ◌%◌, ◌^◌, ◌≤◌, List, Option, Result, Ok, Err, inl, inr, refl, sym, ap, subst, arith, true}
+use Rattle.std.proofs.Common.{◌≡◌, ◌↔◌, ◌∙◌, ℕ, ◌+◌, ◌%◌, ◌^◌, ◌≤◌, List, Option, Result, Ok, Err, inl, inr, refl, sym, ap, subst, arith, true}
 use Rattle.std.specs.Prelude.{IfOk, OnErr, OnOk, ◌≢◌, ◌⊎◌, is_ok}
 use Rattle.std.specs.Io.KnownBytes.{Keeps}
 use Rattle.std.proofs.Math.Nat.{mod-add-mod, mod-mod}
+use Rattle.dbformat.specs.Report.{report}
+use Rattle.dbformat.specs.Sound.{Sound}
+use Rattle.dbformat.specs.declared.Command.{Command}
 use Rattle.dbformat.specs.declared.Verdict.{Verdict}
 use Rattle.dbformat.specs.declared.Verdict.TheVariants.{Clean, Faulty}
-use Rattle.dbreport.specs.Runs.{IsAnswerOf, IsUnwritten}
+use Rattle.dbreport.specs.Runs.{IsAnswerOf, IsRunOf, IsUnwritten}
 use Rattle.dbreport.specs.StatSink.{failures_of_each}
 use Rattle.dbsource.proofs.Beginnings.{all_begun}
 use Rattle.dbsource.proofs.Puts.{appends_kept}
@@ -34,7 +37,7 @@ begins_still o m n bytes b k = record { part = b.part; rest = b.rest; whole = b.
 
 module _ (out out' err err' : OutState) where
   -- the answer is one for the file
-  pub still_answers : (o r : Result Verdict RunError) (file : List ℕ) → IsHanded o r out out' err err' → IsAnswerOf o file → IsAnswerOf r file
+  still_answers : (o r : Result Verdict RunError) (file : List ℕ) → IsHanded o r out out' err err' → IsAnswerOf o file → IsAnswerOf r file
   still_answers (Ok v) (Ok w) file h a = a
   still_answers (Ok v) (Err e) file h a = rw h.0 a
   still_answers (Err (Refused x)) r file h a = rw h.0 a
@@ -43,7 +46,7 @@ module _ (out out' err err' : OutState) where
   still_answers (Err WriteFailed) r file h a = rw h.0 a
 
   -- a verdict is the same one
-  pub still_of : (P : Verdict → Type 0) (o r : Result Verdict RunError) → IsHanded o r out out' err err' → IfOk o P → IfOk r P
+  still_of : (P : Verdict → Type 0) (o r : Result Verdict RunError) → IsHanded o r out out' err err' → IfOk o P → IfOk r P
   still_of P (Ok v) (Ok w) h p = rw h.0 p
   still_of P (Ok v) (Err e) h p = tt
   still_of P (Err (Refused x)) r h p = rw h.0 tt
@@ -61,7 +64,7 @@ module _ (out out' err err' : OutState) where
   still_unwritten (Err WriteFailed) r a b c h u k = rw h.0 tt
 
   -- what was written of bytes to the first Out
-  pub still_writes : (o r : Result Verdict RunError) (before : Option (List ℕ)) (bytes : List ℕ)
+  still_writes : (o r : Result Verdict RunError) (before : Option (List ℕ)) (bytes : List ℕ)
       → IsHanded o r out out' err err' → Writes o before out.bytes bytes → Writes r before out'.bytes bytes
   still_writes (Ok v) (Ok w) before bytes h k = appends_kept before out.bytes out'.bytes bytes k h.1.kept
   still_writes (Ok v) (Err e) before bytes h k = all_begun before out'.bytes bytes (appends_kept before out.bytes out'.bytes bytes k h.1.kept)
@@ -71,7 +74,7 @@ module _ (out out' err err' : OutState) where
   still_writes (Err WriteFailed) r before bytes h k = rw h.0 (begins_still before out.bytes out'.bytes bytes k h.1.kept)
 
   -- and to the second
-  pub still_second : (o r : Result Verdict RunError) (before : Option (List ℕ)) (bytes : List ℕ)
+  still_second : (o r : Result Verdict RunError) (before : Option (List ℕ)) (bytes : List ℕ)
       → IsHanded o r out out' err err' → Writes o before err.bytes bytes → Writes r before err'.bytes bytes
   still_second (Ok v) (Ok w) before bytes h k = appends_kept before err.bytes err'.bytes bytes k h.2.kept
   still_second (Ok v) (Err e) before bytes h k = all_begun before err'.bytes bytes (appends_kept before err.bytes err'.bytes bytes k h.1.second_kept)
@@ -79,6 +82,21 @@ module _ (out out' err err' : OutState) where
   still_second (Err ReadFailed) r before bytes h k = rw h.0 (subst (λ g. Begins before g.bytes bytes) (sym h.2) k)
   still_second (Err OutOfMemory) r before bytes h k = rw h.0 (subst (λ g. Begins before g.bytes bytes) (sym h.2) k)
   still_second (Err WriteFailed) r before bytes h k = rw h.0 (subst (λ g. Begins before g.bytes bytes) (sym h.2) k)
+
+  -- so what a run left of a file is left of it still
+  pub still_run : (command : Command) (file : List ℕ) (o r : Result Verdict RunError) (first second : Option (List ℕ)) → IsHanded o r out out' err err'
+      → IsRunOf command file o first out.bytes second err.bytes → IsRunOf command file r first out'.bytes second err'.bytes
+  still_run command file o r first second h run = record {
+    survey = run.survey;
+    reported = λ V s. let k = run.reported V s in record {
+      out = still_writes o r first (report command file V).out h k.out;
+      err = still_second o r second (report command file V).err h k.err;
+      verdict = still_of (λ v. (report command file V).answer ≡ Ok v) o r h k.verdict;
+    };
+    answer = still_answers o r file h run.answer;
+    sound = still_of (λ v. v ≡ Clean ↔ Sound file) o r h run.sound;
+    counts = run.counts;
+  }
 
   -- the source failed just where the status is 4
   pub source_failures : (o r : Result Verdict RunError) → IsHanded o r out out' err err' → (before after : ℕ)

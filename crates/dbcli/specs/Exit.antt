@@ -87,3 +87,10 @@ pub record IsStatusOf (status : ℕ) (file : List ℕ) : Type 0 where
 -- of the two statuses of a verdict 0 is that of a sound file
 abbrev pub IsOkIfSound : ℕ → List ℕ → Type 0
 IsOkIfSound status file = status ≤ 1 → status ≡ 0 ↔ Sound file
+
+-- What finishing left is so of a file: what the status says of its report and of what was written of it; that want of memory
+-- and a failed write end the run of a file that is read alone; and that of the statuses of a verdict 0 is a sound file's.
+pub record IsFinishOf (status : ℕ) (command : Command) (file : List ℕ) (out out' err err' : OutState) : Type 0 where
+  pub exit : IsExitOf status command file out out' err err'
+  pub errors : IsStatusOf status file
+  pub sound : IsOkIfSound status file

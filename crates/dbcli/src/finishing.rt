@@ -1,11 +1,12 @@
 // From an opened file to an exit status.
-ghost use Rattle.std.specs.Prelude.{◌≡◌, ◌≤◌, ◌⊎◌, IsErr, IsOk, IfOk, IfSome, OnErr, OnOk};
+ghost use Rattle.std.specs.Prelude.{◌≡◌, ◌≤◌, ◌⊎◌, IsErr, IsOk, IfOk, OnErr, OnOk};
 ghost use Rattle.std.specs.Io.KnownBytes.{Keeps};
 ghost use Rattle.dbformat.specs.File.{geometry};
 ghost use Rattle.dbformat.specs.Log.{IsRunLog, IsSomeRunLog};
-ghost use Rattle.dbsource.specs.Sources.{HasRanges};
+ghost use Rattle.dbsource.specs.Snapshots.{HasRead};
+ghost use Rattle.dbsource.specs.Sources.{SourceState};
 ghost use Rattle.dbreport.specs.Runs.{IsCheck, IsUnwritten};
-ghost use Rattle.dbcli.specs.Exit.{HasFailed, IsExitOf, IsHandedOn, IsHandedOnOrFailed, IsKnown, IsOkIfSound, IsStatusOf, PutsLine};
+ghost use Rattle.dbcli.specs.Exit.{HasFailed, IsFinishOf, IsHandedOn, IsHandedOnOrFailed, IsKnown, PutsLine};
 ghost use Rattle.dbcli.specs.Exit.{failures_at_4, first_most, second_most};
 ghost use Rattle.dbcli.specs.Handing.{IsHanded};
 ghost use Rattle.dbcli.specs.Status.{exit_status};
@@ -104,16 +105,13 @@ pub fn finish_opened<S: Source, O: Out, E: Out, N: Notes>(
     err: &mut E,
     notes: &mut N,
 ) -> u8
-    // Where the source tells its bytes: what the status says of their report, and of what was written of it; 0 for a sound
-    // file, and 1 for any other that is checked to its end; and each page is asked for once at most.
-    ensures exit { IfSome (S.held source.old).bytes (λ file.
-        IsExitOf result command file (O.held out.old) (O.held out.new) (E.held err.old) (E.held err.new)) }
-    ensures status { IfSome (S.held source.old).bytes (IsStatusOf result) }
-    ensures sound { IfSome (S.held source.old).bytes (IsOkIfSound result) }
-    ensures own_log { IfSome (S.held source.old).bytes (λ file.
-        HasRanges S.step (IsRunLog (geometry file)) (S.held source.old).trail (S.held source.new).trail) }
-    // For every source: what it is asked for, and that it failed, once, exactly where the status is 4.
-    ensures log { HasRanges S.step IsSomeRunLog (S.held source.old).trail (S.held source.new).trail }
+    // Whatever the source answers: there is a file, of the length that it answered, that agrees with every byte that was read;
+    // and of each such file this was the run, and the status says what became of it. No page is asked for twice, but page 1
+    // behind its header.
+    ensures read { HasRead S.step IsSomeRunLog
+        (λ file ranges. IsRunLog (geometry file) ranges × IsFinishOf result command file (O.held out.old) (O.held out.new) (E.held err.old) (E.held err.new))
+        (S.held source.old) (S.held source.new) }
+    // The source failed, once, exactly where the status is 4.
     ensures unread { (S.held source.new).failures ≡ failures_at_4 result (S.held source.old).failures }
     ensures statuses { IsKnown result }
     // At 0 and 1 all was handed on, and neither Out failed.
@@ -143,12 +141,9 @@ pub fn finish<S: Source + Drop, O: Out, E: Out, N: Notes>(
     err: &mut E,
     notes: &mut N,
 ) -> u8
-    // Where the source tells its bytes.
-    ensures opened { IfOk opened (λ source. IfSome (S.held source).bytes (λ file.
-        IsExitOf result command file (O.held out.old) (O.held out.new) (E.held err.old) (E.held err.new))) }
-    ensures status { IfOk opened (λ source. IfSome (S.held source).bytes (IsStatusOf result)) }
-    ensures sound { IfOk opened (λ source. IfSome (S.held source).bytes (IsOkIfSound result)) }
-    // For every source.
+    ensures opened { IfOk opened (λ source. (new : SourceState) × HasRead S.step IsSomeRunLog
+        (λ file ranges. IsRunLog (geometry file) ranges × IsFinishOf result command file (O.held out.old) (O.held out.new) (E.held err.old) (E.held err.new))
+        (S.held source) new) }
     ensures statuses { IsKnown result }
     ensures whole { result ≤ 1
         → IsHandedOn (O.held out.old) (O.held out.new) × IsHandedOn (E.held err.old) (E.held err.new) }

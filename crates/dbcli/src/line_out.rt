@@ -1,5 +1,5 @@
 // An Out that hands on each line where it ends.
-ghost use Rattle.std.specs.Prelude.{◌≡◌, ◌-◌, [], length, slice_index, true, OnOk};
+ghost use Rattle.std.specs.Prelude.{◌≡◌, ◌-◌, [], true, OnOk};
 ghost use Rattle.dbsource.specs.Outs.{Puts};
 ghost use Rattle.dbcli.specs.Handing.{EndsLine};
 

@@ -304,10 +304,9 @@ struct Torn<'a> {
 }
 
 impl Source for Torn<'_> {
-    ghost use Rattle.std.specs.Prelude.{None, []};
-    ghost use Rattle.dbsource.specs.Sources.{no_step};
+    ghost use Rattle.dbsource.specs.Sources.{no_step, untold_source};
 
-    ghost held = { λ s. record { bytes = None; trail = []; failures = s.failures } };
+    ghost held = { λ s. record untold_source { failures = s.failures } };
 
     ghost step = { no_step };
 

@@ -1,6 +1,5 @@
 // Pages that are drawn from a counter, and a source that gives other bytes at each read.
-ghost use Rattle.std.specs.Prelude.{None, []};
-ghost use Rattle.dbsource.specs.Sources.{no_step};
+ghost use Rattle.dbsource.specs.Sources.{no_step, untold_source};
 
 use crate::bytes::patch;
 use arrayvec::ArrayVec;
@@ -80,7 +79,7 @@ impl<'a> DrawnSource<'a> {
 }
 
 impl Source for DrawnSource<'_> {
-    ghost held = { λ s. record { bytes = None; trail = []; failures = s.failures } };
+    ghost held = { λ s. record untold_source { failures = s.failures } };
 
     ghost step = { no_step };
 

@@ -1,6 +1,6 @@
 // A source that states a length and fails where a test asks for it.
-ghost use Rattle.std.specs.Prelude.{◌≡◌, None, []};
-ghost use Rattle.dbsource.specs.Sources.{no_step};
+ghost use Rattle.std.specs.Prelude.{◌≡◌};
+ghost use Rattle.dbsource.specs.Sources.{no_step, untold_source};
 
 use crate::bytes::patch;
 use dbsource::{Failures, ReadFailed, Source};
@@ -44,7 +44,7 @@ impl<'a> StatedSource<'a> {
 }
 
 impl Source for StatedSource<'_> {
-    ghost held = { λ s. record { bytes = None; trail = []; failures = s.failures } };
+    ghost held = { λ s. record untold_source { failures = s.failures } };
 
     ghost step = { no_step };
 

@@ -2,19 +2,17 @@
 use Rattle.std.proofs.Common.{◌≡◌, ℕ, List, [], ◌++◌, Option, Result, Err, sym, ap, ap₂, ◌∙◌, subst, append-nil}
 use Rattle.dbsurvey.specs.Moves.{Moves}
 use Rattle.dbsurvey.proofs.Moving.{Moves-append}
-use Rattle.dbformat.specs.File.{geometry}
 use Rattle.dbformat.specs.HeaderFaults.{header_faults}
 use Rattle.dbformat.specs.Reference.{Reference}
 use Rattle.dbformat.specs.Report.{check_text, faults, verdict}
 use Rattle.dbformat.specs.Survey.{Survey}
-use Rattle.dbformat.specs.declared.Geometry.{Geometry}
 use Rattle.dbformat.specs.declared.Verdict.{Verdict}
 use Rattle.dbsource.specs.HeaderBytes.{HeaderBytes}
 use Rattle.dbsource.specs.Headers.{IsHeaderOf}
 use Rattle.dbsource.specs.Outs.{Begins, OutState, Puts, Writes}
 use Rattle.dbsource.specs.declared.error.RunError.{RunError}
 use Rattle.dbwalk.specs.Finding.{Finding}
-use Rattle.dbwalk.specs.Outcomes.{StopsBy, Tells}
+use Rattle.dbwalk.specs.Outcomes.{StopsBy}
 use Rattle.dbwalk.specs.Telling.{findings}
 use Rattle.dbwalk.proofs.Telling.Tellings.{stops_by_after}
 use Rattle.dbreport.specs.CheckSink.{Shows, Cuts, end_text, verdict_of}
@@ -23,10 +21,6 @@ use Rattle.dbreport.specs.RunItems.{run_items, walk_items}
 use Rattle.dbreport.specs.declared.check_sink.CheckSink.{CheckSink}
 use Rattle.dbreport.proofs.Checks.{check_writes, check_finds, check_begins}
 use Rattle.dbreport.proofs.RunTold.{run_faults, header_items}
-
--- what the walks told, where the header is that of the file
-abbrev pub IsWalked : {O : Type 0} → (O → OutState) → HeaderBytes → Geometry → Result (Unit {0}) RunError → CheckSink O → CheckSink O → List ℕ → Type 0
-IsWalked held h g r s t file = IsHeaderOf h file → g ≡ geometry file → (V : List Reference) → Survey file V → Tells (Shows held) (Cuts held) r s (walk_items file V) t
 
 -- what an error leaves, where the Out ends as some other that is equal
 pub at_error : {A E O : Type 0} (held : O → OutState) (r : Result A E) (e : E) (old : Option (List ℕ)) (t u : O) (bytes : List ℕ)

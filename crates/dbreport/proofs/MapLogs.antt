@@ -13,10 +13,10 @@ use Rattle.dbformat.specs.declared.Geometry.{Geometry}
 use Rattle.dbsource.specs.Answers.{Step}
 use Rattle.dbsource.specs.Errors.{is_read_failed}
 use Rattle.dbsource.specs.Failures.{failures_after}
-use Rattle.dbsource.specs.Sources.{AsksRanges, SourceState}
+use Rattle.dbsource.specs.Sources.{Asks, SourceState}
 use Rattle.dbsource.specs.declared.error.RunError.{RunError}
 use Rattle.dbsource.specs.declared.error.RunError.TheVariants.{WriteFailed}
-use Rattle.dbsource.proofs.Ranges.{has_none}
+use Rattle.dbsource.proofs.Logs.{has_none}
 use Rattle.dbwalk.specs.Marking.{AreMarksFor}
 use Rattle.dbwalk.specs.Reads.{Reads}
 use Rattle.dbwalk.specs.declared.mark.Mark.{Mark}
@@ -57,9 +57,9 @@ reads_more g p log turn h (inr e) = record {
 }
 
 -- where only a write failed, nothing was asked for
-pub asks_nothing : {A : Type 0} (step : Step) (P : List ByteRange → Type 0) (r : Result A RunError) (s : SourceState)
-    → IfErr r (λ e. e ≡ WriteFailed) → P [] → AsksRanges step P is_read_failed r s s
-asks_nothing {A} step P r s only holds = record { told = refl; log = has_none s.trail holds; count = uncounted r only }
+pub asks_nothing : {A : Type 0} (step : Step) (P : List ByteRange → Type 0) {Q : List ℕ → Type 0} (r : Result A RunError) (s : SourceState)
+    → IfErr r (λ e. e ≡ WriteFailed) → P [] → ((file : List ℕ) → Q file) → Asks step P Q is_read_failed r s s
+asks_nothing {A} step P r s only holds q = record { log = has_none s s refl refl holds q; count = uncounted r only }
   where
     uncounted : (r : Result A RunError) → IfErr r (λ e. e ≡ WriteFailed) → s.failures ≡ failures_after is_read_failed r s.failures
     uncounted (Ok u) h = refl

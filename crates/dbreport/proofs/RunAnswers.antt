@@ -1,6 +1,6 @@
 -- What the answer of a run says.
-use Rattle.std.proofs.Common.{◌≡◌, ℕ, ◌<◌, List, [], ◌∷◌, length, None, Some, Option, Ok, Err, Result, inl, inr, refl, sym, ap, ◌∙◌, subst}
-use Rattle.std.specs.Prelude.{◌↔◌, IfErr, IfOk, IfSome}
+use Rattle.std.proofs.Common.{◌≡◌, ℕ, List, [], ◌∷◌, None, Option, Ok, Err, Result, inl, inr, refl, sym, ap, subst}
+use Rattle.std.specs.Prelude.{◌↔◌, IfErr, IfOk}
 use Rattle.dbformat.specs.File.{refusal}
 use Rattle.dbformat.specs.Reference.{Reference}
 use Rattle.dbformat.specs.Report.{report}
@@ -11,7 +11,6 @@ use Rattle.dbformat.specs.declared.Verdict.{Verdict}
 use Rattle.dbformat.specs.declared.Verdict.TheVariants.{Clean}
 use Rattle.dbformat.proofs.Theory.{one_survey}
 use Rattle.dbsound.proofs.Soundness.{sound_by_verdict}
-use Rattle.dbformat.specs.declared.Refusal.TheVariants.{Short}
 use Rattle.dbsource.specs.Answers.{Step, Trail}
 use Rattle.dbsource.specs.Errors.{run_error, is_out_of_memory, is_write_failed}
 use Rattle.dbsource.specs.Failures.{CountsAfter, failures_after}
@@ -21,9 +20,10 @@ use Rattle.dbsource.specs.declared.error.OpenError.{OpenError}
 use Rattle.dbsource.specs.declared.error.OpenError.TheVariants as opening
 use Rattle.dbsource.specs.declared.error.RunError.{RunError}
 use Rattle.dbsource.specs.declared.error.RunError.TheVariants.{Refused, ReadFailed, OutOfMemory, WriteFailed}
-use Rattle.dbsource.proofs.Headers.{too_short}
 use Rattle.dbwalk.specs.Outcomes.{IsReadOrWrite, IsReadWriteOrMemory}
-use Rattle.dbreport.specs.Runs.{AsksHeaderAlone, IsAnswerOf, IsUnwritten}
+use Rattle.dbsource.proofs.Beginnings.{begins_nothing}
+use Rattle.dbreport.specs.Runs.{AsksHeaderAlone, IsAnswerOf, IsReported, IsRunOf, IsUnwritten}
+use Rattle.dbreport.proofs.RunReports.{counts_pages}
 
 -- the header was not read
 pub refused_answer : (file : List ℕ) (e : OpenError) → IsRefusalOf e file → IsAnswerOf {A = Verdict} (Err (run_error e)) file
@@ -68,23 +68,6 @@ pub read_refused : (step : Step) (r : Result Verdict RunError) (old new : Trail)
 read_refused step (Ok v) old new only = tt
 read_refused step (Err e) old new only = never_refused e only (λ e. AsksHeaderAlone {A = Verdict} step (Err e) old new) tt tt tt
 
--- a file that is read is not too short
-pub not_short : (file : List ℕ) → refusal file ≡ None → length file < 100 → ⊥
-not_short file read l = let short = sym read ∙ too_short file (length file) refl l in clash short
-  where
-    clash : None ≡ Some Short → ⊥
-    clash e = cc
-
--- of the verdict, by what is said of it of a file whose header is known
-pub if_ok_told : {X : Type 0} {P : Verdict → X → Type 0} {H : X → Type 0} {Q : Verdict → X → Type 0} (r : Result Verdict RunError) (o o' : Option X) → o' ≡ o
-    → IfSome o H → IfOk r (λ v. IfSome o' (P v)) → ((v : Verdict) (x : X) → H x → P v x → Q v x) → IfOk r (λ v. IfSome o (Q v))
-if_ok_told (Err e) o o' same h k f = tt
-if_ok_told {X = X} {P = P} {H = H} {Q = Q} (Ok v) o o' same h k f = by_case o h (subst (λ p. IfSome p (P v)) same k)
-  where
-    by_case : (o : Option X) → IfSome o H → IfSome o (P v) → IfSome o (Q v)
-    by_case None h k = tt
-    by_case (Some x) h k = f v x h k
-
 -- where memory was not refused, no refusal is counted
 pub memory_kept : (r : Result (Unit {0}) RunError) (n : ℕ) → IfErr r IsReadOrWrite → n ≡ failures_after is_out_of_memory r n
 memory_kept (Ok u) n only = refl
@@ -103,10 +86,29 @@ first_failures (Err ReadFailed) a n b e = ap (λ k. k ∷ b ∷ []) e
 first_failures (Err OutOfMemory) a n b e = ap (λ k. k ∷ b ∷ []) e
 first_failures (Err WriteFailed) a n b e = inl (e, refl)
 
--- where the verdict is that of every survey, it is clean for a sound file alone
-pub sound_as_told : (H : List ℕ → Type 0) (command : Command) (r : Result Verdict RunError) (o : Option (List ℕ))
-    → IfOk r (λ v. IfSome o (λ file. H file → (V : List Reference) → Survey file V → (report command file V).answer ≡ Ok v))
-    → IfOk r (λ v. IfSome o (λ file. H file → v ≡ Clean ↔ Sound file))
-sound_as_told H command (Err e) o told = tt
-sound_as_told H command (Ok v) None told = tt
-sound_as_told H command (Ok v) (Some file) told = λ is. sound_by_verdict file command (survey file) (one_survey file).0 v (told is (survey file) (one_survey file).0)
+-- ---- what a run left of a file
+
+-- the file was read: by any survey of it this is its report
+pub run_of : (command : Command) (file : List ℕ) (r : Result Verdict RunError) (out_old out_new err_old err_new : Option (List ℕ)) → IfErr r IsReadWriteOrMemory → refusal file ≡ None
+    → ((V : List Reference) → Survey file V → IsReported command file V r out_old out_new err_old err_new) → IsRunOf command file r out_old out_new err_old err_new
+run_of command file r out_old out_new err_old err_new only read told = record {
+  survey = (one_survey file).0;
+  reported = told;
+  answer = read_answer file r only read;
+  sound = by_answer r (told (survey file) (one_survey file).0).verdict;
+  counts = λ V s. counts_pages command file V s;
+}
+  where
+    by_answer : (r : Result Verdict RunError) → IfOk r (λ v. (report command file (survey file)).answer ≡ Ok v) → IfOk r (λ v. v ≡ Clean ↔ Sound file)
+    by_answer (Ok v) h = sound_by_verdict file command (survey file) (one_survey file).0 v h
+    by_answer (Err e) h = tt
+
+-- nothing was written, and no verdict found
+pub none_of : (command : Command) (file : List ℕ) (e : RunError) (out err : Option (List ℕ)) → IsAnswerOf {A = Verdict} (Err e) file → IsRunOf command file (Err e) out out err err
+none_of command file e out err answer = record {
+  survey = (one_survey file).0;
+  reported = λ V s. record { out = begins_nothing out (report command file V).out; err = begins_nothing err (report command file V).err; verdict = tt };
+  answer = answer;
+  sound = tt;
+  counts = λ V s. counts_pages command file V s;
+}

@@ -1,14 +1,22 @@
 -- What a run asks for: the header, and then pages.
-use Rattle.std.proofs.Common.{◌≡◌, arith, false, List, [], ◌∷◌, ◌++◌, refl, ap, inl, inr, Ok, Err, Result}
-use Rattle.dbformat.specs.FixedPages.{IsInRange}
+use Rattle.std.proofs.Common.{◌≡◌, ℕ, arith, false, List, [], ◌∷◌, length, Option, Some, None, refl, sym, subst, inl, inr, Ok, Err, Result}
+use Rattle.std.specs.Prelude.{IfSome}
+use Rattle.dbformat.specs.File.{geometry, refusal_of}
+use Rattle.dbformat.specs.FixedPages.{geometry_of, IsInRange}
 use Rattle.dbformat.specs.Log.{header_range, IsPageLog, IsRunLog, IsSomeRunLog}
 use Rattle.dbformat.specs.declared.ByteRange.{ByteRange}
 use Rattle.dbformat.specs.declared.Geometry.{Geometry}
 use Rattle.dbformat.specs.declared.Refusal.TheVariants.{Short, Magic, PageSize, Usable, NoPage, TooManyPages, MapAtLock}
+use Rattle.dbsource.specs.Answers.{Step, given}
+use Rattle.dbsource.specs.Headed.{HeadedStep, headed}
 use Rattle.dbsource.specs.HeaderBytes.{HeaderBytes}
-use Rattle.dbsource.specs.Headers.{IsOpenLog}
+use Rattle.dbsource.specs.Headers.{IsHeaderOf, IsOpenLog, IsRefusalOf, Opens}
+use Rattle.dbsource.specs.Snapshots.{FitsBehindHeader, HasRead, HasReadBehind}
+use Rattle.dbsource.specs.Sources.{HasLog, SourceState}
 use Rattle.dbsource.specs.declared.error.OpenError.{OpenError}
 use Rattle.dbsource.specs.declared.error.OpenError.TheVariants.{Refused, ReadFailed}
+use Rattle.dbsource.proofs.Headers.{opens_told}
+use Rattle.dbsource.proofs.Runs.{opened, ran, read_behind, read_weaker}
 
 no_pages : (g : Geometry) → IsPageLog g []
 no_pages g = record { pages = []; ranges = refl; readable = λ p i. absurd i; distinct = tt }
@@ -42,6 +50,60 @@ some_range = record { page_size = (omega arith, omega arith); usable = (omega ar
 pub opened_some_log : (r : Result HeaderBytes OpenError) (log : List ByteRange) → IsOpenLog r log → IsSomeRunLog log
 opened_some_log r log e = (some_geometry, some_range, opened_log some_geometry r log e)
 
--- the header was read, and then pages
-pub read_log : (g : Geometry) (a b : List ByteRange) → a ≡ header_range ∷ [] → IsPageLog g b → IsRunLog g (a ++ b)
-read_log g a b e h = inr (b, ap (λ x. x ++ b) e, h)
+-- ---- behind the header
+
+-- what was asked of a source with its header before it, which a run made of a source and gave back
+pub behind_headed : {X : Type 0} {step : Step} {name name' : ℕ} {head' : List ℕ} {T : List ℕ → Type 0} (held : X → SourceState) (h own : HeaderBytes) {source first last after : X}
+    → own ≡ h → first ≡ source → after ≡ last → (refusal_of h.bytes h.file_len ≡ None) × (length h.bytes ≡ 100)
+    → HasLog (HeadedStep step) (IsPageLog (geometry_of h.bytes h.file_len)) (λ file. IsHeaderOf h file → T file) (headed name own.bytes (held first)) (headed name' head' (held last))
+    → HasReadBehind step (IsPageLog (geometry_of h.bytes h.file_len)) h T (held source) (held after)
+behind_headed {step = step} {name = name} {name' = name'} {head' = head'} {T = T} held h own {source = source} {first = first} {last = last} {after = after} same begun ended accepted log =
+    let P = IsPageLog (geometry_of h.bytes h.file_len) in
+    let Q = λ (file : List ℕ). IsHeaderOf h file → T file in
+    let a = subst (λ (x : HeaderBytes). HasLog (HeadedStep step) P Q (headed name x.bytes (held first)) (headed name' head' (held last))) same log in
+    let b = subst (λ x. HasLog (HeadedStep step) P Q (headed name h.bytes (held x)) (headed name' head' (held last))) begun a in
+    read_behind step name name' h head' T (held source) (held after) accepted.0 accepted.1
+    (subst (λ x. HasLog (HeadedStep step) P Q (headed name h.bytes (held source)) (headed name' head' (held x))) (sym ended) b)
+
+-- of a file with this header, something weaker
+pub behind_weaker : {step : Step} {P : List ByteRange → Type 0} (h : HeaderBytes) (T : List ℕ → Type 0) {T' : List ℕ → Type 0} {old new : SourceState}
+    → HasReadBehind step P h T old new → ((file : List ℕ) → IsHeaderOf h file → T file → T' file) → HasReadBehind step P h T' old new
+behind_weaker h T k q = record {
+  log = k.log;
+  leads = k.leads;
+  holds = k.holds;
+  there_is = k.there_is;
+  files = λ file is f. q file is (k.files file is f);
+  tells = k.tells;
+}
+
+-- nothing was asked for behind the header
+pub behind_none : {step : Step} {T : List ℕ → Type 0} (h : HeaderBytes) (s : SourceState) (file : List ℕ) → IsHeaderOf h file
+    → ((file : List ℕ) → IsHeaderOf h file → T file) → HasReadBehind step (IsPageLog (geometry_of h.bytes h.file_len)) h T s s
+behind_none h s file is q = record {
+  log = [];
+  leads = refl;
+  holds = no_pages (geometry_of h.bytes h.file_len);
+  there_is = (file, is, tt);
+  files = λ file is f. q file is;
+  tells = by_told s.bytes refl;
+}
+  where
+    by_told : (o : Option (List ℕ)) → o ≡ s.bytes → IfSome o (λ file. IsHeaderOf h file → FitsBehindHeader file [] × (s.bytes ≡ Some file))
+    by_told None e = tt
+    by_told (Some file) e = λ is. (tt, sym e)
+
+-- the header, and what was read behind it, of a run
+pub whole_run : {step : Step} {T : List ℕ → Type 0} (h : HeaderBytes) {old mid new : SourceState} → Opens step (Ok h) old mid → step old.trail (given 0 h.bytes) mid.trail
+    → (refusal_of h.bytes h.file_len ≡ None) × (length h.bytes ≡ 100) → IsInRange (geometry_of h.bytes h.file_len)
+    → HasReadBehind step (IsPageLog (geometry_of h.bytes h.file_len)) h T mid new → HasRead step IsSomeRunLog (λ file ranges. IsRunLog (geometry file) ranges × T file) old new
+whole_run {step} {T} h {old} {mid} {new} opens first accepted range behind =
+    let g = geometry_of h.bytes h.file_len in
+    read_weaker (IsRunLog g) _ (ran step h T old mid new accepted.0 accepted.1 (opens_told (Ok h) opens) opens.asks.log.told first behind)
+    (λ ranges p. (g, range, p)) (λ file ranges p t. (subst (λ s. IsRunLog s ranges) t.0.shape p, t.1))
+
+-- a run whose header was not read, or is refused
+pub opened_run : {step : Step} {T : List ℕ → Type 0} (e : OpenError) {old new : SourceState} → Opens step (Err e) old new → ((file : List ℕ) → IsRefusalOf e file → T file)
+    → HasRead step IsSomeRunLog (λ file ranges. IsRunLog (geometry file) ranges × T file) old new
+opened_run {step} {T} e {old} {new} opens q =
+    read_weaker (IsOpenLog (Err e)) _ (opened step e T old new opens q) (opened_some_log (Err e)) (λ file ranges p t. (opened_log (geometry file) (Err e) ranges p, t))

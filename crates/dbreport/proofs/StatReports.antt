@@ -1,6 +1,6 @@
 -- What the statistics have written of a file in the end, and what they found: its report.
-use Rattle.std.proofs.Common.{◌≡◌, ℕ, suc, ◌+◌, Bool, false, cond, List, [], ◌∷◌, ◌++◌, length, Option, Result, Ok, Err, refl, sym, ap, ap₂, ◌∙◌, subst, arith, append_assoc}
-use Rattle.std.specs.Prelude.{flat_map, ◌==◌, codes, None, Some, IfOk, IfSome, if◌then◌else◌}
+use Rattle.std.proofs.Common.{◌≡◌, ℕ, suc, ◌+◌, false, cond, List, [], ◌∷◌, ◌++◌, length, Result, Ok, Err, refl, sym, ap, ap₂, ◌∙◌, subst, arith, append_assoc}
+use Rattle.std.specs.Prelude.{flat_map, ◌==◌, codes, IfOk, if◌then◌else◌}
 use Rattle.std.proofs.lemmas.Bool.Decides.{nat_tests}
 use Rattle.std.proofs.lemmas.Grind.{flat_map-append}
 use Rattle.dbformat.specs.EndFaults.{end_faults}
@@ -107,16 +107,17 @@ module _ {O E : Type 0} (held : O → OutState) (held' : E → OutState) (file :
     pub all_parts : {A : Type 0} (r : Result A RunError) → WritesBoth held held' r w t (rows_text w.aggregate form.all file V) (walk_faults_told file V) → HasParts r t
     all_parts r k = parts_of r t (both r k)
 
-    pub all_found : {B : Type 0} (b : B) → s.found ≡ 0 → WritesBoth {X = RunError} held held' (Ok b) w t (rows_text w.aggregate form.all file V) (walk_faults_told file V)
+    all_found : {B : Type 0} (b : B) → s.found ≡ 0 → WritesBoth {X = RunError} held held' (Ok b) w t (rows_text w.aggregate form.all file V) (walk_faults_told file V)
         → found_verdict t.found ≡ verdict (faults file V)
     all_found b none k =
         let p = both (Ok b) k in
         ap found_verdict (p.found 0 none ∙ ap counted (from_none (length (of_header ++ walk_faults_told file V))) ∙ ap (λ l. counted (length l)) (all_faults file V h is survey)) ∙ by_count (faults file V)
 
--- what the walks have written, where the header is that of the file
-abbrev pub IsStatWalked : {A O E : Type 0} → (O → OutState) → (E → OutState) → HeaderBytes → Geometry → Bool → Result A RunError → StatSink O E → StatSink O E → List ℕ → Type 0
-IsStatWalked held held' h g all r s t file = IsHeaderOf h file → g ≡ geometry file → IsForSchema file s → (V : List Reference) → Survey file V
-    → WritesBoth held held' r s t (rows_text s.aggregate all file V) (walk_faults_told file V)
+    -- and so is the verdict
+    pub verdict_found : (r : Result Verdict RunError) → s.found ≡ 0 → WritesBoth held held' r w t (rows_text w.aggregate form.all file V) (walk_faults_told file V)
+        → IfOk r (λ v. v ≡ found_verdict t.found) → IfOk r (λ v. v ≡ verdict (faults file V))
+    verdict_found (Ok v) none k found = found ∙ all_found v none k
+    verdict_found (Err e) none k found = tt
 
 -- the first sink is that of the file's schema
 pub for_schema : {O E : Type 0} (file : List ℕ) (h : HeaderBytes) (g : Geometry) (label : Label) (s m w : StatSink O E) → IsHeaderOf h file → g ≡ geometry file
@@ -130,10 +131,3 @@ for_schema {O} {E} file h g label s m w is e name code size of none kept watched
       page_size = ap (λ (l : Label). l.page_size) l ∙ size ∙ ap (λ (g : Geometry). g.page_size) e;
       summed = ap (λ (x : StatSink O E). x.sums) watched ∙ kept.1 none;
     }
-
--- of the verdict, by what was written and found
-pub found_told : {W : Verdict → Type 0} {X : Type 0} (P : Result Verdict RunError → X → Type 0) {Q : Verdict → X → Type 0} (r : Result Verdict RunError) (o : Option X)
-    → ((x : X) (v : Verdict) → P (Ok v) x → W v → Q v x) → IfSome o (P r) → IfOk r W → IfOk r (λ v. IfSome o (Q v))
-found_told P (Ok v) None f h w = tt
-found_told P (Ok v) (Some x) f h w = f x v h w
-found_told P (Err e) o f h w = tt

@@ -1,5 +1,6 @@
 -- What a desk holds.
-use Rattle.std.specs.Prelude.{◌≡◌, List}
+use Rattle.std.specs.Prelude.{◌≡◌, List, None, length}
+use Rattle.dbformat.specs.File.{refusal_of}
 use Rattle.dbformat.specs.FixedPages.{geometry_of}
 use Rattle.dbsource.specs.Bench.{Pages}
 use Rattle.dbsource.specs.HeaderBytes.{HeaderBytes}
@@ -18,7 +19,8 @@ pub record Things : Type 0 where
 abbrev pub things : {A : Type 0} → Inside A → Things
 things d = record { header = d.header; pages = d.bench; marks = d.marks; roots = d.roots }
 
--- page buffers and marks are those for the file of the header
+-- the header is accepted, and page buffers and marks are those for its file
 pub record AreForHeader {A : Type 0} (d : Inside A) : Type 0 where
+  pub accepted : (refusal_of d.header.bytes d.header.file_len ≡ None) × (length d.header.bytes ≡ 100)
   pub shape : d.bench.geometry ≡ geometry_of d.header.bytes d.header.file_len
   pub marks : AreMarksFor d.bench.geometry d.marks

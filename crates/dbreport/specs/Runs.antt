@@ -1,14 +1,22 @@
 -- What an answer of a run says of the file, and of what was written.
-use Rattle.std.specs.Prelude.{◌≡◌, ℕ, true, false, List, None, Some, Result, Err, ⊤}
-use Rattle.dbformat.specs.File.{refusal}
+use Rattle.std.specs.Prelude.{◌≡◌, ◌<◌, ◌↔◌, ℕ, true, false, List, length, Option, None, Some, Result, Ok, Err, IfOk, IfSome, ⊤}
+use Rattle.dbformat.specs.File.{geometry, refusal}
 use Rattle.dbformat.specs.Reference.{Reference}
 use Rattle.dbformat.specs.Lines.{AddsUpToAllPages}
+use Rattle.dbformat.specs.Log.{IsRunLog, IsSomeRunLog}
+use Rattle.dbformat.specs.Report.{report}
 use Rattle.dbformat.specs.Rows.{CountsEachPageOnce, CountsNoPageTwice}
+use Rattle.dbformat.specs.Sound.{Sound}
+use Rattle.dbformat.specs.Survey.{Survey, survey}
 use Rattle.dbformat.specs.declared.Command.{Command}
 use Rattle.dbformat.specs.declared.Command.TheVariants.{Check, Stat}
+use Rattle.dbformat.specs.declared.Verdict.{Verdict}
+use Rattle.dbformat.specs.declared.Verdict.TheVariants.{Clean}
 use Rattle.dbsource.specs.Answers.{Step, Trail}
 use Rattle.dbsource.specs.Headers.{IsOpenLog}
-use Rattle.dbsource.specs.Sources.{HasRanges}
+use Rattle.dbsource.specs.Outs.{Writes}
+use Rattle.dbsource.specs.Snapshots.{HasRead}
+use Rattle.dbsource.specs.Sources.{HasRanges, SourceState}
 use Rattle.dbsource.specs.declared.error.OpenError.TheVariants as opening
 use Rattle.dbsource.specs.declared.error.RunError.{RunError}
 use Rattle.dbsource.specs.declared.error.RunError.TheVariants.{Refused, ReadFailed}
@@ -42,3 +50,32 @@ CountsPages (Stat aggregate true) file V =
     × (refusal file ≡ None → AddsUpToAllPages (record { aggregate = aggregate; all = true }) file V)
 CountsPages (Stat aggregate false) file V = CountsNoPageTwice (record { aggregate = aggregate; all = false }) file V
 CountsPages (Check limit) file V = Unit {0}
+
+-- What a run left, by a survey of a file: on each Out its part of the report, at an error a beginning of it; and the verdict.
+pub record IsReported (command : Command) (file : List ℕ) (V : List Reference) (r : Result Verdict RunError) (out_old out_new err_old err_new : Option (List ℕ)) : Type 0 where
+  pub out : Writes r out_old out_new (report command file V).out
+  pub err : Writes r err_old err_new (report command file V).err
+  pub verdict : IfOk r (λ v. (report command file V).answer ≡ Ok v)
+
+-- What a run left is so of a file: it has a survey, and by any survey of it that is its report; `Clean` is what a sound file
+-- is answered, and no other.
+pub record IsRunOf (command : Command) (file : List ℕ) (r : Result Verdict RunError) (out_old out_new err_old err_new : Option (List ℕ)) : Type 0 where
+  pub survey : Survey file (survey file)
+  pub reported : (V : List Reference) → Survey file V → IsReported command file V r out_old out_new err_old err_new
+  pub answer : IsAnswerOf r file
+  pub sound : IfOk r (λ v. v ≡ Clean ↔ Sound file)
+  pub counts : (V : List Reference) → Survey file V → CountsPages command file V
+
+-- What a run left of a source that tells its bytes: it is so of them; they stay; it was asked for what a run over them asks
+-- for, and of bytes too few for a header for nothing.
+pub record IsToldRun (step : Step) (command : Command) (r : Result Verdict RunError) (out_old out_new err_old err_new : Option (List ℕ)) (old new : SourceState) (file : List ℕ) : Type 0 where
+  pub run : IsRunOf command file r out_old out_new err_old err_new
+  pub stay : new.bytes ≡ Some file
+  pub log : HasRanges step (IsRunLog (geometry file)) old.trail new.trail
+  pub unread : length file < 100 → new.trail ≡ old.trail
+
+-- So it is where what was left is so of each file that agrees with what was read.
+abbrev pub ToldFilesAreRead : Step → Type 0
+ToldFilesAreRead step = (command : Command) (r : Result Verdict RunError) (out_old out_new err_old err_new : Option (List ℕ)) (old new : SourceState)
+    → HasRead step IsSomeRunLog (λ file ranges. IsRunLog (geometry file) ranges × IsRunOf command file r out_old out_new err_old err_new) old new
+    → IfSome old.bytes (IsToldRun step command r out_old out_new err_old err_new old new)

@@ -1,5 +1,5 @@
 // A check of a file, by its header.
-ghost use Rattle.std.specs.Prelude.{◌≡◌, [], false, List, IfErr, IfOk, IfSome};
+ghost use Rattle.std.specs.Prelude.{◌≡◌, [], false, List, IfErr, IfOk};
 ghost use Rattle.dbformat.specs.File.{geometry};
 ghost use Rattle.dbformat.specs.HeaderFaults.{header_faults};
 ghost use Rattle.dbformat.specs.Log.{IsPageLog};
@@ -10,7 +10,7 @@ ghost use Rattle.dbsource.specs.Errors.{is_out_of_memory, is_read_failed, is_wri
 ghost use Rattle.dbsource.specs.Failures.{failures_after};
 ghost use Rattle.dbsource.specs.Headers.{IsHeaderOf};
 ghost use Rattle.dbsource.specs.Outs.{Writes};
-ghost use Rattle.dbsource.specs.Sources.{AsksRanges};
+ghost use Rattle.dbsource.specs.Sources.{Asks};
 ghost use Rattle.dbsource.specs.declared.error.RunError.TheVariants.{WriteFailed};
 ghost use Rattle.dbwalk.specs.Marking.{AreMarksFor, marks_of};
 ghost use Rattle.dbwalk.specs.Outcomes.{IsReadWriteOrMemory, Tells};
@@ -52,13 +52,13 @@ fn tell_check<A: Allocator, S: Source, O: Out>(
     ensures same_out { watch.new.sink.out.ghost_name ≡ watch.old.sink.out.ghost_name }
     ensures shape { bench.new.geometry ≡ bench.old.geometry }
     ensures marks { AreMarksFor bench.old.geometry marks.new }
-    ensures asks { AsksRanges S.step (IsPageLog bench.old.geometry) is_read_failed result (S.held source.old) (S.held source.new) }
+    ensures asks { Asks S.step (IsPageLog bench.old.geometry) (λ file. IsHeaderOf header.now file → bench.old.geometry ≡ geometry file
+        → (V : List Reference) → Survey file V
+        → Tells (Shows O.held) (Cuts O.held) result watch.old.sink (walk_items file V) watch.new.sink)
+        is_read_failed result (S.held source.old) (S.held source.new) }
     ensures writes { (O.held watch.new.sink.out.now).failures ≡ failures_after is_write_failed result (O.held watch.old.sink.out.now).failures }
     ensures refusals { roots.new.refusals ≡ failures_after is_out_of_memory result roots.old.refusals }
     ensures only { IfErr result IsReadWriteOrMemory }
-    ensures done { IfSome (S.held source.old).bytes (λ file. IsHeaderOf header.now file → bench.old.geometry ≡ geometry file
-        → (V : List Reference) → Survey file V
-        → Tells (Shows O.held) (Cuts O.held) result watch.old.sink (walk_items file V) watch.new.sink) }
 {
     tell_walks(header, source, bench, marks, roots, watch)
 }
@@ -83,15 +83,13 @@ pub(crate) fn check<A: Allocator, S: Source, O: Out>(
     requires fresh { marks.old ≡ marks_of bench.old.geometry [] }
     ensures shape { bench.new.geometry ≡ bench.old.geometry }
     ensures marks { AreMarksFor bench.old.geometry marks.new }
-    ensures asks { AsksRanges S.step (IsPageLog bench.old.geometry) is_read_failed result (S.held source.old) (S.held source.new) }
+    ensures asks { Asks S.step (IsPageLog bench.old.geometry) (λ file. IsHeaderOf header.now file → bench.old.geometry ≡ geometry file
+        → (V : List Reference) → Survey file V
+        → Writes result (O.held out.old).bytes (O.held out.new).bytes (check_text limit (faults file V)) × IfOk result (λ v. v ≡ verdict (faults file V)))
+        is_read_failed result (S.held source.old) (S.held source.new) }
     ensures writes { (O.held out.new).failures ≡ failures_after is_write_failed result (O.held out.old).failures }
     ensures refusals { roots.new.refusals ≡ failures_after is_out_of_memory result roots.old.refusals }
     ensures only { IfErr result IsReadWriteOrMemory }
-    ensures text { IfSome (S.held source.old).bytes (λ file. IsHeaderOf header.now file → bench.old.geometry ≡ geometry file
-        → (V : List Reference) → Survey file V
-        → Writes result (O.held out.old).bytes (O.held out.new).bytes (check_text limit (faults file V))) }
-    ensures verdict { IfOk result (λ v. IfSome (S.held source.old).bytes (λ file. IsHeaderOf header.now file → bench.old.geometry ≡ geometry file
-        → (V : List Reference) → Survey file V → v ≡ verdict (faults file V))) }
 {
     let mut sink = CheckSink::new(out, limit);
     tell_check_header(header, &mut sink)?;

@@ -1,5 +1,5 @@
 // What is told at the end of a run: of the whole, and then of each page.
-ghost use Rattle.std.specs.Prelude.{◌≡◌, ◌↔◌, ℕ, List, ◌≤◌, true, Some, None, length, map, option_map, IfSome, IfErr};
+ghost use Rattle.std.specs.Prelude.{◌≡◌, ◌↔◌, ℕ, List, ◌≤◌, true, Some, None, length, map, option_map, IfErr};
 ghost use Rattle.dbformat.specs.EndFaults.{end_faults, has_rows};
 ghost use Rattle.dbformat.specs.File.{geometry, map_entry, refusal};
 ghost use Rattle.dbformat.specs.FixedPages.{IsInRange};
@@ -7,7 +7,7 @@ ghost use Rattle.dbformat.specs.Reference.{Reference};
 ghost use Rattle.dbformat.specs.Survey.{Survey};
 ghost use Rattle.dbsource.specs.Errors.{is_read_failed, is_write_failed};
 ghost use Rattle.dbsource.specs.Headers.{IsHeaderOf};
-ghost use Rattle.dbsource.specs.Sources.{AsksRanges};
+ghost use Rattle.dbsource.specs.Sources.{Asks};
 ghost use Rattle.dbwalk.specs.Finding.{told_fault};
 ghost use Rattle.dbwalk.specs.Marking.{AreMarksOf, page_mark};
 ghost use Rattle.dbwalk.specs.Outcomes.{Tells, IsReadOrWrite};
@@ -65,12 +65,13 @@ fn end_page<S: Source, K: Sink, A: Allocator, B: Allocator>(
     sink: &mut K,
 ) -> Result<(), RunError>
     requires page { (1 ≤ page) × (page ≤ length marks.now) }
-    ensures asks { AsksRanges S.step (IsMapTurn bench.old.geometry page) is_read_failed result (S.held source.old) (S.held source.new) }
+    ensures asks { Asks S.step (IsMapTurn bench.old.geometry page)
+        (λ file. (mark : marking.Mark) → page_mark marks.now page ≡ Some mark → bench.old.geometry ≡ geometry file
+        → EndsPage K.takes K.drops file page mark least_other result bench.old.chain sink.old bench.new.chain sink.new)
+        is_read_failed result (S.held source.old) (S.held source.new) }
     ensures writes { SinkAfter is_write_failed result (K.held sink.old) (K.held sink.new) }
     ensures only { IfErr result IsReadOrWrite }
     ensures bench { bench.new ≡ record bench.old { chain = bench.new.chain } }
-    ensures done { IfSome (S.held source.old).bytes (λ file. (mark : marking.Mark) → page_mark marks.now page ≡ Some mark → bench.old.geometry ≡ geometry file
-        → EndsPage K.takes K.drops file page mark least_other result bench.old.chain sink.old bench.new.chain sink.new) }
 {
     let mark = marks.get(page);
     if is_fixed(mark) {
@@ -96,13 +97,13 @@ fn end_pages<S: Source, K: Sink, A: Allocator, B: Allocator>(
     least_other: Option<u32>,
     sink: &mut K,
 ) -> Result<(), RunError>
-    ensures asks { AsksRanges S.step (MapReads bench.old.geometry) is_read_failed result (S.held source.old) (S.held source.new) }
+    ensures asks { Asks S.step (MapReads bench.old.geometry) (λ file. bench.old.geometry ≡ geometry file → refusal file ≡ None
+        → (V : List Reference) → AreMarksOf file V marks.now
+        → Tells K.takes K.drops result sink.old (pages_items file V least_other (geometry file).pages) sink.new)
+        is_read_failed result (S.held source.old) (S.held source.new) }
     ensures writes { SinkAfter is_write_failed result (K.held sink.old) (K.held sink.new) }
     ensures only { IfErr result IsReadOrWrite }
     ensures bench { bench.new ≡ record bench.old { chain = bench.new.chain } }
-    ensures done { IfSome (S.held source.old).bytes (λ file. bench.old.geometry ≡ geometry file → refusal file ≡ None
-        → (V : List Reference) → AreMarksOf file V marks.now
-        → Tells K.takes K.drops result sink.old (pages_items file V least_other (geometry file).pages) sink.new) }
 {
     for index in 0..marks.pages() {
         end_page(source, bench, marks, index + 1, least_other, sink)?;
@@ -126,13 +127,13 @@ pub(crate) fn tell_end<S: Source, K: Sink, A: Allocator, B: Allocator>(
     any_rows: bool,
     sink: &mut K,
 ) -> Result<(), RunError>
-    ensures asks { AsksRanges S.step (MapReads bench.old.geometry) is_read_failed result (S.held source.old) (S.held source.new) }
+    ensures asks { Asks S.step (MapReads bench.old.geometry) (λ file. IsHeaderOf header.now file → bench.old.geometry ≡ geometry file
+        → (V : List Reference) → Survey file V → AreMarksOf file V marks.now → any_rows ≡ has_rows file V
+        → Tells K.takes K.drops result sink.old (map told_fault (end_faults file V)) sink.new)
+        is_read_failed result (S.held source.old) (S.held source.new) }
     ensures writes { SinkAfter is_write_failed result (K.held sink.old) (K.held sink.new) }
     ensures only { IfErr result IsReadOrWrite }
     ensures bench { bench.new ≡ record bench.old { chain = bench.new.chain } }
-    ensures done { IfSome (S.held source.old).bytes (λ file. IsHeaderOf header.now file → bench.old.geometry ≡ geometry file
-        → (V : List Reference) → Survey file V → AreMarksOf file V marks.now → any_rows ≡ has_rows file V
-        → Tells K.takes K.drops result sink.old (map told_fault (end_faults file V)) sink.new) }
 {
     let counts = count_marks(marks);
     let faults = counted_faults(header, any_rows, counts);

@@ -1,6 +1,6 @@
 // Numbers in hexadecimal.
 ghost use Rattle.arrayvec.specs.ArrayVec.{array_vec_len};
-ghost use Rattle.std.specs.Prelude.{◌≡◌, ◌+◌, ◌<◌, ◌≤◌, false, ◌++◌, length, take, drop};
+ghost use Rattle.std.specs.Prelude.{◌≡◌, ◌+◌, ◌<◌, ◌≤◌, false, ◌++◌, take, drop};
 ghost use Rattle.std.specs.Fmt.{digit_glyph, digits};
 ghost use Rattle.dbformat.specs.Text.{hex_text};
 

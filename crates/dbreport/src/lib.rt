@@ -39,4 +39,4 @@ pub use dbsource::{Header, Out, RunError, Source};
 pub use dbwalk::{SchemaRow, Taken, Taker};
 pub use desk::Desk;
 pub use roots::RootList;
-pub use runs::{run, run_in, run_on};
+pub use runs::{run, run_in, run_on, told_files_are_read};

@@ -1,29 +1,26 @@
 // A run: from the bytes of a database to what is written of them.
-ghost use Rattle.std.specs.Prelude.{◌≡◌, ◌↔◌, ◌<◌, List, length, IfErr, IfOk, IfSome, Ok};
+ghost use Rattle.std.specs.Prelude.{◌≡◌, List, IfErr, IfOk, Ok};
 ghost use Rattle.dbformat.specs.File.{geometry};
 ghost use Rattle.dbformat.specs.FixedPages.{geometry_of};
 ghost use Rattle.dbformat.specs.Log.{IsPageLog, IsRunLog, IsSomeRunLog};
 ghost use Rattle.dbformat.specs.Reference.{Reference};
 ghost use Rattle.dbformat.specs.Report.{report};
-ghost use Rattle.dbformat.specs.Sound.{Sound};
-ghost use Rattle.dbformat.specs.Survey.{Survey, survey};
+ghost use Rattle.dbformat.specs.Survey.{Survey};
 ghost use Rattle.dbformat.specs.declared.Command.TheVariants.{Check, Stat};
-ghost use Rattle.dbformat.specs.declared.Verdict.TheVariants.{Clean};
 ghost use Rattle.dbreport.specs.DeskSizes.{DeskFitsInMemory};
-ghost use Rattle.dbreport.specs.Runs.{AsksHeaderAlone, CountsPages, IsAnswerOf, IsCheck, IsUnwritten};
+ghost use Rattle.dbreport.specs.Runs.{AsksHeaderAlone, IsCheck, IsReported, IsRunOf, IsUnwritten, ToldFilesAreRead};
 ghost use Rattle.dbreport.specs.StatSink.{failures_of_each};
 ghost use Rattle.dbsource.specs.Errors.{is_out_of_memory, is_read_failed, is_write_failed};
 ghost use Rattle.dbsource.specs.Failures.{CountsAfter, failures_after};
-ghost use Rattle.dbsource.specs.Headers.{IsHeaderOf};
 ghost use Rattle.dbsource.specs.Outs.{Writes};
-ghost use Rattle.dbsource.specs.Sources.{AsksRanges, HasRanges};
+ghost use Rattle.dbsource.specs.Snapshots.{HasRead, HasReadBehind};
 ghost use Rattle.dbwalk.specs.Outcomes.{IsReadWriteOrMemory};
 
 use crate::Desk;
 use crate::checking::check;
 use crate::statistics::{Form, stat};
 use dbformat::{Command, Verdict};
-use dbsource::{Header, Out, RunError, Source};
+use dbsource::{HeadedSource, Header, Out, RunError, Source};
 use std::alloc::{Allocator, Global};
 
 // A check of the file whose header is on the desk.
@@ -33,12 +30,12 @@ fn check_on<A: Allocator, S: Source, O: Out>(
     source: &mut S,
     out: &mut O,
 ) -> Result<Verdict, RunError>
-    ensures out { IfSome (S.held source.old).bytes (λ file. IsHeaderOf desk.old.header file → (V : List Reference) → Survey file V
-        → Writes result (O.held out.old).bytes (O.held out.new).bytes (report (Check limit) file V).out) }
-    ensures verdict { IfOk result (λ v. IfSome (S.held source.old).bytes (λ file. IsHeaderOf desk.old.header file
-        → (V : List Reference) → Survey file V → (report (Check limit) file V).answer ≡ Ok v)) }
-    ensures asks { AsksRanges S.step (IsPageLog (geometry_of desk.old.header.bytes desk.old.header.file_len)) is_read_failed result
+    ensures read { HasReadBehind S.step (IsPageLog (geometry_of desk.old.header.bytes desk.old.header.file_len)) desk.old.header
+        (λ file. (V : List Reference) → Survey file V
+        → Writes result (O.held out.old).bytes (O.held out.new).bytes (report (Check limit) file V).out
+        × IfOk result (λ v. (report (Check limit) file V).answer ≡ Ok v))
         (S.held source.old) (S.held source.new) }
+    ensures count { (S.held source.new).failures ≡ failures_after is_read_failed result (S.held source.old).failures }
     ensures out_failures { (O.held out.new).failures ≡ failures_after is_write_failed result (O.held out.old).failures }
     ensures refusals { desk.new.roots.refusals ≡ failures_after is_out_of_memory result desk.old.roots.refusals }
     ensures only { IfErr result IsReadWriteOrMemory }
@@ -46,10 +43,11 @@ fn check_on<A: Allocator, S: Source, O: Out>(
 {
     desk.marks.clear();
     desk.roots.clear();
+    let mut headed = HeadedSource::new(&desk.header, source);
     check(
         limit,
         &desk.header,
-        source,
+        &mut headed,
         &mut desk.bench,
         &mut desk.marks,
         &mut desk.roots,
@@ -65,14 +63,11 @@ fn stat_on<A: Allocator, S: Source, O: Out, E: Out>(
     out: &mut O,
     err: &mut E,
 ) -> Result<Verdict, RunError>
-    ensures out { IfSome (S.held source.old).bytes (λ file. IsHeaderOf desk.old.header file → (V : List Reference) → Survey file V
-        → Writes result (O.held out.old).bytes (O.held out.new).bytes (report (Stat form.aggregate form.all) file V).out) }
-    ensures err { IfSome (S.held source.old).bytes (λ file. IsHeaderOf desk.old.header file → (V : List Reference) → Survey file V
-        → Writes result (E.held err.old).bytes (E.held err.new).bytes (report (Stat form.aggregate form.all) file V).err) }
-    ensures verdict { IfOk result (λ v. IfSome (S.held source.old).bytes (λ file. IsHeaderOf desk.old.header file
-        → (V : List Reference) → Survey file V → (report (Stat form.aggregate form.all) file V).answer ≡ Ok v)) }
-    ensures asks { AsksRanges S.step (IsPageLog (geometry_of desk.old.header.bytes desk.old.header.file_len)) is_read_failed result
+    ensures read { HasReadBehind S.step (IsPageLog (geometry_of desk.old.header.bytes desk.old.header.file_len)) desk.old.header
+        (λ file. (V : List Reference) → Survey file V
+        → IsReported (Stat form.aggregate form.all) file V result (O.held out.old).bytes (O.held out.new).bytes (E.held err.old).bytes (E.held err.new).bytes)
         (S.held source.old) (S.held source.new) }
+    ensures count { (S.held source.new).failures ≡ failures_after is_read_failed result (S.held source.old).failures }
     ensures writes { CountsAfter is_write_failed result (failures_of_each (O.held out.old) (E.held err.old))
         (failures_of_each (O.held out.new) (E.held err.new)) }
     ensures refusals { desk.new.roots.refusals ≡ failures_after is_out_of_memory result desk.old.roots.refusals }
@@ -81,10 +76,11 @@ fn stat_on<A: Allocator, S: Source, O: Out, E: Out>(
 {
     desk.marks.clear();
     desk.roots.clear();
+    let mut headed = HeadedSource::new(&desk.header, source);
     stat(
         form,
         &desk.header,
-        source,
+        &mut headed,
         &mut desk.bench,
         &mut desk.marks,
         &mut desk.roots,
@@ -109,19 +105,12 @@ pub fn run_on<A: Allocator, S: Source, O: Out, E: Out>(
     out: &mut O,
     err: &mut E,
 ) -> Result<Verdict, RunError>
-    // Where the source tells its bytes, and the header is theirs: by any survey of them each Out got its part.
-    ensures out { IfSome (S.held source.old).bytes (λ file. IsHeaderOf desk.old.header file → (V : List Reference) → Survey file V
-        → Writes result (O.held out.old).bytes (O.held out.new).bytes (report command file V).out) }
-    ensures err { IfSome (S.held source.old).bytes (λ file. IsHeaderOf desk.old.header file → (V : List Reference) → Survey file V
-        → Writes result (E.held err.old).bytes (E.held err.new).bytes (report command file V).err) }
-    ensures verdict { IfOk result (λ v. IfSome (S.held source.old).bytes (λ file. IsHeaderOf desk.old.header file
-        → (V : List Reference) → Survey file V → (report command file V).answer ≡ Ok v)) }
-    ensures answer { IfSome (S.held source.old).bytes (λ file. IsHeaderOf desk.old.header file → IsAnswerOf result file) }
-    // `Clean` is what a sound file is answered, and no other.
-    ensures sound { IfOk result (λ v. IfSome (S.held source.old).bytes (λ file. IsHeaderOf desk.old.header file → v ≡ Clean ↔ Sound file)) }
-    // Whatever the source answers.
-    ensures asks { AsksRanges S.step (IsPageLog (geometry_of desk.old.header.bytes desk.old.header.file_len)) is_read_failed result
+    // Whatever the source answers: there is a file of the desk's header that agrees with what was read behind it, and of each
+    // such file this was the run.
+    ensures read { HasReadBehind S.step (IsPageLog (geometry_of desk.old.header.bytes desk.old.header.file_len)) desk.old.header
+        (λ file. IsRunOf command file result (O.held out.old).bytes (O.held out.new).bytes (E.held err.old).bytes (E.held err.new).bytes)
         (S.held source.old) (S.held source.new) }
+    ensures count { (S.held source.new).failures ≡ failures_after is_read_failed result (S.held source.old).failures }
     ensures writes { CountsAfter is_write_failed result (failures_of_each (O.held out.old) (E.held err.old))
         (failures_of_each (O.held out.new) (E.held err.new)) }
     // A check does nothing to the second Out.
@@ -153,19 +142,11 @@ pub fn run_in<A: Allocator + Copy, S: Source, O: Out, E: Out>(
 ) -> Result<Verdict, RunError>
     // What is kept of the file is no larger than memory, as is so unless the allocator itself is about that large.
     requires fits { DeskFitsInMemory A.row A.Allocator }
-    ensures survey { IfSome (S.held source.old).bytes (λ file. Survey file (survey file)) }
-    ensures out { IfSome (S.held source.old).bytes (λ file. (V : List Reference) → Survey file V
-        → Writes result (O.held out.old).bytes (O.held out.new).bytes (report command file V).out) }
-    ensures err { IfSome (S.held source.old).bytes (λ file. (V : List Reference) → Survey file V
-        → Writes result (E.held err.old).bytes (E.held err.new).bytes (report command file V).err) }
-    ensures verdict { IfOk result (λ v. IfSome (S.held source.old).bytes (λ file. (V : List Reference) → Survey file V
-        → (report command file V).answer ≡ Ok v)) }
-    ensures answer { IfSome (S.held source.old).bytes (IsAnswerOf result) }
-    ensures counts { IfSome (S.held source.old).bytes (λ file. (V : List Reference) → Survey file V → CountsPages command file V) }
-    ensures sound { IfOk result (λ v. IfSome (S.held source.old).bytes (λ file. v ≡ Clean ↔ Sound file)) }
-    ensures log { IfSome (S.held source.old).bytes (λ file. HasRanges S.step (IsRunLog (geometry file)) (S.held source.old).trail (S.held source.new).trail) }
-    ensures unread { IfSome (S.held source.old).bytes (λ file. length file < 100 → (S.held source.new).trail ≡ (S.held source.old).trail) }
-    ensures asks { AsksRanges S.step IsSomeRunLog is_read_failed result (S.held source.old) (S.held source.new) }
+    ensures read { HasRead S.step IsSomeRunLog
+        (λ file ranges. IsRunLog (geometry file) ranges
+        × IsRunOf command file result (O.held out.old).bytes (O.held out.new).bytes (E.held err.old).bytes (E.held err.new).bytes)
+        (S.held source.old) (S.held source.new) }
+    ensures count { (S.held source.new).failures ≡ failures_after is_read_failed result (S.held source.old).failures }
     ensures refused { AsksHeaderAlone S.step result (S.held source.old).trail (S.held source.new).trail }
     ensures unwritten { IsUnwritten result out.old out.new × IsUnwritten result err.old err.new }
     ensures writes { CountsAfter is_write_failed result (failures_of_each (O.held out.old) (E.held err.old))
@@ -197,23 +178,13 @@ pub fn run<S: Source, O: Out, E: Out>(
     out: &mut O,
     err: &mut E,
 ) -> Result<Verdict, RunError>
-    // Where the source tells its bytes: the file has a survey, and by any survey of it each Out got its part.
-    ensures survey { IfSome (S.held source.old).bytes (λ file. Survey file (survey file)) }
-    ensures out { IfSome (S.held source.old).bytes (λ file. (V : List Reference) → Survey file V
-        → Writes result (O.held out.old).bytes (O.held out.new).bytes (report command file V).out) }
-    ensures err { IfSome (S.held source.old).bytes (λ file. (V : List Reference) → Survey file V
-        → Writes result (E.held err.old).bytes (E.held err.new).bytes (report command file V).err) }
-    ensures verdict { IfOk result (λ v. IfSome (S.held source.old).bytes (λ file. (V : List Reference) → Survey file V
-        → (report command file V).answer ≡ Ok v)) }
-    ensures answer { IfSome (S.held source.old).bytes (IsAnswerOf result) }
-    // The rows of all pages count each page once, and those of trees alone count none twice.
-    ensures counts { IfSome (S.held source.old).bytes (λ file. (V : List Reference) → Survey file V → CountsPages command file V) }
-    // `Clean` is what a sound file is answered, and no other.
-    ensures sound { IfOk result (λ v. IfSome (S.held source.old).bytes (λ file. v ≡ Clean ↔ Sound file)) }
-    ensures log { IfSome (S.held source.old).bytes (λ file. HasRanges S.step (IsRunLog (geometry file)) (S.held source.old).trail (S.held source.new).trail) }
-    ensures unread { IfSome (S.held source.old).bytes (λ file. length file < 100 → (S.held source.new).trail ≡ (S.held source.old).trail) }
-    // Whatever the source answers.
-    ensures asks { AsksRanges S.step IsSomeRunLog is_read_failed result (S.held source.old) (S.held source.new) }
+    // Whatever the source answers: there is a file, of the length that it answered, that agrees with every byte that was read,
+    // and of each such file this was the run.
+    ensures read { HasRead S.step IsSomeRunLog
+        (λ file ranges. IsRunLog (geometry file) ranges
+        × IsRunOf command file result (O.held out.old).bytes (O.held out.new).bytes (E.held err.old).bytes (E.held err.new).bytes)
+        (S.held source.old) (S.held source.new) }
+    ensures count { (S.held source.new).failures ≡ failures_after is_read_failed result (S.held source.old).failures }
     // At a refusal nothing but the header is asked for, and nothing is done to either Out.
     ensures refused { AsksHeaderAlone S.step result (S.held source.old).trail (S.held source.new).trail }
     ensures unwritten { IsUnwritten result out.old out.new × IsUnwritten result err.old err.new }
@@ -225,3 +196,9 @@ pub fn run<S: Source, O: Out, E: Out>(
 {
     run_in(alloc, command, source, out, err)
 }
+
+/// What [`run`] says of each file that agrees with what was read is so of the bytes that a source tells, as memory does: by any
+/// survey of them each Out got its part of the report, `Clean` is the answer exactly where they are sound, and so on.
+pub fn told_files_are_read<S: Source>()
+    ensures { ToldFilesAreRead S.step }
+{}

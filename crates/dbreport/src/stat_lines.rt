@@ -1,5 +1,5 @@
 // The lines of the statistics.
-ghost use Rattle.std.specs.Prelude.{◌≡◌, true, List};
+ghost use Rattle.std.specs.Prelude.{◌≡◌, List};
 ghost use Rattle.std.specs.List.{flat_map};
 ghost use Rattle.dbformat.specs.Rows.{StatRow};
 ghost use Rattle.dbsource.specs.Failures.{failures_after, is_any};

@@ -1,5 +1,5 @@
 // The statistics of the trees, start after start.
-ghost use Rattle.std.specs.Prelude.{◌≡◌, ◌↔◌, ◌≤◌, ◌+◌, [], length, false, List, IfErr, IfSome};
+ghost use Rattle.std.specs.Prelude.{◌≡◌, ◌↔◌, ◌≤◌, ◌+◌, [], length, false, List, IfErr};
 ghost use Rattle.dbformat.specs.Address.{schema_start};
 ghost use Rattle.dbformat.specs.File.{geometry as shape_of};
 ghost use Rattle.dbformat.specs.Header.{encoding as encoding_of};
@@ -8,7 +8,7 @@ ghost use Rattle.dbformat.specs.Survey.{Survey};
 ghost use Rattle.dbsource.specs.Errors.{is_out_of_memory, is_read_failed};
 ghost use Rattle.dbsource.specs.Failures.{failures_after};
 ghost use Rattle.dbsource.specs.Headers.{IsHeaderOf};
-ghost use Rattle.dbsource.specs.Sources.{AsksRanges};
+ghost use Rattle.dbsource.specs.Sources.{Asks};
 ghost use Rattle.dbwalk.specs.Marking.{AreMarksOf};
 ghost use Rattle.dbwalk.specs.Outcomes.{IsReadOrWrite, IsReadWriteOrMemory};
 ghost use Rattle.dbwalk.specs.Reads.{Reads};
@@ -43,12 +43,13 @@ fn stat_tree<A: Allocator, S: Source, O: Out, E: Out>(
     ensures same_err { sink.new.err.ghost_name ≡ sink.old.err.ghost_name }
     ensures shape { bench.new.geometry ≡ bench.old.geometry }
     ensures roots { roots.new ≡ roots.old }
-    ensures asks { AsksRanges S.step (Reads bench.old.geometry.page_size marks.old marks.new) is_read_failed result (S.held source.old) (S.held source.new) }
+    ensures asks { Asks S.step (Reads bench.old.geometry.page_size marks.old marks.new)
+        (λ file. bench.old.geometry ≡ shape_of file → root.encoding ≡ encoding_of file
+        → (W : List Reference) (c : Reference) → IsRootAfter file root W c marks.old → sink.old.sums ≡ sums_of []
+        → IsTreeWritten O.held E.held file W c result marks.new sink.old sink.new)
+        is_read_failed result (S.held source.old) (S.held source.new) }
     ensures writes { Fails O.held E.held result sink.old sink.new }
     ensures only { IfErr result IsReadOrWrite }
-    ensures done { IfSome (S.held source.old).bytes (λ file. bench.old.geometry ≡ shape_of file → root.encoding ≡ encoding_of file
-        → (W : List Reference) (c : Reference) → IsRootAfter file root W c marks.old → sink.old.sums ≡ sums_of []
-        → IsTreeWritten O.held E.held file W c result marks.new sink.old sink.new) }
 {
     walk_tree(source, bench, marks, root, roots, sink)?;
     Ok(sink.end_tree()?)
@@ -86,13 +87,14 @@ fn stat_roots<A: Allocator, S: Source, O: Out, E: Out>(
     ensures same_err { sink.new.err.ghost_name ≡ sink.old.err.ghost_name }
     ensures shape { bench.new.geometry ≡ bench.old.geometry }
     ensures roots { roots.new ≡ roots.old }
-    ensures asks { AsksRanges S.step (Reads bench.old.geometry.page_size marks.old marks.new) is_read_failed result (S.held source.old) (S.held source.new) }
-    ensures writes { Fails O.held E.held result sink.old sink.new }
-    ensures only { IfErr result IsReadOrWrite }
-    ensures done { IfSome (S.held source.old).bytes (λ file. bench.old.geometry ≡ shape_of file → encoding ≡ encoding_of file
+    ensures asks { Asks S.step (Reads bench.old.geometry.page_size marks.old marks.new)
+        (λ file. bench.old.geometry ≡ shape_of file → encoding ≡ encoding_of file
         → (V : List Reference) → Survey file V → AreListed file V roots.old.rows → (before : StatSink O E) (U : List Reference)
         → IsWriting O.held E.held file V before U (errands_from file 1 roots.old.rows) marks.old sink.old
-        → StopsWriting O.held E.held file V before (errands_from file (length roots.old.rows + 1) []) result marks.new sink.new) }
+        → StopsWriting O.held E.held file V before (errands_from file (length roots.old.rows + 1) []) result marks.new sink.new)
+        is_read_failed result (S.held source.old) (S.held source.new) }
+    ensures writes { Fails O.held E.held result sink.old sink.new }
+    ensures only { IfErr result IsReadOrWrite }
 {
     for index in 0..roots.len() {
         let root = begin_at(roots, index + 1, encoding, sink);
@@ -114,13 +116,13 @@ fn stat_later<A: Allocator, S: Source, O: Out, E: Out>(
     ensures same_err { sink.new.err.ghost_name ≡ sink.old.err.ghost_name }
     ensures shape { bench.new.geometry ≡ bench.old.geometry }
     ensures roots { roots.new ≡ roots.old }
-    ensures asks { AsksRanges S.step (Reads bench.old.geometry.page_size marks.old marks.new) is_read_failed result (S.held source.old) (S.held source.new) }
-    ensures writes { Fails O.held E.held result sink.old sink.new }
-    ensures only { IfErr result IsReadOrWrite }
-    ensures done { IfSome (S.held source.old).bytes (λ file. IsHeaderOf header.now file → bench.old.geometry ≡ shape_of file
+    ensures asks { Asks S.step (Reads bench.old.geometry.page_size marks.old marks.new) (λ file. IsHeaderOf header.now file → bench.old.geometry ≡ shape_of file
         → (V : List Reference) → Survey file V → AreListed file V roots.old.rows → (before : StatSink O E) (U : List Reference)
         → IsWriting O.held E.held file V before U (errands_from file 1 roots.old.rows) marks.old sink.old
-        → StopsWriting O.held E.held file V before [] result marks.new sink.new) }
+        → StopsWriting O.held E.held file V before [] result marks.new sink.new)
+        is_read_failed result (S.held source.old) (S.held source.new) }
+    ensures writes { Fails O.held E.held result sink.old sink.new }
+    ensures only { IfErr result IsReadOrWrite }
 {
     stat_roots(source, bench, marks, roots, header.encoding(), sink)?;
     let first = header.first_trunk();
@@ -144,13 +146,13 @@ fn stat_schema<A: Allocator, S: Source, O: Out, E: Out>(
     ensures same_out { watch.new.sink.out.ghost_name ≡ watch.old.sink.out.ghost_name }
     ensures same_err { watch.new.sink.err.ghost_name ≡ watch.old.sink.err.ghost_name }
     ensures shape { bench.new.geometry ≡ bench.old.geometry }
-    ensures asks { AsksRanges S.step (Reads bench.old.geometry.page_size marks.old marks.new) is_read_failed result (S.held source.old) (S.held source.new) }
+    ensures asks { Asks S.step (Reads bench.old.geometry.page_size marks.old marks.new) (λ file. IsHeaderOf header.now file → bench.old.geometry ≡ shape_of file
+        → AreMarksOf file [] marks.old → watch.old.sink.sums ≡ sums_of []
+        → IsSchemaWritten O.held E.held file result marks.new roots.new.rows watch.new.has_rows watch.old.sink watch.new.sink)
+        is_read_failed result (S.held source.old) (S.held source.new) }
     ensures writes { Fails O.held E.held result watch.old.sink watch.new.sink }
     ensures refusals { roots.new.refusals ≡ failures_after is_out_of_memory result roots.old.refusals }
     ensures only { IfErr result IsReadWriteOrMemory }
-    ensures done { IfSome (S.held source.old).bytes (λ file. IsHeaderOf header.now file → bench.old.geometry ≡ shape_of file
-        → AreMarksOf file [] marks.old → watch.old.sink.sums ≡ sums_of []
-        → IsSchemaWritten O.held E.held file result marks.new roots.new.rows watch.new.has_rows watch.old.sink watch.new.sink) }
 {
     walk_schema(header, source, bench, marks, roots, watch)?;
     Ok(watch.sink.end_tree()?)
@@ -176,13 +178,14 @@ pub(crate) fn stat_starts<A: Allocator, S: Source, O: Out, E: Out>(
     ensures same_out { watch.new.sink.out.ghost_name ≡ watch.old.sink.out.ghost_name }
     ensures same_err { watch.new.sink.err.ghost_name ≡ watch.old.sink.err.ghost_name }
     ensures shape { bench.new.geometry ≡ bench.old.geometry }
-    ensures asks { AsksRanges S.step (Reads bench.old.geometry.page_size marks.old marks.new) is_read_failed result (S.held source.old) (S.held source.new) }
+    ensures asks { Asks S.step (Reads bench.old.geometry.page_size marks.old marks.new)
+        (λ file. IsHeaderOf header.now file → bench.old.geometry ≡ shape_of file → AreMarksOf file [] marks.old
+        → IsForSchema file watch.old.sink → (V : List Reference) → Survey file V
+        → AreWritten O.held E.held file V result marks.new watch.new.has_rows watch.old.sink watch.new.sink)
+        is_read_failed result (S.held source.old) (S.held source.new) }
     ensures writes { Fails O.held E.held result watch.old.sink watch.new.sink }
     ensures refusals { roots.new.refusals ≡ failures_after is_out_of_memory result roots.old.refusals }
     ensures only { IfErr result IsReadWriteOrMemory }
-    ensures done { IfSome (S.held source.old).bytes (λ file. IsHeaderOf header.now file → bench.old.geometry ≡ shape_of file → AreMarksOf file [] marks.old
-        → IsForSchema file watch.old.sink → (V : List Reference) → Survey file V
-        → AreWritten O.held E.held file V result marks.new watch.new.has_rows watch.old.sink watch.new.sink) }
 {
     stat_schema(header, source, bench, marks, roots, watch)?;
     stat_later(header, source, bench, marks, roots, &mut watch.sink)

@@ -1,5 +1,5 @@
 // The statistics of a file, by its header.
-ghost use Rattle.std.specs.Prelude.{◌≡◌, [], false, List, IfErr, IfOk, IfSome, OnOk, codes, flat_map};
+ghost use Rattle.std.specs.Prelude.{◌≡◌, [], false, List, IfErr, IfOk, OnOk, codes, flat_map};
 ghost use Rattle.dbformat.specs.File.{geometry};
 ghost use Rattle.dbformat.specs.Header.{encoding};
 ghost use Rattle.dbformat.specs.HeaderFaults.{header_faults};
@@ -13,7 +13,7 @@ ghost use Rattle.dbsource.specs.Errors.{is_out_of_memory, is_read_failed, is_wri
 ghost use Rattle.dbsource.specs.Failures.{CountsAfter, failures_after};
 ghost use Rattle.dbsource.specs.Headers.{IsHeaderOf};
 ghost use Rattle.dbsource.specs.Outs.{Writes};
-ghost use Rattle.dbsource.specs.Sources.{AsksRanges};
+ghost use Rattle.dbsource.specs.Sources.{Asks};
 ghost use Rattle.dbsource.specs.declared.error.RunError.TheVariants.{WriteFailed};
 ghost use Rattle.dbwalk.specs.Marking.{AreMarksFor, AreMarksOf, marks_of};
 ghost use Rattle.dbwalk.specs.Outcomes.{IsReadWriteOrMemory};
@@ -73,13 +73,14 @@ fn stat_pages<A: Allocator, S: Source, O: Out, E: Out>(
     ensures same_out { watch.new.sink.out.ghost_name ≡ watch.old.sink.out.ghost_name }
     ensures same_err { watch.new.sink.err.ghost_name ≡ watch.old.sink.err.ghost_name }
     ensures shape { bench.new.geometry ≡ bench.old.geometry }
-    ensures asks { AsksRanges S.step (Reads bench.old.geometry.page_size marks.old marks.new) is_read_failed result (S.held source.old) (S.held source.new) }
+    ensures asks { Asks S.step (Reads bench.old.geometry.page_size marks.old marks.new)
+        (λ file. IsHeaderOf header.now file → bench.old.geometry ≡ geometry file → AreMarksOf file [] marks.old
+        → IsForSchema file watch.old.sink → (V : List Reference) → Survey file V
+        → ArePagesWritten O.held E.held file V all result marks.new watch.new.has_rows watch.old.sink watch.new.sink)
+        is_read_failed result (S.held source.old) (S.held source.new) }
     ensures writes { Fails O.held E.held result watch.old.sink watch.new.sink }
     ensures refusals { roots.new.refusals ≡ failures_after is_out_of_memory result roots.old.refusals }
     ensures only { IfErr result IsReadWriteOrMemory }
-    ensures done { IfSome (S.held source.old).bytes (λ file. IsHeaderOf header.now file → bench.old.geometry ≡ geometry file → AreMarksOf file [] marks.old
-        → IsForSchema file watch.old.sink → (V : List Reference) → Survey file V
-        → ArePagesWritten O.held E.held file V all result marks.new watch.new.has_rows watch.old.sink watch.new.sink) }
 {
     stat_starts(header, source, bench, marks, roots, watch)?;
     if !all {
@@ -105,13 +106,13 @@ fn stat_walks<A: Allocator, S: Source, O: Out, E: Out>(
     ensures same_err { watch.new.sink.err.ghost_name ≡ watch.old.sink.err.ghost_name }
     ensures shape { bench.new.geometry ≡ bench.old.geometry }
     ensures marks { AreMarksFor bench.old.geometry marks.new }
-    ensures asks { AsksRanges S.step (IsPageLog bench.old.geometry) is_read_failed result (S.held source.old) (S.held source.new) }
+    ensures asks { Asks S.step (IsPageLog bench.old.geometry) (λ file. IsHeaderOf header.now file → bench.old.geometry ≡ geometry file
+        → IsForSchema file watch.old.sink → (V : List Reference) → Survey file V
+        → WritesBoth O.held E.held result watch.old.sink watch.new.sink (rows_text watch.old.sink.aggregate all file V) (walk_faults_told file V))
+        is_read_failed result (S.held source.old) (S.held source.new) }
     ensures writes { Fails O.held E.held result watch.old.sink watch.new.sink }
     ensures refusals { roots.new.refusals ≡ failures_after is_out_of_memory result roots.old.refusals }
     ensures only { IfErr result IsReadWriteOrMemory }
-    ensures done { IfSome (S.held source.old).bytes (λ file. IsHeaderOf header.now file → bench.old.geometry ≡ geometry file
-        → IsForSchema file watch.old.sink → (V : List Reference) → Survey file V
-        → WritesBoth O.held E.held result watch.old.sink watch.new.sink (rows_text watch.old.sink.aggregate all file V) (walk_faults_told file V)) }
 {
     stat_pages(header, source, bench, marks, roots, all, watch)?;
     tell_end(
@@ -141,13 +142,13 @@ fn stat_rest<A: Allocator, S: Source, O: Out, E: Out>(
     ensures same_err { watch.new.sink.err.ghost_name ≡ watch.old.sink.err.ghost_name }
     ensures shape { bench.new.geometry ≡ bench.old.geometry }
     ensures marks { AreMarksFor bench.old.geometry marks.new }
-    ensures asks { AsksRanges S.step (IsPageLog bench.old.geometry) is_read_failed result (S.held source.old) (S.held source.new) }
+    ensures asks { Asks S.step (IsPageLog bench.old.geometry) (λ file. IsHeaderOf header.now file → bench.old.geometry ≡ geometry file
+        → IsForSchema file watch.old.sink → (V : List Reference) → Survey file V
+        → WritesBoth O.held E.held result watch.old.sink watch.new.sink (rows_text watch.old.sink.aggregate all file V) (walk_faults_told file V))
+        is_read_failed result (S.held source.old) (S.held source.new) }
     ensures writes { Fails O.held E.held result watch.old.sink watch.new.sink }
     ensures refusals { roots.new.refusals ≡ failures_after is_out_of_memory result roots.old.refusals }
     ensures only { IfErr result IsReadWriteOrMemory }
-    ensures done { IfSome (S.held source.old).bytes (λ file. IsHeaderOf header.now file → bench.old.geometry ≡ geometry file
-        → IsForSchema file watch.old.sink → (V : List Reference) → Survey file V
-        → WritesBoth O.held E.held result watch.old.sink watch.new.sink (rows_text watch.old.sink.aggregate all file V) (walk_faults_told file V)) }
     ensures found { IfOk result (λ v. v ≡ found_verdict watch.new.sink.found) }
 {
     stat_walks(header, source, bench, marks, roots, all, watch)?;
@@ -183,19 +184,15 @@ pub(crate) fn stat<A: Allocator, S: Source, O: Out, E: Out>(
     requires fresh { marks.old ≡ marks_of bench.old.geometry [] }
     ensures shape { bench.new.geometry ≡ bench.old.geometry }
     ensures marks { AreMarksFor bench.old.geometry marks.new }
-    ensures asks { AsksRanges S.step (IsPageLog bench.old.geometry) is_read_failed result (S.held source.old) (S.held source.new) }
+    ensures asks { Asks S.step (IsPageLog bench.old.geometry) (λ file. IsHeaderOf header.now file → bench.old.geometry ≡ geometry file
+        → (V : List Reference) → Survey file V
+        → Writes result (O.held out.old).bytes (O.held out.new).bytes (flat_map (form_line file V) (form_rows (form_of form) file V))
+        × Writes result (E.held err.old).bytes (E.held err.new).bytes (flat_map fault_line (faults file V)) × IfOk result (λ v. v ≡ verdict (faults file V)))
+        is_read_failed result (S.held source.old) (S.held source.new) }
     ensures writes { CountsAfter is_write_failed result (failures_of_each (O.held out.old) (E.held err.old))
         (failures_of_each (O.held out.new) (E.held err.new)) }
     ensures refusals { roots.new.refusals ≡ failures_after is_out_of_memory result roots.old.refusals }
     ensures only { IfErr result IsReadWriteOrMemory }
-    ensures out { IfSome (S.held source.old).bytes (λ file. IsHeaderOf header.now file → bench.old.geometry ≡ geometry file
-        → (V : List Reference) → Survey file V
-        → Writes result (O.held out.old).bytes (O.held out.new).bytes (flat_map (form_line file V) (form_rows (form_of form) file V))) }
-    ensures err { IfSome (S.held source.old).bytes (λ file. IsHeaderOf header.now file → bench.old.geometry ≡ geometry file
-        → (V : List Reference) → Survey file V
-        → Writes result (E.held err.old).bytes (E.held err.new).bytes (flat_map fault_line (faults file V))) }
-    ensures verdict { IfOk result (λ v. IfSome (S.held source.old).bytes (λ file. IsHeaderOf header.now file → bench.old.geometry ≡ geometry file
-        → (V : List Reference) → Survey file V → v ≡ verdict (faults file V))) }
 {
     let mut label = schema_label(header, bench);
     let mut sink = StatSink::new(out, err, &mut label, form.aggregate);

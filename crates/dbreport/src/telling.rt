@@ -1,5 +1,5 @@
 // What a run tells, by the header of a file.
-ghost use Rattle.std.specs.Prelude.{◌≡◌, [], false, List, IfErr, IfSome};
+ghost use Rattle.std.specs.Prelude.{◌≡◌, [], false, List, IfErr};
 ghost use Rattle.dbformat.specs.File.{geometry};
 ghost use Rattle.dbformat.specs.Log.{IsPageLog};
 ghost use Rattle.dbformat.specs.Reference.{Reference};
@@ -10,7 +10,7 @@ ghost use Rattle.dbwalk.specs.Telling.{findings};
 ghost use Rattle.dbsource.specs.Errors.{is_out_of_memory, is_read_failed, is_write_failed};
 ghost use Rattle.dbsource.specs.Failures.{failures_after};
 ghost use Rattle.dbsource.specs.Headers.{IsHeaderOf};
-ghost use Rattle.dbsource.specs.Sources.{AsksRanges};
+ghost use Rattle.dbsource.specs.Sources.{Asks};
 ghost use Rattle.dbwalk.specs.Marking.{AreMarksFor, marks_of};
 ghost use Rattle.dbwalk.specs.Outcomes.{IsReadWriteOrMemory, Tells};
 ghost use Rattle.dbwalk.specs.Sinks.{SinkAfter};
@@ -59,13 +59,13 @@ pub(crate) fn tell_walks<A: Allocator, S: Source, K: Sink + Drop>(
     requires fresh { marks.old ≡ marks_of bench.old.geometry [] }
     ensures shape { bench.new.geometry ≡ bench.old.geometry }
     ensures marks { AreMarksFor bench.old.geometry marks.new }
-    ensures asks { AsksRanges S.step (IsPageLog bench.old.geometry) is_read_failed result (S.held source.old) (S.held source.new) }
+    ensures asks { Asks S.step (IsPageLog bench.old.geometry) (λ file. IsHeaderOf header.now file → bench.old.geometry ≡ geometry file
+        → (V : List Reference) → Survey file V
+        → Tells K.takes K.drops result watch.old.sink (walk_items file V) watch.new.sink)
+        is_read_failed result (S.held source.old) (S.held source.new) }
     ensures writes { SinkAfter is_write_failed result (K.held watch.old.sink) (K.held watch.new.sink) }
     ensures refusals { roots.new.refusals ≡ failures_after is_out_of_memory result roots.old.refusals }
     ensures only { IfErr result IsReadWriteOrMemory }
-    ensures done { IfSome (S.held source.old).bytes (λ file. IsHeaderOf header.now file → bench.old.geometry ≡ geometry file
-        → (V : List Reference) → Survey file V
-        → Tells K.takes K.drops result watch.old.sink (walk_items file V) watch.new.sink) }
 {
     walk_starts(header, source, bench, marks, roots, watch)?;
     tell_end(

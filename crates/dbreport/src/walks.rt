@@ -1,5 +1,5 @@
 // The walks of a run, start after start.
-ghost use Rattle.std.specs.Prelude.{◌≡◌, ◌≤◌, ◌+◌, false, ◌-◌, ◌++◌, List, [], length, option_map, slice_get, Some, IfErr, IfSome};
+ghost use Rattle.std.specs.Prelude.{◌≡◌, ◌≤◌, ◌+◌, false, ◌-◌, ◌++◌, List, [], length, option_map, slice_get, Some, IfErr};
 ghost use Rattle.dbsurvey.specs.Story.{Errand};
 ghost use Rattle.dbwalk.specs.Rows.{schema_row_of};
 ghost use Rattle.dbformat.specs.File.{geometry as shape_of};
@@ -10,7 +10,7 @@ ghost use Rattle.dbformat.specs.Survey.{Survey};
 ghost use Rattle.dbsource.specs.Errors.{is_out_of_memory, is_read_failed, is_write_failed};
 ghost use Rattle.dbsource.specs.Failures.{failures_after};
 ghost use Rattle.dbsource.specs.Headers.{IsHeaderOf};
-ghost use Rattle.dbsource.specs.Sources.{AsksRanges};
+ghost use Rattle.dbsource.specs.Sources.{Asks};
 ghost use Rattle.dbwalk.specs.Done.{IsDone};
 ghost use Rattle.dbwalk.specs.Finding.{visited_below};
 ghost use Rattle.dbwalk.specs.FreeLeaves.{Leaves};
@@ -53,12 +53,13 @@ pub(crate) fn walk_schema<A: Allocator, S: Source, K: Sink + Drop>(
     requires empty { roots.old.rows ≡ [] }
     requires unseen { watch.old.has_rows ≡ false }
     ensures shape { bench.new.geometry ≡ bench.old.geometry }
-    ensures asks { AsksRanges S.step (Reads bench.old.geometry.page_size marks.old marks.new) is_read_failed result (S.held source.old) (S.held source.new) }
+    ensures asks { Asks S.step (Reads bench.old.geometry.page_size marks.old marks.new)
+        (λ file. IsHeaderOf header.now file → bench.old.geometry ≡ shape_of file → AreMarksOf file [] marks.old
+        → IsSchemaWalked K.takes K.drops file result marks.new roots.new.rows watch.new.has_rows watch.old.sink watch.new.sink)
+        is_read_failed result (S.held source.old) (S.held source.new) }
     ensures writes { SinkAfter is_write_failed result (K.held watch.old.sink) (K.held watch.new.sink) }
     ensures refusals { roots.new.refusals ≡ failures_after is_out_of_memory result roots.old.refusals }
     ensures only { IfErr result IsReadWriteOrMemory }
-    ensures done { IfSome (S.held source.old).bytes (λ file. IsHeaderOf header.now file → bench.old.geometry ≡ shape_of file → AreMarksOf file [] marks.old
-        → IsSchemaWalked K.takes K.drops file result marks.new roots.new.rows watch.new.has_rows watch.old.sink watch.new.sink) }
 {
     let root = schema_root(header.encoding());
     walk_tree(source, bench, marks, root, roots, watch)
@@ -108,13 +109,14 @@ fn walk_roots<A: Allocator, S: Source, K: Sink>(
 ) -> Result<(), RunError>
     ensures shape { bench.new.geometry ≡ bench.old.geometry }
     ensures roots { roots.new ≡ roots.old }
-    ensures asks { AsksRanges S.step (Reads bench.old.geometry.page_size marks.old marks.new) is_read_failed result (S.held source.old) (S.held source.new) }
-    ensures writes { SinkAfter is_write_failed result (K.held sink.old) (K.held sink.new) }
-    ensures only { IfErr result IsReadOrWrite }
-    ensures done { IfSome (S.held source.old).bytes (λ file. bench.old.geometry ≡ shape_of file → encoding ≡ encoding_of file
+    ensures asks { Asks S.step (Reads bench.old.geometry.page_size marks.old marks.new)
+        (λ file. bench.old.geometry ≡ shape_of file → encoding ≡ encoding_of file
         → (W : List Reference) (errands : List (Errand Way Event)) (before : K) (U : List Reference) → AreBelowStarts (W ++ visited_below file W errands)
         → IsLeft K.takes file W errands before U (errands_from file 1 roots.old.rows) marks.old sink.old
-        → Leaves K.takes K.drops file W errands before (errands_from file (length roots.old.rows + 1) []) result marks.new sink.new) }
+        → Leaves K.takes K.drops file W errands before (errands_from file (length roots.old.rows + 1) []) result marks.new sink.new)
+        is_read_failed result (S.held source.old) (S.held source.new) }
+    ensures writes { SinkAfter is_write_failed result (K.held sink.old) (K.held sink.new) }
+    ensures only { IfErr result IsReadOrWrite }
 {
     for index in 0..roots.len() {
         let root = root_at(roots, index + 1, encoding);
@@ -138,13 +140,13 @@ pub(crate) fn walk_later<A: Allocator, S: Source, K: Sink>(
 ) -> Result<(), RunError>
     ensures shape { bench.new.geometry ≡ bench.old.geometry }
     ensures roots { roots.new ≡ roots.old }
-    ensures asks { AsksRanges S.step (Reads bench.old.geometry.page_size marks.old marks.new) is_read_failed result (S.held source.old) (S.held source.new) }
-    ensures writes { SinkAfter is_write_failed result (K.held sink.old) (K.held sink.new) }
-    ensures only { IfErr result IsReadOrWrite }
-    ensures done { IfSome (S.held source.old).bytes (λ file. IsHeaderOf header.now file → bench.old.geometry ≡ shape_of file
+    ensures asks { Asks S.step (Reads bench.old.geometry.page_size marks.old marks.new) (λ file. IsHeaderOf header.now file → bench.old.geometry ≡ shape_of file
         → (W : List Reference) (errands : List (Errand Way Event)) (before : K) (U : List Reference) → AreBelowStarts (W ++ visited_below file W errands)
         → IsLeft K.takes file W errands before U (errands_from file 1 roots.old.rows) marks.old sink.old
-        → IsDone K.takes K.drops file W errands result marks.new before sink.new) }
+        → IsDone K.takes K.drops file W errands result marks.new before sink.new)
+        is_read_failed result (S.held source.old) (S.held source.new) }
+    ensures writes { SinkAfter is_write_failed result (K.held sink.old) (K.held sink.new) }
+    ensures only { IfErr result IsReadOrWrite }
 {
     walk_roots(source, bench, marks, roots, header.encoding(), sink)?;
     let first = header.first_trunk();
@@ -172,13 +174,14 @@ pub(crate) fn walk_starts<A: Allocator, S: Source, K: Sink + Drop>(
     requires empty { roots.old.rows ≡ [] }
     requires unseen { watch.old.has_rows ≡ false }
     ensures shape { bench.new.geometry ≡ bench.old.geometry }
-    ensures asks { AsksRanges S.step (Reads bench.old.geometry.page_size marks.old marks.new) is_read_failed result (S.held source.old) (S.held source.new) }
+    ensures asks { Asks S.step (Reads bench.old.geometry.page_size marks.old marks.new)
+        (λ file. IsHeaderOf header.now file → bench.old.geometry ≡ shape_of file → AreMarksOf file [] marks.old
+        → (V : List Reference) → Survey file V
+        → AreWalked K.takes K.drops file V result marks.new watch.new.has_rows watch.old.sink watch.new.sink)
+        is_read_failed result (S.held source.old) (S.held source.new) }
     ensures writes { SinkAfter is_write_failed result (K.held watch.old.sink) (K.held watch.new.sink) }
     ensures refusals { roots.new.refusals ≡ failures_after is_out_of_memory result roots.old.refusals }
     ensures only { IfErr result IsReadWriteOrMemory }
-    ensures done { IfSome (S.held source.old).bytes (λ file. IsHeaderOf header.now file → bench.old.geometry ≡ shape_of file → AreMarksOf file [] marks.old
-        → (V : List Reference) → Survey file V
-        → AreWalked K.takes K.drops file V result marks.new watch.new.has_rows watch.old.sink watch.new.sink) }
 {
     walk_schema(header, source, bench, marks, roots, watch)?;
     walk_later(header, source, bench, marks, roots, &mut watch.sink)

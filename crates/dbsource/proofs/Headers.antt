@@ -1,5 +1,5 @@
 -- What length and bytes say of a file whose first 100 they are.
-use Rattle.std.proofs.Common.{◌≡◌, ℕ, ◌+◌, ◌-◌, ◌<◌, ◌≤◌, List, [], ◌∷◌, ◌++◌, length, take, true, false, refl, sym, ap, ◌∙◌, arith, subst, Some, None, Ok, Err, Result, length-append}
+use Rattle.std.proofs.Common.{Option, ◌≡◌, ℕ, ◌+◌, ◌-◌, ◌<◌, ◌≤◌, List, [], ◌∷◌, ◌++◌, length, take, true, false, refl, sym, ap, ◌∙◌, arith, subst, Some, None, Err, Result, length-append}
 use Rattle.std.specs.Prelude.{nat_lt, IfSome}
 use Rattle.std.proofs.Math.ListN.{replicate}
 use Rattle.std.proofs.lemmas.List.{length-replicate}
@@ -14,14 +14,14 @@ use Rattle.dbformat.specs.declared.Refusal.{Refusal}
 use Rattle.dbformat.specs.declared.Refusal.TheVariants.{Short, Magic, PageSize, Usable, NoPage, TooManyPages, MapAtLock}
 use Rattle.dbformat.proofs.HeaderPrefix.{geometry_within, refusal_within}
 use Rattle.dbformat.proofs.TestsLemmas.{found_value}
-use Rattle.dbsource.specs.Headers.{IsHeaderOf, IsOpenLog, IsOpenOf, OnOpened, Opens}
+use Rattle.dbsource.specs.Headers.{IsHeaderOf, IsOpenLog, IsOpenOf, Opens}
 use Rattle.dbsource.specs.HeaderBytes.{HeaderBytes}
 use Rattle.dbsource.specs.Sources.{SourceState}
 use Rattle.dbsource.specs.Answers.{IsRangeOf, Step}
 use Rattle.dbsource.specs.declared.error.OpenError.{OpenError}
-use Rattle.dbsource.specs.declared.error.OpenError.TheVariants.{Refused, ReadFailed}
+use Rattle.dbsource.specs.declared.error.OpenError.TheVariants.{Refused}
 use Rattle.dbsource.proofs.Logs.{has_told}
-use Rattle.dbsource.proofs.Told.{if_told_both, told_all}
+use Rattle.dbsource.proofs.Told.{if_told_both}
 
 -- the numbers of a header that is not refused
 pub geometry_range : (bytes : List ℕ) (len : ℕ) (g : Geometry) → refusal_of bytes len ≡ None → g ≡ geometry_of bytes len → IsInRange g
@@ -81,9 +81,14 @@ read_once bytes n MapAtLock h e = refl
 
 -- ---- what is said of each file that agrees with what was read
 
--- a length that was answered, at any refusal
-pub opened_same : (r : Refusal) (P : Type 0) → P → OnOpened (Err (Refused r)) P
-opened_same r P p = p
+-- how many bytes are told, if any are
+abbrev pub told_len : Option (List ℕ) → ℕ
+told_len None = 0
+told_len (Some file) = length file
+
+pub told_len_is : (o : Option (List ℕ)) → IfSome o (λ file. length file ≡ told_len o)
+told_len_is None = tt
+told_len_is (Some file) = refl
 
 -- there is a file of so many bytes that begins with these
 pub beginning : (bytes : List ℕ) (len : ℕ) → length bytes ≤ len → (file : List ℕ) × (length file ≡ len) × IsRangeOf file 0 bytes
@@ -94,6 +99,4 @@ beginning bytes len h =
 
 -- so it is of told bytes
 pub opens_told : {step : Step} (r : Result HeaderBytes OpenError) {old new : SourceState} → Opens step r old new → IfSome old.bytes (IsOpenOf r)
-opens_told (Ok h) {old = old} o = if_told_both old.bytes (λ file f e. f e) (has_told o.asks.log) o.same
-opens_told (Err (Refused r)) {old = old} o = if_told_both old.bytes (λ file f e. f e) (has_told o.asks.log) o.same
-opens_told (Err ReadFailed) {old = old} o = told_all old.bytes (λ file. tt)
+opens_told r {old = old} o = if_told_both old.bytes (λ file f e. f e) (has_told o.asks.log) o.same

@@ -4,6 +4,8 @@ pub mod Gathered
 pub mod Headers
 pub mod Lines
 pub mod Logs
+pub mod Overs
 pub mod Puts
-pub mod Ranges
+pub mod Runs
+pub mod Snapshots
 pub mod Told

@@ -1,5 +1,5 @@
 -- Lemmas on logs.
-use Rattle.std.proofs.Common.{◌≡◌, ℕ, ◌+◌, ◌<◌, ◌≤◌, ap, subst, Bool, Result, Ok, Err, List, [], ◌∷◌, ◌++◌, length, map, refl, sym, ◌∙◌, arith, append_assoc, length-append}
+use Rattle.std.proofs.Common.{◌≡◌, ℕ, ◌+◌, ◌<◌, ◌≤◌, ap, subst, Bool, Result, Ok, Err, List, [], ◌∷◌, ◌++◌, length, map, refl, sym, ◌∙◌, arith, append_assoc, append-nil, length-append}
 use Rattle.std.specs.Prelude.{Option, IfSome, OnOk}
 use Rattle.std.proofs.lemmas.List.{map-append}
 use Rattle.std.proofs.lemmas.Grind.{common_steps}
@@ -10,20 +10,20 @@ use Rattle.dbsource.specs.Errors.{is_open_failed, is_read_failed, run_error}
 use Rattle.dbsource.specs.declared.error.OpenError.{OpenError}
 use Rattle.dbsource.specs.declared.error.OpenError.TheVariants.{Refused, ReadFailed}
 use Rattle.dbsource.specs.Failures.{failures_after, is_any}
-use Rattle.dbsource.specs.Sources.{Asks, HasLog, SourceState, kept_step}
+use Rattle.dbsource.specs.Sources.{Asks, HasLog, HasRanges, SourceState, kept_step}
 use Rattle.dbsource.proofs.Told.{if_told, if_told_both, told_all}
 
 -- a trail with room takes the range
-pub kept_room : (old : Trail) (a : Answer) (new : Trail) → length old < 1024 → kept_step old a new → new ≡ old ++ asked a ∷ []
+pub kept_room : (old : Trail) (a : Answer) (new : Trail) → length old.ranges < 1024 → kept_step old a new → new ≡ (record old { ranges = old.ranges ++ asked a ∷ [] })
 kept_room old a new h e = grind (arith, common_steps)
 
 -- a trail that has room for the log grows by it
-pub kept_log : (old : Trail) (log : List Answer) (new : Trail) → length old + length log ≤ 1024 → Leads kept_step old log new → new ≡ old ++ map asked log
-kept_log old [] new h e = grind (arith, common_steps)
+pub kept_log : (old : Trail) (log : List Answer) (new : Trail) → length old.ranges + length log ≤ 1024 → Leads kept_step old log new → new ≡ (record old { ranges = old.ranges ++ map asked log })
+kept_log old [] new h e = e ∙ ap (λ l. record old { ranges = l }) (sym (append-nil old.ranges))
 kept_log old (a ∷ log) new h (mid, e, k) =
-    let here : mid ≡ old ++ asked a ∷ [] = kept_room old a mid (omega arith) e in
-    let room : length mid + length log ≤ 1024 = omega (arith, ap length here, length-append old (asked a ∷ [])) in
-    kept_log mid log new room k ∙ ap (λ l. l ++ map asked log) here ∙ append_assoc old (asked a ∷ []) (map asked log)
+    let here : mid ≡ (record old { ranges = old.ranges ++ asked a ∷ [] }) = kept_room old a mid (omega arith) e in
+    let room : length mid.ranges + length log ≤ 1024 = omega (arith, ap (λ (t : Trail). length t.ranges) here, length-append old.ranges (asked a ∷ [])) in
+    kept_log mid log new room k ∙ ap (λ (t : Trail). record t { ranges = t.ranges ++ map asked log }) here ∙ ap (λ l. record old { ranges = l }) (append_assoc old.ranges (asked a ∷ []) (map asked log))
 
 -- ---- what was answered, one log after another
 
@@ -92,6 +92,11 @@ pub has_weaker : {step : Step} (P : List ByteRange → Type 0) {P' : List ByteRa
     → HasLog step P Q old new → ((log : List ByteRange) → P log → P' log) → ((file : List ℕ) → Q file → Q' file) → HasLog step P' Q' old new
 has_weaker P Q h f q = record { log = h.log; leads = h.leads; told = h.told; tells = h.tells; holds = f (map asked h.log) h.holds; files = λ file g. q file (h.files file g) }
 
+-- its ranges
+pub has_ranges : {step : Step} {P : List ByteRange → Type 0} {Q : List ℕ → Type 0} {old new : SourceState}
+    → HasLog step P Q old new → HasRanges step P old.trail new.trail
+has_ranges h = record { log = h.log; leads = h.leads; holds = h.holds }
+
 -- what is known of each file that agrees is known of told bytes
 pub has_told : {step : Step} {P : List ByteRange → Type 0} {Q : List ℕ → Type 0} {old new : SourceState}
     → HasLog step P Q old new → IfSome old.bytes Q
@@ -110,6 +115,24 @@ asks_one {step = step} {is_failure = is_failure} r s old mid new offset buf told
   log = has_one r offset buf (told' ∙ told) (subst (λ t. step t (answer r offset buf) new.trail) trail trail')
       (subst (λ o. OnOk r (IfSome o (λ file. IsRangeOf file offset buf))) told given) p q;
   count = count' ∙ same mid.failures ∙ ap (failures_after is_failure s) count;
+}
+
+-- of what a call asked for, and of the files, something weaker, where the same failures are counted by another answer
+pub asks_weaker : {A B E F : Type 0} {step : Step} (P : List ByteRange → Type 0) {P' : List ByteRange → Type 0} (Q : List ℕ → Type 0) {Q' : List ℕ → Type 0}
+    {is_failure : E → Bool} {is_failure' : F → Bool} {r : Result A E} (s : Result B F) {old new : SourceState}
+    → ((n : ℕ) → failures_after is_failure r n ≡ failures_after is_failure' s n)
+    → Asks step P Q is_failure r old new → ((log : List ByteRange) → P log → P' log) → ((file : List ℕ) → Q file → Q' file) → Asks step P' Q' is_failure' s old new
+asks_weaker P Q s {old = old} same h f q = record { log = has_weaker P Q h.log f q; count = h.count ∙ same old.failures }
+
+-- A call in which nothing failed, and then another, where the failures of this one are counted by another answer.
+pub asks_then : {A B C E F G : Type 0} {step : Step} (P P' : List ByteRange → Type 0) {R : List ByteRange → Type 0} (Q Q' : List ℕ → Type 0) {T : List ℕ → Type 0}
+    {is_first : E → Bool} {is_second : F → Bool} {is_failure : G → Bool} {r : Result A E} {s : Result B F} (t : Result C G) {old mid new : SourceState}
+    → ((n : ℕ) → failures_after is_first r n ≡ n) → ((n : ℕ) → failures_after is_second s n ≡ failures_after is_failure t n)
+    → Asks step P Q is_first r old mid → Asks step P' Q' is_second s mid new
+    → ((a b : List ByteRange) → P a → P' b → R (a ++ b)) → ((file : List ℕ) → Q file → Q' file → T file) → Asks step R T is_failure t old new
+asks_then P P' Q Q' {is_failure = is_failure} t {old = old} {mid = mid} none same h k f q = record {
+  log = has_append P P' Q Q' h.log k.log f q;
+  count = k.count ∙ same mid.failures ∙ ap (failures_after is_failure t) (h.count ∙ none old.failures);
 }
 
 -- a failed read of the header, as an error of a run

@@ -32,9 +32,19 @@ abbrev pub Fits : List ℕ → List Answer → Type 0
 Fits file [] = Unit {0}
 Fits file (a ∷ log) = FitsAnswer file a × Fits file log
 
--- what a source keeps of what it was asked for
-abbrev pub Trail : Type 0
-Trail = List ByteRange
+-- a header that is put over what a source gives, and the name of the reference to that source
+pub record Front : Type 0 where
+  pub name : ℕ
+  pub head : List ℕ
+
+-- what a source keeps: the headers that stand before it, which no read changes, and ranges that it was asked for
+pub record Trail : Type 0 where
+  pub fronts : List Front
+  pub ranges : List ByteRange
+
+-- nothing
+abbrev pub no_trail : Trail
+no_trail = record { fronts = []; ranges = [] }
 
 -- from which trail to which an answer may lead
 abbrev pub Step : Type 1
@@ -44,7 +54,3 @@ Step = Trail → Answer → Trail → Type 0
 abbrev pub Leads : Step → Trail → List Answer → Trail → Type 0
 Leads step old [] new = new ≡ old
 Leads step old (a ∷ log) new = (mid : Trail) × step old a mid × Leads step mid log new
-
--- some answer to a read of this range leads the trail from old to new
-abbrev pub LeadsBy : Step → Trail → ByteRange → Trail → Type 0
-LeadsBy step old r new = (a : Answer) × (asked a ≡ r) × step old a new

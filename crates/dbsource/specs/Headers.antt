@@ -1,5 +1,5 @@
 -- What a header is of a file, and what it takes to read it.
-use Rattle.std.specs.Prelude.{◌≡◌, ℕ, List, [], ◌∷◌, length, take, None, Some, IfSome, Result, Ok, Err, ◌⊎◌}
+use Rattle.std.specs.Prelude.{◌≡◌, ◌<◌, ℕ, List, [], ◌∷◌, length, take, None, Some, IfSome, Result, Ok, Err, ◌⊎◌}
 use Rattle.dbformat.specs.FixedPages.{geometry_of}
 use Rattle.dbformat.specs.File.{refusal, geometry}
 use Rattle.dbformat.specs.Log.{header_range}
@@ -36,15 +36,12 @@ abbrev pub IsOpenOf : Result HeaderBytes OpenError → List ℕ → Type 0
 IsOpenOf (Ok h) file = IsHeaderOf h file
 IsOpenOf (Err e) file = IsRefusalOf e file
 
--- unless the source failed
-abbrev pub OnOpened : Result HeaderBytes OpenError → Type 0 → Type 0
-OnOpened (Err ReadFailed) P = Unit {0}
-OnOpened r P = P
-
--- A length was answered, the told bytes' where there are any; and what is answered is so of each file of this length that
--- agrees with what was read. There is one.
+-- There is a length: the one that the source answered, if it answered one, and that of the told bytes, where there are any.
+-- What is answered is so of each file of this length that agrees with what was read, and there is such a file. Where the length
+-- is too short for a header nothing was read.
 pub record Opens (step : Step) (r : Result HeaderBytes OpenError) (old new : SourceState) : Type 0 where
   pub len : ℕ
-  pub same : OnOpened r (IfSome old.bytes (λ file. length file ≡ len))
+  pub same : IfSome old.bytes (λ file. length file ≡ len)
   pub asks : Asks step (IsOpenLog r) (λ file. length file ≡ len → IsOpenOf r file) is_open_failed r old new
-  pub there_is : OnOpened r ((file : List ℕ) × (length file ≡ len) × Fits file asks.log.log)
+  pub there_is : (file : List ℕ) × (length file ≡ len) × Fits file asks.log.log
+  pub short : len < 100 → asks.log.log ≡ []

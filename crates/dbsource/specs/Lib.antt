@@ -3,8 +3,10 @@ pub mod Bench
 pub mod Errors
 pub mod Failures
 pub mod Gathers
+pub mod Headed
 pub mod HeaderBytes
 pub mod Headers
 pub mod Lending
 pub mod Outs
+pub mod Snapshots
 pub mod Sources

@@ -1,11 +1,10 @@
 -- What a source gives, and what it keeps of what it was asked for.
 use Rattle.std.specs.Prelude.{◌≡◌, ℕ, ◌+◌, ◌<◌, ◌≤◌, ◌^◌, Bool, List, [], ◌∷◌, ◌++◌, length, map, slice_index, nat_lt, Option, Some, None, IfSome, Result, if◌then◌else◌}
 use Rattle.dbformat.specs.declared.ByteRange.{ByteRange}
-use Rattle.dbsource.specs.Answers.{Answer, asked, Fits, Leads, Step, Trail}
+use Rattle.dbsource.specs.Answers.{Answer, asked, Fits, Leads, Step, Trail, no_trail}
 use Rattle.dbsource.specs.Failures.{failures_after}
 
--- a source as contracts see it: the bytes that it tells, or that it tells none; what it keeps of the ranges that it was
--- asked for; and how many calls failed
+-- a source as contracts see it: the bytes that it tells, or that it tells none; what it keeps; and how many calls failed
 pub record SourceState : Type 0 where
   pub bytes : Option (List ℕ)
   pub trail : Trail
@@ -13,11 +12,11 @@ pub record SourceState : Type 0 where
 
 -- one that tells these bytes, and was asked for nothing yet
 abbrev pub source_of : List ℕ → SourceState
-source_of bytes = record { bytes = Some bytes; trail = []; failures = 0 }
+source_of bytes = record { bytes = Some bytes; trail = no_trail; failures = 0 }
 
 -- one that tells none
 abbrev pub untold_source : SourceState
-untold_source = record { bytes = None; trail = []; failures = 0 }
+untold_source = record { bytes = None; trail = no_trail; failures = 0 }
 
 -- what is told are bytes, of which there are fewer than 2 ^ 64
 abbrev pub AreBytes : List ℕ → Type 0
@@ -47,22 +46,14 @@ pub record HasRanges (step : Step) (P : List ByteRange → Type 0) (old new : Tr
   pub leads : Leads step old log new
   pub holds : P (map asked log)
 
--- What a call makes of a source, of what was answered nothing: told bytes stay; of what it was asked for P holds; and it
--- failed in the call, once, exactly where the answer is an error of this kind.
-pub record AsksRanges {A E : Type 0} (step : Step) (P : List ByteRange → Type 0) (is_failure : E → Bool)
-    (r : Result A E) (old new : SourceState) : Type 0 where
-  pub told : new.bytes ≡ old.bytes
-  pub log : HasRanges step P old.trail new.trail
-  pub count : new.failures ≡ failures_after is_failure r old.failures
-
 -- a source that keeps no trail
 abbrev pub no_step : Step
 no_step old a new = new ≡ old
 
 -- a source that keeps the first 1024 ranges
 abbrev pub kept_step : Step
-kept_step old a new = new ≡ (if nat_lt (length old) 1024 then old ++ asked a ∷ [] else old)
+kept_step old a new = new ≡ (if nat_lt (length old.ranges) 1024 then (record old { ranges = old.ranges ++ asked a ∷ [] }) else old)
 
 -- Where there is room for them, the ranges that it kept in a call are the log of the call.
 abbrev pub KeepsItsLog : Type 0
-KeepsItsLog = (old : Trail) (log : List Answer) (new : Trail) → length old + length log ≤ 1024 → Leads kept_step old log new → new ≡ old ++ map asked log
+KeepsItsLog = (old : Trail) (log : List Answer) (new : Trail) → length old.ranges + length log ≤ 1024 → Leads kept_step old log new → new ≡ (record old { ranges = old.ranges ++ map asked log })

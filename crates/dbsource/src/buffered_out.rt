@@ -1,7 +1,6 @@
 // An Out over a writer, which gathers bytes before it writes.
 ghost use Rattle.std.specs.Prelude.{◌≡◌, ◌+◌, ◌-◌, ◌≤◌, [], ◌++◌, length, take, drop, Some, IfSome, IfOk, IsOk, OnOk, vec_len, vec_capacity};
 ghost use Rattle.std.specs.Io.KnownBytes.{Appends, Keeps, append_known};
-ghost use Rattle.dbsource.specs.Failures.{failures_after, is_any};
 ghost use Rattle.dbsource.specs.Gathers.{begun_line, gathered_most, gathered_with, kept_line, told};
 ghost use Rattle.dbsource.specs.Outs.{Begins, Flushes, Puts, Writes};
 

@@ -18,12 +18,11 @@ pub struct FileSource {
 }
 
 impl Model for FileSource {
-    ghost use Rattle.std.specs.Prelude.{[], None};
-    ghost use Rattle.dbsource.specs.Sources.{SourceState};
+    ghost use Rattle.dbsource.specs.Sources.{SourceState, untold_source};
 
     ghost Value = { SourceState };
 
-    ghost view = { λ s. record { bytes = None; trail = []; failures = s.failures } };
+    ghost view = { λ s. record untold_source { failures = s.failures } };
 }
 
 // Whether what was looked at is a file that has a length: a regular one, or a block device.

@@ -1,5 +1,5 @@
 // The header of a database (Database File Format, 1.3).
-ghost use Rattle.std.specs.Prelude.{◌≡◌, ◌<◌, ◌≤◌, length, IfOk, IfErr, IfSome, None};
+ghost use Rattle.std.specs.Prelude.{◌≡◌, ◌≤◌, length, IfOk, None};
 ghost use Rattle.dbformat.specs.FixedPages.{geometry_of, IsInRange};
 ghost use Rattle.dbformat.specs.File.{refusal_of};
 ghost use Rattle.dbsource.specs.Answers.{given};
@@ -44,8 +44,6 @@ impl Header {
         // What the header was read of.
         ensures read { IfOk result (λ h. S.step (S.held source.old).trail (given 0 h.bytes) (S.held source.new).trail) }
         ensures accepted { IfOk result (λ h. (refusal_of h.bytes h.file_len ≡ None) × (length h.bytes ≡ 100)) }
-        // Of a file that is too short nothing is asked for but its length.
-        ensures unread { IfSome (S.held source.old).bytes (λ file. length file < 100 → (S.held source.new).trail ≡ (S.held source.old).trail) }
     {
         let file_len = source.len()?;
         if file_len < HEADER_LEN as u64 {
@@ -79,6 +77,7 @@ impl Header {
     pub fn geometry(&self) -> Geometry
         ensures shape { result ≡ geometry_of self.now.bytes self.now.file_len }
         ensures range { IsInRange result }
+        ensures accepted { (refusal_of self.now.bytes self.now.file_len ≡ None) × (length self.now.bytes ≡ 100) }
     {
         self.geometry
     }

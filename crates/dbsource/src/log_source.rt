@@ -19,12 +19,12 @@ pub struct LogSource<'a> {
 }
 
 impl<'a> Model for LogSource<'a> {
-    ghost use Rattle.std.specs.Prelude.{Some};
+    ghost use Rattle.std.specs.Prelude.{[], Some};
     ghost use Rattle.dbsource.specs.Sources.{SourceState};
 
     ghost Value = { SourceState };
 
-    ghost view = { λ s. record { bytes = Some s.bytes.now; trail = s.ranges.items; failures = s.failures } };
+    ghost view = { λ s. record { bytes = Some s.bytes.now; trail = record { fronts = []; ranges = s.ranges.items }; failures = s.failures } };
 }
 
 impl<'a> LogSource<'a> {
@@ -41,7 +41,7 @@ impl<'a> LogSource<'a> {
 
     /// The ranges that reads asked for, Ok or not, in their order.
     pub fn ranges(&self) -> &[ByteRange]
-        ensures { result.now ≡ self.now.trail }
+        ensures { result.now ≡ self.now.trail.ranges }
     {
         self.ranges.as_slice()
     }
@@ -75,7 +75,7 @@ impl Source for LogSource<'_> {
         ensures count { self.new.failures ≡ failures_after is_any result self.old.failures }
         ensures bytes { OnOk result (IfSome self.old.bytes (λ bytes. IsRangeOf bytes offset buf.new)) }
         // It fails only where the range passes the end, or where the log is full.
-        ensures inside { IfSome self.old.bytes (λ bytes. IsOk result ↔ ((length self.old.trail < 1024) × (offset + length buf.old ≤ length bytes))) }
+        ensures inside { IfSome self.old.bytes (λ bytes. IsOk result ↔ ((length self.old.trail.ranges < 1024) × (offset + length buf.old ≤ length bytes))) }
     {
         let len = buf.len() as u64;
         if !self.ranges.is_full() {

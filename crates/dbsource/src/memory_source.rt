@@ -1,5 +1,5 @@
 // A source over memory.
-ghost use Rattle.std.specs.Prelude.{◌≡◌, ◌+◌, ◌≤◌, [], length, IfOk, IfSome, IsOk, OnOk, IsTrue, ◌↔◌};
+ghost use Rattle.std.specs.Prelude.{◌≡◌, ◌+◌, ◌≤◌, length, IfOk, IfSome, IsOk, OnOk, IsTrue, ◌↔◌};
 ghost use Rattle.dbsource.specs.Answers.{IsRangeOf, answer};
 ghost use Rattle.dbsource.specs.Failures.{failures_after, is_any};
 ghost use Rattle.dbsource.specs.Sources.{AreBytes, no_step, source_of};
@@ -15,12 +15,11 @@ pub struct MemSource<'a> {
 }
 
 impl<'a> Model for MemSource<'a> {
-    ghost use Rattle.std.specs.Prelude.{[], Some};
-    ghost use Rattle.dbsource.specs.Sources.{SourceState};
+    ghost use Rattle.dbsource.specs.Sources.{SourceState, source_of};
 
     ghost Value = { SourceState };
 
-    ghost view = { λ s. record { bytes = Some s.bytes.now; trail = []; failures = s.failures } };
+    ghost view = { λ s. record (source_of s.bytes.now) { failures = s.failures } };
 }
 
 impl<'a> MemSource<'a> {

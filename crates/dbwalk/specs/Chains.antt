@@ -1,18 +1,23 @@
 -- Overflow chains as a program walks them.
-use Rattle.std.specs.Prelude.{◌≡◌, ℕ, List, [], ◌∷◌, ◌++◌, Option, Some, None, Result, Ok, Err}
+use Rattle.std.specs.Prelude.{◌≡◌, ℕ, List, [], ◌∷◌, ◌++◌, Option, Some, None, Result, Ok, Err, IfOk, OnOk}
 use Rattle.dbsurvey.specs.Story.{Go}
 use Rattle.dbformat.specs.Address.{start_of, then_step, child_path, chain_place}
 use Rattle.dbformat.specs.Reference.{first_overflow, later_overflow, Reference, bytes_left, role_of, from_of, item_of}
+use Rattle.dbformat.specs.File.{page_bytes}
+use Rattle.dbformat.specs.Payload.{overflow_next}
+use Rattle.dbformat.specs.Schema.{held_bytes}
+use Rattle.dbformat.specs.Story.{at_page}
 use Rattle.dbbytes.specs.declared.sieve.RowSieve.{RowSieve}
 use Rattle.dbsource.specs.declared.error.RunError.{RunError}
 use Rattle.dbwalk.specs.declared.chain.Chain.{Chain}
 use Rattle.dbwalk.specs.declared.chain.Place.{Place}
 use Rattle.dbwalk.specs.declared.mark.Mark.{Mark}
-use Rattle.dbwalk.specs.Feeding.{FeedsPages, FeedsChain}
-use Rattle.dbwalk.specs.Finding.{Finding}
+use Rattle.dbwalk.specs.Feeding.{Feeds, FeedsPages, FeedsChain}
+use Rattle.dbwalk.specs.Finding.{Finding, told_at}
 use Rattle.dbwalk.specs.Entered.{IsStepOf}
 use Rattle.dbwalk.specs.Left.{IsLeft}
 use Rattle.dbwalk.specs.Done.{IsDone}
+use Rattle.dbwalk.specs.Outcomes.{Tells}
 
 -- a reference to the page of this number in a chain, by its address
 pub record IsOnChain (chain : Chain) (number : ℕ) (c : Reference) : Type 0 where
@@ -31,6 +36,13 @@ pub record IsChainOf (chain : Chain) (c : Reference) : Type 0 where
 -- the reference of an overflow page to the next one, where so many bytes are left behind it
 abbrev pub next_of : Reference → ℕ → ℕ → Reference
 next_of c left page = record { address = then_step c.address 0; page = page; role = record { role = later_overflow left; from = c.page; item = 0 } }
+
+-- What the visit of a page of a chain leaves: the number of the next page, what was told, and what a sieve was fed.
+pub record IsOverflowVisited {S : Type 0} (takes drops : S → Finding → S → Type 0) (file : List ℕ) (chain : Chain) (number page left : ℕ) (r : Result ℕ RunError) (old new : Option RowSieve) (before after : S) : Type 0 where
+  pub next : IfOk r (λ next. next ≡ overflow_next (page_bytes file page))
+  pub told : (U : List Reference) (c : Reference) → c.page ≡ page → bytes_left (role_of c) ≡ Some left → IsOnChain chain number c
+      → Tells takes drops r before (told_at file U (at_page c)) after
+  pub fed : OnOk r ((c : Reference) → c.page ≡ page → bytes_left (role_of c) ≡ Some left → Feeds old (held_bytes file c) new)
 
 -- On the way along the chain below c: the reference at this place is left, and a sieve was fed the pages so far.
 pub record IsOnWay {S : Type 0} (takes : S → Finding → S → Type 0) (file : List ℕ) (W : List Reference) (c : Reference) (before : S) (chain : Chain) (place : Place) (marks : List Mark) (now : S) (old new : Option RowSieve) : Type 0 where

@@ -1,8 +1,9 @@
 // A cell of a leaf: its overflow chain, and its key.
-ghost use Rattle.std.specs.Prelude.{◌≡◌, ◌-◌, ◌<◌, ◌≤◌, length, Some, IfErr, IfSome, OnOk, is_some};
+ghost use Rattle.std.specs.Prelude.{◌≡◌, ◌<◌, ◌≤◌, length, IfErr, IfSome, OnOk, is_some};
 ghost use Rattle.dbformat.specs.Payload.{most_payload};
 ghost use Rattle.dbformat.specs.FixedPages.{IsPageNumber};
 ghost use Rattle.dbformat.specs.File.{geometry as shape_of};
+ghost use Rattle.dbsource.specs.Sources.{HasLog};
 ghost use Rattle.dbwalk.specs.LeafCells.{overflow_errands, late_faults, top_after};
 ghost use Rattle.dbwalk.specs.Sieving.{FeedsPayload};
 ghost use Rattle.dbwalk.specs.Standing.{AtOverflow, AtCell, IsSameButGreatest};
@@ -13,7 +14,6 @@ ghost use Rattle.dbwalk.specs.Outcomes.{IsReadOrWrite};
 ghost use Rattle.dbwalk.specs.Reads.{Reads};
 ghost use Rattle.dbsource.specs.Errors.{is_read_failed, is_write_failed};
 ghost use Rattle.dbsource.specs.Failures.{failures_after};
-ghost use Rattle.dbsource.specs.Sources.{HasRanges};
 ghost use Rattle.dbwalk.specs.Sinks.{SinkAfter};
 
 use crate::cells::leaf_cell;
@@ -44,18 +44,15 @@ pub(crate) fn walk_overflow<A: Allocator, S: Source, K: Sink>(
     requires page { IsPageNumber page }
     requires left { IfSome overflow (λ o. o.1 ≤ most_payload) }
     ensures bench { (bench.new.geometry ≡ bench.old.geometry) × (bench.new.levels ≡ bench.old.levels) }
-    ensures told { (S.held source.new).bytes ≡ (S.held source.old).bytes }
     ensures reads { (S.held source.new).failures ≡ failures_after is_read_failed result (S.held source.old).failures }
     ensures writes { SinkAfter is_write_failed result (K.held sink.old) (K.held sink.new) }
-    ensures log { HasRanges S.step (Reads bench.old.geometry.page_size marks.old marks.new) (S.held source.old).trail (S.held source.new).trail }
+    ensures log { HasLog S.step (Reads bench.old.geometry.page_size marks.old marks.new) (λ file. bench.old.geometry ≡ shape_of file
+        → AtOverflow file tree.now bench.old.levels page i overflow marks.old (λ U c.
+        IsDone K.takes K.drops file U (overflow_errands c i overflow) result marks.new sink.old sink.new
+        × OnOk result (FeedsPayload file U c i overflow sieve.old sieve.new)))
+        (S.held source.old) (S.held source.new) }
     ensures only { IfErr result IsReadOrWrite }
     ensures kept { is_some sieve.new ≡ is_some sieve.old }
-    ensures done { IfSome (S.held source.old).bytes (λ file. bench.old.geometry ≡ shape_of file
-        → AtOverflow file tree.now bench.old.levels page i overflow marks.old (λ U c.
-        IsDone K.takes K.drops file U (overflow_errands c i overflow) result marks.new sink.old sink.new)) }
-    ensures fed { IfSome (S.held source.old).bytes (λ file. bench.old.geometry ≡ shape_of file
-        → AtOverflow file tree.now bench.old.levels page i overflow marks.old (λ U c.
-        OnOk result (FeedsPayload file U c i overflow sieve.old sieve.new))) }
 {
     match overflow {
         None => Ok(()),
@@ -111,14 +108,13 @@ pub(crate) fn walk_cell<A: Allocator, S: Source, K: Sink>(
     requires start { 1 ≤ tree.old.start }
     ensures bench { (bench.new.geometry ≡ bench.old.geometry) × (bench.new.levels ≡ bench.old.levels) }
     ensures tree { IsSameButGreatest tree.old tree.new }
-    ensures told { (S.held source.new).bytes ≡ (S.held source.old).bytes }
     ensures reads { (S.held source.new).failures ≡ failures_after is_read_failed result (S.held source.old).failures }
     ensures writes { SinkAfter is_write_failed result (K.held sink.old) (K.held sink.new) }
-    ensures log { HasRanges S.step (Reads bench.old.geometry.page_size marks.old marks.new) (S.held source.old).trail (S.held source.new).trail }
-    ensures only { IfErr result IsReadOrWrite }
-    ensures done { IfSome (S.held source.old).bytes (λ file. bench.old.geometry ≡ shape_of file
+    ensures log { HasLog S.step (Reads bench.old.geometry.page_size marks.old marks.new) (λ file. bench.old.geometry ≡ shape_of file
         → AtCell file tree.old bench.old.levels page i marks.old (λ U c v.
-        IsCellDone K.takes K.drops file tree.old.kind v i U c result marks.new tree.new.greatest tree.new.leaf sink.old sink.new)) }
+        IsCellDone K.takes K.drops file tree.old.kind v i U c result marks.new tree.new.greatest tree.new.leaf sink.old sink.new))
+        (S.held source.old) (S.held source.new) }
+    ensures only { IfErr result IsReadOrWrite }
 {
     let cell = leaf_cell(bench, tree.kind, tree.path.len(), page, i);
     walk_overflow(

@@ -2,27 +2,22 @@
 ghost use Rattle.std.specs.Prelude.{◌≡◌, ◌+◌, ◌≤◌, ◌<◌, ◌∷◌, List, [], Option, Some, IfSome, IfOk, IfErr, OnOk, is_some};
 ghost use Rattle.dbformat.specs.FixedPages.{IsPageNumber};
 ghost use Rattle.dbsurvey.specs.Story.{Go};
-ghost use Rattle.dbformat.specs.File.{geometry, page_bytes};
+ghost use Rattle.dbformat.specs.File.{geometry};
 ghost use Rattle.dbformat.specs.Log.{page_range};
-ghost use Rattle.dbformat.specs.Payload.{most_payload, overflow_next};
-ghost use Rattle.dbformat.specs.Reference.{Reference, role_of, bytes_left};
-ghost use Rattle.dbformat.specs.Schema.{held_bytes};
-ghost use Rattle.dbformat.specs.Story.{at_page};
+ghost use Rattle.dbformat.specs.Payload.{most_payload};
+ghost use Rattle.dbformat.specs.Reference.{Reference};
 ghost use Rattle.dbbytes.specs.declared.sieve.RowSieve.{RowSieve};
-ghost use Rattle.dbsource.specs.Bench.{Pages};
-ghost use Rattle.dbwalk.specs.Chains.{IsOnChain, IsChainOf, IsOnWay, Turns};
+ghost use Rattle.dbwalk.specs.Chains.{IsChainOf, IsOnWay, IsOverflowVisited, Turns};
 ghost use Rattle.dbwalk.specs.Done.{IsDone};
 ghost use Rattle.dbwalk.specs.Entered.{IsNext};
-ghost use Rattle.dbwalk.specs.Feeding.{Feeds, FeedsChain};
-ghost use Rattle.dbwalk.specs.Finding.{told_at};
+ghost use Rattle.dbwalk.specs.Feeding.{FeedsChain};
 ghost use Rattle.dbwalk.specs.Marking.{AreMarksOf, IsUse};
 ghost use Rattle.dbwalk.specs.Packing.{named_page};
-ghost use Rattle.dbwalk.specs.Outcomes.{Tells, IsReadOrWrite};
+ghost use Rattle.dbwalk.specs.Outcomes.{IsReadOrWrite};
 ghost use Rattle.dbwalk.specs.Reads.{Reads};
 ghost use Rattle.dbsource.specs.Errors.{is_read_failed, is_write_failed};
 ghost use Rattle.dbsource.specs.Failures.{failures_after};
-ghost use Rattle.dbsource.specs.Answers.{LeadsBy};
-ghost use Rattle.dbsource.specs.Sources.{HasRanges};
+ghost use Rattle.dbsource.specs.Sources.{HasLog};
 ghost use Rattle.dbwalk.specs.Sinks.{SinkAfter};
 
 use crate::entering::{Step, enter};
@@ -72,20 +67,14 @@ fn visit_overflow<S: Source, K: Sink, A: Allocator>(
     sink: &mut K,
 ) -> Result<u32, RunError>
     requires { 1 ≤ page }
-    ensures told { (S.held source.new).bytes ≡ (S.held source.old).bytes }
-    ensures trail { LeadsBy S.step (S.held source.old).trail (page_range bench.old.geometry.page_size page) (S.held source.new).trail }
+    ensures log { HasLog S.step (λ log. log ≡ page_range bench.old.geometry.page_size page ∷ []) (λ file. bench.old.geometry ≡ geometry file
+        → IsOverflowVisited K.takes K.drops file chain.now number page left result sieve.old sieve.new sink.old sink.new)
+        (S.held source.old) (S.held source.new) }
     ensures reads { (S.held source.new).failures ≡ failures_after is_read_failed result (S.held source.old).failures }
     ensures writes { SinkAfter is_write_failed result (K.held sink.old) (K.held sink.new) }
     ensures only { IfErr result IsReadOrWrite }
     ensures bench { bench.new ≡ record bench.old { chain = bench.new.chain } }
     ensures kept { is_some sieve.new ≡ is_some sieve.old }
-    ensures next { IfOk result (λ next. IfSome (S.held source.old).bytes (λ file. bench.old.geometry ≡ geometry file
-        → next ≡ overflow_next (page_bytes file page))) }
-    ensures visited { IfSome (S.held source.old).bytes (λ file. bench.old.geometry ≡ geometry file → (U : List Reference) (c : Reference)
-        → c.page ≡ page → bytes_left (role_of c) ≡ Some left → IsOnChain chain.now number c
-        → Tells K.takes K.drops result sink.old (told_at file U (at_page c)) sink.new) }
-    ensures fed { IfOk result (λ _. IfSome (S.held source.old).bytes (λ file. bench.old.geometry ≡ geometry file → (c : Reference)
-        → c.page ≡ page → bytes_left (role_of c) ≡ Some left → Feeds sieve.old (held_bytes file c) sieve.new)) }
 {
     bench.load(CHAIN, source, page)?;
     let usable = bench.geometry().usable;
@@ -109,8 +98,11 @@ fn turn<S: Source, K: Sink, A: Allocator>(
     requires named { IsPageNumber (named_page place.step.mark) }
     requires used { IsUse place.step.mark }
     requires counted { place.number + place.left ≤ most_payload }
-    ensures told { (S.held source.new).bytes ≡ (S.held source.old).bytes }
-    ensures log { HasRanges S.step (Reads bench.old.geometry.page_size marks.old marks.new) (S.held source.old).trail (S.held source.new).trail }
+    ensures log { HasLog S.step (Reads bench.old.geometry.page_size marks.old marks.new) (λ file. bench.old.geometry ≡ geometry file
+        → (W : List Reference) (c : Reference) (before : K) (first : Option RowSieve)
+        → IsOnWay K.takes file W c before chain.now place marks.old sink.old first sieve.old
+        → Turns K.takes K.drops file W c before chain.now result marks.new sink.new first sieve.new)
+        (S.held source.old) (S.held source.new) }
     ensures reads { (S.held source.new).failures ≡ failures_after is_read_failed result (S.held source.old).failures }
     ensures writes { SinkAfter is_write_failed result (K.held sink.old) (K.held sink.new) }
     ensures only { IfErr result IsReadOrWrite }
@@ -120,10 +112,6 @@ fn turn<S: Source, K: Sink, A: Allocator>(
     ensures used { IfOk result (λ o. IfSome o (λ next. IsUse next.step.mark)) }
     ensures counted { IfOk result (λ o. IfSome o (λ next. next.number + next.left ≤ most_payload)) }
     ensures less { IfOk result (λ o. IfSome o (λ next. next.left < place.left)) }
-    ensures turned { IfSome (S.held source.old).bytes (λ file. bench.old.geometry ≡ geometry file
-        → (W : List Reference) (c : Reference) (before : K) (first : Option RowSieve)
-        → IsOnWay K.takes file W c before chain.now place marks.old sink.old first sieve.old
-        → Turns K.takes K.drops file W c before chain.now result marks.new sink.new first sieve.new) }
 {
     if !enter(marks, place.step, sink)? {
         return Ok(None);
@@ -174,19 +162,15 @@ pub(crate) fn walk_chain<S: Source, K: Sink, A: Allocator>(
 ) -> Result<(), RunError>
     requires page { IsPageNumber chain.now.page }
     requires left { chain.now.left ≤ most_payload }
-    ensures told { (S.held source.new).bytes ≡ (S.held source.old).bytes }
-    ensures log { HasRanges S.step (Reads bench.old.geometry.page_size marks.old marks.new) (S.held source.old).trail (S.held source.new).trail }
+    ensures log { HasLog S.step (Reads bench.old.geometry.page_size marks.old marks.new) (λ file. bench.old.geometry ≡ geometry file
+        → (W : List Reference) (c : Reference) → IsChainOf chain.now c → IsNext W c → AreMarksOf file W marks.old
+        → IsDone K.takes K.drops file W (Go c ∷ []) result marks.new sink.old sink.new × OnOk result (FeedsChain file W c sieve.old sieve.new))
+        (S.held source.old) (S.held source.new) }
     ensures reads { (S.held source.new).failures ≡ failures_after is_read_failed result (S.held source.old).failures }
     ensures writes { SinkAfter is_write_failed result (K.held sink.old) (K.held sink.new) }
     ensures only { IfErr result IsReadOrWrite }
     ensures bench { bench.new ≡ record bench.old { chain = bench.new.chain } }
     ensures kept { is_some sieve.new ≡ is_some sieve.old }
-    ensures done { IfSome (S.held source.old).bytes (λ file. bench.old.geometry ≡ geometry file → (W : List Reference) (c : Reference)
-        → IsChainOf chain.now c → IsNext W c → AreMarksOf file W marks.old
-        → IsDone K.takes K.drops file W (Go c ∷ []) result marks.new sink.old sink.new) }
-    ensures fed { IfSome (S.held source.old).bytes (λ file. bench.old.geometry ≡ geometry file → (W : List Reference) (c : Reference)
-        → IsChainOf chain.now c → IsNext W c → AreMarksOf file W marks.old
-        → OnOk result (FeedsChain file W c sieve.old sieve.new)) }
 {
     let step = Step {
         page: chain.first,
@@ -222,15 +206,14 @@ pub(crate) fn walk_unfed<S: Source, K: Sink, A: Allocator>(
 ) -> Result<(), RunError>
     requires page { IsPageNumber chain.now.page }
     requires left { chain.now.left ≤ most_payload }
-    ensures told { (S.held source.new).bytes ≡ (S.held source.old).bytes }
-    ensures log { HasRanges S.step (Reads bench.old.geometry.page_size marks.old marks.new) (S.held source.old).trail (S.held source.new).trail }
+    ensures log { HasLog S.step (Reads bench.old.geometry.page_size marks.old marks.new) (λ file. bench.old.geometry ≡ geometry file
+        → (W : List Reference) (c : Reference) → IsChainOf chain.now c → IsNext W c → AreMarksOf file W marks.old
+        → IsDone K.takes K.drops file W (Go c ∷ []) result marks.new sink.old sink.new)
+        (S.held source.old) (S.held source.new) }
     ensures reads { (S.held source.new).failures ≡ failures_after is_read_failed result (S.held source.old).failures }
     ensures writes { SinkAfter is_write_failed result (K.held sink.old) (K.held sink.new) }
     ensures only { IfErr result IsReadOrWrite }
     ensures bench { bench.new ≡ record bench.old { chain = bench.new.chain } }
-    ensures done { IfSome (S.held source.old).bytes (λ file. bench.old.geometry ≡ geometry file → (W : List Reference) (c : Reference)
-        → IsChainOf chain.now c → IsNext W c → AreMarksOf file W marks.old
-        → IsDone K.takes K.drops file W (Go c ∷ []) result marks.new sink.old sink.new) }
 {
     walk_chain(source, bench, marks, chain, &mut None, sink)
 }

@@ -1,10 +1,10 @@
 // How a page is entered: it is marked, where its reference may be followed.
-ghost use Rattle.std.specs.Prelude.{◌≡◌, ◌-◌, ◌≤◌, ℕ, List, [], ◌∷◌, IfOk, IfErr, IsTrue, false, true, Some, pos, slice_set};
+ghost use Rattle.std.specs.Prelude.{◌≡◌, ◌-◌, ◌≤◌, ℕ, List, IfOk, IfErr, IsTrue, false, true, Some, slice_set};
 ghost use Rattle.dbformat.specs.FixedPages.{most_pages, IsPageNumber};
 ghost use Rattle.dbformat.specs.Reference.{Reference};
 ghost use Rattle.dbsource.specs.declared.error.RunError.TheVariants as run_error;
 ghost use Rattle.dbwalk.specs.declared.mark.Mark.TheVariants as use_mark;
-ghost use Rattle.dbwalk.specs.Marking.{AreMarksOf, page_mark, visit_mark};
+ghost use Rattle.dbwalk.specs.Marking.{AreMarksOf, page_mark};
 ghost use Rattle.dbwalk.specs.Entered.{IsNext, IsStepOf, Enters};
 ghost use Rattle.dbwalk.specs.Packing.{named_page};
 ghost use Rattle.dbsource.specs.Errors.{is_write_failed};

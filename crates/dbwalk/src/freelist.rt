@@ -1,16 +1,13 @@
 // The walk along the freelist (Database File Format, 1.5).
-ghost use Rattle.std.specs.Prelude.{◌≡◌, ℕ, ◌+◌, ◌*◌, ◌≤◌, ◌<◌, List, [], ◌∷◌, ◌++◌, length, IfSome, IfOk, IfErr, true, pos};
+ghost use Rattle.std.specs.Prelude.{◌≡◌, ℕ, ◌+◌, ◌*◌, ◌≤◌, ◌<◌, List, [], ◌∷◌, ◌++◌, length, IfSome, IfOk, IfErr, true};
 ghost use Rattle.dbsurvey.specs.Story.{Errand, Go};
 ghost use Rattle.dbsurvey.specs.Traverse.{is_followed};
 ghost use Rattle.dbformat.specs.Errands.{leaf_errands};
-ghost use Rattle.dbformat.specs.Faults.{fault};
 ghost use Rattle.dbformat.specs.File.{geometry, page_bytes};
 ghost use Rattle.dbformat.specs.Header.{usable_size};
 ghost use Rattle.dbformat.specs.Numbers.{u32_at};
 ghost use Rattle.dbformat.specs.Reference.{trunk, Way, Reference, role_of};
 ghost use Rattle.dbformat.specs.Survey.{rules_of};
-ghost use Rattle.dbformat.specs.declared.FaultCode.TheVariants as fault_code;
-ghost use Rattle.dbsource.specs.Bench.{Pages};
 ghost use Rattle.dbformat.specs.Story.{Event};
 ghost use Rattle.dbsource.specs.declared.error.RunError.TheVariants as run_error;
 ghost use Rattle.dbwalk.specs.Done.{IsDone};
@@ -25,7 +22,7 @@ ghost use Rattle.dbwalk.specs.declared.mark.Mark.{Mark};
 ghost use Rattle.dbwalk.specs.declared.mark.Mark.TheVariants as use_mark;
 ghost use Rattle.dbsource.specs.Errors.{is_read_failed, is_write_failed};
 ghost use Rattle.dbsource.specs.Failures.{failures_after};
-ghost use Rattle.dbsource.specs.Sources.{AsksRanges, HasRanges};
+ghost use Rattle.dbsource.specs.Sources.{Asks, HasLog};
 ghost use Rattle.dbwalk.specs.Sinks.{SinkAfter};
 
 use crate::chain::CHAIN;
@@ -130,17 +127,17 @@ fn turn<S: Source, K: Sink, A: Allocator>(
     sink: &mut K,
 ) -> Result<Option<Step>, RunError>
     requires { step.mark ≡ use_mark.Trunk }
-    ensures told { (S.held source.new).bytes ≡ (S.held source.old).bytes }
-    ensures log { HasRanges S.step (Reads bench.old.geometry.page_size marks.old marks.new) (S.held source.old).trail (S.held source.new).trail }
+    ensures log { HasLog S.step (Reads bench.old.geometry.page_size marks.old marks.new)
+        (λ file. bench.old.geometry ≡ geometry file → (W : List Reference) (c : Reference) (before : K)
+        → IsOnTrunks K.takes file W c before step marks.old sink.old
+        → TrunkTurns K.takes K.drops file W c before result marks.new sink.new)
+        (S.held source.old) (S.held source.new) }
     ensures reads { (S.held source.new).failures ≡ failures_after is_read_failed result (S.held source.old).failures }
     ensures writes { SinkAfter is_write_failed result (K.held sink.old) (K.held sink.new) }
     ensures only { IfErr result IsReadOrWrite }
     ensures bench { bench.new ≡ record bench.old { chain = bench.new.chain } }
     ensures trunk { IfOk result (λ o. IfSome o (λ next. next.mark ≡ use_mark.Trunk)) }
     ensures less { IfOk result (λ o. IfSome o (λ next. unmarked_pages marks.new < unmarked_pages marks.old)) }
-    ensures turned { IfSome (S.held source.old).bytes (λ file. bench.old.geometry ≡ geometry file → (W : List Reference) (c : Reference) (before : K)
-        → IsOnTrunks K.takes file W c before step marks.old sink.old
-        → TrunkTurns K.takes K.drops file W c before result marks.new sink.new) }
 {
     if !enter(marks, step, sink)? {
         return Ok(None);
@@ -166,13 +163,13 @@ pub fn walk_freelist<S: Source, K: Sink, A: Allocator>(
     first: u32,
     sink: &mut K,
 ) -> Result<(), RunError>
-    ensures asks { AsksRanges S.step (Reads bench.old.geometry.page_size marks.old marks.new) is_read_failed result (S.held source.old) (S.held source.new) }
+    ensures asks { Asks S.step (Reads bench.old.geometry.page_size marks.old marks.new) (λ file. bench.old.geometry ≡ geometry file
+        → (W : List Reference) (c : Reference) → IsFirstTrunk first c → IsNext W c → AreMarksOf file W marks.old
+        → IsDone K.takes K.drops file W (Go c ∷ []) result marks.new sink.old sink.new)
+        is_read_failed result (S.held source.old) (S.held source.new) }
     ensures writes { SinkAfter is_write_failed result (K.held sink.old) (K.held sink.new) }
     ensures only { IfErr result IsReadOrWrite }
     ensures bench { bench.new ≡ record bench.old { chain = bench.new.chain } }
-    ensures done { IfSome (S.held source.old).bytes (λ file. bench.old.geometry ≡ geometry file → (W : List Reference) (c : Reference)
-        → IsFirstTrunk first c → IsNext W c → AreMarksOf file W marks.old
-        → IsDone K.takes K.drops file W (Go c ∷ []) result marks.new sink.old sink.new) }
 {
     let mut step = Step {
         page: first,

@@ -1,5 +1,5 @@
 // The cells of a leaf (Database File Format, 1.6).
-ghost use Rattle.std.specs.Prelude.{◌≡◌, ℕ, ◌<◌, ◌≤◌, length, IfErr, IfSome};
+ghost use Rattle.std.specs.Prelude.{◌≡◌, ℕ, ◌<◌, ◌≤◌, length, IfErr};
 ghost use Rattle.dbformat.specs.FixedPages.{IsPageNumber};
 ghost use Rattle.dbformat.specs.Address.{then_step, schema_start};
 ghost use Rattle.dbformat.specs.File.{geometry as shape_of};
@@ -9,7 +9,7 @@ ghost use Rattle.dbwalk.specs.Reads.{Reads};
 ghost use Rattle.dbwalk.specs.CellTaken.{IsGiven, IsRowsDone};
 ghost use Rattle.dbsource.specs.Errors.{is_out_of_memory, is_read_failed, is_write_failed};
 ghost use Rattle.dbsource.specs.Failures.{failures_after};
-ghost use Rattle.dbsource.specs.Sources.{HasRanges};
+ghost use Rattle.dbsource.specs.Sources.{HasLog};
 ghost use Rattle.dbwalk.specs.Standing.{AtLeaf, IsSameButGreatest};
 ghost use Rattle.dbwalk.specs.Sinks.{SinkAfter};
 
@@ -42,17 +42,17 @@ pub(crate) fn walk_leaf<A: Allocator, S: Source, K: Sink, T: Taker>(
     requires page { IsPageNumber page }
     ensures bench { (bench.new.geometry ≡ bench.old.geometry) × (bench.new.levels ≡ bench.old.levels) }
     ensures tree { IsSameButGreatest tree.old tree.new }
-    ensures told { (S.held source.new).bytes ≡ (S.held source.old).bytes }
     ensures reads { (S.held source.new).failures ≡ failures_after is_read_failed result (S.held source.old).failures }
     ensures writes { SinkAfter is_write_failed result (K.held sink.old) (K.held sink.new) }
     ensures refusals { T.refusals taker.new ≡ failures_after is_out_of_memory result (T.refusals taker.old) }
-    ensures log { HasRanges S.step (Reads bench.old.geometry.page_size marks.old marks.new) (S.held source.old).trail (S.held source.new).trail }
-    ensures only { IfErr result IsReadWriteOrMemory }
-    ensures others { 1 ≤ tree.old.start → (taker.new ≡ taker.old) × IfErr result IsReadOrWrite }
-    ensures done { IfSome (S.held source.old).bytes (λ file. bench.old.geometry ≡ shape_of file → encoding ≡ encoding_of file
+    ensures log { HasLog S.step (Reads bench.old.geometry.page_size marks.old marks.new)
+        (λ file. bench.old.geometry ≡ shape_of file → encoding ≡ encoding_of file
         → AtLeaf file tree.old bench.old.levels page marks.old (λ U c.
         (held : T → ℕ) (first : T) → (tree.old.start ≡ schema_start → IsGiven T.takes held file U c (then_step c.address 0) first taker.old)
-        → IsRowsDone K.takes K.drops T.takes T.refuses file U c result marks.new tree.new.greatest tree.new.leaf sink.old sink.new first taker.new)) }
+        → IsRowsDone K.takes K.drops T.takes T.refuses file U c result marks.new tree.new.greatest tree.new.leaf sink.old sink.new first taker.new))
+        (S.held source.old) (S.held source.new) }
+    ensures only { IfErr result IsReadWriteOrMemory }
+    ensures others { 1 ≤ tree.old.start → (taker.new ≡ taker.old) × IfErr result IsReadOrWrite }
 {
     let level = tree.path.len();
     let cells = leaf_cells(bench, tree.kind, level, page);

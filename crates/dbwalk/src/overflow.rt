@@ -1,5 +1,5 @@
 // An overflow page: what it holds, and what is told of it (Database File Format, 1.7).
-ghost use Rattle.std.specs.Prelude.{◌≡◌, ℕ, ◌-◌, ◌≤◌, ◌&&◌, ◌==◌, ◌∷◌, length, map, not, nat_le, option_to_list, pos, Some, IfErr, is_some};
+ghost use Rattle.std.specs.Prelude.{◌≡◌, ◌-◌, ◌≤◌, ◌&&◌, ◌==◌, ◌∷◌, length, map, not, nat_le, option_to_list, pos, Some, IfErr, is_some};
 ghost use Rattle.dbformat.specs.Faults.{fault};
 ghost use Rattle.dbformat.specs.Payload.{overflow_bytes, overflow_len, overflow_next};
 ghost use Rattle.dbformat.specs.Tests.{told_if};

@@ -1,5 +1,5 @@
 // How a page of a tree is entered.
-ghost use Rattle.std.specs.Prelude.{◌≡◌, ℕ, ◌<◌, ◌≤◌, List, length, true, false, IfOk, IfErr, IfSome, IsTrue, slice_get};
+ghost use Rattle.std.specs.Prelude.{◌≡◌, ℕ, ◌<◌, ◌≤◌, List, length, true, false, IfOk, IfErr, IsTrue, slice_get};
 ghost use Rattle.dbformat.specs.FixedPages.{IsPageNumber};
 ghost use Rattle.dbformat.specs.Address.{schema_start};
 ghost use Rattle.dbformat.specs.File.{geometry as shape_of};
@@ -15,7 +15,7 @@ ghost use Rattle.dbwalk.specs.Packing.{named_page};
 ghost use Rattle.dbwalk.specs.Reads.{Reads};
 ghost use Rattle.dbsource.specs.Errors.{is_out_of_memory, is_read_failed, is_write_failed};
 ghost use Rattle.dbsource.specs.Failures.{failures_after};
-ghost use Rattle.dbsource.specs.Sources.{HasRanges};
+ghost use Rattle.dbsource.specs.Sources.{HasLog};
 ghost use Rattle.dbwalk.specs.Standing.{AtPage, AtReference};
 ghost use Rattle.dbwalk.specs.Sinks.{SinkAfter};
 
@@ -73,20 +73,20 @@ pub(crate) fn visit_page<A: Allocator, S: Source, K: Sink, T: Taker>(
     requires page { IsPageNumber page }
     ensures bench { (bench.new.geometry ≡ bench.old.geometry) × (bench.new.levels ≡ bench.old.levels) }
     ensures tree { (tree.new.start ≡ tree.old.start) × (tree.new.kind ≡ tree.old.kind) × (tree.new.path ≡ tree.old.path) }
-    ensures told { (S.held source.new).bytes ≡ (S.held source.old).bytes }
     ensures reads { (S.held source.new).failures ≡ failures_after is_read_failed result (S.held source.old).failures }
     ensures writes { SinkAfter is_write_failed result (K.held sink.old) (K.held sink.new) }
     ensures refusals { T.refusals taker.new ≡ failures_after is_out_of_memory result (T.refusals taker.old) }
-    ensures log { HasRanges S.step (Reads bench.old.geometry.page_size marks.old marks.new) (S.held source.old).trail (S.held source.new).trail }
+    ensures log { HasLog S.step (Reads bench.old.geometry.page_size marks.old marks.new)
+        (λ file. bench.old.geometry ≡ shape_of file → encoding ≡ encoding_of file
+        → AtPage file tree.old bench.old.levels page marks.old (λ W c.
+        (held : T → ℕ) (first : T) → (tree.old.start ≡ schema_start → IsGivenBefore T.takes held file W c.address first taker.old)
+        → IsEntryDone K.takes K.drops T.takes T.refuses file W c
+        result bench.new.levels marks.new tree.new.greatest tree.new.leaf sink.old sink.new first taker.new))
+        (S.held source.old) (S.held source.new) }
     ensures only { IfErr result IsReadWriteOrMemory }
     ensures others { 1 ≤ tree.old.start → (taker.new ≡ taker.old) × IfErr result IsReadOrWrite }
     ensures open { IfOk result (λ yes. IsTrue yes
         → IsOpen bench.new.geometry.usable tree.new.kind bench.new.levels (length tree.old.path.items) (record { page = page; next = 0 })) }
-    ensures done { IfSome (S.held source.old).bytes (λ file. bench.old.geometry ≡ shape_of file → encoding ≡ encoding_of file
-        → AtPage file tree.old bench.old.levels page marks.old (λ W c.
-        (held : T → ℕ) (first : T) → (tree.old.start ≡ schema_start → IsGivenBefore T.takes held file W c.address first taker.old)
-        → IsEntryDone K.takes K.drops T.takes T.refuses file W c
-        result bench.new.levels marks.new tree.new.greatest tree.new.leaf sink.old sink.new first taker.new)) }
 {
     match tell_page(bench, tree, page, sink)? {
         PageFound::Interior => Ok(true),
@@ -125,22 +125,22 @@ pub(crate) fn enter_page<A: Allocator, S: Source, K: Sink, T: Taker>(
     ensures shape { bench.new.geometry ≡ bench.old.geometry }
     ensures levels { (level : ℕ) → level < length tree.old.path.items → slice_get bench.new.levels level ≡ slice_get bench.old.levels level }
     ensures tree { (tree.new.start ≡ tree.old.start) × (tree.new.kind ≡ tree.old.kind) × (tree.new.path ≡ tree.old.path) }
-    ensures told { (S.held source.new).bytes ≡ (S.held source.old).bytes }
     ensures reads { (S.held source.new).failures ≡ failures_after is_read_failed result (S.held source.old).failures }
     ensures writes { SinkAfter is_write_failed result (K.held sink.old) (K.held sink.new) }
     ensures refusals { T.refusals taker.new ≡ failures_after is_out_of_memory result (T.refusals taker.old) }
-    ensures log { HasRanges S.step (Reads bench.old.geometry.page_size marks.old marks.new) (S.held source.old).trail (S.held source.new).trail }
+    ensures log { HasLog S.step (Reads bench.old.geometry.page_size marks.old marks.new)
+        (λ file. bench.old.geometry ≡ shape_of file → encoding ≡ encoding_of file
+        → AtReference file tree.old page from item marks.old (λ W c.
+        (held : T → ℕ) (first : T) → (tree.old.start ≡ schema_start → IsGivenBefore T.takes held file W c.address first taker.old)
+        → IsEntryDone K.takes K.drops T.takes T.refuses file W c
+        result bench.new.levels marks.new tree.new.greatest tree.new.leaf sink.old sink.new first taker.new))
+        (S.held source.old) (S.held source.new) }
     ensures only { IfErr result IsReadWriteOrMemory }
     ensures others { 1 ≤ tree.old.start → (taker.new ≡ taker.old) × IfErr result IsReadOrWrite }
     ensures open { IfOk result (λ yes. IsTrue yes → (length tree.old.path.items < 20)
         × IsOpen bench.new.geometry.usable tree.new.kind bench.new.levels (length tree.old.path.items) (record { page = page; next = 0 })) }
     ensures fewer { IfOk result (λ yes. unmarked_pages marks.new ≤ unmarked_pages marks.old
         × (IsTrue yes → unmarked_pages marks.new < unmarked_pages marks.old)) }
-    ensures done { IfSome (S.held source.old).bytes (λ file. bench.old.geometry ≡ shape_of file → encoding ≡ encoding_of file
-        → AtReference file tree.old page from item marks.old (λ W c.
-        (held : T → ℕ) (first : T) → (tree.old.start ≡ schema_start → IsGivenBefore T.takes held file W c.address first taker.old)
-        → IsEntryDone K.takes K.drops T.takes T.refuses file W c
-        result bench.new.levels marks.new tree.new.greatest tree.new.leaf sink.old sink.new first taker.new)) }
 {
     let level = tree.path.len();
     let step = tree_step(level, page, from, item);

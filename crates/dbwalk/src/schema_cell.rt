@@ -1,5 +1,5 @@
 // A cell of a leaf of the schema's tree: its overflow chain, its row, and its key (Database File Format, 1.6 and 2.6).
-ghost use Rattle.std.specs.Prelude.{◌≡◌, ℕ, ◌-◌, ◌*◌, ◌<◌, ◌≤◌, length, IfErr, IfSome};
+ghost use Rattle.std.specs.Prelude.{◌≡◌, ℕ, ◌*◌, ◌<◌, ◌≤◌, length, IfErr};
 ghost use Rattle.dbformat.specs.FixedPages.{IsPageNumber};
 ghost use Rattle.dbformat.specs.Address.{then_step, schema_start};
 ghost use Rattle.dbformat.specs.File.{geometry as shape_of};
@@ -9,7 +9,7 @@ ghost use Rattle.dbwalk.specs.Reads.{Reads};
 ghost use Rattle.dbwalk.specs.CellTaken.{IsGiven, IsLeafCellDone, IsRowDone};
 ghost use Rattle.dbsource.specs.Errors.{is_out_of_memory, is_read_failed, is_write_failed};
 ghost use Rattle.dbsource.specs.Failures.{failures_after};
-ghost use Rattle.dbsource.specs.Sources.{HasRanges};
+ghost use Rattle.dbsource.specs.Sources.{HasLog};
 ghost use Rattle.dbwalk.specs.Standing.{AtCell, IsSameButGreatest};
 ghost use Rattle.dbwalk.specs.Sinks.{SinkAfter};
 
@@ -46,17 +46,17 @@ pub(crate) fn walk_schema_cell<A: Allocator, S: Source, K: Sink, T: Taker>(
     requires start { tree.old.start ≡ schema_start }
     ensures bench { (bench.new.geometry ≡ bench.old.geometry) × (bench.new.levels ≡ bench.old.levels) }
     ensures tree { IsSameButGreatest tree.old tree.new }
-    ensures told { (S.held source.new).bytes ≡ (S.held source.old).bytes }
     ensures reads { (S.held source.new).failures ≡ failures_after is_read_failed result (S.held source.old).failures }
     ensures writes { SinkAfter is_write_failed result (K.held sink.old) (K.held sink.new) }
     ensures refusals { T.refusals taker.new ≡ failures_after is_out_of_memory result (T.refusals taker.old) }
-    ensures log { HasRanges S.step (Reads bench.old.geometry.page_size marks.old marks.new) (S.held source.old).trail (S.held source.new).trail }
-    ensures only { IfErr result IsReadWriteOrMemory }
-    ensures done { IfSome (S.held source.old).bytes (λ file. bench.old.geometry ≡ shape_of file → encoding ≡ encoding_of file
+    ensures log { HasLog S.step (Reads bench.old.geometry.page_size marks.old marks.new)
+        (λ file. bench.old.geometry ≡ shape_of file → encoding ≡ encoding_of file
         → AtCell file tree.old bench.old.levels page i marks.old (λ U c v.
         (held : T → ℕ) (first : T) → IsGiven T.takes held file U c (then_step c.address (3 * i)) first taker.old
         → IsRowDone K.takes K.drops T.takes T.refuses file tree.old.kind v i U c
-        result marks.new tree.new.greatest tree.new.leaf sink.old sink.new first taker.new)) }
+        result marks.new tree.new.greatest tree.new.leaf sink.old sink.new first taker.new))
+        (S.held source.old) (S.held source.new) }
+    ensures only { IfErr result IsReadWriteOrMemory }
 {
     let level = tree.path.len();
     let cell = leaf_cell(bench, tree.kind, level, page, i);
@@ -100,18 +100,18 @@ pub(crate) fn walk_leaf_cell<A: Allocator, S: Source, K: Sink, T: Taker>(
     requires page { IsPageNumber page }
     ensures bench { (bench.new.geometry ≡ bench.old.geometry) × (bench.new.levels ≡ bench.old.levels) }
     ensures tree { IsSameButGreatest tree.old tree.new }
-    ensures told { (S.held source.new).bytes ≡ (S.held source.old).bytes }
     ensures reads { (S.held source.new).failures ≡ failures_after is_read_failed result (S.held source.old).failures }
     ensures writes { SinkAfter is_write_failed result (K.held sink.old) (K.held sink.new) }
     ensures refusals { T.refusals taker.new ≡ failures_after is_out_of_memory result (T.refusals taker.old) }
-    ensures log { HasRanges S.step (Reads bench.old.geometry.page_size marks.old marks.new) (S.held source.old).trail (S.held source.new).trail }
-    ensures only { IfErr result IsReadWriteOrMemory }
-    ensures others { 1 ≤ tree.old.start → (taker.new ≡ taker.old) × IfErr result IsReadOrWrite }
-    ensures done { IfSome (S.held source.old).bytes (λ file. bench.old.geometry ≡ shape_of file → encoding ≡ encoding_of file
+    ensures log { HasLog S.step (Reads bench.old.geometry.page_size marks.old marks.new)
+        (λ file. bench.old.geometry ≡ shape_of file → encoding ≡ encoding_of file
         → AtCell file tree.old bench.old.levels page i marks.old (λ U c v.
         (held : T → ℕ) (first : T) → (tree.old.start ≡ schema_start → IsGiven T.takes held file U c (then_step c.address (3 * i)) first taker.old)
         → IsLeafCellDone K.takes K.drops T.takes T.refuses file tree.old.kind v i U c
-        result marks.new tree.new.greatest tree.new.leaf sink.old sink.new first taker.new)) }
+        result marks.new tree.new.greatest tree.new.leaf sink.old sink.new first taker.new))
+        (S.held source.old) (S.held source.new) }
+    ensures only { IfErr result IsReadWriteOrMemory }
+    ensures others { 1 ≤ tree.old.start → (taker.new ≡ taker.old) × IfErr result IsReadOrWrite }
 {
     if tree.start == 0 {
         walk_schema_cell(source, bench, marks, tree, page, i, encoding, taker, sink)

@@ -1,5 +1,5 @@
 // Who is told of rows and faults.
-ghost use Rattle.std.specs.Prelude.{◌≡◌, MatchResult};
+ghost use Rattle.std.specs.Prelude.{MatchResult};
 ghost use Rattle.dbwalk.specs.Finding.{Finding, told_row, told_fault};
 ghost use Rattle.dbwalk.specs.Rows.{row_of};
 ghost use Rattle.dbwalk.specs.Sinks.{SinkAfter};

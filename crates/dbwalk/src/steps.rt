@@ -1,6 +1,6 @@
 // The steps of an interior page: at each cell its overflow chain, its left child and its key, and behind the cells the
 // right child.
-ghost use Rattle.std.specs.Prelude.{◌≡◌, ◌+◌, ◌*◌, ◌<◌, ◌≤◌};
+ghost use Rattle.std.specs.Prelude.{◌≡◌, ◌<◌};
 ghost use Rattle.dbformat.specs.Address.{overflow_step, child_step, key_step};
 ghost use Rattle.dbformat.specs.Cell.{count};
 ghost use Rattle.dbwalk.specs.Steps.{HasNext, IsNextStep};

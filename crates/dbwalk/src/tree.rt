@@ -1,7 +1,6 @@
 // The walk over one tree (Database File Format, 1.6).
-ghost use Rattle.std.specs.Prelude.{◌≡◌, ℕ, ◌≤◌, ◌++◌, [], ◌∷◌, ◌↔◌, List, None, true, IfErr, IfSome};
+ghost use Rattle.std.specs.Prelude.{◌≡◌, ℕ, ◌≤◌, ◌++◌, [], ◌∷◌, ◌↔◌, List, None, true, IfErr};
 ghost use Rattle.dbformat.specs.FixedPages.{IsPageNumber};
-ghost use Rattle.dbsurvey.specs.Story.{Go};
 ghost use Rattle.dbsurvey.specs.Traverse.{is_followed};
 ghost use Rattle.dbformat.specs.Address.{schema_start};
 ghost use Rattle.dbformat.specs.File.{geometry as shape_of, page_bytes};
@@ -10,9 +9,7 @@ ghost use Rattle.dbformat.specs.Reference.{Reference};
 ghost use Rattle.dbformat.specs.Survey.{rules_of};
 ghost use Rattle.dbsource.specs.Errors.{is_out_of_memory, is_read_failed, is_write_failed};
 ghost use Rattle.dbsource.specs.Failures.{failures_after};
-ghost use Rattle.dbsource.specs.Sources.{AsksRanges, HasRanges};
-ghost use Rattle.dbwalk.specs.Done.{IsDone};
-ghost use Rattle.dbwalk.specs.Finding.{visited_below};
+ghost use Rattle.dbsource.specs.Sources.{Asks, HasLog};
 ghost use Rattle.dbwalk.specs.Found.{StandsAt};
 ghost use Rattle.dbwalk.specs.Marking.{AreMarksOf};
 ghost use Rattle.dbwalk.specs.Outcomes.{IsReadOrWrite, IsReadWriteOrMemory};
@@ -20,7 +17,6 @@ ghost use Rattle.dbwalk.specs.Reads.{Reads};
 ghost use Rattle.dbwalk.specs.RootRoom.{StartsEmpty};
 ghost use Rattle.dbwalk.specs.Roots.{IsRootAfter};
 ghost use Rattle.dbwalk.specs.Running.{AreOfEarlierStarts};
-ghost use Rattle.dbwalk.specs.Taking.{Gives, readable_rows};
 ghost use Rattle.dbwalk.specs.WalkGiven.{IsTreeDone};
 ghost use Rattle.dbwalk.specs.Walking.{IsCandidate};
 ghost use Rattle.dbwalk.specs.declared.root.RootKind.TheVariants as root_kind;
@@ -52,19 +48,19 @@ fn walk_pages<A: Allocator, S: Source, K: Sink, T: Taker>(
     requires page { IsPageNumber page }
     requires fresh { (tree.old.greatest ≡ None) × (tree.old.leaf ≡ None) × (tree.old.path.items ≡ []) }
     ensures shape { bench.new.geometry ≡ bench.old.geometry }
-    ensures told { (S.held source.new).bytes ≡ (S.held source.old).bytes }
     ensures reads { (S.held source.new).failures ≡ failures_after is_read_failed result (S.held source.old).failures }
     ensures writes { SinkAfter is_write_failed result (K.held sink.old) (K.held sink.new) }
     ensures refusals { T.refusals taker.new ≡ failures_after is_out_of_memory result (T.refusals taker.old) }
-    ensures log { HasRanges S.step (Reads bench.old.geometry.page_size marks.old marks.new) (S.held source.old).trail (S.held source.new).trail }
-    ensures only { IfErr result IsReadWriteOrMemory }
-    ensures others { 1 ≤ tree.old.start → (taker.new ≡ taker.old) × IfErr result IsReadOrWrite }
-    ensures done { IfSome (S.held source.old).bytes (λ file. bench.old.geometry ≡ shape_of file → encoding ≡ encoding_of file
+    ensures log { HasLog S.step (Reads bench.old.geometry.page_size marks.old marks.new)
+        (λ file. bench.old.geometry ≡ shape_of file → encoding ≡ encoding_of file
         → (W : List Reference) (c : Reference) → IsCandidate tree.old.kind tree.old.start [] page 0 tree.old.start c
         → StandsAt bench.old.levels 0 (page_bytes file page) → is_followed (rules_of file) W c ≡ true
         → AreOfEarlierStarts tree.old.start W → AreMarksOf file (W ++ (c ∷ [])) marks.old
         → (held : T → ℕ) → (tree.old.start ≡ schema_start → StartsEmpty T.takes held taker.old)
-        → IsTreeDone K.takes K.drops T.takes T.refuses file W c result marks.new sink.old sink.new taker.old taker.new) }
+        → IsTreeDone K.takes K.drops T.takes T.refuses file W c result marks.new sink.old sink.new taker.old taker.new)
+        (S.held source.old) (S.held source.new) }
+    ensures only { IfErr result IsReadWriteOrMemory }
+    ensures others { 1 ≤ tree.old.start → (taker.new ≡ taker.old) × IfErr result IsReadOrWrite }
 {
     if !visit_page(source, bench, marks, tree, page, encoding, taker, sink)? {
         return Ok(());
@@ -105,22 +101,18 @@ pub fn walk_tree<A: Allocator, S: Source, K: Sink, T: Taker>(
 ) -> Result<(), RunError>
     requires schema { (root.kind ≡ root_kind.Schema) ↔ (root.start ≡ schema_start) }
     ensures shape { bench.new.geometry ≡ bench.old.geometry }
-    ensures asks { AsksRanges S.step (Reads bench.old.geometry.page_size marks.old marks.new) is_read_failed result (S.held source.old) (S.held source.new) }
+    // The taker of the schema's tree was given its rows that can be read, in their order; after an error a beginning of them,
+    // up to one for which it was refused memory, where it was.
+    ensures asks { Asks S.step (Reads bench.old.geometry.page_size marks.old marks.new) (λ file. bench.old.geometry ≡ shape_of file
+        → root.encoding ≡ encoding_of file → (W : List Reference) (c : Reference) → IsRootAfter file root W c marks.old
+        → (held : T → ℕ) → (root.kind ≡ root_kind.Schema → StartsEmpty T.takes held taker.old)
+        → IsTreeDone K.takes K.drops T.takes T.refuses file W c result marks.new sink.old sink.new taker.old taker.new)
+        is_read_failed result (S.held source.old) (S.held source.new) }
     ensures writes { SinkAfter is_write_failed result (K.held sink.old) (K.held sink.new) }
     ensures refusals { T.refusals taker.new ≡ failures_after is_out_of_memory result (T.refusals taker.old) }
     ensures only { IfErr result IsReadWriteOrMemory }
     // Only the schema's tree calls the taker.
     ensures others { 1 ≤ root.start → (taker.new ≡ taker.old) × IfErr result IsReadOrWrite }
-    ensures done { IfSome (S.held source.old).bytes (λ file. bench.old.geometry ≡ shape_of file → root.encoding ≡ encoding_of file
-        → (W : List Reference) (c : Reference) → IsRootAfter file root W c marks.old
-        → (held : T → ℕ) → (root.kind ≡ root_kind.Schema → StartsEmpty T.takes held taker.old)
-        → IsDone K.takes K.drops file W (Go c ∷ []) result marks.new sink.old sink.new) }
-    // The taker was given the rows of the schema that can be read, in their order; after an error a beginning of them, up to
-    // one for which it was refused memory, where it was.
-    ensures rows { IfSome (S.held source.old).bytes (λ file. bench.old.geometry ≡ shape_of file → root.encoding ≡ encoding_of file
-        → (W : List Reference) (c : Reference) → IsRootAfter file root W c marks.old
-        → (held : T → ℕ) → StartsEmpty T.takes held taker.old → root.kind ≡ root_kind.Schema
-        → Gives T.takes T.refuses result taker.old (readable_rows file (W ++ visited_below file W (Go c ∷ []))) taker.new) }
 {
     let step = tree_step(0, root.page, 0, root.start);
     if !enter(marks, step, sink)? {

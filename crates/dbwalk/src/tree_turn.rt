@@ -1,6 +1,6 @@
 // One turn of the walk over a tree: a step of the last frame.
 ghost use Rattle.arrayvec.specs.ArrayVec.{array_vec_len};
-ghost use Rattle.std.specs.Prelude.{◌≡◌, ◌≤◌, ◌<◌, ◌++◌, [], ◌∷◌, List, OnOk, IfErr, IfSome};
+ghost use Rattle.std.specs.Prelude.{◌≡◌, ◌≤◌, ◌<◌, ◌++◌, [], ◌∷◌, List, OnOk, IfErr};
 ghost use Rattle.dbformat.specs.File.{geometry as shape_of};
 ghost use Rattle.dbformat.specs.Header.{encoding as encoding_of};
 ghost use Rattle.dbwalk.specs.Steps.{HasNext};
@@ -12,7 +12,7 @@ ghost use Rattle.dbwalk.specs.Outcomes.{IsReadOrWrite, IsReadWriteOrMemory};
 ghost use Rattle.dbwalk.specs.Reads.{Reads};
 ghost use Rattle.dbsource.specs.Errors.{is_out_of_memory, is_read_failed, is_write_failed};
 ghost use Rattle.dbsource.specs.Failures.{failures_after};
-ghost use Rattle.dbsource.specs.Sources.{HasRanges};
+ghost use Rattle.dbsource.specs.Sources.{HasLog};
 ghost use Rattle.dbwalk.specs.Standing.{AtStep};
 ghost use Rattle.dbwalk.specs.Sinks.{SinkAfter};
 
@@ -51,17 +51,17 @@ fn enter_child<A: Allocator, S: Source, K: Sink, T: Taker>(
     ensures open { OnOk result (AreOpen bench.new.geometry.usable tree.new.kind bench.new.levels 0 frames.new.items) }
     ensures path { OnOk result ((fs : List Frame) (f : Frame) → frames.new.items ≡ fs ++ (f ∷ []) → tree.new.path.items ≡ path_of fs) }
     ensures ends { OnOk result (cost marks.new frames.new.items < cost marks.old (frames.old.items ++ (frame ∷ []))) }
-    ensures told { (S.held source.new).bytes ≡ (S.held source.old).bytes }
     ensures reads { (S.held source.new).failures ≡ failures_after is_read_failed result (S.held source.old).failures }
     ensures writes { SinkAfter is_write_failed result (K.held sink.old) (K.held sink.new) }
     ensures refusals { T.refusals taker.new ≡ failures_after is_out_of_memory result (T.refusals taker.old) }
-    ensures log { HasRanges S.step (Reads bench.old.geometry.page_size marks.old marks.new) (S.held source.old).trail (S.held source.new).trail }
-    ensures only { IfErr result IsReadWriteOrMemory }
-    ensures others { 1 ≤ tree.old.start → (taker.new ≡ taker.old) × IfErr result IsReadOrWrite }
-    ensures walking { IfSome (S.held source.old).bytes (λ file. bench.old.geometry ≡ shape_of file → encoding ≡ encoding_of file
+    ensures log { HasLog S.step (Reads bench.old.geometry.page_size marks.old marks.new)
+        (λ file. bench.old.geometry ≡ shape_of file → encoding ≡ encoding_of file
         → AtStep K.takes T.takes file tree.old (frames.old.items ++ (frame ∷ [])) bench.old.levels marks.old sink.old taker.old (λ W c before first.
         IsTurnDone K.takes K.drops T.takes T.refuses file tree.old.kind W c result before
-        frames.new.items bench.new.levels marks.new tree.new.greatest tree.new.leaf sink.new first taker.new)) }
+        frames.new.items bench.new.levels marks.new tree.new.greatest tree.new.leaf sink.new first taker.new))
+        (S.held source.old) (S.held source.new) }
+    ensures only { IfErr result IsReadWriteOrMemory }
+    ensures others { 1 ≤ tree.old.start → (taker.new ≡ taker.old) × IfErr result IsReadOrWrite }
 {
     let cell = frame.next / 3;
     frames.push(frame.stepped());
@@ -102,17 +102,17 @@ pub(crate) fn turn<A: Allocator, S: Source, K: Sink, T: Taker>(
     ensures open { OnOk result (AreOpen bench.new.geometry.usable tree.new.kind bench.new.levels 0 frames.new.items) }
     ensures path { OnOk result ((fs : List Frame) (f : Frame) → frames.new.items ≡ fs ++ (f ∷ []) → tree.new.path.items ≡ path_of fs) }
     ensures ends { OnOk result (cost marks.new frames.new.items < cost marks.old (frames.old.items ++ (frame ∷ []))) }
-    ensures told { (S.held source.new).bytes ≡ (S.held source.old).bytes }
     ensures reads { (S.held source.new).failures ≡ failures_after is_read_failed result (S.held source.old).failures }
     ensures writes { SinkAfter is_write_failed result (K.held sink.old) (K.held sink.new) }
     ensures refusals { T.refusals taker.new ≡ failures_after is_out_of_memory result (T.refusals taker.old) }
-    ensures log { HasRanges S.step (Reads bench.old.geometry.page_size marks.old marks.new) (S.held source.old).trail (S.held source.new).trail }
-    ensures only { IfErr result IsReadWriteOrMemory }
-    ensures others { 1 ≤ tree.old.start → (taker.new ≡ taker.old) × IfErr result IsReadOrWrite }
-    ensures walking { IfSome (S.held source.old).bytes (λ file. bench.old.geometry ≡ shape_of file → encoding ≡ encoding_of file
+    ensures log { HasLog S.step (Reads bench.old.geometry.page_size marks.old marks.new)
+        (λ file. bench.old.geometry ≡ shape_of file → encoding ≡ encoding_of file
         → AtStep K.takes T.takes file tree.old (frames.old.items ++ (frame ∷ [])) bench.old.levels marks.old sink.old taker.old (λ W c before first.
         IsTurnDone K.takes K.drops T.takes T.refuses file tree.old.kind W c result before
-        frames.new.items bench.new.levels marks.new tree.new.greatest tree.new.leaf sink.new first taker.new)) }
+        frames.new.items bench.new.levels marks.new tree.new.greatest tree.new.leaf sink.new first taker.new))
+        (S.held source.old) (S.held source.new) }
+    ensures only { IfErr result IsReadWriteOrMemory }
+    ensures others { 1 ≤ tree.old.start → (taker.new ≡ taker.old) × IfErr result IsReadOrWrite }
 {
     match step_of(bench, tree.kind, frames.len(), frame) {
         Next::Behind => {

@@ -35,14 +35,6 @@ pub if_some_all : {X : Type 0} (Q : X → Type 0) (o : Option X) → ((x : X) �
 if_some_all Q None f = tt
 if_some_all Q (Some x) f = f x
 
-pub if_some_both : {X : Type 0} (P R Q : X → Type 0) (o : Option X) → IfSome o P → IfSome o R → ((x : X) → P x → R x → Q x) → IfSome o Q
-if_some_both P R Q None h k f = tt
-if_some_both P R Q (Some x) h k f = f x h k
-
--- the same where the second is said of an option that is equal
-pub if_some_moved : {X : Type 0} (P R Q : X → Type 0) (o o' : Option X) → o' ≡ o → IfSome o P → IfSome o' R → ((x : X) → P x → R x → Q x) → IfSome o Q
-if_some_moved P R Q o o' e h k f = if_some_both P R Q o h (subst (λ p. IfSome p R) e k) f
-
 quiet_chain : (file : List ℕ) (d : Reference) (left : ℕ) → bytes_left (role_of d) ≡ Some left → AreQuiet own_visit (errands_of (story_of file) d)
 quiet_chain file d left h = subst (λ es. AreQuiet own_visit es) (sym (by_chain file d left h)) (all_quiet.2 d (overflow_links d.page (usable_size file) left (page_bytes file d.page)))
 

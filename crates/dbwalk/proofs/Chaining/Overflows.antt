@@ -1,8 +1,9 @@
 -- What is told of an overflow page, and what it leads to.
-use Rattle.std.proofs.Common.{◌≡◌, ℕ, ◌+◌, ◌-◌, ◌*◌, ◌≤◌, ◌<◌, Bool, true, false, cond, not, ◌&&◌, List, [], ◌∷◌, ◌++◌, length, map, take, drop, Option, Some, None, refl, sym, ap, ◌∙◌, arith}
-use Rattle.std.specs.Prelude.{IfSome, option_to_list, nat_le, nat_lt, ◌==◌, pos}
+use Rattle.std.proofs.Common.{◌≡◌, ℕ, ◌+◌, ◌-◌, ◌*◌, ◌≤◌, ◌<◌, Bool, true, false, cond, not, ◌&&◌, List, [], ◌∷◌, ◌++◌, length, map, take, drop, Option, Some, None, refl, sym, ap, ◌∙◌, arith, inl}
+use Rattle.std.specs.Prelude.{option_to_list, nat_le, nat_lt, ◌==◌, pos}
 use Rattle.std.proofs.lemmas.Bool.Decides.{nat_tests}
 use Rattle.std.proofs.lemmas.List.{length-append}
+use Rattle.dbsurvey.specs.Moves.{MovesBySome}
 use Rattle.dbsurvey.specs.Story.{Go, errands_of}
 use Rattle.dbformat.specs.Address.{start_of, then_step, is_child_step, cell_of_step, children_on, chain_on, child_path, chain_place}
 use Rattle.dbformat.specs.Errands.{go}
@@ -28,9 +29,10 @@ use Rattle.dbwalk.specs.declared.chain.Chain.{Chain}
 use Rattle.dbwalk.specs.Chains.{IsOnChain, next_of}
 use Rattle.dbwalk.specs.Finding.{told_row, told_fault, told_at}
 
-pub if_some_map : {X : Type 0} (P Q : X → Type 0) (o : Option X) → IfSome o P → ((x : X) → P x → Q x) → IfSome o Q
-if_some_map P Q None h f = tt
-if_some_map P Q (Some x) h f = f x h
+-- nothing is a beginning of anything
+pub moves_none : {S E : Type 0} (takes : S → E → S → Type 0) (s : S) (es : List E) → MovesBySome takes s es s
+moves_none takes s [] = refl
+moves_none takes s (e ∷ es) = inl refl
 
 -- the bytes that a load leaves are those of the page
 pub page_read : (file bytes : List ℕ) (size p : ℕ) → length bytes ≡ size → IsRangeOf file ((p - 1) * size) bytes → (geometry file).page_size ≡ size → bytes ≡ page_bytes file p

@@ -1,6 +1,6 @@
 -- What is kept of the marks and read, call after call.
-use Rattle.std.proofs.Common.{◌≡◌, ◌≢◌, ℕ, zero, suc, ◌+◌, ◌-◌, ◌<◌, ◌≤◌, true, false, cond, inl, inr, List, [], ◌∷◌, ◌++◌, length, map, set, get_or, Some, None, refl, sym, ap, subst, ◌∙◌, arith}
-use Rattle.std.specs.Prelude.{slice_get, count_by, ◌==◌}
+use Rattle.std.proofs.Common.{◌≡◌, ◌≢◌, ℕ, zero, suc, ◌+◌, ◌-◌, ◌*◌, ◌<◌, ◌≤◌, true, false, cond, inl, inr, List, [], ◌∷◌, ◌++◌, length, map, set, get_or, Some, None, Ok, refl, sym, ap, subst, ◌∙◌, arith}
+use Rattle.std.specs.Prelude.{slice_get, count_by, ◌==◌, Result, IfSome, OnOk}
 use Rattle.std.specs.Option.{option_map_or}
 use Rattle.std.proofs.lemmas.Bool.{cases_Bool, both_ways}
 use Rattle.std.proofs.lemmas.Bool.Decides.{nat_tests}
@@ -8,14 +8,18 @@ use Rattle.std.proofs.lemmas.List.{map-append}
 use Rattle.std.proofs.lemmas.List.Sums.{sum_by-set}
 use Rattle.std.proofs.lemmas.Option.{slice_get_within, get_or_from_slice_get}
 use Rattle.dbsurvey.proofs.Order.{IsIn-cases, EachPair-append}
-use Rattle.dbformat.specs.Log.{page_range}
+use Rattle.dbformat.specs.Log.{page_range, range}
 use Rattle.dbformat.specs.declared.ByteRange.{ByteRange}
 use Rattle.dbwalk.specs.declared.mark.Mark.{Mark}
 use Rattle.dbwalk.specs.declared.mark.Mark.TheVariants.{Unmarked}
 use Rattle.dbwalk.specs.Marking.{page_mark, is_none, is_unmarked, unmarked_pages, IsUse, cleared, Keeps}
-use Rattle.dbsource.specs.Answers.{LeadsBy, Step, Trail}
-use Rattle.dbsource.specs.Sources.{HasRanges}
-use Rattle.dbsource.proofs.Ranges.{has_append, has_none, has_one}
+use Rattle.dbsource.specs.Answers.{IsRangeOf, answer, Step}
+use Rattle.dbsource.specs.Errors.{is_read_failed}
+use Rattle.dbsource.specs.Failures.{failures_after}
+use Rattle.dbsource.specs.Sources.{Asks, HasLog, SourceState}
+use Rattle.dbsource.specs.declared.error.RunError.{RunError}
+use Rattle.dbsource.specs.declared.source.ReadFailed.{ReadFailed}
+use Rattle.dbsource.proofs.Logs as logs
 use Rattle.dbwalk.specs.Reads.{Reads}
 
 -- marks
@@ -148,23 +152,39 @@ reads_then size a b c l m h k = record {
 -- logs
 
 -- nothing was marked and nothing read
-pub log_none : (step : Step) (size : ℕ) (marks marks' : List Mark) (trail : Trail) → marks' ≡ marks → HasRanges step (Reads size marks marks') trail trail
-log_none step size marks marks' trail e = has_none trail (reads_none size marks marks' (subst (λ m. Keeps marks m) (sym e) (keeps_same marks)))
+pub log_none : {step : Step} {Q : List ℕ → Type 0} (size : ℕ) (marks marks' : List Mark) (s : SourceState) → marks' ≡ marks → ((file : List ℕ) → Q file)
+    → HasLog step (Reads size marks marks') Q s s
+log_none size marks marks' s e q = logs.has_none s s refl refl (reads_none size marks marks' (subst (λ m. Keeps marks m) (sym e) (keeps_same marks))) q
 
 -- a page was marked, and then read
-pub log_page : (step : Step) (size : ℕ) (marks marks' : List Mark) (p : ℕ) (m : Mark) (old new : Trail)
-    → page_mark marks p ≡ Some Unmarked → marks' ≡ set marks (p - 1) m → IsUse m → LeadsBy step old (page_range size p) new → HasRanges step (Reads size marks marks') old new
-log_page step size marks marks' p m old new h e used t =
-    has_one (page_range size p) t (subst (λ l. Reads size marks l (page_range size p ∷ [])) (sym e) (reads_page size marks p m h used.cleared used.some))
+pub log_page : {step : Step} (Q : List ℕ → Type 0) {T : List ℕ → Type 0} (size : ℕ) (marks marks' : List Mark) (p : ℕ) (m : Mark) {old new : SourceState}
+    → page_mark marks p ≡ Some Unmarked → marks' ≡ set marks (p - 1) m → IsUse m → HasLog step (λ log. log ≡ page_range size p ∷ []) Q old new → ((file : List ℕ) → Q file → T file)
+    → HasLog step (Reads size marks marks') T old new
+log_page Q size marks marks' p m h e used k q = logs.has_weaker (λ log. log ≡ page_range size p ∷ []) Q k
+    (λ log l. subst (Reads size marks marks') (sym l) (subst (λ l. Reads size marks l (page_range size p ∷ [])) (sym e) (reads_page size marks p m h used.cleared used.some))) q
+
+-- one page was read, or the source failed
+pub log_load : {step : Step} {old new : SourceState} (size p : ℕ) (bytes : List ℕ) (r : Result (Unit {0}) ReadFailed) → new.bytes ≡ old.bytes → length bytes ≡ size
+    → step old.trail (answer r ((p - 1) * size) bytes) new.trail × OnOk r (IfSome old.bytes (λ file. IsRangeOf file ((p - 1) * size) bytes))
+    → HasLog step (λ log. log ≡ page_range size p ∷ []) (λ file. OnOk r (IsRangeOf file ((p - 1) * size) bytes)) old new
+log_load size p bytes r told e h = logs.has_one r ((p - 1) * size) bytes told h.0 h.1 (ap (λ n. range ((p - 1) * size) n ∷ []) e) (λ file f. f)
+
+-- a page was marked, and then read, and then more pages were marked
+pub log_opened : {step : Step} (Q : List ℕ → Type 0) {T : List ℕ → Type 0} (size : ℕ) (a b c : List Mark) (p : ℕ) (m : Mark) {old new : SourceState}
+    → page_mark a p ≡ Some Unmarked → b ≡ set a (p - 1) m → IsUse m → Keeps b c → HasLog step (λ log. log ≡ page_range size p ∷ []) Q old new → ((file : List ℕ) → Q file → T file)
+    → HasLog step (Reads size a c) T old new
+log_opened Q size a b c p m h e used kept k q = logs.has_weaker (λ log. log ≡ page_range size p ∷ []) Q k
+    (λ log l. subst (Reads size a c) (sym l) (reads_then size a b c (page_range size p ∷ []) []
+    (subst (λ l. Reads size a l (page_range size p ∷ [])) (sym e) (reads_page size a p m h used.cleared used.some)) (reads_none size b c kept))) q
 
 -- one log after another
-pub log_then : (step : Step) (size size' : ℕ) (a b c : List Mark) (old mid new : Trail) → size' ≡ size
-    → HasRanges step (Reads size a b) old mid → HasRanges step (Reads size' b c) mid new → HasRanges step (Reads size a c) old new
-log_then step size size' a b c old mid new e h k =
-    has_append (Reads size a b) (Reads size b c) h (subst (λ n. HasRanges step (Reads n b c) mid new) e k) (λ l m p q. reads_then size a b c l m p q)
+pub log_then : {step : Step} (Q Q' : List ℕ → Type 0) {T : List ℕ → Type 0} {size size' : ℕ} {a b c : List Mark} {old mid new : SourceState} → size' ≡ size
+    → HasLog step (Reads size a b) Q old mid → HasLog step (Reads size' b c) Q' mid new → ((file : List ℕ) → Q file → Q' file → T file) → HasLog step (Reads size a c) T old new
+log_then {step} Q Q' {size = size} {a = a} {b = b} {c = c} {mid = mid} {new = new} e h k q =
+    logs.has_append (Reads size a b) (Reads size b c) Q Q' h (subst (λ n. HasLog step (Reads n b c) Q' mid new) e k) (λ l m p q. reads_then size a b c l m p q) q
 
--- a page was marked and read, and then more pages were marked
-pub log_opened : (step : Step) (size : ℕ) (a b c : List Mark) (p : ℕ) (m : Mark) (old new : Trail)
-    → page_mark a p ≡ Some Unmarked → b ≡ set a (p - 1) m → IsUse m → LeadsBy step old (page_range size p) new → Keeps b c → HasRanges step (Reads size a c) old new
-log_opened step size a b c p m old new h e used t k =
-    log_then step size size a b c old new new refl (log_page step size a b p m old new h e used t) (has_none new (reads_none size b c k))
+-- a walk in which nothing failed, and then another, as calls
+pub asks_then : {A B : Type 0} {step : Step} (Q Q' : List ℕ → Type 0) {T : List ℕ → Type 0} {size size' : ℕ} {a b c : List Mark} {u : A} {r : Result B RunError} {old mid new : SourceState} → size' ≡ size
+    → Asks step (Reads size a b) Q is_read_failed (Ok u) old mid → Asks step (Reads size' b c) Q' is_read_failed r mid new → ((file : List ℕ) → Q file → Q' file → T file)
+    → Asks step (Reads size a c) T is_read_failed r old new
+asks_then Q Q' {r = r} e h k q = record { log = log_then Q Q' e h.log k.log q; count = k.count ∙ ap (failures_after is_read_failed r) h.count }

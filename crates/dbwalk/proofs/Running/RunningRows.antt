@@ -1,14 +1,12 @@
 -- The rows of the schema with a root page, as a walk comes by them: what it knows of their count, and of those that can
 -- be read.
-use Rattle.std.proofs.Common.{◌≡◌, ℕ, ◌+◌, List, [], ◌∷◌, ◌++◌, length, ap, ◌∙◌}
+use Rattle.std.proofs.Common.{◌≡◌, ℕ, List, [], ◌∷◌, ◌++◌, ap, ◌∙◌}
 use Rattle.std.specs.Prelude.{filter_map}
 use Rattle.std.specs.Result.{result_ok}
-use Rattle.std.proofs.lemmas.List.{length-append}
 use Rattle.std.proofs.lemmas.List.Elements.{filter_map-append}
 use Rattle.dbsurvey.specs.Address.{Address}
-use Rattle.dbformat.specs.KeyFaults.{earlier_roots}
 use Rattle.dbformat.specs.Reference.{Reference}
-use Rattle.dbformat.specs.Schema.{SchemaCell, rooted, rooted_rows}
+use Rattle.dbformat.specs.Schema.{SchemaCell}
 use Rattle.dbwalk.specs.Running.{cells_before, rows_before}
 
 module _ (file : List ℕ) (U V : List Reference) (p q : Address) where

@@ -33,7 +33,6 @@ use Rattle.dbwalk.specs.declared.mark.Mark.{Mark}
 use Rattle.dbwalk.specs.Finding.{Finding, told_at, visited_below}
 use Rattle.dbwalk.specs.Done.{IsDone}
 use Rattle.dbwalk.specs.Marking.{AreMarksOf}
-use Rattle.dbwalk.proofs.Telling.Lefts.{left_none}
 use Rattle.std.specs.Prelude.{slice_get}
 use Rattle.dbwalk.specs.Stack.{errands_from, child_at, top_visit, IsFrame, AreFrames, AreCalls}
 use Rattle.dbwalk.specs.Walking.{IsRunning, AreRead, IsWalking}

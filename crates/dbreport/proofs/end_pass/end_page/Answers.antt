@@ -1,23 +1,23 @@
-use Rattle.std.proofs.Common.{◌≡◌, true, false, Some, refl, sym, ap, ◌∙◌, subst, inl, inr}
+use Rattle.std.proofs.Common.{◌≡◌, ◌-◌, ◌*◌, [], ◌∷◌, true, false, Some, Ok, Err, refl, sym, ap, ◌∙◌, subst, inl, inr}
 use Rattle.std.specs.Prelude.{option_map}
 use Rattle.std.proofs.lemmas.Bool.{both_ways}
 use Rattle.std.proofs.lemmas.Result.{err_from_is_err_and}
 use Rattle.dbsurvey.specs.Moves.{Moves}
 use Rattle.dbformat.specs.File.{geometry}
 use Rattle.dbformat.specs.FixedPages.{fixed_use, is_fixed}
-use Rattle.dbformat.specs.Log.{page_range}
+use Rattle.dbformat.specs.Log.{range}
 use Rattle.dbformat.specs.declared.Fixed.TheVariants.{Map}
 use Rattle.dbformat.specs.declared.Geometry.{Geometry}
 use Rattle.dbsource.specs.Bench.{Pages}
-use Rattle.dbsource.proofs.Ranges.{asks_one, leads_read}
-use Rattle.dbsource.proofs.Told.{if_told, told_all}
+use Rattle.dbsource.specs.declared.source.ReadFailed.{ReadFailed}
+use Rattle.dbsource.proofs.Logs.{has_one}
 use Rattle.dbwalk.specs.EndMarks.{mark_fault, late_fault}
 use Rattle.dbwalk.specs.Outcomes.{Tells}
-use Rattle.dbreport.specs.EndPass.{is_fixed_mark}
+use Rattle.dbreport.specs.EndPass.{is_fixed_mark, page_items}
 use Rattle.dbreport.specs.MapReads.{entry_value, HasMapFor, IsMapInUse}
 use Rattle.dbreport.proofs.EndItems.{fixed_items, other_items}
 use Rattle.dbreport.proofs.MapLogs.{asks_nothing}
-use Rattle.dbwalk.proofs.Chaining.Overflows.{page_read}
+use Rattle.dbwalk.proofs.Chaining.Overflows.{moves_none, page_read}
 use Rattle.dbreport.proofs.MapPlaces.{next_read, next_kept, not_map, on_ok, not_in_use}
 use Rattle.dbreport.proofs.end_pass.end_page.Goals as goal
 
@@ -25,39 +25,36 @@ pub returns-in_err-load-clause-asks : goal.returns-in_err-load-clause-asks
 returns-in_err-load-clause-asks g c =
     let q = err_from_is_err_and c.from_residual.result c.from_residual.ensures.1 in
     let used = subst (λ (g : Geometry). IsMapInUse g c.args.page) c.geometry.ensures.value (c.is_map_in_use.ensures.0 c.if-is_map_in_use.true) in
-    let level = c.load.ensures.level in
-    rw q.1 (rw q.2 (asks_one _ _ _ (page_range c.args.bench.now.geometry.page_size c.args.page)
-    c.in_err-load.ensures.told (leads_read g.S.Source.step _ _ c.load.result _ _ _ level.size level.holds.0) c.in_err-load.ensures.count (inr (refl, used))))
+    let size = c.args.bench.now.geometry.page_size in
+    let level = c.in_err-load.ensures.level in
+    rw q.1 (rw q.2 (record {
+      log = has_one {A = Unit {0}} {E = ReadFailed} (Err c.in_err-load.field-0.0) ((c.args.page - 1) * size) level.bytes c.in_err-load.ensures.told level.holds.0 tt
+          (inr (ap (λ n. range ((c.args.page - 1) * size) n ∷ []) level.size, used))
+          (λ file bytes mark m e ok same chain. (moves_none g.K.Sink.takes c.args.sink.now (page_items file c.args.least_other c.args.page mark), tt));
+      count = c.in_err-load.ensures.count;
+    }))
 
 pub returns-in_ok-load-clause-asks : goal.returns-in_ok-load-clause-asks
 returns-in_ok-load-clause-asks g c =
-    let used = subst (λ (g : Geometry). IsMapInUse g c.args.page) c.geometry.ensures.value (c.is_map_in_use.ensures.0 c.if-is_map_in_use.true) in
-    let level = c.load.ensures.level in
-    asks_one _ _ _ (page_range c.args.bench.now.geometry.page_size c.args.page)
-    c.in_ok-load.ensures.told (leads_read g.S.Source.step _ _ c.load.result _ _ _ level.size level.holds.0) c.in_ok-load.ensures.count (inr (refl, used))
-
-pub returns-in_ok-load-clause-done : goal.returns-in_ok-load-clause-done
-returns-in_ok-load-clause-done g c =
     let used = c.is_map_in_use.ensures.0 c.if-is_map_in_use.true in
+    let size = c.args.bench.now.geometry.page_size in
     let level = c.in_ok-load.ensures.level in
-    if_told (g.S.Source.held c.args.source.now).bytes
-    (λ file bytes mark m e ok same chain.
-    let k : mark ≡ c.get-mark.result = let q = c.get-mark.ensures in cc in
-    let fixed : is_fixed_mark mark ≡ true = ap is_fixed_mark k ∙ sym c.is_fixed.ensures ∙ c.if-is_fixed.true in
-    let map : fixed_use (geometry file) c.args.page ≡ Some Map = ap (λ (g : Geometry). fixed_use g c.args.page) (sym (c.geometry.ensures.value ∙ e)) ∙ used.0 in
-    let read : c.load.new.self.chain ≡ level.bytes = ap (λ (b : Pages). b.chain) level.only in (
-      subst (λ l. Moves g.K.Sink.takes c.args.sink.now l c.args.sink.now) (sym (fixed_items file c.args.least_other c.args.page mark fixed)) refl,
-      next_read file c.load.new.self.chain c.args.page map (read ∙ page_read file level.bytes c.args.bench.now.geometry.page_size c.args.page level.size bytes (ap (λ (g : Geometry). g.page_size) (sym e))),
-    ))
-    level.holds.1
+    record {
+      log = has_one {A = Unit {0}} {E = ReadFailed} (Ok tt) ((c.args.page - 1) * size) level.bytes c.in_ok-load.ensures.told level.holds.0 level.holds.1
+          (inr (ap (λ n. range ((c.args.page - 1) * size) n ∷ []) level.size, subst (λ (g : Geometry). IsMapInUse g c.args.page) c.geometry.ensures.value used))
+          (λ file bytes mark m e ok same chain.
+          let k : mark ≡ c.get-mark.result = let q = c.get-mark.ensures in cc in
+          let fixed : is_fixed_mark mark ≡ true = ap is_fixed_mark k ∙ sym c.is_fixed.ensures ∙ c.if-is_fixed.true in
+          let map : fixed_use (geometry file) c.args.page ≡ Some Map = ap (λ (g : Geometry). fixed_use g c.args.page) (sym (c.geometry.ensures.value ∙ e)) ∙ used.0 in
+          let read : c.load.new.self.chain ≡ level.bytes = ap (λ (b : Pages). b.chain) level.only in (
+            subst (λ l. Moves g.K.Sink.takes c.args.sink.now l c.args.sink.now) (sym (fixed_items file c.args.least_other c.args.page mark fixed)) refl,
+            next_read file c.load.new.self.chain c.args.page map (read ∙ page_read file level.bytes size c.args.page level.size bytes (ap (λ (g : Geometry). g.page_size) (sym e))),
+          ));
+      count = c.in_ok-load.ensures.count;
+    }
 
 pub returns-else-is_map_in_use-clause-asks : goal.returns-else-is_map_in_use-clause-asks
-returns-else-is_map_in_use-clause-asks g c = asks_nothing g.S.Source.step _ _ _ tt (inl refl)
-
-pub returns-else-is_map_in_use-clause-done : goal.returns-else-is_map_in_use-clause-done
-returns-else-is_map_in_use-clause-done g c =
-    told_all (g.S.Source.held c.args.source.now).bytes
-    (λ file mark m e ok same chain.
+returns-else-is_map_in_use-clause-asks g c = asks_nothing g.S.Source.step _ _ _ tt (inl refl) (λ file mark m e ok same chain.
     let k : mark ≡ c.get-mark.result = let q = c.get-mark.ensures in cc in
     let fixed : is_fixed_mark mark ≡ true = ap is_fixed_mark k ∙ sym c.is_fixed.ensures ∙ c.if-is_fixed.true in
     let shape = c.geometry.ensures.value ∙ e in
@@ -67,12 +64,7 @@ returns-else-is_map_in_use-clause-done g c =
     ))
 
 pub returns-clause-asks : goal.returns-clause-asks
-returns-clause-asks g c = asks_nothing g.S.Source.step _ c.tell_all.result _ c.tell_all.ensures.only (inl refl)
-
-pub returns-clause-done : goal.returns-clause-done
-returns-clause-done g c =
-    told_all (g.S.Source.held c.args.source.now).bytes
-    (λ file mark m e ok same chain.
+returns-clause-asks g c = asks_nothing g.S.Source.step _ c.tell_all.result _ c.tell_all.ensures.only (inl refl) (λ file mark m e ok same chain.
     let k : mark ≡ c.get-mark.result = let q = c.get-mark.ensures in cc in
     let free : is_fixed (geometry file) c.args.page ≡ false = sym same ∙ ap is_fixed_mark k ∙ sym c.is_fixed.ensures ∙ c.if-is_fixed.false in
     let entry = c.entry_of-entry.ensures file e (subst (λ g. HasMapFor file g c.args.page c.args.bench.now.chain) (sym e) chain) in

@@ -1,10 +1,8 @@
-use Rattle.std.proofs.Common.{Err, sym, ap, ◌∙◌, subst, map}
+use Rattle.std.proofs.Common.{Err, refl, ap, ◌∙◌, subst}
 use Rattle.std.proofs.lemmas.Result.{err_from_is_err_and}
-use Rattle.dbformat.specs.EndFaults.{end_faults}
 use Rattle.dbformat.specs.File.{geometry}
-use Rattle.dbsource.proofs.Told.{if_told, told_all}
+use Rattle.dbsource.proofs.Logs.{asks_weaker}
 use Rattle.dbwalk.specs.EndMarks.{least_other_marked}
-use Rattle.dbwalk.specs.Finding.{told_fault}
 use Rattle.dbwalk.specs.Marking.{marks_of}
 use Rattle.dbwalk.specs.Outcomes.{Tells, StopsBy}
 use Rattle.dbwalk.proofs.Telling.Tellings.{stops_by_first}
@@ -17,24 +15,15 @@ use Rattle.dbreport.proofs.end_pass.tell_end.Goals as goal
 pub returns-in_err-tell_all-clause-asks : goal.returns-in_err-tell_all-clause-asks
 returns-in_err-tell_all-clause-asks g c =
     let q = err_from_is_err_and c.from_residual.result c.from_residual.ensures.1 in
-    rw q.1 (rw q.2 (asks_nothing g.S.Source.step _ (Err c.in_err-tell_all.field-0.0) _ c.in_err-tell_all.ensures.only (reads_none c.args.bench.now.geometry).reads))
-
-pub returns-in_err-tell_all-clause-done : goal.returns-in_err-tell_all-clause-done
-returns-in_err-tell_all-clause-done g c =
-    let q = err_from_is_err_and c.from_residual.result c.from_residual.ensures.1 in
-    told_all (g.S.Source.held c.args.source.now).bytes
-    (λ file header e V s m rows.
+    rw q.1 (rw q.2 (asks_nothing g.S.Source.step _ (Err c.in_err-tell_all.field-0.0) _ c.in_err-tell_all.ensures.only (reads_none c.args.bench.now.geometry).reads (λ file header e V s m rows.
     let counts = c.count_marks-counts.result in
     let pages = pages_items file V (least_other_marked (marks_of (geometry file) V)) (geometry file).pages in
     let items = all_items file V s c.args.header.now c.args.any_rows c.args.marks.now counts.greatest_root counts.free_pages c.counted_faults-faults.result header m rows c.count_marks-counts.ensures.greatest c.count_marks-counts.ensures.free c.counted_faults-faults.ensures in
-    subst (λ r. Tells g.K.Sink.takes g.K.Sink.drops r c.args.sink.now (map told_fault (end_faults file V)) c.tell_all.new.sink) (sym (q.1 ∙ ap Err q.2))
-    (subst (λ l. StopsBy g.K.Sink.takes g.K.Sink.drops c.in_err-tell_all.field-0.0 c.args.sink.now l c.tell_all.new.sink) items
-    (stops_by_first g.K.Sink.takes g.K.Sink.drops c.in_err-tell_all.field-0.0 c.args.sink.now c.tell_all.new.sink (items_of c.counted_faults-faults.result) pages c.in_err-tell_all.ensures.told)))
+    subst (λ l. StopsBy g.K.Sink.takes g.K.Sink.drops c.in_err-tell_all.field-0.0 c.args.sink.now l c.tell_all.new.sink) items
+    (stops_by_first g.K.Sink.takes g.K.Sink.drops c.in_err-tell_all.field-0.0 c.args.sink.now c.tell_all.new.sink (items_of c.counted_faults-faults.result) pages c.in_err-tell_all.ensures.told))))
 
-pub returns-clause-done : goal.returns-clause-done
-returns-clause-done g c =
-    if_told (g.S.Source.held c.args.source.now).bytes
-    (λ file ended header e V s m rows.
+pub returns-clause-asks : goal.returns-clause-asks
+returns-clause-asks g c = asks_weaker _ _ c.end_pages.result (λ n. refl) c.end_pages.ensures.asks (λ log r. r) (λ file ended header e V s m rows.
     let counts = c.count_marks-counts.result in
     let items = all_items file V s c.args.header.now c.args.any_rows c.args.marks.now counts.greatest_root counts.free_pages c.counted_faults-faults.result header m rows c.count_marks-counts.ensures.greatest c.count_marks-counts.ensures.free c.counted_faults-faults.ensures in
     let least = c.count_marks-counts.ensures.least ∙ ap least_other_marked m in
@@ -42,4 +31,3 @@ returns-clause-done g c =
     subst (λ l. Tells g.K.Sink.takes g.K.Sink.drops c.end_pages.result c.args.sink.now l c.end_pages.new.sink) items
     (tells_then g.K.Sink.takes g.K.Sink.drops c.end_pages.result c.args.sink.now c.tell_all.new.sink c.end_pages.new.sink (items_of c.counted_faults-faults.result) (pages_items file V (least_other_marked (marks_of (geometry file) V)) (geometry file).pages)
     c.in_ok-tell_all.ensures.told rest))
-    c.end_pages.ensures.done

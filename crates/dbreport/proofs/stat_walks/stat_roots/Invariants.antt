@@ -1,8 +1,8 @@
-use Rattle.std.proofs.Common.{◌≡◌, ◌+◌, List, drop}
-use Rattle.std.specs.Prelude.{IfSome}
+use Rattle.std.proofs.Common.{◌≡◌, ◌+◌, List, drop, Ok}
 use Rattle.dbformat.specs.File.{geometry}
 use Rattle.dbformat.specs.Header.{encoding}
-use Rattle.dbsource.specs.Sources.{HasRanges}
+use Rattle.dbsource.specs.Errors.{is_read_failed}
+use Rattle.dbsource.specs.Sources.{Asks}
 use Rattle.dbformat.specs.Reference.{Reference}
 use Rattle.dbformat.specs.Survey.{Survey}
 use Rattle.dbwalk.specs.Reads.{Reads}
@@ -18,12 +18,10 @@ invariant-loop-index g l = record {
   same_err : l.sink.err.ghost_name ≡ l.initial.sink.err.ghost_name;
   shape : l.bench.geometry ≡ l.initial.bench.geometry;
   roots : l.roots ≡ l.initial.roots;
-  told : (g.S.Source.held l.source).bytes ≡ (g.S.Source.held l.initial.source).bytes;
-  log : HasRanges g.S.Source.step (Reads l.initial.bench.geometry.page_size l.initial.marks l.marks) (g.S.Source.held l.initial.source).trail (g.S.Source.held l.source).trail;
-  reads : (g.S.Source.held l.source).failures ≡ (g.S.Source.held l.initial.source).failures;
-  writes : failures_of_each (g.O.Out.held l.sink.out.now) (g.E.Out.held l.sink.err.now) ≡ failures_of_each (g.O.Out.held l.initial.sink.out.now) (g.E.Out.held l.initial.sink.err.now);
-  left : IfSome (g.S.Source.held l.initial.source).bytes (λ file. l.initial.bench.geometry ≡ geometry file → l.encoding ≡ encoding file
+  asks : Asks {A = Unit {0}} g.S.Source.step (Reads l.initial.bench.geometry.page_size l.initial.marks l.marks) (λ file. l.initial.bench.geometry ≡ geometry file → l.encoding ≡ encoding file
       → (V : List Reference) → Survey file V → AreListed file V l.initial.roots.rows → (before : StatSink g.row.O.Denot g.row.E.Denot) (U : List Reference)
       → IsWriting g.O.Out.held g.E.Out.held file V before U (errands_from file 1 l.initial.roots.rows) l.initial.marks l.initial.sink
-      → (T : List Reference) × IsWriting g.O.Out.held g.E.Out.held file V before T (errands_from file (l.index + 1) (drop l.index l.initial.roots.rows)) l.marks l.sink);
+      → (T : List Reference) × IsWriting g.O.Out.held g.E.Out.held file V before T (errands_from file (l.index + 1) (drop l.index l.initial.roots.rows)) l.marks l.sink)
+      is_read_failed (Ok tt) (g.S.Source.held l.initial.source) (g.S.Source.held l.source);
+  writes : failures_of_each (g.O.Out.held l.sink.out.now) (g.E.Out.held l.sink.err.now) ≡ failures_of_each (g.O.Out.held l.initial.sink.out.now) (g.E.Out.held l.initial.sink.err.now);
 }

@@ -1,9 +1,9 @@
-use Rattle.std.proofs.Common.{◌≡◌, ◌+◌, List, ◌++◌, drop}
-use Rattle.std.specs.Prelude.{IfSome}
+use Rattle.std.proofs.Common.{◌≡◌, ◌+◌, List, ◌++◌, drop, Ok}
 use Rattle.dbsurvey.specs.Story.{Errand}
 use Rattle.dbformat.specs.File.{geometry}
 use Rattle.dbformat.specs.Header.{encoding}
-use Rattle.dbsource.specs.Sources.{HasRanges}
+use Rattle.dbsource.specs.Errors.{is_read_failed}
+use Rattle.dbsource.specs.Sources.{Asks}
 use Rattle.dbformat.specs.Reference.{Way, Reference}
 use Rattle.dbformat.specs.Story.{Event}
 use Rattle.dbwalk.specs.Finding.{visited_below}
@@ -16,12 +16,10 @@ abbrev pub invariant-loop-index : goal.invariant-loop-index
 invariant-loop-index g l = record {
   shape : l.bench.geometry ≡ l.initial.bench.geometry;
   roots : l.roots ≡ l.initial.roots;
-  told : (g.S.Source.held l.source).bytes ≡ (g.S.Source.held l.initial.source).bytes;
-  log : HasRanges g.S.Source.step (Reads l.initial.bench.geometry.page_size l.initial.marks l.marks) (g.S.Source.held l.initial.source).trail (g.S.Source.held l.source).trail;
-  reads : (g.S.Source.held l.source).failures ≡ (g.S.Source.held l.initial.source).failures;
-  writes : g.K.Sink.held l.sink ≡ g.K.Sink.held l.initial.sink;
-  left : IfSome (g.S.Source.held l.initial.source).bytes (λ file. l.initial.bench.geometry ≡ geometry file → l.encoding ≡ encoding file
+  asks : Asks {A = Unit {0}} g.S.Source.step (Reads l.initial.bench.geometry.page_size l.initial.marks l.marks) (λ file. l.initial.bench.geometry ≡ geometry file → l.encoding ≡ encoding file
       → (W : List Reference) (errands : List (Errand Way Event)) (before : g.row.K.Denot) (U : List Reference)
       → AreBelowStarts (W ++ visited_below file W errands) → IsLeft g.K.Sink.takes file W errands before U (errands_from file 1 l.initial.roots.rows) l.initial.marks l.initial.sink
-      → (T : List Reference) × IsLeft g.K.Sink.takes file W errands before T (errands_from file (l.index + 1) (drop l.index l.initial.roots.rows)) l.marks l.sink);
+      → (T : List Reference) × IsLeft g.K.Sink.takes file W errands before T (errands_from file (l.index + 1) (drop l.index l.initial.roots.rows)) l.marks l.sink)
+      is_read_failed (Ok tt) (g.S.Source.held l.initial.source) (g.S.Source.held l.source);
+  writes : g.K.Sink.held l.sink ≡ g.K.Sink.held l.initial.sink;
 }

@@ -4,69 +4,51 @@ use Rattle.dbformat.specs.Header.{usable_size}
 use Rattle.dbwalk.specs.Entered.{Enters}
 use Rattle.dbwalk.specs.Chains.{Turns}
 use Rattle.dbwalk.proofs.Marking.Readings.{log_none, log_page}
-use Rattle.dbwalk.proofs.Chaining.ChainTurns.{if_some_all, if_some_both, turn_refused, turn_not_told, turn_stopped, turn_last, turn_more_by}
+use Rattle.dbwalk.proofs.Chaining.ChainTurns.{turn_refused, turn_not_told, turn_stopped, turn_last, turn_more_by}
 use Rattle.dbwalk.proofs.chain.turn.Goals as goal
 
 pub returns-in_err-enter-clause-log : goal.returns-in_err-enter-clause-log
-returns-in_err-enter-clause-log g c = log_none g.S.Source.step c.args.bench.now.geometry.page_size c.args.marks.now c.enter.new.marks (g.S.Source.held c.args.source.now).trail c.in_err-enter.ensures.after_error.1
-
-pub returns-then-not-branch-clause-log : goal.returns-then-not-branch-clause-log
-returns-then-not-branch-clause-log g c = log_none g.S.Source.step c.args.bench.now.geometry.page_size c.args.marks.now c.enter.new.marks (g.S.Source.held c.args.source.now).trail (c.in_ok-enter.ensures.unmarked c.if-not-branch.true)
-
-pub returns-in_err-next-clause-log : goal.returns-in_err-next-clause-log
-returns-in_err-next-clause-log g c =
-    let k = c.in_ok-enter.ensures.marked (search rules) in
-    log_page g.S.Source.step c.args.bench.now.geometry.page_size c.args.marks.now c.enter.new.marks c.args.place.step.page c.args.place.step.mark (g.S.Source.held c.args.source.now).trail (g.S.Source.held c.visit_overflow.new.source).trail
-    k.0 k.1 c.requires.used c.visit_overflow.ensures.trail
-
-pub returns-then-place-room-clause-log : goal.returns-then-place-room-clause-log
-returns-then-place-room-clause-log g c =
-    let k = c.in_ok-enter.ensures.marked (search rules) in
-    log_page g.S.Source.step c.args.bench.now.geometry.page_size c.args.marks.now c.enter.new.marks c.args.place.step.page c.args.place.step.mark (g.S.Source.held c.args.source.now).trail (g.S.Source.held c.visit_overflow.new.source).trail
-    k.0 k.1 c.requires.used c.visit_overflow.ensures.trail
-
-pub returns-clause-log : goal.returns-clause-log
-returns-clause-log g c =
-    let k = c.in_ok-enter.ensures.marked (search rules) in
-    log_page g.S.Source.step c.args.bench.now.geometry.page_size c.args.marks.now c.enter.new.marks c.args.place.step.page c.args.place.step.mark (g.S.Source.held c.args.source.now).trail (g.S.Source.held c.visit_overflow.new.source).trail
-    k.0 k.1 c.requires.used c.visit_overflow.ensures.trail
-
-pub returns-in_err-enter-clause-turned : goal.returns-in_err-enter-clause-turned
-returns-in_err-enter-clause-turned g c = if_some_all _ (g.S.Source.held c.args.source.now).bytes (λ file e W d before first on.
+returns-in_err-enter-clause-log g c = log_none c.args.bench.now.geometry.page_size c.args.marks.now c.enter.new.marks (g.S.Source.held c.args.source.now) c.in_err-enter.ensures.after_error.1 (λ file e W d before first on.
     let q = err_from_is_err_and c.from_residual.result c.from_residual.ensures.1 in
     subst (λ r. Turns g.K.Sink.takes g.K.Sink.drops file W d before c.args.chain.now r c.enter.new.marks c.enter.new.sink first c.args.sieve.now) (sym (q.1 ∙ ap Err q.2))
     (turn_not_told g.K.Sink.takes g.K.Sink.drops file W d before c.args.chain.now c.args.place c.args.marks.now c.args.sink.now on c.in_err-enter.field-0.0 c.enter.new.marks c.enter.new.sink
     (c.in_err-enter.ensures.entered file on.visited on.d on.step on.rest.past on.rest.marked)))
 
-pub returns-then-not-branch-clause-turned : goal.returns-then-not-branch-clause-turned
-returns-then-not-branch-clause-turned g c = if_some_all _ (g.S.Source.held c.args.source.now).bytes (λ file e W d before first on.
+pub returns-then-not-branch-clause-log : goal.returns-then-not-branch-clause-log
+returns-then-not-branch-clause-log g c = log_none c.args.bench.now.geometry.page_size c.args.marks.now c.enter.new.marks (g.S.Source.held c.args.source.now) (c.in_ok-enter.ensures.unmarked c.if-not-branch.true) (λ file e W d before first on.
     turn_refused g.K.Sink.takes g.K.Sink.drops file W d before c.args.chain.now c.args.place c.args.marks.now c.args.sink.now on c.enter.new.marks c.enter.new.sink
     (subst (λ b. Enters g.K.Sink.takes g.K.Sink.drops file on.visited on.d (Ok b) c.enter.new.marks c.args.sink.now c.enter.new.sink) c.if-not-branch.true
     (c.in_ok-enter.ensures.entered file on.visited on.d on.step on.rest.past on.rest.marked)))
 
-pub returns-in_err-next-clause-turned : goal.returns-in_err-next-clause-turned
-returns-in_err-next-clause-turned g c = if_some_both _ _ _ (g.S.Source.held c.args.source.now).bytes c.in_err-next.ensures.visited c.in_err-next.ensures.visited (λ file v w e W d before first on.
+pub returns-in_err-next-clause-log : goal.returns-in_err-next-clause-log
+returns-in_err-next-clause-log g c =
+    let k = c.in_ok-enter.ensures.marked (search rules) in
+    log_page _ c.args.bench.now.geometry.page_size c.args.marks.now c.enter.new.marks c.args.place.step.page c.args.place.step.mark k.0 k.1 c.requires.used c.in_err-next.ensures.log (λ file v e W d before first on.
     let q = err_from_is_err_and c.from_residual-in_err-next.result c.from_residual-in_err-next.ensures.1 in
     let n = subst (λ b. Enters g.K.Sink.takes g.K.Sink.drops file on.visited on.d (Ok b) c.enter.new.marks c.args.sink.now c.enter.new.sink) c.if-not-branch.false
     (c.in_ok-enter.ensures.entered file on.visited on.d on.step on.rest.past on.rest.marked) in
     subst (λ r. Turns g.K.Sink.takes g.K.Sink.drops file W d before c.args.chain.now r c.enter.new.marks c.visit_overflow.new.sink first c.visit_overflow.new.sieve) (sym (q.1 ∙ ap Err q.2))
     (turn_stopped g.K.Sink.takes g.K.Sink.drops file W d before c.args.chain.now c.args.place c.args.marks.now c.args.sink.now on c.in_err-next.field-0.0 c.enter.new.marks c.enter.new.sink c.visit_overflow.new.sink
-    n (v e (on.visited ++ (on.d ∷ [])) on.d on.step.page on.left on.on)))
+    n ((v e).told (on.visited ++ (on.d ∷ [])) on.d on.step.page on.left on.on)))
 
-pub returns-then-place-room-clause-turned : goal.returns-then-place-room-clause-turned
-returns-then-place-room-clause-turned g c = if_some_both _ _ _ (g.S.Source.held c.args.source.now).bytes c.in_ok-next.ensures.visited c.in_ok-next.ensures.fed (λ file v w e W d before first on.
+pub returns-then-place-room-clause-log : goal.returns-then-place-room-clause-log
+returns-then-place-room-clause-log g c =
+    let k = c.in_ok-enter.ensures.marked (search rules) in
+    log_page _ c.args.bench.now.geometry.page_size c.args.marks.now c.enter.new.marks c.args.place.step.page c.args.place.step.mark k.0 k.1 c.requires.used c.in_ok-next.ensures.log (λ file v e W d before first on.
     let n = subst (λ b. Enters g.K.Sink.takes g.K.Sink.drops file on.visited on.d (Ok b) c.enter.new.marks c.args.sink.now c.enter.new.sink) c.if-not-branch.false
     (c.in_ok-enter.ensures.entered file on.visited on.d on.step on.rest.past on.rest.marked) in
     let u : c.geometry.result.usable ≡ usable_size file = ap (λ s. s.usable) (c.geometry.ensures.value ∙ e) in
     let l : c.args.place.left ≤ usable_size file - 4 = subst (λ s. c.args.place.left ≤ s - 4) u c.if-place-room.true in
     turn_last g.K.Sink.takes g.K.Sink.drops file W d before c.args.chain.now c.args.place c.args.marks.now c.args.sink.now on c.enter.new.marks c.enter.new.sink c.visit_overflow.new.sink
-    n (v e (on.visited ++ (on.d ∷ [])) on.d on.step.page on.left on.on) l c.visit_overflow.new.sieve (w e on.d on.step.page on.left))
+    n ((v e).told (on.visited ++ (on.d ∷ [])) on.d on.step.page on.left on.on) l c.visit_overflow.new.sieve ((v e).fed on.d on.step.page on.left))
 
-pub returns-clause-turned : goal.returns-clause-turned
-returns-clause-turned g c = if_some_both _ _ _ (g.S.Source.held c.args.source.now).bytes c.in_ok-next.ensures.visited (if_some_both _ _ (λ file. _ × _) (g.S.Source.held c.args.source.now).bytes c.in_ok-next.ensures.next c.in_ok-next.ensures.fed (λ file x y. (x, y))) (λ file v w e W d before first on.
+pub returns-clause-log : goal.returns-clause-log
+returns-clause-log g c =
+    let k = c.in_ok-enter.ensures.marked (search rules) in
+    log_page _ c.args.bench.now.geometry.page_size c.args.marks.now c.enter.new.marks c.args.place.step.page c.args.place.step.mark k.0 k.1 c.requires.used c.in_ok-next.ensures.log (λ file v e W d before first on.
     let n = subst (λ b. Enters g.K.Sink.takes g.K.Sink.drops file on.visited on.d (Ok b) c.enter.new.marks c.args.sink.now c.enter.new.sink) c.if-not-branch.false
     (c.in_ok-enter.ensures.entered file on.visited on.d on.step on.rest.past on.rest.marked) in
     let u : c.geometry.result.usable ≡ usable_size file = ap (λ s. s.usable) (c.geometry.ensures.value ∙ e) in
     let l : usable_size file - 4 < c.args.place.left = subst (λ s. s - 4 < c.args.place.left) u c.if-place-room.false in
     turn_more_by g.K.Sink.takes g.K.Sink.drops file W d before c.args.chain.now c.args.place c.args.marks.now c.args.sink.now on c.enter.new.marks c.enter.new.sink c.visit_overflow.new.sink c.in_ok-next.next (c.geometry.result.usable - 4)
-    (ap (λ s. s - 4) u) n (v e (on.visited ++ (on.d ∷ [])) on.d on.step.page on.left on.on) l (w.0 e) c.visit_overflow.new.sieve (w.1 e on.d on.step.page on.left))
+    (ap (λ s. s - 4) u) n ((v e).told (on.visited ++ (on.d ∷ [])) on.d on.step.page on.left on.on) l (v e).next c.visit_overflow.new.sieve ((v e).fed on.d on.step.page on.left))

@@ -1,5 +1,5 @@
 use Rattle.std.proofs.Common.{◌+◌, ◌≤◌, [], ◌∷◌, Ok, Err, refl, sym, ap, subst, ◌∙◌, arith}
-use Rattle.std.specs.Prelude.{IfSome}
+use Rattle.std.specs.Prelude.{IfSome, OnOk}
 use Rattle.std.proofs.lemmas.Result.{err_from_is_err_and}
 use Rattle.dbformat.specs.Payload.{most_payload}
 use Rattle.dbformat.specs.FixedPages.{IsPageNumber}
@@ -7,16 +7,17 @@ use Rattle.dbsurvey.specs.Story.{Go}
 use Rattle.dbsource.specs.Bench.{Pages}
 use Rattle.dbwalk.specs.Chains.{Turns}
 use Rattle.dbwalk.specs.Done.{IsDone}
+use Rattle.dbwalk.specs.Feeding.{FeedsChain}
 use Rattle.dbwalk.specs.Marking.{IsUse}
 use Rattle.dbwalk.specs.Packing.{named_page}
 use Rattle.dbwalk.proofs.Marking.Readings.{log_none, log_then}
-use Rattle.dbwalk.proofs.Chaining.ChainTurns.{if_some_all, if_some_moved, way_start}
+use Rattle.dbwalk.proofs.Chaining.ChainTurns.{way_start}
 use Rattle.dbwalk.proofs.chain.walk_chain.Goals as goal
 
 pub loop-next-init : goal.loop-next-init
 loop-next-init g c = record {
-  told = refl;
-  log = log_none g.S.Source.step c.args.bench.now.geometry.page_size c.args.marks.now c.args.marks.now (g.S.Source.held c.args.source.now).trail refl;
+  log = log_none c.args.bench.now.geometry.page_size c.args.marks.now c.args.marks.now (g.S.Source.held c.args.source.now) refl
+      (λ file e W d h next m. way_start g.K.Sink.takes file W d c.args.chain.now c.args.marks.now c.args.sink.now c.args.sieve.now h next m);
   reads = refl;
   writes = refl;
   bench = refl;
@@ -24,29 +25,22 @@ loop-next-init g c = record {
   named = c.requires.page;
   used = record { some = refl; cleared = refl };
   counted = omega arith;
-  way = if_some_all _ (g.S.Source.held c.args.source.now).bytes (λ file e W d h next m. way_start g.K.Sink.takes file W d c.args.chain.now c.args.marks.now c.args.sink.now c.args.sieve.now h next m);
 }
 
 pub returns-in_err-next-clause-log : goal.returns-in_err-next-clause-log
-returns-in_err-next-clause-log g c = log_then g.S.Source.step c.args.bench.now.geometry.page_size c.loop-next.bench.geometry.page_size c.args.marks.now c.loop-next.marks c.turn.new.marks
-    (g.S.Source.held c.args.source.now).trail (g.S.Source.held c.loop-next.source).trail (g.S.Source.held c.turn.new.source).trail (ap (λ b. b.geometry.page_size) c.loop-next.invariant.bench) c.loop-next.invariant.log c.turn.ensures.log
-
-pub returns-clause-log : goal.returns-clause-log
-returns-clause-log g c = log_then g.S.Source.step c.args.bench.now.geometry.page_size c.loop-next.bench.geometry.page_size c.args.marks.now c.loop-next.marks c.turn.new.marks
-    (g.S.Source.held c.args.source.now).trail (g.S.Source.held c.loop-next.source).trail (g.S.Source.held c.turn.new.source).trail (ap (λ b. b.geometry.page_size) c.loop-next.invariant.bench) c.loop-next.invariant.log c.turn.ensures.log
-
-pub returns-in_err-next-clause-done : goal.returns-in_err-next-clause-done
-returns-in_err-next-clause-done g c = if_some_moved _ _ _ (g.S.Source.held c.args.source.now).bytes (g.S.Source.held c.loop-next.source).bytes c.loop-next.invariant.told c.loop-next.invariant.way c.in_err-next.ensures.turned
+returns-in_err-next-clause-log g c = log_then _ _ (ap (λ b. b.geometry.page_size) c.loop-next.invariant.bench) c.loop-next.invariant.log c.in_err-next.ensures.log
     (λ file way turned e W d h next m.
     let q = err_from_is_err_and c.from_residual.result c.from_residual.ensures.1 in
-    subst (λ r. IsDone g.K.Sink.takes g.K.Sink.drops file W (Go d ∷ []) r c.turn.new.marks c.args.sink.now c.turn.new.sink) (sym (q.1 ∙ ap Err q.2))
-    (turned (ap (λ b. b.geometry) c.loop-next.invariant.bench ∙ e) W d c.args.sink.now c.args.sieve.now (way e W d h next m)))
+    let done : IsDone g.K.Sink.takes g.K.Sink.drops file W (Go d ∷ []) (Err c.in_err-next.field-0.0) c.turn.new.marks c.args.sink.now c.turn.new.sink =
+    turned (ap (λ b. b.geometry) c.loop-next.invariant.bench ∙ e) W d c.args.sink.now c.args.sieve.now (way e W d h next m) in
+    subst (λ r. IsDone g.K.Sink.takes g.K.Sink.drops file W (Go d ∷ []) r c.turn.new.marks c.args.sink.now c.turn.new.sink × OnOk r (FeedsChain file W d c.args.sieve.now c.turn.new.sieve)) (sym (q.1 ∙ ap Err q.2)) (done, tt))
 
 pub loop-next-preserved : goal.loop-next-preserved
 loop-next-preserved g c = record {
-  told = c.turn.ensures.told ∙ c.loop-next.invariant.told;
-  log = log_then g.S.Source.step c.args.bench.now.geometry.page_size c.loop-next.bench.geometry.page_size c.args.marks.now c.loop-next.marks c.turn.new.marks
-      (g.S.Source.held c.args.source.now).trail (g.S.Source.held c.loop-next.source).trail (g.S.Source.held c.turn.new.source).trail (ap (λ b. b.geometry.page_size) c.loop-next.invariant.bench) c.loop-next.invariant.log c.turn.ensures.log;
+  log = log_then _ _ (ap (λ b. b.geometry.page_size) c.loop-next.invariant.bench) c.loop-next.invariant.log c.in_ok-next.ensures.log
+      (λ file way turned e W d h next m.
+      subst (λ o. Turns g.K.Sink.takes g.K.Sink.drops file W d c.args.sink.now c.args.chain.now (Ok o) c.turn.new.marks c.turn.new.sink c.args.sieve.now c.turn.new.sieve) c.in-Some.is
+      (turned (ap (λ b. b.geometry) c.loop-next.invariant.bench ∙ e) W d c.args.sink.now c.args.sieve.now (way e W d h next m)));
   reads = c.in_ok-next.ensures.reads ∙ c.loop-next.invariant.reads;
   writes = c.in_ok-next.ensures.writes ∙ c.loop-next.invariant.writes;
   bench = c.turn.ensures.bench ∙ ap (λ (b : Pages). record b { chain = c.turn.new.bench.chain }) c.loop-next.invariant.bench;
@@ -54,20 +48,10 @@ loop-next-preserved g c = record {
   named = subst (λ o. IfSome o (λ next. IsPageNumber (named_page next.step.mark))) c.in-Some.is c.in_ok-next.ensures.named;
   used = subst (λ o. IfSome o (λ next. IsUse next.step.mark)) c.in-Some.is c.in_ok-next.ensures.used;
   counted = subst (λ o. IfSome o (λ next. next.number + next.left ≤ most_payload)) c.in-Some.is c.in_ok-next.ensures.counted;
-  way = if_some_moved _ _ _ (g.S.Source.held c.args.source.now).bytes (g.S.Source.held c.loop-next.source).bytes c.loop-next.invariant.told c.loop-next.invariant.way c.in_ok-next.ensures.turned
-      (λ file way turned e W d h next m.
-      subst (λ o. Turns g.K.Sink.takes g.K.Sink.drops file W d c.args.sink.now c.args.chain.now (Ok o) c.turn.new.marks c.turn.new.sink c.args.sieve.now c.turn.new.sieve) c.in-Some.is
-      (turned (ap (λ b. b.geometry) c.loop-next.invariant.bench ∙ e) W d c.args.sink.now c.args.sieve.now (way e W d h next m)));
 }
 
-pub returns-clause-done : goal.returns-clause-done
-returns-clause-done g c = if_some_moved _ _ _ (g.S.Source.held c.args.source.now).bytes (g.S.Source.held c.loop-next.source).bytes c.loop-next.invariant.told c.loop-next.invariant.way c.in_ok-next.ensures.turned
+pub returns-clause-log : goal.returns-clause-log
+returns-clause-log g c = log_then _ _ (ap (λ b. b.geometry.page_size) c.loop-next.invariant.bench) c.loop-next.invariant.log c.in_ok-next.ensures.log
     (λ file way turned e W d h next m.
-    (subst (λ o. Turns g.K.Sink.takes g.K.Sink.drops file W d c.args.sink.now c.args.chain.now (Ok o) c.turn.new.marks c.turn.new.sink c.args.sieve.now c.turn.new.sieve) c.in_default.is
-    (turned (ap (λ b. b.geometry) c.loop-next.invariant.bench ∙ e) W d c.args.sink.now c.args.sieve.now (way e W d h next m))).0)
-
-pub returns-clause-fed : goal.returns-clause-fed
-returns-clause-fed g c = if_some_moved _ _ _ (g.S.Source.held c.args.source.now).bytes (g.S.Source.held c.loop-next.source).bytes c.loop-next.invariant.told c.loop-next.invariant.way c.in_ok-next.ensures.turned
-    (λ file way turned e W d h next m.
-    (subst (λ o. Turns g.K.Sink.takes g.K.Sink.drops file W d c.args.sink.now c.args.chain.now (Ok o) c.turn.new.marks c.turn.new.sink c.args.sieve.now c.turn.new.sieve) c.in_default.is
-    (turned (ap (λ b. b.geometry) c.loop-next.invariant.bench ∙ e) W d c.args.sink.now c.args.sieve.now (way e W d h next m))).1)
+    subst (λ o. Turns g.K.Sink.takes g.K.Sink.drops file W d c.args.sink.now c.args.chain.now (Ok o) c.turn.new.marks c.turn.new.sink c.args.sieve.now c.turn.new.sieve) c.in_default.is
+    (turned (ap (λ b. b.geometry) c.loop-next.invariant.bench ∙ e) W d c.args.sink.now c.args.sieve.now (way e W d h next m)))

@@ -1,10 +1,10 @@
 use Rattle.std.proofs.Common.{◌≡◌, ◌+◌, ◌≤◌, List}
-use Rattle.std.specs.Prelude.{IfSome, is_some}
+use Rattle.std.specs.Prelude.{is_some}
 use Rattle.dbformat.specs.Payload.{most_payload}
 use Rattle.dbformat.specs.FixedPages.{IsPageNumber}
 use Rattle.dbformat.specs.File.{geometry}
-use Rattle.dbsource.specs.Sources.{HasRanges}
 use Rattle.dbformat.specs.Reference.{Reference}
+use Rattle.dbsource.specs.Sources.{HasLog}
 use Rattle.dbwalk.specs.Chains.{IsChainOf, IsOnWay}
 use Rattle.dbwalk.specs.Entered.{IsNext}
 use Rattle.dbwalk.specs.Marking.{AreMarksOf, IsUse}
@@ -17,8 +17,9 @@ decreases-loop-next g l = l.place.left
 
 abbrev pub invariant-loop-next : goal.invariant-loop-next
 invariant-loop-next g l = record {
-  told : (g.S.Source.held l.source).bytes ≡ (g.S.Source.held l.initial.source).bytes;
-  log : HasRanges g.S.Source.step (Reads l.initial.bench.geometry.page_size l.initial.marks l.marks) (g.S.Source.held l.initial.source).trail (g.S.Source.held l.source).trail;
+  log : HasLog g.S.Source.step (Reads l.initial.bench.geometry.page_size l.initial.marks l.marks) (λ file. l.initial.bench.geometry ≡ geometry file → (W : List Reference) (c : Reference)
+      → IsChainOf l.chain c → IsNext W c → AreMarksOf file W l.initial.marks → IsOnWay g.K.Sink.takes file W c l.initial.sink l.chain l.place l.marks l.sink l.initial.sieve l.sieve)
+      (g.S.Source.held l.initial.source) (g.S.Source.held l.source);
   reads : (g.S.Source.held l.source).failures ≡ (g.S.Source.held l.initial.source).failures;
   writes : g.K.Sink.held l.sink ≡ g.K.Sink.held l.initial.sink;
   bench : l.bench ≡ record l.initial.bench { chain = l.bench.chain };
@@ -26,6 +27,4 @@ invariant-loop-next g l = record {
   named : IsPageNumber (named_page l.place.step.mark);
   used : IsUse l.place.step.mark;
   counted : l.place.number + l.place.left ≤ most_payload;
-  way : IfSome (g.S.Source.held l.initial.source).bytes (λ file. l.initial.bench.geometry ≡ geometry file → (W : List Reference) (c : Reference)
-      → IsChainOf l.chain c → IsNext W c → AreMarksOf file W l.initial.marks → IsOnWay g.K.Sink.takes file W c l.initial.sink l.chain l.place l.marks l.sink l.initial.sieve l.sieve);
 }

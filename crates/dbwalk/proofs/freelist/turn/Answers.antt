@@ -1,43 +1,17 @@
-use Rattle.std.proofs.Common.{rules, arith, ◌≡◌, ◌+◌, ◌-◌, ◌*◌, [], ◌∷◌, set, Ok, Err, refl, sym, ap, subst, ◌∙◌}
+use Rattle.std.proofs.Common.{rules, arith, ◌≡◌, ◌+◌, ◌-◌, [], ◌∷◌, set, Ok, Err, refl, sym, ap, subst, ◌∙◌}
 use Rattle.std.proofs.lemmas.Result.{err_from_is_err_and}
 use Rattle.dbsurvey.specs.Story.{Go}
 use Rattle.dbformat.specs.Numbers.{u32_at}
-use Rattle.dbsource.specs.Answers.{IsRangeOf}
 use Rattle.dbsource.specs.declared.error.RunError.TheVariants.{ReadFailed}
-use Rattle.dbsource.proofs.Ranges.{leads_read}
 use Rattle.dbwalk.specs.Entered.{Enters}
 use Rattle.dbwalk.specs.Left.{IsLeft}
 use Rattle.dbwalk.specs.Marking.{IsUse, is_none, unmarked_pages}
 use Rattle.dbwalk.specs.Trunks.{TrunkTurns, next_step}
 use Rattle.dbwalk.proofs.Chaining.ChainTurns.{if_some_all}
 use Rattle.dbwalk.proofs.Freelists.FreeTrunks.{trunk_refused, trunk_not_told, trunk_unread, next_turned}
-use Rattle.dbwalk.proofs.Chaining.Overflows.{if_some_map, page_read}
-use Rattle.dbwalk.proofs.Marking.Readings.{put_count, log_none, log_page, log_opened}
+use Rattle.dbwalk.proofs.Chaining.Overflows.{page_read}
+use Rattle.dbwalk.proofs.Marking.Readings.{put_count, log_load, log_none, log_opened, log_page}
 use Rattle.dbwalk.proofs.freelist.turn.Goals as goal
-
-pub returns-in_err-enter-clause-log : goal.returns-in_err-enter-clause-log
-returns-in_err-enter-clause-log g c = log_none g.S.Source.step c.args.bench.now.geometry.page_size c.args.marks.now c.enter.new.marks (g.S.Source.held c.args.source.now).trail c.in_err-enter.ensures.after_error.1
-
-pub returns-then-not-branch-clause-log : goal.returns-then-not-branch-clause-log
-returns-then-not-branch-clause-log g c = log_none g.S.Source.step c.args.bench.now.geometry.page_size c.args.marks.now c.enter.new.marks (g.S.Source.held c.args.source.now).trail (c.in_ok-enter.ensures.unmarked c.if-not-branch.true)
-
-pub returns-in_err-load-clause-log : goal.returns-in_err-load-clause-log
-returns-in_err-load-clause-log g c =
-    let k = c.in_ok-enter.ensures.marked (search rules) in
-    log_page g.S.Source.step c.args.bench.now.geometry.page_size c.args.marks.now c.enter.new.marks c.args.step.page c.args.step.mark (g.S.Source.held c.args.source.now).trail (g.S.Source.held c.load.new.source).trail
-    k.0 k.1 (subst IsUse (sym c.requires) (record { some = refl; cleared = refl })) (leads_read g.S.Source.step _ _ c.load.result _ _ _ c.load.ensures.level.size c.load.ensures.level.holds.0)
-
-pub returns-in_err-item-clause-log : goal.returns-in_err-item-clause-log
-returns-in_err-item-clause-log g c =
-    let k = c.in_ok-enter.ensures.marked (search rules) in
-    log_opened g.S.Source.step c.args.bench.now.geometry.page_size c.args.marks.now c.enter.new.marks c.open_trunk.new.marks c.args.step.page c.args.step.mark (g.S.Source.held c.args.source.now).trail (g.S.Source.held c.load.new.source).trail
-    k.0 k.1 (subst IsUse (sym c.requires) (record { some = refl; cleared = refl })) (leads_read g.S.Source.step _ _ c.load.result _ _ _ c.load.ensures.level.size c.load.ensures.level.holds.0) c.open_trunk.ensures.keeps
-
-pub returns-clause-log : goal.returns-clause-log
-returns-clause-log g c =
-    let k = c.in_ok-enter.ensures.marked (search rules) in
-    log_opened g.S.Source.step c.args.bench.now.geometry.page_size c.args.marks.now c.enter.new.marks c.open_trunk.new.marks c.args.step.page c.args.step.mark (g.S.Source.held c.args.source.now).trail (g.S.Source.held c.load.new.source).trail
-    k.0 k.1 (subst IsUse (sym c.requires) (record { some = refl; cleared = refl })) (leads_read g.S.Source.step _ _ c.load.result _ _ _ c.load.ensures.level.size c.load.ensures.level.holds.0) c.open_trunk.ensures.keeps
 
 pub returns-clause-less : goal.returns-clause-less
 returns-clause-less g c = if_some_all _ c.next_trunk.result (λ next.
@@ -46,32 +20,42 @@ returns-clause-less g c = if_some_all _ c.next_trunk.result (λ next.
     let n : unmarked_pages c.enter.new.marks ≡ unmarked_pages (set c.args.marks.now (c.args.step.page - 1) c.args.step.mark) = ap unmarked_pages k.1 in
     omega (arith, c.in_ok-item.ensures.fewer))
 
-pub returns-in_err-enter-clause-turned : goal.returns-in_err-enter-clause-turned
-returns-in_err-enter-clause-turned g c = if_some_all _ (g.S.Source.held c.args.source.now).bytes (λ file e W d before on.
+pub returns-in_err-enter-clause-log : goal.returns-in_err-enter-clause-log
+returns-in_err-enter-clause-log g c = log_none c.args.bench.now.geometry.page_size c.args.marks.now c.enter.new.marks (g.S.Source.held c.args.source.now) c.in_err-enter.ensures.after_error.1 (λ file e W d before on.
     let q = err_from_is_err_and c.from_residual.result c.from_residual.ensures.1 in
     subst (λ r. TrunkTurns g.K.Sink.takes g.K.Sink.drops file W d before r c.enter.new.marks c.enter.new.sink) (sym (q.1 ∙ ap Err q.2))
     (trunk_not_told g.K.Sink.takes g.K.Sink.drops file W d before c.args.step c.args.marks.now c.args.sink.now on c.in_err-enter.field-0.0 c.enter.new.marks c.enter.new.sink
     (c.in_err-enter.ensures.entered file on.visited on.d on.step on.rest.past on.rest.marked)))
 
-pub returns-then-not-branch-clause-turned : goal.returns-then-not-branch-clause-turned
-returns-then-not-branch-clause-turned g c = if_some_all _ (g.S.Source.held c.args.source.now).bytes (λ file e W d before on.
+pub returns-then-not-branch-clause-log : goal.returns-then-not-branch-clause-log
+returns-then-not-branch-clause-log g c = log_none c.args.bench.now.geometry.page_size c.args.marks.now c.enter.new.marks (g.S.Source.held c.args.source.now) (c.in_ok-enter.ensures.unmarked c.if-not-branch.true) (λ file e W d before on.
     trunk_refused g.K.Sink.takes g.K.Sink.drops file W d before c.args.step c.args.marks.now c.args.sink.now on c.enter.new.marks c.enter.new.sink
     (subst (λ b. Enters g.K.Sink.takes g.K.Sink.drops file on.visited on.d (Ok b) c.enter.new.marks c.args.sink.now c.enter.new.sink) c.if-not-branch.true
     (c.in_ok-enter.ensures.entered file on.visited on.d on.step on.rest.past on.rest.marked)))
 
-pub returns-in_err-load-clause-turned : goal.returns-in_err-load-clause-turned
-returns-in_err-load-clause-turned g c = if_some_all _ (g.S.Source.held c.args.source.now).bytes (λ file e W d before on.
+pub returns-in_err-load-clause-log : goal.returns-in_err-load-clause-log
+returns-in_err-load-clause-log g c =
+    let k = c.in_ok-enter.ensures.marked (search rules) in
+    let read = c.in_err-load.ensures.level in
+    let size = c.args.bench.now.geometry.page_size in
+    log_page _ size c.args.marks.now c.enter.new.marks c.args.step.page c.args.step.mark k.0 k.1 (subst IsUse (sym c.requires) (record { some = refl; cleared = refl }))
+    (log_load size c.args.step.page read.bytes (Err c.in_err-load.field-0.0) c.load.ensures.told read.size read.holds) (λ file h e W d before on.
     let q = err_from_is_err_and c.from_residual-in_err-load.result c.from_residual-in_err-load.ensures.1 in
     let n = subst (λ b. Enters g.K.Sink.takes g.K.Sink.drops file on.visited on.d (Ok b) c.enter.new.marks c.args.sink.now c.enter.new.sink) c.if-not-branch.false
     (c.in_ok-enter.ensures.entered file on.visited on.d on.step on.rest.past on.rest.marked) in
     subst (λ r. TrunkTurns g.K.Sink.takes g.K.Sink.drops file W d before r c.enter.new.marks c.enter.new.sink) (sym (q.1 ∙ ap Err q.2))
     (trunk_unread g.K.Sink.takes g.K.Sink.drops file W d before c.args.step c.args.marks.now c.args.sink.now on ReadFailed c.enter.new.marks c.enter.new.sink n refl))
 
-pub returns-in_err-item-clause-turned : goal.returns-in_err-item-clause-turned
-returns-in_err-item-clause-turned g c = if_some_map (λ file. IsRangeOf file ((c.args.step.page - 1) * c.args.bench.now.geometry.page_size) c.in_ok-load.ensures.level.bytes) _ (g.S.Source.held c.args.source.now).bytes c.in_ok-load.ensures.level.holds.1 (λ file h e W d before on.
-    let k = page_read file c.in_ok-load.ensures.level.bytes c.args.bench.now.geometry.page_size c.args.step.page c.in_ok-load.ensures.level.size h (sym (ap (λ g. g.page_size) e)) in
-    let b = c.page-bytes.ensures.bytes ∙ ap (λ b. b.chain) c.in_ok-load.ensures.level.only ∙ k in
-    let u = ap (λ g. g.usable) (c.geometry-usable.ensures.value ∙ ap (λ b. b.geometry) c.in_ok-load.ensures.level.only ∙ e) in
+pub returns-in_err-item-clause-log : goal.returns-in_err-item-clause-log
+returns-in_err-item-clause-log g c =
+    let k = c.in_ok-enter.ensures.marked (search rules) in
+    let read = c.in_ok-load.ensures.level in
+    let size = c.args.bench.now.geometry.page_size in
+    log_opened _ size c.args.marks.now c.enter.new.marks c.open_trunk.new.marks c.args.step.page c.args.step.mark k.0 k.1 (subst IsUse (sym c.requires) (record { some = refl; cleared = refl }))
+    c.open_trunk.ensures.keeps (log_load size c.args.step.page read.bytes (Ok tt) c.load.ensures.told read.size read.holds) (λ file h e W d before on.
+    let k = page_read file read.bytes size c.args.step.page read.size h (sym (ap (λ g. g.page_size) e)) in
+    let b = c.page-bytes.ensures.bytes ∙ ap (λ b. b.chain) read.only ∙ k in
+    let u = ap (λ g. g.usable) (c.geometry-usable.ensures.value ∙ ap (λ b. b.geometry) read.only ∙ e) in
     let n = subst (λ b. Enters g.K.Sink.takes g.K.Sink.drops file on.visited on.d (Ok b) c.enter.new.marks c.args.sink.now c.enter.new.sink) c.if-not-branch.false
     (c.in_ok-enter.ensures.entered file on.visited on.d on.step on.rest.past on.rest.marked) in
     let o = c.in_err-item.ensures.opened file W d before on.visited on.d c.args.marks.now on.step.page on.role b u n.0 n.1
@@ -79,11 +63,16 @@ returns-in_err-item-clause-turned g c = if_some_map (λ file. IsRangeOf file ((c
     let q = err_from_is_err_and c.from_residual-in_err-item.result c.from_residual-in_err-item.ensures.1 in
     subst (λ r. TrunkTurns g.K.Sink.takes g.K.Sink.drops file W d before r c.open_trunk.new.marks c.open_trunk.new.sink) (sym (q.1 ∙ ap Err q.2)) o)
 
-pub returns-clause-turned : goal.returns-clause-turned
-returns-clause-turned g c = if_some_map (λ file. IsRangeOf file ((c.args.step.page - 1) * c.args.bench.now.geometry.page_size) c.in_ok-load.ensures.level.bytes) _ (g.S.Source.held c.args.source.now).bytes c.in_ok-load.ensures.level.holds.1 (λ file h e W d before on.
-    let k = page_read file c.in_ok-load.ensures.level.bytes c.args.bench.now.geometry.page_size c.args.step.page c.in_ok-load.ensures.level.size h (sym (ap (λ g. g.page_size) e)) in
-    let b = c.page-bytes.ensures.bytes ∙ ap (λ b. b.chain) c.in_ok-load.ensures.level.only ∙ k in
-    let u = ap (λ g. g.usable) (c.geometry-usable.ensures.value ∙ ap (λ b. b.geometry) c.in_ok-load.ensures.level.only ∙ e) in
+pub returns-clause-log : goal.returns-clause-log
+returns-clause-log g c =
+    let k = c.in_ok-enter.ensures.marked (search rules) in
+    let read = c.in_ok-load.ensures.level in
+    let size = c.args.bench.now.geometry.page_size in
+    log_opened _ size c.args.marks.now c.enter.new.marks c.open_trunk.new.marks c.args.step.page c.args.step.mark k.0 k.1 (subst IsUse (sym c.requires) (record { some = refl; cleared = refl }))
+    c.open_trunk.ensures.keeps (log_load size c.args.step.page read.bytes (Ok tt) c.load.ensures.told read.size read.holds) (λ file h e W d before on.
+    let k = page_read file read.bytes size c.args.step.page read.size h (sym (ap (λ g. g.page_size) e)) in
+    let b = c.page-bytes.ensures.bytes ∙ ap (λ b. b.chain) read.only ∙ k in
+    let u = ap (λ g. g.usable) (c.geometry-usable.ensures.value ∙ ap (λ b. b.geometry) read.only ∙ e) in
     let n = subst (λ b. Enters g.K.Sink.takes g.K.Sink.drops file on.visited on.d (Ok b) c.enter.new.marks c.args.sink.now c.enter.new.sink) c.if-not-branch.false
     (c.in_ok-enter.ensures.entered file on.visited on.d on.step on.rest.past on.rest.marked) in
     let o = c.in_ok-item.ensures.opened file W d before on.visited on.d c.args.marks.now on.step.page on.role b u n.0 n.1

@@ -9,65 +9,48 @@ use Rattle.dbwalk.specs.Trunks.{TrunkTurns}
 use Rattle.dbwalk.specs.Done.{IsDone}
 use Rattle.dbwalk.specs.declared.mark.Mark.TheVariants.{Trunk}
 use Rattle.dbwalk.proofs.Marking.Readings.{log_none, log_then}
-use Rattle.dbwalk.proofs.Chaining.ChainTurns.{if_some_all, if_some_moved}
 use Rattle.dbwalk.proofs.Freelists.FreeTrunks.{trunks_start}
 use Rattle.dbwalk.proofs.freelist.walk_freelist.Goals as goal
 
 pub loop-next-init : goal.loop-next-init
 loop-next-init g c = record {
-  told = refl;
-  log = log_none g.S.Source.step c.args.bench.now.geometry.page_size c.args.marks.now c.args.marks.now (g.S.Source.held c.args.source.now).trail refl;
+  log = log_none c.args.bench.now.geometry.page_size c.args.marks.now c.args.marks.now (g.S.Source.held c.args.source.now) refl
+      (λ file e W d h next m. trunks_start g.K.Sink.takes file W d c.args.first c.args.marks.now c.args.sink.now h next m);
   reads = refl;
   writes = refl;
   bench = refl;
   trunk = refl;
-  way = if_some_all _ (g.S.Source.held c.args.source.now).bytes (λ file e W d h next m. trunks_start g.K.Sink.takes file W d c.args.first c.args.marks.now c.args.sink.now h next m);
 }
 
 pub returns-in_err-next-clause-asks : goal.returns-in_err-next-clause-asks
 returns-in_err-next-clause-asks g c =
     let q = err_from_is_err_and c.from_residual.result c.from_residual.ensures.1 in
     record {
-      told = c.turn.ensures.told ∙ c.loop-next.invariant.told;
-      log = log_then g.S.Source.step c.args.bench.now.geometry.page_size c.loop-next.bench.geometry.page_size c.args.marks.now c.loop-next.marks c.turn.new.marks
-          (g.S.Source.held c.args.source.now).trail (g.S.Source.held c.loop-next.source).trail (g.S.Source.held c.turn.new.source).trail (ap (λ b. b.geometry.page_size) c.loop-next.invariant.bench) c.loop-next.invariant.log c.turn.ensures.log;
+      log = log_then _ _ (ap (λ b. b.geometry.page_size) c.loop-next.invariant.bench) c.loop-next.invariant.log c.in_err-next.ensures.log
+          (λ file way turned e W d h next m.
+          subst (λ r. IsDone g.K.Sink.takes g.K.Sink.drops file W (Go d ∷ []) r c.turn.new.marks c.args.sink.now c.turn.new.sink) (sym (q.1 ∙ ap Err q.2))
+          (turned (ap (λ b. b.geometry) c.loop-next.invariant.bench ∙ e) W d c.args.sink.now (way e W d h next m)));
       count = subst (λ r. (g.S.Source.held c.turn.new.source).failures ≡ failures_after is_read_failed r (g.S.Source.held c.args.source.now).failures) (sym (q.1 ∙ ap Err q.2))
           (c.in_err-next.ensures.reads ∙ ap (failures_after {A = Unit {0}} is_read_failed (Err c.in_err-next.field-0.0)) c.loop-next.invariant.reads);
     }
 
-pub returns-clause-asks : goal.returns-clause-asks
-returns-clause-asks g c =
-    record {
-      told = c.turn.ensures.told ∙ c.loop-next.invariant.told;
-      log = log_then g.S.Source.step c.args.bench.now.geometry.page_size c.loop-next.bench.geometry.page_size c.args.marks.now c.loop-next.marks c.turn.new.marks
-          (g.S.Source.held c.args.source.now).trail (g.S.Source.held c.loop-next.source).trail (g.S.Source.held c.turn.new.source).trail (ap (λ b. b.geometry.page_size) c.loop-next.invariant.bench) c.loop-next.invariant.log c.turn.ensures.log;
-      count = c.in_ok-next.ensures.reads ∙ c.loop-next.invariant.reads;
-    }
-
-pub returns-in_err-next-clause-done : goal.returns-in_err-next-clause-done
-returns-in_err-next-clause-done g c = if_some_moved _ _ _ (g.S.Source.held c.args.source.now).bytes (g.S.Source.held c.loop-next.source).bytes c.loop-next.invariant.told c.loop-next.invariant.way c.in_err-next.ensures.turned
-    (λ file way turned e W d h next m.
-    let q = err_from_is_err_and c.from_residual.result c.from_residual.ensures.1 in
-    subst (λ r. IsDone g.K.Sink.takes g.K.Sink.drops file W (Go d ∷ []) r c.turn.new.marks c.args.sink.now c.turn.new.sink) (sym (q.1 ∙ ap Err q.2))
-    (turned (ap (λ b. b.geometry) c.loop-next.invariant.bench ∙ e) W d c.args.sink.now (way e W d h next m)))
-
 pub loop-next-preserved : goal.loop-next-preserved
 loop-next-preserved g c = record {
-  told = c.turn.ensures.told ∙ c.loop-next.invariant.told;
-  log = log_then g.S.Source.step c.args.bench.now.geometry.page_size c.loop-next.bench.geometry.page_size c.args.marks.now c.loop-next.marks c.turn.new.marks
-      (g.S.Source.held c.args.source.now).trail (g.S.Source.held c.loop-next.source).trail (g.S.Source.held c.turn.new.source).trail (ap (λ b. b.geometry.page_size) c.loop-next.invariant.bench) c.loop-next.invariant.log c.turn.ensures.log;
+  log = log_then _ _ (ap (λ b. b.geometry.page_size) c.loop-next.invariant.bench) c.loop-next.invariant.log c.in_ok-next.ensures.log
+      (λ file way turned e W d h next m.
+      subst (λ o. TrunkTurns g.K.Sink.takes g.K.Sink.drops file W d c.args.sink.now (Ok o) c.turn.new.marks c.turn.new.sink) c.in-Some.is
+      (turned (ap (λ b. b.geometry) c.loop-next.invariant.bench ∙ e) W d c.args.sink.now (way e W d h next m)));
   reads = c.in_ok-next.ensures.reads ∙ c.loop-next.invariant.reads;
   writes = c.in_ok-next.ensures.writes ∙ c.loop-next.invariant.writes;
   bench = c.turn.ensures.bench ∙ ap (λ (b : Pages). record b { chain = c.turn.new.bench.chain }) c.loop-next.invariant.bench;
   trunk = subst (λ o. IfSome o (λ next. next.mark ≡ Trunk)) c.in-Some.is c.in_ok-next.ensures.trunk;
-  way = if_some_moved _ _ _ (g.S.Source.held c.args.source.now).bytes (g.S.Source.held c.loop-next.source).bytes c.loop-next.invariant.told c.loop-next.invariant.way c.in_ok-next.ensures.turned
-      (λ file way turned e W d h next m.
-      subst (λ o. TrunkTurns g.K.Sink.takes g.K.Sink.drops file W d c.args.sink.now (Ok o) c.turn.new.marks c.turn.new.sink) c.in-Some.is
-      (turned (ap (λ b. b.geometry) c.loop-next.invariant.bench ∙ e) W d c.args.sink.now (way e W d h next m)));
 }
 
-pub returns-clause-done : goal.returns-clause-done
-returns-clause-done g c = if_some_moved _ _ _ (g.S.Source.held c.args.source.now).bytes (g.S.Source.held c.loop-next.source).bytes c.loop-next.invariant.told c.loop-next.invariant.way c.in_ok-next.ensures.turned
-    (λ file way turned e W d h next m.
-    subst (λ o. TrunkTurns g.K.Sink.takes g.K.Sink.drops file W d c.args.sink.now (Ok o) c.turn.new.marks c.turn.new.sink) c.in_default.is
-    (turned (ap (λ b. b.geometry) c.loop-next.invariant.bench ∙ e) W d c.args.sink.now (way e W d h next m)))
+pub returns-clause-asks : goal.returns-clause-asks
+returns-clause-asks g c = record {
+  log = log_then _ _ (ap (λ b. b.geometry.page_size) c.loop-next.invariant.bench) c.loop-next.invariant.log c.in_ok-next.ensures.log
+      (λ file way turned e W d h next m.
+      subst (λ o. TrunkTurns g.K.Sink.takes g.K.Sink.drops file W d c.args.sink.now (Ok o) c.turn.new.marks c.turn.new.sink) c.in_default.is
+      (turned (ap (λ b. b.geometry) c.loop-next.invariant.bench ∙ e) W d c.args.sink.now (way e W d h next m)));
+  count = c.in_ok-next.ensures.reads ∙ c.loop-next.invariant.reads;
+}

@@ -1,8 +1,7 @@
 use Rattle.std.proofs.Common.{◌≡◌, List}
-use Rattle.std.specs.Prelude.{IfSome}
 use Rattle.dbformat.specs.File.{geometry}
-use Rattle.dbsource.specs.Sources.{HasRanges}
 use Rattle.dbformat.specs.Reference.{Reference}
+use Rattle.dbsource.specs.Sources.{HasLog}
 use Rattle.dbwalk.specs.Entered.{IsNext}
 use Rattle.dbwalk.specs.Marking.{AreMarksOf, unmarked_pages}
 use Rattle.dbwalk.specs.Reads.{Reads}
@@ -15,12 +14,11 @@ decreases-loop-next g l = unmarked_pages l.marks
 
 abbrev pub invariant-loop-next : goal.invariant-loop-next
 invariant-loop-next g l = record {
-  told : (g.S.Source.held l.source).bytes ≡ (g.S.Source.held l.initial.source).bytes;
-  log : HasRanges g.S.Source.step (Reads l.initial.bench.geometry.page_size l.initial.marks l.marks) (g.S.Source.held l.initial.source).trail (g.S.Source.held l.source).trail;
+  log : HasLog g.S.Source.step (Reads l.initial.bench.geometry.page_size l.initial.marks l.marks) (λ file. l.initial.bench.geometry ≡ geometry file → (W : List Reference) (c : Reference)
+      → IsFirstTrunk l.first c → IsNext W c → AreMarksOf file W l.initial.marks → IsOnTrunks g.K.Sink.takes file W c l.initial.sink l.step l.marks l.sink)
+      (g.S.Source.held l.initial.source) (g.S.Source.held l.source);
   reads : (g.S.Source.held l.source).failures ≡ (g.S.Source.held l.initial.source).failures;
   writes : g.K.Sink.held l.sink ≡ g.K.Sink.held l.initial.sink;
   bench : l.bench ≡ record l.initial.bench { chain = l.bench.chain };
   trunk : l.step.mark ≡ Trunk;
-  way : IfSome (g.S.Source.held l.initial.source).bytes (λ file. l.initial.bench.geometry ≡ geometry file → (W : List Reference) (c : Reference)
-      → IsFirstTrunk l.first c → IsNext W c → AreMarksOf file W l.initial.marks → IsOnTrunks g.K.Sink.takes file W c l.initial.sink l.step l.marks l.sink);
 }

@@ -7,10 +7,10 @@ use Rattle.dbformat.specs.Cell.{count}
 use Rattle.dbformat.specs.File.{page_bytes}
 use Rattle.dbformat.specs.Head.{undamaged}
 use Rattle.dbformat.proofs.Looping.{cells_apart}
+use Rattle.dbsource.proofs.Logs.{has_weaker}
 use Rattle.dbwalk.specs.Outcomes.{IsReadOrWrite}
 use Rattle.dbwalk.specs.Walking.{IsRunning}
 use Rattle.dbwalk.proofs.Leaves.LeafTurns.{view_back}
-use Rattle.dbwalk.proofs.Chaining.ChainTurns.{if_some_all, if_some_both, if_some_moved}
 use Rattle.dbwalk.proofs.Marking.Readings.{log_none, log_then}
 use Rattle.dbwalk.specs.CellTaken.{IsRowsDone}
 use Rattle.dbwalk.proofs.Leaves.LeafRows.{IsOnRows, rows_start, rows_more, rows_stop, rows_end, rows_turn, quiet_cell, leaf_errands_are}
@@ -25,13 +25,12 @@ loop-i-init g c = record {
   kind = c.pass_cells-i.ensures.others.1;
   leaf = c.pass_cells-i.ensures.others.2;
   path = c.pass_cells-i.ensures.others.3;
-  told = refl;
   reads = refl;
   writes = refl;
   refusals = refl;
-  log = log_none g.S.Source.step c.args.bench.now.geometry.page_size c.args.marks.now c.args.marks.now (g.S.Source.held c.args.source.now).trail refl;
   others = λ l. refl;
-  on = if_some_all _ (g.S.Source.held c.args.source.now).bytes (λ file e coded U d v at viewed leaf past m run held first given.
+  log = log_none c.args.bench.now.geometry.page_size c.args.marks.now c.args.marks.now (g.S.Source.held c.args.source.now) refl
+      (λ file e coded U d v at viewed leaf past m run held first given.
       let t = c.args.tree.now in
       let after = c.pass_cells-i.new.tree in
       let seen = ap (λ s. undamaged t.kind c.args.page s.usable (page_bytes file c.args.page)) e ∙ view_back file t.kind t.start t.path.items U d c.args.bench.now.levels c.args.page v at viewed in
@@ -56,14 +55,11 @@ loop-i-preserved g c =
       kind = p.others.1 ∙ n.tree.1 ∙ w.kind;
       leaf = p.others.2 ∙ n.tree.2 ∙ w.leaf;
       path = p.others.3 ∙ n.tree.3 ∙ w.path;
-      told = n.told ∙ w.told;
       reads = n.reads ∙ w.reads;
       writes = n.writes ∙ w.writes;
       refusals = n.refusals ∙ w.refusals;
-      log = log_then g.S.Source.step c.args.bench.now.geometry.page_size c.loop-i.bench.geometry.page_size c.args.marks.now c.loop-i.marks c.walk_leaf_cell.new.marks
-          (g.S.Source.held c.args.source.now).trail (g.S.Source.held c.loop-i.source).trail (g.S.Source.held c.walk_leaf_cell.new.source).trail (ap (λ s. s.page_size) w.shape) w.log n.log;
       others = λ l. (n.others (subst (λ k. 1 ≤ k) (sym w.start) l)).0 ∙ w.others l;
-      on = if_some_moved _ _ _ (g.S.Source.held c.args.source.now).bytes (g.S.Source.held c.loop-i.source).bytes w.told w.on n.done (λ file on done e coded U d v at viewed leaf past m run held first given.
+      log = log_then _ _ (ap (λ s. s.page_size) w.shape) w.log n.log (λ file on done e coded U d v at viewed leaf past m run held first given.
           let t = c.args.tree.now in
           let there = ap (slice_get c.args.bench.now.levels) c.len-level.ensures.value ∙ at.bytes in
           let seen = ap (λ s. undamaged t.kind c.args.page s.usable (page_bytes file c.args.page)) e ∙ view_back file t.kind t.start t.path.items U d c.args.bench.now.levels c.args.page v at viewed in
@@ -86,10 +82,6 @@ loop-i-preserved g c =
           (λ at' past' m' run' given'. done (w.shape ∙ e) coded s.on.visited d v at' viewed leaf low past' m' run' held first given')))));
     }
 
-pub returns-in_err-walk_leaf_cell-clause-log : goal.returns-in_err-walk_leaf_cell-clause-log
-returns-in_err-walk_leaf_cell-clause-log g c = log_then g.S.Source.step c.args.bench.now.geometry.page_size c.loop-i.bench.geometry.page_size c.args.marks.now c.loop-i.marks c.walk_leaf_cell.new.marks
-    (g.S.Source.held c.args.source.now).trail (g.S.Source.held c.loop-i.source).trail (g.S.Source.held c.walk_leaf_cell.new.source).trail (ap (λ s. s.page_size) c.loop-i.invariant.shape) c.loop-i.invariant.log c.walk_leaf_cell.ensures.log
-
 pub returns-in_err-walk_leaf_cell-clause-others : goal.returns-in_err-walk_leaf_cell-clause-others
 returns-in_err-walk_leaf_cell-clause-others g c =
     let q = err_from_is_err_and c.from_residual.result c.from_residual.ensures.1 in
@@ -98,10 +90,10 @@ returns-in_err-walk_leaf_cell-clause-others g c =
 pub returns-clause-others : goal.returns-clause-others
 returns-clause-others g c = λ l. (c.loop-i.invariant.others l, tt)
 
-pub returns-in_err-walk_leaf_cell-clause-done : goal.returns-in_err-walk_leaf_cell-clause-done
-returns-in_err-walk_leaf_cell-clause-done g c =
+pub returns-in_err-walk_leaf_cell-clause-log : goal.returns-in_err-walk_leaf_cell-clause-log
+returns-in_err-walk_leaf_cell-clause-log g c =
     let w = c.loop-i.invariant in
-    if_some_moved _ _ _ (g.S.Source.held c.args.source.now).bytes (g.S.Source.held c.loop-i.source).bytes w.told w.on c.in_err-walk_leaf_cell.ensures.done (λ file on done e coded U d v at viewed leaf past m run held first given.
+    log_then _ _ (ap (λ s. s.page_size) w.shape) w.log c.in_err-walk_leaf_cell.ensures.log (λ file on done e coded U d v at viewed leaf past m run held first given.
     let t = c.args.tree.now in
     let q = err_from_is_err_and c.from_residual.result c.from_residual.ensures.1 in
     let there = ap (slice_get c.args.bench.now.levels) c.len-level.ensures.value ∙ at.bytes in
@@ -119,10 +111,10 @@ returns-in_err-walk_leaf_cell-clause-done g c =
     (λ at' past' m' run' given'. done (w.shape ∙ e) coded s.on.visited d v at' viewed leaf low past' m' run' held first given'))
     (leaf_errands_are file d t.kind v at.kind_is viewed leaf)))
 
-pub returns-clause-done : goal.returns-clause-done
-returns-clause-done g c =
+pub returns-clause-log : goal.returns-clause-log
+returns-clause-log g c =
     let w = c.loop-i.invariant in
-    if_some_both _ _ _ (g.S.Source.held c.args.source.now).bytes w.on w.on (λ file on again e coded U d v at viewed leaf past m run held first given.
+    has_weaker _ _ w.log (λ log r. r) (λ file on e coded U d v at viewed leaf past m run held first given.
     let t = c.args.tree.now in
     let there = ap (slice_get c.args.bench.now.levels) c.len-level.ensures.value ∙ at.bytes in
     let seen = ap (λ s. undamaged t.kind c.args.page s.usable (page_bytes file c.args.page)) e ∙ view_back file t.kind t.start t.path.items U d c.args.bench.now.levels c.args.page v at viewed in

@@ -1,14 +1,14 @@
-use Rattle.std.proofs.Common.{rules, ◌≡◌, ◌+◌, ◌-◌, ◌*◌, ◌<◌, inl, inr, set, Ok, Err, refl, sym, ap, subst, arith, ◌∙◌}
+use Rattle.std.proofs.Common.{rules, ◌≡◌, ◌+◌, ◌-◌, ◌*◌, ◌<◌, [], ◌∷◌, inl, inr, set, Ok, Err, refl, sym, ap, subst, arith, ◌∙◌}
 use Rattle.std.specs.Prelude.{slice_get, IfErr}
 use Rattle.std.proofs.lemmas.Result.{err_from_is_err_and}
 use Rattle.dbformat.specs.File.{page_bytes}
-use Rattle.dbformat.specs.Log.{page_range}
-use Rattle.dbsource.specs.Answers.{IsRangeOf, LeadsBy}
+use Rattle.dbformat.specs.Log.{range, page_range}
+use Rattle.dbsource.specs.Answers.{IsRangeOf}
 use Rattle.dbsource.specs.declared.error.RunError.TheVariants.{ReadFailed}
-use Rattle.dbsource.proofs.Ranges.{leads_read}
+use Rattle.dbsource.specs.declared.source.ReadFailed as source_error
+use Rattle.dbsource.proofs.Logs.{has_one}
 use Rattle.dbwalk.specs.Entered.{Enters}
 use Rattle.dbwalk.specs.Marking.{unmarked_pages}
-use Rattle.dbwalk.proofs.Chaining.ChainTurns.{if_some_all, if_some_moved}
 use Rattle.dbwalk.proofs.Chaining.Overflows.{page_read}
 use Rattle.dbwalk.proofs.Marking.Readings.{log_none, log_page, log_then, put_count}
 use Rattle.dbwalk.specs.Found.{StandsAt}
@@ -31,10 +31,7 @@ returns-in_err-load-clause-others g c =
     λ l. (refl, subst (λ r. IfErr r IsReadOrWrite) (sym (q.1 ∙ ap Err q.2)) (inl refl))
 
 pub returns-in_err-enter-clause-log : goal.returns-in_err-enter-clause-log
-returns-in_err-enter-clause-log g c = log_none g.S.Source.step c.args.bench.now.geometry.page_size c.args.marks.now c.enter.new.marks (g.S.Source.held c.args.source.now).trail c.in_err-enter.ensures.after_error.1
-
-pub returns-in_err-enter-clause-done : goal.returns-in_err-enter-clause-done
-returns-in_err-enter-clause-done g c = if_some_all _ (g.S.Source.held c.args.source.now).bytes (λ file e coded W d candidate next early m run held first given.
+returns-in_err-enter-clause-log g c = log_none c.args.bench.now.geometry.page_size c.args.marks.now c.enter.new.marks (g.S.Source.held c.args.source.now) c.in_err-enter.ensures.after_error.1 (λ file e coded W d candidate next early m run held first given.
     let t = c.args.tree.now in
     let q = err_from_is_err_and c.from_residual.result c.from_residual.ensures.1 in
     let is = c.tree_step-step.ensures.step t.kind t.start t.path.items d (sym c.len-level.ensures.value) candidate in
@@ -45,10 +42,7 @@ returns-in_err-enter-clause-done g c = if_some_all _ (g.S.Source.held c.args.sou
     }))
 
 pub returns-then-not-branch-clause-log : goal.returns-then-not-branch-clause-log
-returns-then-not-branch-clause-log g c = log_none g.S.Source.step c.args.bench.now.geometry.page_size c.args.marks.now c.enter.new.marks (g.S.Source.held c.args.source.now).trail (c.in_ok-enter.ensures.unmarked c.if-not-branch.true)
-
-pub returns-then-not-branch-clause-done : goal.returns-then-not-branch-clause-done
-returns-then-not-branch-clause-done g c = if_some_all _ (g.S.Source.held c.args.source.now).bytes (λ file e coded W d candidate next early m run held first given.
+returns-then-not-branch-clause-log g c = log_none c.args.bench.now.geometry.page_size c.args.marks.now c.enter.new.marks (g.S.Source.held c.args.source.now) (c.in_ok-enter.ensures.unmarked c.if-not-branch.true) (λ file e coded W d candidate next early m run held first given.
     let t = c.args.tree.now in
     let is = c.tree_step-step.ensures.step t.kind t.start t.path.items d (sym c.len-level.ensures.value) candidate in
     let none = subst (λ b. Enters g.K.Sink.takes g.K.Sink.drops file W d (Ok b) c.enter.new.marks c.args.sink.now c.enter.new.sink) c.if-not-branch.true (c.in_ok-enter.ensures.entered file W d is next m) in
@@ -68,12 +62,14 @@ returns-in_err-load-clause-levels g c =
 pub returns-in_err-load-clause-log : goal.returns-in_err-load-clause-log
 returns-in_err-load-clause-log g c =
     let k = c.in_ok-enter.ensures.marked (search rules) in
-    log_page g.S.Source.step c.args.bench.now.geometry.page_size c.args.marks.now c.enter.new.marks c.tree_step-step.result.page c.tree_step-step.result.mark (g.S.Source.held c.args.source.now).trail (g.S.Source.held c.load.new.source).trail
-    k.0 k.1 c.tree_step-step.ensures.used (subst (λ p. LeadsBy g.S.Source.step (g.S.Source.held c.args.source.now).trail (page_range c.args.bench.now.geometry.page_size p) (g.S.Source.held c.load.new.source).trail) (sym c.tree_step-step.ensures.page)
-    (leads_read g.S.Source.step _ _ c.load.result _ _ _ c.load.ensures.level.size c.load.ensures.level.holds.0))
-
-pub returns-in_err-load-clause-done : goal.returns-in_err-load-clause-done
-returns-in_err-load-clause-done g c = if_some_all _ (g.S.Source.held c.args.source.now).bytes (λ file e coded W d candidate next early m run held first given.
+    let step = c.tree_step-step in
+    let read = c.in_err-load.ensures.level in
+    let size = c.args.bench.now.geometry.page_size in
+    let offset = (c.args.page - 1) * size in
+    log_page (λ file. Unit {0}) size c.args.marks.now c.enter.new.marks step.result.page step.result.mark k.0 k.1 step.ensures.used
+    (has_one {A = Unit {0}} {E = source_error.ReadFailed} (Err c.in_err-load.field-0.0) offset read.bytes c.load.ensures.told read.holds.0 tt
+    (ap (λ n. range offset n ∷ []) read.size ∙ ap (λ p. page_range size p ∷ []) (sym step.ensures.page)) (λ file h. tt))
+    (λ file u e coded W d candidate next early m run held first given.
     let t = c.args.tree.now in
     let q = err_from_is_err_and c.from_residual-in_err-load.result c.from_residual-in_err-load.ensures.1 in
     let is = c.tree_step-step.ensures.step t.kind t.start t.path.items d (sym c.len-level.ensures.value) candidate in
@@ -91,19 +87,6 @@ returns-clause-levels g c =
     let change = c.in_ok-load.ensures.level in
     λ n l. ap (λ ls. slice_get ls n) c.visit_page.ensures.bench.1 ∙ below_kept c.args.bench.now c.load.new.self c.len-level.result low change.bytes change.only n (omega arith)
 
-pub returns-clause-log : goal.returns-clause-log
-returns-clause-log g c =
-    let k = c.in_ok-enter.ensures.marked (search rules) in
-    let low = c.tree_step-step.ensures.shallow (c.in_ok-enter.ensures.shallow (search rules)) in
-    let change = c.in_ok-load.ensures.level in
-    log_then g.S.Source.step c.args.bench.now.geometry.page_size c.load.new.self.geometry.page_size c.args.marks.now c.enter.new.marks c.visit_page.new.marks
-    (g.S.Source.held c.args.source.now).trail (g.S.Source.held c.load.new.source).trail (g.S.Source.held c.visit_page.new.source).trail
-    (ap (λ s. s.page_size) (geometry_kept c.args.bench.now c.load.new.self c.len-level.result low change.bytes change.only))
-    (log_page g.S.Source.step c.args.bench.now.geometry.page_size c.args.marks.now c.enter.new.marks c.tree_step-step.result.page c.tree_step-step.result.mark (g.S.Source.held c.args.source.now).trail (g.S.Source.held c.load.new.source).trail
-    k.0 k.1 c.tree_step-step.ensures.used (subst (λ p. LeadsBy g.S.Source.step (g.S.Source.held c.args.source.now).trail (page_range c.args.bench.now.geometry.page_size p) (g.S.Source.held c.load.new.source).trail) (sym c.tree_step-step.ensures.page)
-    (leads_read g.S.Source.step _ _ c.load.result _ _ _ c.load.ensures.level.size c.load.ensures.level.holds.0)))
-    c.visit_page.ensures.log
-
 pub returns-clause-fewer : goal.returns-clause-fewer
 returns-clause-fewer g c =
     let k = c.in_ok-enter.ensures.marked (search rules) in
@@ -114,17 +97,27 @@ returns-clause-fewer g c =
     let less : unmarked_pages c.visit_page.new.marks < unmarked_pages c.args.marks.now = omega arith in
     if_ok_all c.visit_page.result _ (λ yes. (omega arith, λ is. less))
 
-pub returns-clause-done : goal.returns-clause-done
-returns-clause-done g c =
+pub returns-clause-log : goal.returns-clause-log
+returns-clause-log g c =
+    let k = c.in_ok-enter.ensures.marked (search rules) in
+    let step = c.tree_step-step in
+    let low = step.ensures.shallow (c.in_ok-enter.ensures.shallow (search rules)) in
     let change = c.in_ok-load.ensures.level in
-    if_some_moved (λ file. IsRangeOf file ((c.args.page - 1) * c.args.bench.now.geometry.page_size) change.bytes) _ _ (g.S.Source.held c.args.source.now).bytes (g.S.Source.held c.load.new.source).bytes c.load.ensures.told change.holds.1 c.visit_page.ensures.done
+    let same = geometry_kept c.args.bench.now c.load.new.self c.len-level.result low change.bytes change.only in
+    let size = c.args.bench.now.geometry.page_size in
+    let offset = (c.args.page - 1) * size in
+    log_then (λ file. IsRangeOf file offset change.bytes) _ (ap (λ s. s.page_size) same)
+    (log_page (λ file. IsRangeOf file offset change.bytes) size c.args.marks.now c.enter.new.marks step.result.page step.result.mark k.0 k.1 step.ensures.used
+    (has_one {A = Unit {0}} {E = source_error.ReadFailed} (Ok tt) offset change.bytes c.load.ensures.told change.holds.0 change.holds.1
+    (ap (λ n. range offset n ∷ []) change.size ∙ ap (λ p. page_range size p ∷ []) (sym step.ensures.page)) (λ file h. h))
+    (λ file h. h))
+    c.visit_page.ensures.log
     (λ file h done e coded W d candidate next early m run held first given.
     let t = c.args.tree.now in
-    let low = c.tree_step-step.ensures.shallow (c.in_ok-enter.ensures.shallow (search rules)) in
     let is = c.tree_step-step.ensures.step t.kind t.start t.path.items d (sym c.len-level.ensures.value) candidate in
     let n = subst (λ b. Enters g.K.Sink.takes g.K.Sink.drops file W d (Ok b) c.enter.new.marks c.args.sink.now c.enter.new.sink) c.if-not-branch.false (c.in_ok-enter.ensures.entered file W d is next m) in
     let read = page_read file change.bytes c.args.bench.now.geometry.page_size c.args.page change.size h (sym (ap (λ s. s.page_size) e)) in
     let there = subst (λ l. StandsAt c.load.new.self.levels l (page_bytes file c.args.page)) c.len-level.ensures.value
     (read_there c.args.bench.now c.load.new.self c.len-level.result low change.bytes change.only (page_bytes file c.args.page) read) in
     subst (λ s. IsEntryDone g.K.Sink.takes g.K.Sink.drops g.T.Taker.takes g.T.Taker.refuses file W d c.visit_page.result c.visit_page.new.bench.levels c.visit_page.new.marks c.visit_page.new.tree.greatest c.visit_page.new.tree.leaf s c.visit_page.new.sink first c.visit_page.new.taker) (sym n.2)
-    (done (geometry_kept c.args.bench.now c.load.new.self c.len-level.result low change.bytes change.only ∙ e) coded W d c.args.from c.args.item candidate there next n.0 early n.1 run held first given))
+    (done (same ∙ e) coded W d c.args.from c.args.item candidate there next n.0 early n.1 run held first given))

@@ -4,12 +4,13 @@ use Rattle.std.specs.Option.{option_or}
 use Rattle.std.proofs.lemmas.Result.{err_from_is_err_and}
 use Rattle.dbformat.specs.Address.{then_step, schema_start}
 use Rattle.dbsource.specs.declared.error.RunError.TheVariants.{WriteFailed}
-use Rattle.dbwalk.proofs.Chaining.ChainTurns.{if_some_all, if_some_both}
+use Rattle.dbsource.proofs.Logs.{has_weaker}
 use Rattle.dbwalk.proofs.Marking.Readings.{log_none}
 use Rattle.dbwalk.specs.CellTaken.{IsGiven, IsRowsDone}
 use Rattle.dbwalk.specs.Found.{IsFound, IsLeafFound}
 use Rattle.dbwalk.specs.KeySpans.{HasSpan, ArePassed}
 use Rattle.dbwalk.specs.Outcomes.{IsReadOrWrite}
+use Rattle.dbwalk.specs.Reads.{Reads}
 use Rattle.dbwalk.specs.WalkGiven.{IsEntryDone}
 use Rattle.dbwalk.proofs.Trees.Arrivals.{visit_stop, leaf_passed, leaf_stopped}
 use Rattle.dbwalk.proofs.Leaves.PackedLeaves.{keys_passed}
@@ -32,16 +33,8 @@ pub returns-in_ok-walk_leaf-in-Leaf-clause-others : goal.returns-in_ok-walk_leaf
 returns-in_ok-walk_leaf-in-Leaf-clause-others g c = λ l. ((c.in_ok-walk_leaf-in-Leaf.ensures.others (subst (λ k. 1 ≤ k) (sym (c.pass_over.ensures.others.0 ∙ c.tell_page.ensures.tree.0)) l)).0, tt)
 
 pub returns-in_err-tell_page-clause-log : goal.returns-in_err-tell_page-clause-log
-returns-in_err-tell_page-clause-log g c = log_none g.S.Source.step c.args.bench.now.geometry.page_size c.args.marks.now c.args.marks.now (g.S.Source.held c.args.source.now).trail refl
-
-pub returns-in-Interior-clause-log : goal.returns-in-Interior-clause-log
-returns-in-Interior-clause-log g c = log_none g.S.Source.step c.args.bench.now.geometry.page_size c.args.marks.now c.args.marks.now (g.S.Source.held c.args.source.now).trail refl
-
-pub returns-in-Damaged-clause-log : goal.returns-in-Damaged-clause-log
-returns-in-Damaged-clause-log g c = log_none g.S.Source.step c.args.bench.now.geometry.page_size c.args.marks.now c.args.marks.now (g.S.Source.held c.args.source.now).trail refl
-
-pub returns-in_err-tell_page-clause-done : goal.returns-in_err-tell_page-clause-done
-returns-in_err-tell_page-clause-done g c = if_some_all _ (g.S.Source.held c.args.source.now).bytes (λ file e coded W d from item candidate there next followed early m run held first given.
+returns-in_err-tell_page-clause-log g c = log_none c.args.bench.now.geometry.page_size c.args.marks.now c.args.marks.now (g.S.Source.held c.args.source.now) refl
+    (λ file e coded W d from item candidate there next followed early m run held first given.
     let t = c.args.tree.now in
     let q = err_from_is_err_and c.from_residual.result c.from_residual.ensures.1 in
     let told = c.in_err-tell_page.ensures.told file W d from item e candidate there run.leaves in
@@ -50,8 +43,9 @@ returns-in_err-tell_page-clause-done g c = if_some_all _ (g.S.Source.held c.args
       given = λ z. entry_stopped g.T.Taker.takes g.T.Taker.refuses held file t.kind t.start t.path.items c.args.page from item d candidate W t.greatest t.leaf run first c.args.taker.now given z WriteFailed (inr refl);
     }))
 
-pub returns-in-Interior-clause-done : goal.returns-in-Interior-clause-done
-returns-in-Interior-clause-done g c = if_some_all _ (g.S.Source.held c.args.source.now).bytes (λ file e coded W d from item candidate there next followed early m run held first given.
+pub returns-in-Interior-clause-log : goal.returns-in-Interior-clause-log
+returns-in-Interior-clause-log g c = log_none c.args.bench.now.geometry.page_size c.args.marks.now c.args.marks.now (g.S.Source.held c.args.source.now) refl
+    (λ file e coded W d from item candidate there next followed early m run held first given.
     let t = c.args.tree.now in
     let n = c.tell_page.new.tree in
     let b = c.tell_page.new.bench in
@@ -63,8 +57,9 @@ returns-in-Interior-clause-done g c = if_some_all _ (g.S.Source.held c.args.sour
       given = λ z. entry_interior g.T.Taker.takes g.T.Taker.refuses held file t.kind t.start t.path.items c.args.page from item d candidate W t.greatest t.leaf run first c.args.taker.now given z;
     }))
 
-pub returns-in-Damaged-clause-done : goal.returns-in-Damaged-clause-done
-returns-in-Damaged-clause-done g c = if_some_all _ (g.S.Source.held c.args.source.now).bytes (λ file e coded W d from item candidate there next followed early m run held first given.
+pub returns-in-Damaged-clause-log : goal.returns-in-Damaged-clause-log
+returns-in-Damaged-clause-log g c = log_none c.args.bench.now.geometry.page_size c.args.marks.now c.args.marks.now (g.S.Source.held c.args.source.now) refl
+    (λ file e coded W d from item candidate there next followed early m run held first given.
     let t = c.args.tree.now in
     let n = c.tell_page.new.tree in
     let b = c.tell_page.new.bench in
@@ -77,8 +72,10 @@ returns-in-Damaged-clause-done g c = if_some_all _ (g.S.Source.held c.args.sourc
           c.args.marks.now c.tell_page.new.sink m told.0.items n.leaf told.1 c.args.bench.now.levels b.levels there c.tell_page.ensures.bench.1 n.kind c.tell_page.ensures.tree.1 b.geometry.usable (ap (λ s. s.usable) (c.tell_page.ensures.bench.0 ∙ e)) found);
     }))
 
-pub returns-in_err-walk_leaf-in-Leaf-clause-done : goal.returns-in_err-walk_leaf-in-Leaf-clause-done
-returns-in_err-walk_leaf-in-Leaf-clause-done g c = if_some_both _ _ _ (g.S.Source.held c.args.source.now).bytes c.in_err-walk_leaf-in-Leaf.ensures.done c.in_err-walk_leaf-in-Leaf.ensures.done (λ file h w e coded W d from item candidate there next followed early m run held first given.
+pub returns-in_err-walk_leaf-in-Leaf-clause-log : goal.returns-in_err-walk_leaf-in-Leaf-clause-log
+returns-in_err-walk_leaf-in-Leaf-clause-log g c = has_weaker _ _ c.in_err-walk_leaf-in-Leaf.ensures.log
+    (λ log r. subst (λ n. Reads n c.args.marks.now c.walk_leaf.new.marks log) (ap (λ s. s.page_size) c.tell_page.ensures.bench.0) r)
+    (λ file h e coded W d from item candidate there next followed early m run held first given.
     let t = c.args.tree.now in
     let n = c.pass_over.new.self in
     let same = c.pass_over.ensures.others in
@@ -101,8 +98,10 @@ returns-in_err-walk_leaf-in-Leaf-clause-done g c = if_some_both _ _ _ (g.S.Sourc
       given = λ z. entry_stopped_below g.T.Taker.takes g.T.Taker.refuses held file t.kind t.start t.path.items c.args.page from item d candidate W t.greatest t.leaf run first c.args.taker.now given z followed c.in_err-walk_leaf-in-Leaf.field-0.0 c.walk_leaf.new.taker (rows.given z);
     }))
 
-pub returns-in_ok-walk_leaf-in-Leaf-clause-done : goal.returns-in_ok-walk_leaf-in-Leaf-clause-done
-returns-in_ok-walk_leaf-in-Leaf-clause-done g c = if_some_both _ _ _ (g.S.Source.held c.args.source.now).bytes c.in_ok-walk_leaf-in-Leaf.ensures.done c.in_ok-walk_leaf-in-Leaf.ensures.done (λ file h w e coded W d from item candidate there next followed early m run held first given.
+pub returns-in_ok-walk_leaf-in-Leaf-clause-log : goal.returns-in_ok-walk_leaf-in-Leaf-clause-log
+returns-in_ok-walk_leaf-in-Leaf-clause-log g c = has_weaker _ _ c.in_ok-walk_leaf-in-Leaf.ensures.log
+    (λ log r. subst (λ n. Reads n c.args.marks.now c.walk_leaf.new.marks log) (ap (λ s. s.page_size) c.tell_page.ensures.bench.0) r)
+    (λ file h e coded W d from item candidate there next followed early m run held first given.
     let t = c.args.tree.now in
     let n = c.pass_over.new.self in
     let same = c.pass_over.ensures.others in
@@ -125,10 +124,8 @@ returns-in_ok-walk_leaf-in-Leaf-clause-done g c = if_some_both _ _ _ (g.S.Source
     })
 
 pub returns-then-pass_over-clause-log : goal.returns-then-pass_over-clause-log
-returns-then-pass_over-clause-log g c = log_none g.S.Source.step c.args.bench.now.geometry.page_size c.args.marks.now c.args.marks.now (g.S.Source.held c.args.source.now).trail refl
-
-pub returns-then-pass_over-clause-done : goal.returns-then-pass_over-clause-done
-returns-then-pass_over-clause-done g c = if_some_all _ (g.S.Source.held c.args.source.now).bytes (λ file e coded W d from item candidate there next followed early m run held first given.
+returns-then-pass_over-clause-log g c = log_none c.args.bench.now.geometry.page_size c.args.marks.now c.args.marks.now (g.S.Source.held c.args.source.now) refl
+    (λ file e coded W d from item candidate there next followed early m run held first given.
     let t = c.args.tree.now in
     let n = c.tell_page.new.tree in
     let b = c.tell_page.new.bench in

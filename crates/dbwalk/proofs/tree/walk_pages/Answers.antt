@@ -6,7 +6,7 @@ use Rattle.dbwalk.specs.Found.{StandsAt}
 use Rattle.dbwalk.specs.Outcomes.{IsReadOrWrite}
 use Rattle.dbwalk.specs.Walking.{IsOpen, AreOpen, path_of, cost}
 use Rattle.dbwalk.specs.WalkGiven.{IsEntryDone, IsGivenWalk, IsTreeDone}
-use Rattle.dbwalk.proofs.Chaining.ChainTurns.{if_some_both, if_some_moved}
+use Rattle.dbsource.proofs.Logs.{has_weaker}
 use Rattle.dbwalk.proofs.Marking.Readings.{log_then}
 use Rattle.dbwalk.proofs.Rows.TreeRows.{root_given, rows_walked, rows_stopped, walk_started, walk_ended}
 use Rattle.dbwalk.proofs.Trees.Frames.{path_last}
@@ -23,8 +23,8 @@ returns-in_err-visit_page-clause-others g c =
     let q = err_from_is_err_and c.from_residual.result c.from_residual.ensures.1 in
     λ l. let o = c.in_err-visit_page.ensures.others l in (o.0, subst (λ r. IfErr r IsReadOrWrite) (sym (q.1 ∙ ap Err q.2)) o.1)
 
-pub returns-in_err-visit_page-clause-done : goal.returns-in_err-visit_page-clause-done
-returns-in_err-visit_page-clause-done g c = if_some_both _ _ _ (g.S.Source.held c.args.source.now).bytes c.in_err-visit_page.ensures.done c.in_err-visit_page.ensures.done (λ file h w e coded W d candidate there followed early m held empty.
+pub returns-in_err-visit_page-clause-log : goal.returns-in_err-visit_page-clause-log
+returns-in_err-visit_page-clause-log g c = has_weaker _ _ c.in_err-visit_page.ensures.log (λ log r. r) (λ file h e coded W d candidate there followed early m held empty.
     let t = c.args.tree.now in
     let n = c.visit_page.new in
     let q = err_from_is_err_and c.from_residual.result c.from_residual.ensures.1 in
@@ -39,8 +39,8 @@ returns-in_err-visit_page-clause-done g c = if_some_both _ _ _ (g.S.Source.held 
 pub returns-then-not-branch-clause-others : goal.returns-then-not-branch-clause-others
 returns-then-not-branch-clause-others g c = λ l. ((c.in_ok-visit_page.ensures.others l).0, tt)
 
-pub returns-then-not-branch-clause-done : goal.returns-then-not-branch-clause-done
-returns-then-not-branch-clause-done g c = if_some_both _ _ _ (g.S.Source.held c.args.source.now).bytes c.in_ok-visit_page.ensures.done c.in_ok-visit_page.ensures.done (λ file h w e coded W d candidate there followed early m held empty.
+pub returns-then-not-branch-clause-log : goal.returns-then-not-branch-clause-log
+returns-then-not-branch-clause-log g c = has_weaker _ _ c.in_ok-visit_page.ensures.log (λ log r. r) (λ file h e coded W d candidate there followed early m held empty.
     let t = c.args.tree.now in
     let n = c.visit_page.new in
     let ready = root_ready file t.kind t.start c.args.page 0 t.start W d candidate early t.path.items t.greatest t.leaf c.requires.fresh.2 c.requires.fresh.0 c.requires.fresh.1 in
@@ -65,13 +65,11 @@ loop-frame-init g c =
       opened = subst (λ l. AreOpen n.bench.geometry.usable n.tree.kind n.bench.levels 0 l) (sym items)
           (subst (λ l. IsOpen n.bench.geometry.usable n.tree.kind n.bench.levels (length l) (record { page = c.args.page; next = 0 })) c.requires.fresh.2 (c.in_ok-visit_page.ensures.«open» (search rules)), tt);
       path = path_last c.push.new.self.items [] (record { page = c.args.page; next = 0 }) n.tree.path.items items (ap (λ p. p.items) c.visit_page.ensures.tree.2 ∙ c.requires.fresh.2);
-      told = c.visit_page.ensures.told;
-      log = c.visit_page.ensures.log;
       reads = c.in_ok-visit_page.ensures.reads;
       writes = c.in_ok-visit_page.ensures.writes;
       refusals = c.in_ok-visit_page.ensures.refusals;
       others = λ l. (c.in_ok-visit_page.ensures.others l).0;
-      walking = if_some_both _ _ _ (g.S.Source.held c.args.source.now).bytes c.in_ok-visit_page.ensures.done c.in_ok-visit_page.ensures.done (λ file h w e coded W d candidate there followed early m held empty.
+      log = has_weaker _ _ c.in_ok-visit_page.ensures.log (λ log r. r) (λ file h e coded W d candidate there followed early m held empty.
           let ready = root_ready file t.kind t.start c.args.page 0 t.start W d candidate early t.path.items t.greatest t.leaf c.requires.fresh.2 c.requires.fresh.0 c.requires.fresh.1 in
           let given = root_given g.T.Taker.takes file t.kind t.start c.args.page 0 t.start W d candidate early c.args.taker.now held empty in
           let entry = h e coded W d 0 t.start ready.0 (subst (λ l. StandsAt c.args.bench.now.levels (length l) (page_bytes file c.args.page)) (sym c.requires.fresh.2) there) (root_next file t.kind t.start c.args.page 0 t.start W d candidate early) followed (λ z. early) m ready.1 held c.args.taker.now given in
@@ -108,14 +106,11 @@ loop-frame-preserved g c =
       few = c.in_ok-turn.ensures.few;
       opened = c.in_ok-turn.ensures.«open»;
       path = c.in_ok-turn.ensures.path;
-      told = c.turn.ensures.told ∙ inv.told;
-      log = log_then g.S.Source.step c.args.bench.now.geometry.page_size s.bench.geometry.page_size c.args.marks.now s.marks n.marks
-          (g.S.Source.held c.args.source.now).trail (g.S.Source.held s.source).trail (g.S.Source.held n.source).trail (ap (λ x. x.page_size) inv.shape) inv.log c.turn.ensures.log;
       reads = c.in_ok-turn.ensures.reads ∙ inv.reads;
       writes = c.in_ok-turn.ensures.writes ∙ inv.writes;
       refusals = c.in_ok-turn.ensures.refusals ∙ inv.refusals;
       others = λ l. (c.in_ok-turn.ensures.others (subst (λ k. 1 ≤ k) (sym inv.start_same) l)).0 ∙ inv.others l;
-      walking = if_some_moved _ _ _ (g.S.Source.held c.args.source.now).bytes (g.S.Source.held s.source).bytes inv.told inv.walking c.in_ok-turn.ensures.walking (λ file walking turned e coded W d candidate there followed early m held empty.
+      log = log_then _ _ (ap (λ x. x.page_size) inv.shape) inv.log c.in_ok-turn.ensures.log (λ file walking turned e coded W d candidate there followed early m held empty.
           subst (λ q. IsGivenWalk g.K.Sink.takes g.T.Taker.takes file q W d c.args.sink.now n.frames.items n.bench.levels n.marks n.tree.greatest n.tree.leaf n.sink c.args.taker.now n.taker) inv.kind_same
           (turned (inv.shape ∙ e) coded W d c.args.sink.now (candidate_as t.kind s.tree.kind t.start s.tree.start [] [] c.args.page d.page 0 t.start s.tree.start d inv.kind_same inv.start_same refl candidate.page inv.start_same candidate) held c.args.taker.now
           (λ z. empty (sym inv.start_same ∙ z))
@@ -126,26 +121,19 @@ loop-frame-preserved g c =
 pub returns-in_err-turn-clause-shape : goal.returns-in_err-turn-clause-shape
 returns-in_err-turn-clause-shape g c = c.turn.ensures.shape ∙ c.loop-frame.invariant.shape
 
-pub returns-in_err-turn-clause-told : goal.returns-in_err-turn-clause-told
-returns-in_err-turn-clause-told g c = c.turn.ensures.told ∙ c.loop-frame.invariant.told
-
-pub returns-in_err-turn-clause-log : goal.returns-in_err-turn-clause-log
-returns-in_err-turn-clause-log g c = log_then g.S.Source.step c.args.bench.now.geometry.page_size c.loop-frame.bench.geometry.page_size c.args.marks.now c.loop-frame.marks c.turn.new.marks
-    (g.S.Source.held c.args.source.now).trail (g.S.Source.held c.loop-frame.source).trail (g.S.Source.held c.turn.new.source).trail (ap (λ x. x.page_size) c.loop-frame.invariant.shape) c.loop-frame.invariant.log c.turn.ensures.log
-
 pub returns-in_err-turn-clause-others : goal.returns-in_err-turn-clause-others
 returns-in_err-turn-clause-others g c =
     let q = err_from_is_err_and c.from_residual-in_err-turn.result c.from_residual-in_err-turn.ensures.1 in
     λ l. let o = c.in_err-turn.ensures.others (subst (λ k. 1 ≤ k) (sym c.loop-frame.invariant.start_same) l) in (o.0 ∙ c.loop-frame.invariant.others l, subst (λ r. IfErr r IsReadOrWrite) (sym (q.1 ∙ ap Err q.2)) o.1)
 
-pub returns-in_err-turn-clause-done : goal.returns-in_err-turn-clause-done
-returns-in_err-turn-clause-done g c =
+pub returns-in_err-turn-clause-log : goal.returns-in_err-turn-clause-log
+returns-in_err-turn-clause-log g c =
     let inv = c.loop-frame.invariant in
     let t = c.args.tree.now in
     let s = c.loop-frame in
     let n = c.turn.new in
     let popped = c.pop.ensures.items ∙ ap (λ o. c.pop.new.self.items ++ option_to_list o) c.in-Some.is in
-    if_some_moved _ _ _ (g.S.Source.held c.args.source.now).bytes (g.S.Source.held s.source).bytes inv.told inv.walking c.in_err-turn.ensures.walking (λ file walking turned e coded W d candidate there followed early m held empty.
+    log_then _ _ (ap (λ x. x.page_size) inv.shape) inv.log c.in_err-turn.ensures.log (λ file walking turned e coded W d candidate there followed early m held empty.
     let q = err_from_is_err_and c.from_residual-in_err-turn.result c.from_residual-in_err-turn.ensures.1 in
     let stopped = turned (inv.shape ∙ e) coded W d c.args.sink.now (candidate_as t.kind s.tree.kind t.start s.tree.start [] [] c.args.page d.page 0 t.start s.tree.start d inv.kind_same inv.start_same refl candidate.page inv.start_same candidate) held c.args.taker.now
     (λ z. empty (sym inv.start_same ∙ z))
@@ -156,11 +144,11 @@ returns-in_err-turn-clause-done g c =
 pub returns-clause-others : goal.returns-clause-others
 returns-clause-others g c = λ l. (c.loop-frame.invariant.others l, tt)
 
-pub returns-clause-done : goal.returns-clause-done
-returns-clause-done g c =
+pub returns-clause-log : goal.returns-clause-log
+returns-clause-log g c =
     let inv = c.loop-frame.invariant in
     let t = c.args.tree.now in
     let s = c.loop-frame in
     let empty = none_left s.frames.items c.pop.result c.in_default.is c.pop.ensures.variant in
-    if_some_both _ _ _ (g.S.Source.held c.args.source.now).bytes inv.walking inv.walking (λ file walking w e coded W d candidate there followed early m held starts.
+    has_weaker _ _ inv.log (λ log r. r) (λ file walking e coded W d candidate there followed early m held starts.
     walk_ended g.K.Sink.takes g.K.Sink.drops g.T.Taker.takes g.T.Taker.refuses file t.kind t.start c.args.page 0 t.start W d candidate early c.args.taker.now c.args.sink.now s.sink s.bench.levels s.marks s.tree.greatest s.tree.leaf s.frames.items empty s.taker (walking e coded W d candidate there followed early m held starts))

@@ -1,12 +1,11 @@
 use Rattle.std.proofs.Common.{◌≡◌, ◌≤◌, ℕ, true, ◌++◌, [], ◌∷◌, List, length}
-use Rattle.std.specs.Prelude.{IfSome}
 use Rattle.dbsurvey.specs.Traverse.{is_followed}
 use Rattle.dbformat.specs.Address.{schema_start}
 use Rattle.dbformat.specs.File.{geometry, page_bytes}
 use Rattle.dbformat.specs.Header.{encoding}
-use Rattle.dbsource.specs.Sources.{HasRanges}
 use Rattle.dbformat.specs.Reference.{Reference}
 use Rattle.dbformat.specs.Survey.{rules_of}
+use Rattle.dbsource.specs.Sources.{HasLog}
 use Rattle.dbwalk.specs.Found.{StandsAt}
 use Rattle.dbwalk.specs.Marking.{AreMarksOf}
 use Rattle.dbwalk.specs.Reads.{Reads}
@@ -25,16 +24,15 @@ invariant-loop-frame g l = record {
   few : length l.frames.items ≤ 20;
   opened : AreOpen l.bench.geometry.usable l.tree.kind l.bench.levels 0 l.frames.items;
   path : (fs : List Frame) (f : Frame) → l.frames.items ≡ fs ++ (f ∷ []) → l.tree.path.items ≡ path_of fs;
-  told : (g.S.Source.held l.source).bytes ≡ (g.S.Source.held l.fn.source).bytes;
-  log : HasRanges g.S.Source.step (Reads l.fn.bench.geometry.page_size l.fn.marks l.marks) (g.S.Source.held l.fn.source).trail (g.S.Source.held l.source).trail;
   reads : (g.S.Source.held l.source).failures ≡ (g.S.Source.held l.fn.source).failures;
   writes : g.K.Sink.held l.sink ≡ g.K.Sink.held l.fn.sink;
   refusals : g.T.Taker.refusals l.taker ≡ g.T.Taker.refusals l.fn.taker;
   others : 1 ≤ l.fn.tree.start → l.taker ≡ l.fn.taker;
-  walking : IfSome (g.S.Source.held l.fn.source).bytes (λ file. l.fn.bench.geometry ≡ geometry file → l.fn.encoding ≡ encoding file → (W : List Reference) (c : Reference)
+  log : HasLog g.S.Source.step (Reads l.fn.bench.geometry.page_size l.fn.marks l.marks) (λ file. l.fn.bench.geometry ≡ geometry file → l.fn.encoding ≡ encoding file → (W : List Reference) (c : Reference)
       → IsCandidate l.fn.tree.kind l.fn.tree.start [] l.fn.page 0 l.fn.tree.start c → StandsAt l.fn.bench.levels 0 (page_bytes file l.fn.page) → is_followed (rules_of file) W c ≡ true
       → AreOfEarlierStarts l.fn.tree.start W → AreMarksOf file (W ++ (c ∷ [])) l.fn.marks → (held : g.row.T.Denot → ℕ) → (l.fn.tree.start ≡ schema_start → StartsEmpty g.T.Taker.takes held l.fn.taker)
-      → IsGivenWalk g.K.Sink.takes g.T.Taker.takes file l.fn.tree.kind W c l.fn.sink l.frames.items l.bench.levels l.marks l.tree.greatest l.tree.leaf l.sink l.fn.taker l.taker);
+      → IsGivenWalk g.K.Sink.takes g.T.Taker.takes file l.fn.tree.kind W c l.fn.sink l.frames.items l.bench.levels l.marks l.tree.greatest l.tree.leaf l.sink l.fn.taker l.taker)
+      (g.S.Source.held l.fn.source) (g.S.Source.held l.source);
 }
 
 abbrev pub decreases-loop-frame : goal.decreases-loop-frame

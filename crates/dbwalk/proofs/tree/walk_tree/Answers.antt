@@ -1,26 +1,25 @@
-use Rattle.std.proofs.Common.{rules, ◌≡◌, ◌-◌, ◌*◌, ◌<◌, ◌≤◌, [], ◌∷◌, ◌++◌, None, Ok, Err, inl, inr, refl, sym, ap, subst, arith, ◌∙◌}
+use Rattle.std.proofs.Common.{rules, ◌≡◌, ◌-◌, ◌<◌, ◌≤◌, [], ◌∷◌, ◌++◌, set, Some, None, Ok, Err, inl, inr, refl, sym, ap, subst, arith, ◌∙◌}
 use Rattle.std.specs.Prelude.{IfErr}
 use Rattle.std.proofs.lemmas.Result.{err_from_is_err_and}
 use Rattle.dbsurvey.specs.Story.{Go}
 use Rattle.dbformat.specs.File.{page_bytes}
-use Rattle.dbformat.specs.Log.{page_range}
 use Rattle.dbsource.specs.Bench.{bytes_at}
 use Rattle.dbsource.specs.Errors.{is_read_failed}
 use Rattle.dbsource.specs.Failures.{failures_after}
-use Rattle.dbsource.specs.Answers.{IsRangeOf, LeadsBy}
 use Rattle.dbsource.specs.declared.error.RunError.TheVariants.{ReadFailed}
-use Rattle.dbsource.proofs.Ranges.{leads_read}
 use Rattle.dbwalk.specs.Done.{IsDone}
 use Rattle.dbwalk.specs.Entered.{Enters}
 use Rattle.dbwalk.specs.Finding.{visited_below}
 use Rattle.dbwalk.specs.Found.{StandsAt}
+use Rattle.dbwalk.specs.Marking.{page_mark}
 use Rattle.dbwalk.specs.Outcomes.{IsReadOrWrite}
 use Rattle.dbwalk.specs.Roots.{kind_of, kind_in}
 use Rattle.dbwalk.specs.Running.{AreOfEarlierStarts}
-use Rattle.dbwalk.specs.Taking.{Gives, readable_rows}
-use Rattle.dbwalk.proofs.Chaining.ChainTurns.{if_some_all, if_some_moved}
+use Rattle.dbwalk.specs.Taking.{readable_rows}
+use Rattle.dbwalk.specs.WalkGiven.{IsTreeDone}
+use Rattle.dbwalk.specs.declared.mark.Mark.TheVariants.{Unmarked}
 use Rattle.dbwalk.proofs.Chaining.Overflows.{page_read}
-use Rattle.dbwalk.proofs.Marking.Readings.{log_none, log_page, log_then}
+use Rattle.dbwalk.proofs.Marking.Readings.{log_load, log_none, log_page, log_then}
 use Rattle.dbwalk.proofs.Pages.Levels.{geometry_kept, read_there}
 use Rattle.dbwalk.proofs.Rows.EntryRows.{entry_refused}
 use Rattle.dbwalk.proofs.Rows.TreeRows.{root_given, rows_walked}
@@ -33,8 +32,17 @@ pub returns-in_err-enter-clause-asks : goal.returns-in_err-enter-clause-asks
 returns-in_err-enter-clause-asks g c =
     let q = err_from_is_err_and c.from_residual.result c.from_residual.ensures.1 in
     record {
-      told = refl;
-      log = log_none g.S.Source.step c.args.bench.now.geometry.page_size c.args.marks.now c.enter.new.marks (g.S.Source.held c.args.source.now).trail c.in_err-enter.ensures.after_error.1;
+      log = log_none c.args.bench.now.geometry.page_size c.args.marks.now c.enter.new.marks (g.S.Source.held c.args.source.now) c.in_err-enter.ensures.after_error.1 (λ file e coded W d at held empty.
+          let root = c.args.root in
+          let is = c.tree_step-step.ensures.step (kind_in file root) root.start [] d refl at.candidate in
+          let next = root_next file (kind_in file root) root.start root.page 0 root.start W d at.candidate at.early in
+          let run = root_running file (kind_in file root) root.start root.page 0 root.start W d at.candidate at.early in
+          subst (λ r. IsTreeDone g.K.Sink.takes g.K.Sink.drops g.T.Taker.takes g.T.Taker.refuses file W d r c.enter.new.marks c.args.sink.now c.enter.new.sink c.args.taker.now c.args.taker.now) (sym (q.1 ∙ ap Err q.2)) (record {
+            done = stopped_root g.K.Sink.takes g.K.Sink.drops file (kind_in file root) W d c.args.sink.now c.args.bench.now.levels c.enter.new.marks None None c.enter.new.sink c.in_err-enter.field-0.0
+                (refused_stop g.K.Sink.takes g.K.Sink.drops file W (kind_in file root) root.start [] root.page 0 root.start d at.candidate next None None run c.args.sink.now c.in_err-enter.field-0.0 c.enter.new.marks c.enter.new.sink
+                (c.in_err-enter.ensures.entered file W d is next at.marked));
+            given = λ z. giving_none g.T.Taker.takes g.T.Taker.refuses c.in_err-enter.field-0.0 c.args.taker.now (readable_rows file (W ++ visited_below file W (Go d ∷ []))) (inr c.in_err-enter.ensures.after_error.0);
+          }));
       count = subst (λ r. (g.S.Source.held c.args.source.now).failures ≡ failures_after is_read_failed r (g.S.Source.held c.args.source.now).failures) (sym (q.1 ∙ ap Err (q.2 ∙ c.in_err-enter.ensures.after_error.0))) refl;
     }
 
@@ -43,61 +51,45 @@ returns-in_err-enter-clause-others g c =
     let q = err_from_is_err_and c.from_residual.result c.from_residual.ensures.1 in
     λ l. (refl, subst (λ r. IfErr r IsReadOrWrite) (sym (q.1 ∙ ap Err q.2)) (inr c.in_err-enter.ensures.after_error.0))
 
-pub returns-in_err-enter-clause-done : goal.returns-in_err-enter-clause-done
-returns-in_err-enter-clause-done g c = if_some_all _ (g.S.Source.held c.args.source.now).bytes (λ file e coded W d at held empty.
-    let q = err_from_is_err_and c.from_residual.result c.from_residual.ensures.1 in
-    let root = c.args.root in
-    let is = c.tree_step-step.ensures.step (kind_in file root) root.start [] d refl at.candidate in
-    let next = root_next file (kind_in file root) root.start root.page 0 root.start W d at.candidate at.early in
-    let run = root_running file (kind_in file root) root.start root.page 0 root.start W d at.candidate at.early in
-    subst (λ r. IsDone g.K.Sink.takes g.K.Sink.drops file W (Go d ∷ []) r c.enter.new.marks c.args.sink.now c.enter.new.sink) (sym (q.1 ∙ ap Err q.2))
-    (stopped_root g.K.Sink.takes g.K.Sink.drops file (kind_in file root) W d c.args.sink.now c.args.bench.now.levels c.enter.new.marks None None c.enter.new.sink c.in_err-enter.field-0.0
-    (refused_stop g.K.Sink.takes g.K.Sink.drops file W (kind_in file root) root.start [] root.page 0 root.start d at.candidate next None None run c.args.sink.now c.in_err-enter.field-0.0 c.enter.new.marks c.enter.new.sink (c.in_err-enter.ensures.entered file W d is next at.marked))))
-
-pub returns-in_err-enter-clause-rows : goal.returns-in_err-enter-clause-rows
-returns-in_err-enter-clause-rows g c = if_some_all _ (g.S.Source.held c.args.source.now).bytes (λ file e coded W d at held empty schema.
-    let q = err_from_is_err_and c.from_residual.result c.from_residual.ensures.1 in
-    subst (λ r. Gives {A = Unit {0}} g.T.Taker.takes g.T.Taker.refuses r c.args.taker.now (readable_rows file (W ++ visited_below file W (Go d ∷ []))) c.args.taker.now) (sym (q.1 ∙ ap Err q.2))
-    (giving_none g.T.Taker.takes g.T.Taker.refuses c.in_err-enter.field-0.0 c.args.taker.now (readable_rows file (W ++ visited_below file W (Go d ∷ []))) (inr c.in_err-enter.ensures.after_error.0)))
-
 pub returns-then-not-branch-clause-asks : goal.returns-then-not-branch-clause-asks
 returns-then-not-branch-clause-asks g c = record {
-  told = refl;
-  log = log_none g.S.Source.step c.args.bench.now.geometry.page_size c.args.marks.now c.enter.new.marks (g.S.Source.held c.args.source.now).trail (c.in_ok-enter.ensures.unmarked c.if-not-branch.true);
+  log = log_none c.args.bench.now.geometry.page_size c.args.marks.now c.enter.new.marks (g.S.Source.held c.args.source.now) (c.in_ok-enter.ensures.unmarked c.if-not-branch.true) (λ file e coded W d at held empty.
+      let root = c.args.root in
+      let is = c.tree_step-step.ensures.step (kind_in file root) root.start [] d refl at.candidate in
+      let next = root_next file (kind_in file root) root.start root.page 0 root.start W d at.candidate at.early in
+      let run = root_running file (kind_in file root) root.start root.page 0 root.start W d at.candidate at.early in
+      let none = subst (λ b. Enters g.K.Sink.takes g.K.Sink.drops file W d (Ok b) c.enter.new.marks c.args.sink.now c.enter.new.sink) c.if-not-branch.true (c.in_ok-enter.ensures.entered file W d is next at.marked) in
+      record {
+        done = passed_root g.K.Sink.takes g.K.Sink.drops file (kind_in file root) W d c.args.sink.now c.args.bench.now.levels c.enter.new.marks None None c.enter.new.sink
+            (refused_passed g.K.Sink.takes g.K.Sink.drops file W (kind_in file root) root.start [] root.page 0 root.start d at.candidate next None None run c.args.sink.now c.enter.new.marks c.enter.new.sink none);
+        given = λ z. rows_walked g.T.Taker.takes file (kind_in file root) root.start root.page 0 root.start W d at.candidate at.early c.args.taker.now c.args.taker.now z
+            (entry_refused g.T.Taker.takes g.T.Taker.refuses held file (kind_in file root) root.start [] root.page 0 root.start d at.candidate W None None run c.args.taker.now c.args.taker.now
+            (root_given g.T.Taker.takes file (kind_in file root) root.start root.page 0 root.start W d at.candidate at.early c.args.taker.now held (λ z. empty (c.requires.schema.1 z))) z none.0);
+      });
   count = refl;
 }
-
-pub returns-then-not-branch-clause-done : goal.returns-then-not-branch-clause-done
-returns-then-not-branch-clause-done g c = if_some_all _ (g.S.Source.held c.args.source.now).bytes (λ file e coded W d at held empty.
-    let root = c.args.root in
-    let is = c.tree_step-step.ensures.step (kind_in file root) root.start [] d refl at.candidate in
-    let next = root_next file (kind_in file root) root.start root.page 0 root.start W d at.candidate at.early in
-    let run = root_running file (kind_in file root) root.start root.page 0 root.start W d at.candidate at.early in
-    passed_root g.K.Sink.takes g.K.Sink.drops file (kind_in file root) W d c.args.sink.now c.args.bench.now.levels c.enter.new.marks None None c.enter.new.sink
-    (refused_passed g.K.Sink.takes g.K.Sink.drops file W (kind_in file root) root.start [] root.page 0 root.start d at.candidate next None None run c.args.sink.now c.enter.new.marks c.enter.new.sink
-    (subst (λ b. Enters g.K.Sink.takes g.K.Sink.drops file W d (Ok b) c.enter.new.marks c.args.sink.now c.enter.new.sink) c.if-not-branch.true (c.in_ok-enter.ensures.entered file W d is next at.marked))))
-
-pub returns-then-not-branch-clause-rows : goal.returns-then-not-branch-clause-rows
-returns-then-not-branch-clause-rows g c = if_some_all _ (g.S.Source.held c.args.source.now).bytes (λ file e coded W d at held empty schema.
-    let root = c.args.root in
-    let is = c.tree_step-step.ensures.step (kind_in file root) root.start [] d refl at.candidate in
-    let next = root_next file (kind_in file root) root.start root.page 0 root.start W d at.candidate at.early in
-    let run = root_running file (kind_in file root) root.start root.page 0 root.start W d at.candidate at.early in
-    let z = at.candidate.start ∙ c.requires.schema.0 schema in
-    let none = subst (λ b. Enters g.K.Sink.takes g.K.Sink.drops file W d (Ok b) c.enter.new.marks c.args.sink.now c.enter.new.sink) c.if-not-branch.true (c.in_ok-enter.ensures.entered file W d is next at.marked) in
-    rows_walked g.T.Taker.takes file (kind_in file root) root.start root.page 0 root.start W d at.candidate at.early c.args.taker.now c.args.taker.now z
-    (entry_refused g.T.Taker.takes g.T.Taker.refuses held file (kind_in file root) root.start [] root.page 0 root.start d at.candidate W None None run c.args.taker.now c.args.taker.now
-    (root_given g.T.Taker.takes file (kind_in file root) root.start root.page 0 root.start W d at.candidate at.early c.args.taker.now held (λ z. empty)) z none.0))
 
 pub returns-in_err-load-clause-asks : goal.returns-in_err-load-clause-asks
 returns-in_err-load-clause-asks g c =
     let q = err_from_is_err_and c.from_residual-in_err-load.result c.from_residual-in_err-load.ensures.1 in
-    let k = c.in_ok-enter.ensures.marked (search rules) in
+    let mark = c.tree_step-step.result.mark in
+    let size = c.args.bench.now.geometry.page_size in
+    let k = subst (λ p. (page_mark c.args.marks.now p ≡ Some Unmarked) × (c.enter.new.marks ≡ set c.args.marks.now (p - 1) mark)) c.tree_step-step.ensures.page (c.in_ok-enter.ensures.marked (search rules)) in
+    let read = c.in_err-load.ensures.level in
     record {
-      told = c.load.ensures.told;
-      log = log_page g.S.Source.step c.args.bench.now.geometry.page_size c.args.marks.now c.enter.new.marks c.tree_step-step.result.page c.tree_step-step.result.mark (g.S.Source.held c.args.source.now).trail (g.S.Source.held c.load.new.source).trail
-          k.0 k.1 c.tree_step-step.ensures.used (subst (λ p. LeadsBy g.S.Source.step (g.S.Source.held c.args.source.now).trail (page_range c.args.bench.now.geometry.page_size p) (g.S.Source.held c.load.new.source).trail) (sym c.tree_step-step.ensures.page)
-          (leads_read g.S.Source.step _ _ c.load.result _ _ _ c.load.ensures.level.size c.load.ensures.level.holds.0));
+      log = log_page _ size c.args.marks.now c.enter.new.marks c.args.root.page mark k.0 k.1 c.tree_step-step.ensures.used
+          (log_load size c.args.root.page read.bytes (Err c.in_err-load.field-0.0) c.load.ensures.told read.size read.holds) (λ file h e coded W d at held empty.
+          let root = c.args.root in
+          let is = c.tree_step-step.ensures.step (kind_in file root) root.start [] d refl at.candidate in
+          let next = root_next file (kind_in file root) root.start root.page 0 root.start W d at.candidate at.early in
+          let run = root_running file (kind_in file root) root.start root.page 0 root.start W d at.candidate at.early in
+          let n = subst (λ b. Enters g.K.Sink.takes g.K.Sink.drops file W d (Ok b) c.enter.new.marks c.args.sink.now c.enter.new.sink) c.if-not-branch.false (c.in_ok-enter.ensures.entered file W d is next at.marked) in
+          subst (λ r. IsTreeDone g.K.Sink.takes g.K.Sink.drops g.T.Taker.takes g.T.Taker.refuses file W d r c.enter.new.marks c.args.sink.now c.enter.new.sink c.args.taker.now c.args.taker.now) (sym (q.1 ∙ ap Err q.2)) (record {
+            done = subst (λ s. IsDone {A = Unit {0}} g.K.Sink.takes g.K.Sink.drops file W (Go d ∷ []) (Err ReadFailed) c.enter.new.marks c.args.sink.now s) n.2
+                (stopped_root g.K.Sink.takes g.K.Sink.drops file (kind_in file root) W d c.args.sink.now c.args.bench.now.levels c.enter.new.marks None None c.args.sink.now ReadFailed
+                (unread_stop g.K.Sink.takes g.K.Sink.drops file W (kind_in file root) root.start [] root.page 0 root.start d at.candidate next None None run c.args.sink.now n.0 ReadFailed c.enter.new.marks refl));
+            given = λ z. giving_none g.T.Taker.takes g.T.Taker.refuses ReadFailed c.args.taker.now (readable_rows file (W ++ visited_below file W (Go d ∷ []))) (inl refl);
+          }));
       count = subst (λ r. (g.S.Source.held c.load.new.source).failures ≡ failures_after is_read_failed r (g.S.Source.held c.args.source.now).failures) (sym (q.1 ∙ ap Err q.2)) c.in_err-load.ensures.count;
     }
 
@@ -106,83 +98,31 @@ returns-in_err-load-clause-others g c =
     let q = err_from_is_err_and c.from_residual-in_err-load.result c.from_residual-in_err-load.ensures.1 in
     λ l. (refl, subst (λ r. IfErr r IsReadOrWrite) (sym (q.1 ∙ ap Err q.2)) (inl refl))
 
-pub returns-in_err-load-clause-done : goal.returns-in_err-load-clause-done
-returns-in_err-load-clause-done g c = if_some_all _ (g.S.Source.held c.args.source.now).bytes (λ file e coded W d at held empty.
-    let q = err_from_is_err_and c.from_residual-in_err-load.result c.from_residual-in_err-load.ensures.1 in
-    let root = c.args.root in
-    let is = c.tree_step-step.ensures.step (kind_in file root) root.start [] d refl at.candidate in
-    let next = root_next file (kind_in file root) root.start root.page 0 root.start W d at.candidate at.early in
-    let run = root_running file (kind_in file root) root.start root.page 0 root.start W d at.candidate at.early in
-    let n = subst (λ b. Enters g.K.Sink.takes g.K.Sink.drops file W d (Ok b) c.enter.new.marks c.args.sink.now c.enter.new.sink) c.if-not-branch.false (c.in_ok-enter.ensures.entered file W d is next at.marked) in
-    subst (λ r. IsDone g.K.Sink.takes g.K.Sink.drops file W (Go d ∷ []) r c.enter.new.marks c.args.sink.now c.enter.new.sink) (sym (q.1 ∙ ap Err q.2))
-    (subst (λ s. IsDone {A = Unit {0}} g.K.Sink.takes g.K.Sink.drops file W (Go d ∷ []) (Err ReadFailed) c.enter.new.marks c.args.sink.now s) n.2
-    (stopped_root g.K.Sink.takes g.K.Sink.drops file (kind_in file root) W d c.args.sink.now c.args.bench.now.levels c.enter.new.marks None None c.args.sink.now ReadFailed
-    (unread_stop g.K.Sink.takes g.K.Sink.drops file W (kind_in file root) root.start [] root.page 0 root.start d at.candidate next None None run c.args.sink.now n.0 ReadFailed c.enter.new.marks refl))))
-
-pub returns-in_err-load-clause-rows : goal.returns-in_err-load-clause-rows
-returns-in_err-load-clause-rows g c = if_some_all _ (g.S.Source.held c.args.source.now).bytes (λ file e coded W d at held empty schema.
-    let q = err_from_is_err_and c.from_residual-in_err-load.result c.from_residual-in_err-load.ensures.1 in
-    subst (λ r. Gives {A = Unit {0}} g.T.Taker.takes g.T.Taker.refuses r c.args.taker.now (readable_rows file (W ++ visited_below file W (Go d ∷ []))) c.args.taker.now) (sym (q.1 ∙ ap Err q.2))
-    (giving_none g.T.Taker.takes g.T.Taker.refuses ReadFailed c.args.taker.now (readable_rows file (W ++ visited_below file W (Go d ∷ []))) (inl refl)))
-
 pub returns-clause-asks : goal.returns-clause-asks
 returns-clause-asks g c =
-    let k = c.in_ok-enter.ensures.marked (search rules) in
+    let mark = c.tree_step-step.result.mark in
+    let size = c.args.bench.now.geometry.page_size in
+    let k = subst (λ p. (page_mark c.args.marks.now p ≡ Some Unmarked) × (c.enter.new.marks ≡ set c.args.marks.now (p - 1) mark)) c.tree_step-step.ensures.page (c.in_ok-enter.ensures.marked (search rules)) in
     let low : 0 < 20 = omega arith in
-    let change = c.in_ok-load.ensures.level in
+    let read = c.in_ok-load.ensures.level in
+    let shape = geometry_kept c.args.bench.now c.load.new.self 0 low read.bytes read.only in
     record {
-      told = c.walk_pages.ensures.told ∙ c.load.ensures.told;
-      log = log_then g.S.Source.step c.args.bench.now.geometry.page_size c.load.new.self.geometry.page_size c.args.marks.now c.enter.new.marks c.walk_pages.new.marks
-          (g.S.Source.held c.args.source.now).trail (g.S.Source.held c.load.new.source).trail (g.S.Source.held c.walk_pages.new.source).trail
-          (ap (λ s. s.page_size) (geometry_kept c.args.bench.now c.load.new.self 0 low change.bytes change.only))
-          (log_page g.S.Source.step c.args.bench.now.geometry.page_size c.args.marks.now c.enter.new.marks c.tree_step-step.result.page c.tree_step-step.result.mark (g.S.Source.held c.args.source.now).trail (g.S.Source.held c.load.new.source).trail
-          k.0 k.1 c.tree_step-step.ensures.used (subst (λ p. LeadsBy g.S.Source.step (g.S.Source.held c.args.source.now).trail (page_range c.args.bench.now.geometry.page_size p) (g.S.Source.held c.load.new.source).trail) (sym c.tree_step-step.ensures.page)
-          (leads_read g.S.Source.step _ _ c.load.result _ _ _ c.load.ensures.level.size c.load.ensures.level.holds.0)))
-          c.walk_pages.ensures.log;
+      log = log_then _ _ (ap (λ s. s.page_size) shape) (log_page _ size c.args.marks.now c.enter.new.marks c.args.root.page mark k.0 k.1 c.tree_step-step.ensures.used
+          (log_load size c.args.root.page read.bytes (Ok tt) c.load.ensures.told read.size read.holds) (λ file h. h)) c.walk_pages.ensures.log (λ file h done e coded W d at held empty.
+          let root = c.args.root in
+          let is = c.tree_step-step.ensures.step (kind_in file root) root.start [] d refl at.candidate in
+          let next = root_next file (kind_in file root) root.start root.page 0 root.start W d at.candidate at.early in
+          let t = c.new-tree.result in
+          let same = page_read file read.bytes size root.page read.size h (sym (ap (λ s. s.page_size) e)) in
+          let there : StandsAt c.load.new.self.levels 0 (page_bytes file root.page) = read_there c.args.bench.now c.load.new.self 0 low read.bytes read.only (page_bytes file root.page) same in
+          let kinds = c.new-tree.ensures.names.1 ∙ c.root_kind.ensures.kind ∙ ap (kind_of root.kind root.page) (there (bytes_at c.load.new.self 0) c.root_kind.ensures.there) in
+          let starts = c.new-tree.ensures.names.0 in
+          let n = subst (λ b. Enters g.K.Sink.takes g.K.Sink.drops file W d (Ok b) c.enter.new.marks c.args.sink.now c.enter.new.sink) c.if-not-branch.false (c.in_ok-enter.ensures.entered file W d is next at.marked) in
+          subst (λ s. IsTreeDone g.K.Sink.takes g.K.Sink.drops g.T.Taker.takes g.T.Taker.refuses file W d c.walk_pages.result c.walk_pages.new.marks s c.walk_pages.new.sink c.args.taker.now c.walk_pages.new.taker) (sym n.2)
+          (done (shape ∙ e) coded W d (candidate_as (kind_in file root) t.kind root.start t.start [] [] root.page root.page 0 root.start t.start d kinds starts refl refl starts at.candidate)
+          there n.0 (subst (λ k. AreOfEarlierStarts k W) (sym starts) at.early) n.1 held (λ z. empty (c.requires.schema.1 (sym starts ∙ z)))));
       count = c.walk_pages.ensures.reads ∙ ap (failures_after is_read_failed c.walk_pages.result) c.in_ok-load.ensures.count;
     }
 
 pub returns-clause-others : goal.returns-clause-others
 returns-clause-others g c = λ l. c.walk_pages.ensures.others (subst (λ k. 1 ≤ k) (sym c.new-tree.ensures.names.0) l)
-
-pub returns-clause-done : goal.returns-clause-done
-returns-clause-done g c =
-    let change = c.in_ok-load.ensures.level in
-    if_some_moved (λ file. IsRangeOf file ((c.args.root.page - 1) * c.args.bench.now.geometry.page_size) change.bytes) _ _ (g.S.Source.held c.args.source.now).bytes (g.S.Source.held c.load.new.source).bytes c.load.ensures.told change.holds.1 c.walk_pages.ensures.done
-    (λ file h done e coded W d at held empty.
-    let root = c.args.root in
-    let is = c.tree_step-step.ensures.step (kind_in file root) root.start [] d refl at.candidate in
-    let next = root_next file (kind_in file root) root.start root.page 0 root.start W d at.candidate at.early in
-    let run = root_running file (kind_in file root) root.start root.page 0 root.start W d at.candidate at.early in
-    let t = c.new-tree.result in
-    let low : 0 < 20 = omega arith in
-    let read = page_read file change.bytes c.args.bench.now.geometry.page_size root.page change.size h (sym (ap (λ s. s.page_size) e)) in
-    let there : StandsAt c.load.new.self.levels 0 (page_bytes file root.page) = read_there c.args.bench.now c.load.new.self 0 low change.bytes change.only (page_bytes file root.page) read in
-    let kinds = c.new-tree.ensures.names.1 ∙ c.root_kind.ensures.kind ∙ ap (kind_of root.kind root.page) (there (bytes_at c.load.new.self 0) c.root_kind.ensures.there) in
-    let starts = c.new-tree.ensures.names.0 in
-    let n = subst (λ b. Enters g.K.Sink.takes g.K.Sink.drops file W d (Ok b) c.enter.new.marks c.args.sink.now c.enter.new.sink) c.if-not-branch.false (c.in_ok-enter.ensures.entered file W d is next at.marked) in
-    let tree = done (geometry_kept c.args.bench.now c.load.new.self 0 low change.bytes change.only ∙ e) coded W d
-    (candidate_as (kind_in file root) t.kind root.start t.start [] [] root.page root.page 0 root.start t.start d kinds starts refl refl starts at.candidate)
-    there n.0 (subst (λ k. AreOfEarlierStarts k W) (sym starts) at.early) n.1 held (λ z. empty (c.requires.schema.1 (sym starts ∙ z))) in
-    subst (λ s. IsDone g.K.Sink.takes g.K.Sink.drops file W (Go d ∷ []) c.walk_pages.result c.walk_pages.new.marks s c.walk_pages.new.sink) (sym n.2) tree.done)
-
-pub returns-clause-rows : goal.returns-clause-rows
-returns-clause-rows g c =
-    let change = c.in_ok-load.ensures.level in
-    if_some_moved (λ file. IsRangeOf file ((c.args.root.page - 1) * c.args.bench.now.geometry.page_size) change.bytes) _ _ (g.S.Source.held c.args.source.now).bytes (g.S.Source.held c.load.new.source).bytes c.load.ensures.told change.holds.1 c.walk_pages.ensures.done
-    (λ file h done e coded W d at held empty schema.
-    let root = c.args.root in
-    let is = c.tree_step-step.ensures.step (kind_in file root) root.start [] d refl at.candidate in
-    let next = root_next file (kind_in file root) root.start root.page 0 root.start W d at.candidate at.early in
-    let run = root_running file (kind_in file root) root.start root.page 0 root.start W d at.candidate at.early in
-    let t = c.new-tree.result in
-    let low : 0 < 20 = omega arith in
-    let read = page_read file change.bytes c.args.bench.now.geometry.page_size root.page change.size h (sym (ap (λ s. s.page_size) e)) in
-    let there : StandsAt c.load.new.self.levels 0 (page_bytes file root.page) = read_there c.args.bench.now c.load.new.self 0 low change.bytes change.only (page_bytes file root.page) read in
-    let kinds = c.new-tree.ensures.names.1 ∙ c.root_kind.ensures.kind ∙ ap (kind_of root.kind root.page) (there (bytes_at c.load.new.self 0) c.root_kind.ensures.there) in
-    let starts = c.new-tree.ensures.names.0 in
-    let n = subst (λ b. Enters g.K.Sink.takes g.K.Sink.drops file W d (Ok b) c.enter.new.marks c.args.sink.now c.enter.new.sink) c.if-not-branch.false (c.in_ok-enter.ensures.entered file W d is next at.marked) in
-    let tree = done (geometry_kept c.args.bench.now c.load.new.self 0 low change.bytes change.only ∙ e) coded W d
-    (candidate_as (kind_in file root) t.kind root.start t.start [] [] root.page root.page 0 root.start t.start d kinds starts refl refl starts at.candidate)
-    there n.0 (subst (λ k. AreOfEarlierStarts k W) (sym starts) at.early) n.1 held (λ z. empty) in
-    tree.given (at.candidate.start ∙ c.requires.schema.0 schema))

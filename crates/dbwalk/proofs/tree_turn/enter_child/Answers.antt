@@ -1,8 +1,8 @@
-use Rattle.std.proofs.Common.{rules, ◌≡◌, ◌+◌, ◌/◌, ◌<◌, ◌≤◌, ◌++◌, [], ◌∷◌, length, Ok, Err, refl, sym, ap, subst, arith, ◌∙◌}
+use Rattle.std.proofs.Common.{rules, ◌≡◌, ◌+◌, ◌/◌, ◌<◌, ◌++◌, [], ◌∷◌, length, Ok, Err, refl, sym, ap, subst, arith, ◌∙◌}
 use Rattle.std.specs.Prelude.{ℕ, IfErr}
 use Rattle.std.proofs.lemmas.Result.{err_from_is_err_and}
 use Rattle.dbformat.specs.FixedPages.{IsPageNumber}
-use Rattle.dbwalk.proofs.Chaining.ChainTurns.{if_some_both}
+use Rattle.dbsource.proofs.Logs.{has_weaker}
 use Rattle.dbwalk.specs.Stack.{child_at, top_visit}
 use Rattle.dbformat.specs.Address.{schema_start}
 use Rattle.dbwalk.specs.Outcomes.{IsReadOrWrite}
@@ -38,8 +38,8 @@ returns-then-not-branch-clause-others g c = λ l. ((c.in_ok-enter_page.ensures.o
 pub returns-clause-others : goal.returns-clause-others
 returns-clause-others g c = λ l. ((c.in_ok-enter_page.ensures.others l).0, tt)
 
-pub returns-in_err-enter_page-clause-walking : goal.returns-in_err-enter_page-clause-walking
-returns-in_err-enter_page-clause-walking g c = if_some_both _ _ _ (g.S.Source.held c.args.source.now).bytes c.in_err-enter_page.ensures.done c.in_err-enter_page.ensures.done (λ file h w e coded W d before candidate held first empty walk.
+pub returns-in_err-enter_page-clause-log : goal.returns-in_err-enter_page-clause-log
+returns-in_err-enter_page-clause-log g c = has_weaker _ _ c.in_err-enter_page.ensures.log (λ log r. r) (λ file h e coded W d before candidate held first empty walk.
     let t = c.args.tree.now in
     let b = c.args.bench.now in
     let fs = c.args.frames.now.items in
@@ -80,8 +80,8 @@ returns-then-not-branch-clause-ends g c =
     subst (λ l. cost c.enter_page.new.marks l < cost c.args.marks.now (fs ++ (f ∷ []))) (sym c.push.ensures.items)
     (ends_on c.args.marks.now c.enter_page.new.marks fs f c.stepped.result c.in_ok-enter_page.ensures.fewer.0 c.stepped.ensures.next s.most)
 
-pub returns-then-not-branch-clause-walking : goal.returns-then-not-branch-clause-walking
-returns-then-not-branch-clause-walking g c = if_some_both _ _ _ (g.S.Source.held c.args.source.now).bytes c.in_ok-enter_page.ensures.done c.in_ok-enter_page.ensures.done (λ file h w e coded W d before candidate held first empty walk.
+pub returns-then-not-branch-clause-log : goal.returns-then-not-branch-clause-log
+returns-then-not-branch-clause-log g c = has_weaker _ _ c.in_ok-enter_page.ensures.log (λ log r. r) (λ file h e coded W d before candidate held first empty walk.
     let t = c.args.tree.now in
     let b = c.args.bench.now in
     let fs = c.args.frames.now.items in
@@ -137,8 +137,8 @@ returns-clause-ends g c =
     subst (λ l. cost c.enter_page.new.marks l < cost c.args.marks.now (fs ++ (f ∷ []))) (sym (c.push-3.ensures.items ∙ ap (λ l. l ++ (record { page = c.args.page; next = 0 } ∷ [])) c.push.ensures.items))
     (ends_enter c.args.marks.now c.enter_page.new.marks fs f c.stepped.result (record { page = c.args.page; next = 0 }) (c.in_ok-enter_page.ensures.fewer.1 (search rules)) c.stepped.ensures.next s.most refl)
 
-pub returns-clause-walking : goal.returns-clause-walking
-returns-clause-walking g c = if_some_both _ _ _ (g.S.Source.held c.args.source.now).bytes c.in_ok-enter_page.ensures.done c.in_ok-enter_page.ensures.done (λ file h w e coded W d before candidate held first empty walk.
+pub returns-clause-log : goal.returns-clause-log
+returns-clause-log g c = has_weaker _ _ c.in_ok-enter_page.ensures.log (λ log r. r) (λ file h e coded W d before candidate held first empty walk.
     let t = c.args.tree.now in
     let b = c.args.bench.now in
     let fs = c.args.frames.now.items in

@@ -11,7 +11,7 @@ use Rattle.dbformat.specs.declared.FaultCode.TheVariants.{T06}
 use Rattle.dbwalk.specs.Running.{is_late, greater_key}
 use Rattle.std.proofs.lemmas.Result.{err_from_is_err_and}
 use Rattle.dbsource.specs.Bench.{Pages}
-use Rattle.dbwalk.proofs.Chaining.ChainTurns.{if_some_all, if_some_both}
+use Rattle.dbsource.proofs.Logs.{has_weaker}
 use Rattle.dbwalk.proofs.Marking.Readings.{log_none}
 use Rattle.dbwalk.specs.Steps.{HasNext}
 use Rattle.dbwalk.specs.Telling.{findings}
@@ -84,18 +84,6 @@ returns-in_err-tell_key-in-Key-clause-others g c =
 pub returns-in-Chain-clause-others : goal.returns-in-Chain-clause-others
 returns-in-Chain-clause-others g c = λ l. (refl, c.walk_unfed.ensures.only)
 
-pub returns-in_err-tell_key-in-Key-clause-log : goal.returns-in_err-tell_key-in-Key-clause-log
-returns-in_err-tell_key-in-Key-clause-log g c = log_none g.S.Source.step c.args.bench.now.geometry.page_size c.args.marks.now c.args.marks.now (g.S.Source.held c.args.source.now).trail refl
-
-pub returns-in-Behind-clause-log : goal.returns-in-Behind-clause-log
-returns-in-Behind-clause-log g c = log_none g.S.Source.step c.args.bench.now.geometry.page_size c.args.marks.now c.args.marks.now (g.S.Source.held c.args.source.now).trail refl
-
-pub returns-in-Nothing-clause-log : goal.returns-in-Nothing-clause-log
-returns-in-Nothing-clause-log g c = log_none g.S.Source.step c.args.bench.now.geometry.page_size c.args.marks.now c.args.marks.now (g.S.Source.held c.args.source.now).trail refl
-
-pub returns-in_ok-tell_key-in-Key-clause-log : goal.returns-in_ok-tell_key-in-Key-clause-log
-returns-in_ok-tell_key-in-Key-clause-log g c = log_none g.S.Source.step c.args.bench.now.geometry.page_size c.args.marks.now c.args.marks.now (g.S.Source.held c.args.source.now).trail refl
-
 pub returns-in-Behind-clause-open : goal.returns-in-Behind-clause-open
 returns-in-Behind-clause-open g c =
     let t = c.args.tree.now in
@@ -114,8 +102,8 @@ returns-in-Behind-clause-ends g c =
     let has = subst (λ x. HasNext b.geometry.usable t.kind b.levels (length fs) f.page f.next x) c.in-Behind.is (subst (λ n. HasNext b.geometry.usable t.kind b.levels n f.page f.next c.step_of.result) c.len.ensures.value c.step_of.ensures) in
     ends_behind c.args.marks.now fs f (at_step b.geometry.usable t.kind b.levels fs f Behind c.requires.«open» has).most
 
-pub returns-in-Behind-clause-walking : goal.returns-in-Behind-clause-walking
-returns-in-Behind-clause-walking g c = if_some_all _ (g.S.Source.held c.args.source.now).bytes (λ file e coded W d before candidate held first empty walk.
+pub returns-in-Behind-clause-log : goal.returns-in-Behind-clause-log
+returns-in-Behind-clause-log g c = log_none c.args.bench.now.geometry.page_size c.args.marks.now c.args.marks.now (g.S.Source.held c.args.source.now) refl (λ file e coded W d before candidate held first empty walk.
     let t = c.args.tree.now in
     let b = c.args.bench.now in
     let fs = c.args.frames.now.items in
@@ -146,8 +134,8 @@ returns-in-Nothing-clause-ends g c =
     subst (λ l. cost c.args.marks.now l < cost c.args.marks.now (fs ++ (f ∷ []))) (sym c.push.ensures.items)
     (ends_on c.args.marks.now c.args.marks.now fs f c.stepped.result (omega arith) c.stepped.ensures.next s.most)
 
-pub returns-in-Nothing-clause-walking : goal.returns-in-Nothing-clause-walking
-returns-in-Nothing-clause-walking g c = if_some_all _ (g.S.Source.held c.args.source.now).bytes (λ file e coded W d before candidate held first empty walk.
+pub returns-in-Nothing-clause-log : goal.returns-in-Nothing-clause-log
+returns-in-Nothing-clause-log g c = log_none c.args.bench.now.geometry.page_size c.args.marks.now c.args.marks.now (g.S.Source.held c.args.source.now) refl (λ file e coded W d before candidate held first empty walk.
     let t = c.args.tree.now in
     let b = c.args.bench.now in
     let fs = c.args.frames.now.items in
@@ -156,8 +144,8 @@ returns-in-Nothing-clause-walking g c = if_some_all _ (g.S.Source.held c.args.so
     subst (λ l. IsGivenWalk g.K.Sink.takes g.T.Taker.takes file t.kind W d before l b.levels c.args.marks.now t.greatest t.leaf c.args.sink.now first c.args.taker.now) (sym c.push.ensures.items)
     (stepped g.K.Sink.takes g.K.Sink.drops g.T.Taker.takes g.T.Taker.refuses file t.kind t.start W d candidate before b.levels fs f c.args.marks.now t.greatest t.leaf c.args.sink.now first c.args.taker.now walk c.stepped.result c.stepped.ensures.page c.stepped.ensures.next t.greatest c.args.sink.now (turned_empty g.K.Sink.takes g.K.Sink.drops file t.kind t.start W d candidate before b.levels fs f c.args.marks.now t.greatest t.leaf c.args.sink.now walk.walking c.stepped.result c.stepped.ensures.page c.stepped.ensures.next (next_here g.K.Sink.takes g.K.Sink.drops file t.kind t.start W d candidate before b.levels fs f c.args.marks.now t.greatest t.leaf c.args.sink.now walk.walking b.geometry.usable (ap (λ s. s.usable) e) Nothing has))))
 
-pub returns-in_err-tell_key-in-Key-clause-walking : goal.returns-in_err-tell_key-in-Key-clause-walking
-returns-in_err-tell_key-in-Key-clause-walking g c = if_some_all _ (g.S.Source.held c.args.source.now).bytes (λ file e coded W d before candidate held first empty walk.
+pub returns-in_err-tell_key-in-Key-clause-log : goal.returns-in_err-tell_key-in-Key-clause-log
+returns-in_err-tell_key-in-Key-clause-log g c = log_none c.args.bench.now.geometry.page_size c.args.marks.now c.args.marks.now (g.S.Source.held c.args.source.now) refl (λ file e coded W d before candidate held first empty walk.
     let t = c.args.tree.now in
     let b = c.args.bench.now in
     let fs = c.args.frames.now.items in
@@ -191,8 +179,8 @@ returns-in_ok-tell_key-in-Key-clause-ends g c =
     subst (λ l. cost c.args.marks.now l < cost c.args.marks.now (fs ++ (f ∷ []))) (sym c.push-in-Key.ensures.items)
     (ends_on c.args.marks.now c.args.marks.now fs f c.stepped-in-Key.result (omega arith) c.stepped-in-Key.ensures.next s.most)
 
-pub returns-in_ok-tell_key-in-Key-clause-walking : goal.returns-in_ok-tell_key-in-Key-clause-walking
-returns-in_ok-tell_key-in-Key-clause-walking g c = if_some_all _ (g.S.Source.held c.args.source.now).bytes (λ file e coded W d before candidate held first empty walk.
+pub returns-in_ok-tell_key-in-Key-clause-log : goal.returns-in_ok-tell_key-in-Key-clause-log
+returns-in_ok-tell_key-in-Key-clause-log g c = log_none c.args.bench.now.geometry.page_size c.args.marks.now c.args.marks.now (g.S.Source.held c.args.source.now) refl (λ file e coded W d before candidate held first empty walk.
     let t = c.args.tree.now in
     let b = c.args.bench.now in
     let fs = c.args.frames.now.items in
@@ -234,8 +222,8 @@ returns-in-Chain-clause-ends g c =
     (subst (λ l. cost c.walk_unfed.new.marks l < cost c.args.marks.now (fs ++ (f ∷ []))) (sym c.push-in-Chain.ensures.items)
     (ends_on c.args.marks.now c.walk_unfed.new.marks fs f c.stepped-in-Chain.result (keeps_fewer c.args.marks.now c.walk_unfed.new.marks c.walk_unfed.ensures.log.holds.kept) c.stepped-in-Chain.ensures.next s.most))
 
-pub returns-in-Chain-clause-walking : goal.returns-in-Chain-clause-walking
-returns-in-Chain-clause-walking g c = if_some_both _ _ _ (g.S.Source.held c.args.source.now).bytes c.walk_unfed.ensures.done c.walk_unfed.ensures.done (λ file h w e coded W d before candidate held first empty walk.
+pub returns-in-Chain-clause-log : goal.returns-in-Chain-clause-log
+returns-in-Chain-clause-log g c = has_weaker _ _ c.walk_unfed.ensures.log (λ log r. r) (λ file h e coded W d before candidate held first empty walk.
     let t = c.args.tree.now in
     let b = c.args.bench.now in
     let fs = c.args.frames.now.items in

@@ -7,6 +7,7 @@ pub invariant_of-result : goal.invariant_of-result
 invariant_of-result g c =
     let geo = c.geometry-geometry.result in
     record {
+      accepted = c.geometry-geometry.ensures.accepted;
       shape = c.in_ok-bench.ensures ∙ c.geometry-geometry.ensures.shape;
       marks = subst (AreMarksFor c.in_ok-bench.bench.geometry) (sym c.in_ok-marks.ensures)
           (subst (λ shape. AreMarksFor shape (marks_of geo [])) (sym c.in_ok-bench.ensures) (first_marks geo));
