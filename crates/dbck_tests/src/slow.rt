@@ -4,3 +4,4 @@ mod file;
 mod page;
 mod row;
 mod sound;
+mod versions;

@@ -3,3 +3,4 @@ pub(crate) mod check_tables;
 pub(crate) mod fakes;
 pub(crate) mod files;
 pub(crate) mod stat_tables;
+pub(crate) mod versions;

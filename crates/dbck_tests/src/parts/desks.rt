@@ -3,7 +3,7 @@ use crate::support::check_tables::{patched, verdict_of};
 use crate::support::files::{ladder, long_freelist};
 use crate::support::stat_tables::{ALL_PAGES, PAGES, TREES, TREES_AND_ALL, written};
 use dbfiles::{DrawnSource, Sample, StatedSource, TestFile};
-use dbreport::{Command, Desk, Verdict, run, run_on};
+use dbreport::{Command, Desk, Verdict, run, run_on, told_files_are_read};
 use dbsource::{Header, LogSource, MemOut, MemSource, RunError};
 use std::alloc::{AllocError, Global};
 use std::test::Fail;
@@ -121,5 +121,15 @@ fn reads_no_page_twice(rt: HostRuntime) -> Result<(), Fail> {
         reads = reads.wrapping_add(found.unwrap_or(0));
     }
     assert!(rt; reads > 1000, "{reads} reads");
+    Ok(())
+}
+
+// What it says is proved; here it is called for a source over memory.
+#[test]
+fn told_files_are_read_from_memory(rt: HostRuntime) -> Result<(), Fail> {
+    let file = Sample::LongRow.of_pages(rt.alloc(), 3)?.into_bytes();
+    let mut source = MemSource::new(file.as_slice());
+    assert!(rt; written(rt.alloc(), CHECK, &mut source).answer == Ok(Verdict::Clean));
+    told_files_are_read::<MemSource<'_>>();
     Ok(())
 }
