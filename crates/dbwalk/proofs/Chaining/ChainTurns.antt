@@ -3,13 +3,13 @@ use Rattle.std.proofs.Common.{◌≡◌, ℕ, ◌+◌, ◌-◌, ◌≤◌, ◌<�
 use Rattle.std.specs.Prelude.{IfSome}
 use Rattle.std.proofs.lemmas.List.{append-nil}
 use Rattle.dbsurvey.specs.Moves.{Moves}
-use Rattle.dbsurvey.specs.Story.{Errand, Go, errands_of}
+use Rattle.dbsurvey.specs.Story.{Go, errands_of}
 use Rattle.dbsurvey.specs.InOrder.{AreQuiet}
 use Rattle.dbformat.specs.File.{page_bytes}
 use Rattle.dbformat.specs.Header.{usable_size}
 use Rattle.dbformat.specs.Payload.{overflow_next}
-use Rattle.dbformat.specs.Reference.{Way, Reference, role_of, from_of, bytes_left, overflow_links}
-use Rattle.dbformat.specs.Story.{Event, at_page, own_visit, story_of}
+use Rattle.dbformat.specs.Reference.{Reference, role_of, from_of, bytes_left, overflow_links}
+use Rattle.dbformat.specs.Story.{at_page, own_visit, story_of}
 use Rattle.dbformat.proofs.Looping.{by_chain, all_quiet}
 use Rattle.dbformat.specs.Schema.{held_bytes}
 use Rattle.dbbytes.specs.declared.sieve.RowSieve.{RowSieve}
@@ -26,7 +26,7 @@ use Rattle.dbwalk.specs.Finding.{Finding, told_at, told_below}
 use Rattle.dbwalk.specs.Left.{IsLeft}
 use Rattle.dbwalk.specs.Marking.{role_mark, AreMarksOf}
 use Rattle.dbwalk.specs.Outcomes.{StopsBy}
-use Rattle.dbwalk.proofs.Telling.Belows.{told_refused, told_visit}
+use Rattle.dbwalk.proofs.Telling.Belows.{told_visit}
 use Rattle.dbwalk.proofs.Chaining.Feedings.{feeds_none, feeds_page, fed_whole, fed_refused}
 use Rattle.dbwalk.proofs.Telling.Lefts.{left_start, left_refused, left_visit, left_none, left_stop}
 use Rattle.dbwalk.proofs.Chaining.Overflows.{more_errands, last_errands, next_on_chain, overflow_shallow}
@@ -39,21 +39,13 @@ quiet_chain : (file : List ℕ) (d : Reference) (left : ℕ) → bytes_left (rol
 quiet_chain file d left h = subst (λ es. AreQuiet own_visit es) (sym (by_chain file d left h)) (all_quiet.2 d (overflow_links d.page (usable_size file) left (page_bytes file d.page)))
 
 module _ {S : Type 0} (takes drops : S → Finding → S → Type 0) (file : List ℕ) (W : List Reference) (c : Reference) (before : S) (chain : Chain) (place : Place) (marks : List Mark) (s : S) {first old : Option RowSieve} (on : IsOnWay takes file W c before chain place marks s first old) where
-  relabel : (U : List Reference) (left : List (Errand Way Event)) (m m' : List Mark) (t : S) → IsLeft takes file W (Go c ∷ []) before U left m t → AreMarksOf file U m' → IsLeft takes file W (Go c ∷ []) before U left m' t
-  relabel U left m m' t h k = record { marked = k; past = h.past; apart = h.apart; visits = h.visits; items = h.items; told = h.told; rest = h.rest }
-
   -- the next reference is refused
   pub turn_refused : (marks' : List Mark) (t : S) → Enters takes drops file on.visited on.d (Ok false) marks' s t → IsDone {A = Unit {0}} takes drops file W (Go c ∷ []) (Ok tt) marks' before t × FeedsChain file W c first old
   turn_refused marks' t e = (
     left_none takes file W (Go c ∷ []) before on.visited marks' t drops tt
-        (relabel on.visited [] marks marks' t (left_refused takes file W (Go c ∷ []) before on.visited marks s t on.d [] on.rest e.0 e.2) e.1),
+        (left_refused takes file W (Go c ∷ []) before on.visited marks s t marks' on.d [] on.rest e.0 e.1 e.2),
     fed_refused file W c on.d first old on.pages on.visited on.fed on.since e.0 on.rest.visits,
   )
-
-  -- and that could not be told
-  pub turn_not_told : (x : RunError) (marks' : List Mark) (t : S) → Enters takes drops file on.visited on.d (Err x) marks' s t → IsDone {A = Unit {0}} takes drops file W (Go c ∷ []) (Err x) marks' before t
-  turn_not_told x marks' t e = left_stop takes file W (Go c ∷ []) before on.visited marks s drops t marks' x (Go on.d ∷ []) _ (told_below file on.visited []) on.rest
-      (sym (told_refused file on.visited on.d [] e.0)) e.2
 
   -- it is followed, but its page could not be read or told
   pub turn_stopped : (x : RunError) (marks' : List Mark) (m t : S) → Enters takes drops file on.visited on.d (Ok true) marks' s m

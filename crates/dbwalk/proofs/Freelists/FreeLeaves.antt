@@ -1,5 +1,5 @@
 -- The leaves of a trunk, one after another.
-use Rattle.std.proofs.Common.{◌≡◌, ℕ, zero, suc, ◌+◌, ◌-◌, ◌*◌, ◌<◌, true, false, inl, inr, Bool, List, [], ◌∷◌, ◌++◌, map, Ok, Err, sym, ap, subst, arith}
+use Rattle.std.proofs.Common.{◌≡◌, ℕ, zero, suc, ◌+◌, ◌-◌, ◌*◌, ◌<◌, true, false, inl, inr, Bool, List, [], ◌∷◌, ◌++◌, map, Ok, sym, ap, subst, arith}
 use Rattle.dbsurvey.specs.Story.{Errand, Go, errands_of}
 use Rattle.dbsurvey.specs.InOrder.{AreQuiet}
 use Rattle.dbformat.specs.Address.{then_step}
@@ -11,16 +11,12 @@ use Rattle.dbsurvey.specs.Moves.{Moves}
 use Rattle.dbformat.specs.Reference.{free_leaf, Way, Reference, role_of}
 use Rattle.dbformat.specs.Story.{Event, at_page, own_visit, story_of}
 use Rattle.dbformat.proofs.Looping.{none_at_free_leaf}
-use Rattle.dbsource.specs.declared.error.RunError.{RunError}
 use Rattle.dbwalk.specs.declared.mark.Mark.{Mark}
 use Rattle.dbwalk.specs.Entered.{IsNext, Enters}
-use Rattle.dbwalk.specs.Done.{IsDone}
-use Rattle.dbwalk.specs.Finding.{Finding, told_row, told_fault, told_at, told_below}
+use Rattle.dbwalk.specs.Finding.{Finding, told_row, told_fault, told_at}
 use Rattle.dbwalk.specs.FreeLeaves.{leaves_from}
 use Rattle.dbwalk.specs.Left.{IsLeft}
-use Rattle.dbwalk.specs.Marking.{AreMarksOf}
-use Rattle.dbwalk.proofs.Telling.Belows.{told_refused}
-use Rattle.dbwalk.proofs.Telling.Lefts.{left_refused, left_visit, left_stop}
+use Rattle.dbwalk.proofs.Telling.Lefts.{left_refused, left_visit}
 
 -- leaf j of a trunk
 abbrev pub leaf_of : Reference → List ℕ → ℕ → Reference
@@ -40,18 +36,12 @@ module _ {S : Type 0} (takes drops : S → Finding → S → Type 0) (file : Lis
   next_of_left u f i (inl e) = left.past u f i (inl e)
   next_of_left u f i (inr n) = absurd n
 
-  relabel : (V : List Reference) (l : List (Errand Way Event)) (m m' : List Mark) (r : S) → IsLeft takes file W errands before V l m r → AreMarksOf file V m' → IsLeft takes file W errands before V l m' r
-  relabel V l m m' r h k = record { marked = k; past = h.past; apart = h.apart; visits = h.visits; items = h.items; told = h.told; rest = h.rest }
-
   -- a leaf is entered: nothing is told of it, or why it is refused
   pub leaf_entered : (b : Bool) → role_of c ≡ free_leaf → Enters takes drops file U c (Ok b) marks' s t → (T : List Reference) × IsLeft takes file W errands before T es marks' t
-  leaf_entered false r e = (U, relabel U es marks marks' t (left_refused takes file W errands before U marks s t c es left e.0 e.2) e.1)
+  leaf_entered false r e = (U, left_refused takes file W errands before U marks s t marks' c es left e.0 e.1 e.2)
   leaf_entered true r e =
       let none : errands_of (story_of file) c ≡ [] = none_at_free_leaf file c r in (
         U ++ (c ∷ []),
         subst (λ fs. IsLeft takes file W errands before (U ++ (c ∷ [])) (fs ++ es) marks' t) none
             (left_visit takes file W errands before U marks s t marks' c es left e.0 (subst (λ fs. AreQuiet own_visit fs) (sym none) (λ d i. absurd i)) e.1 (subst (λ l. Moves takes s l t) (sym (told_free file (U ++ (c ∷ [])) c r)) e.2)),
       )
-
-  pub leaf_stopped : (x : RunError) → Enters takes drops file U c (Err x) marks' s t → IsDone {A = Unit {0}} takes drops file W errands (Err x) marks' before t
-  leaf_stopped x e = left_stop takes file W errands before U marks s drops t marks' x (Go c ∷ es) _ (told_below file U es) left (sym (told_refused file U c es e.0)) e.2

@@ -6,7 +6,7 @@ use Rattle.std.proofs.lemmas.Bool.Decides.{nat_tests}
 use Rattle.std.proofs.lemmas.List.{append-nil}
 use Rattle.dbsurvey.specs.Address.{IsIn}
 use Rattle.dbsurvey.specs.Moves.{Moves}
-use Rattle.dbsurvey.specs.Story.{Errand, Told, Go, Tell, errands_of}
+use Rattle.dbsurvey.specs.Story.{Told, Go, Tell, errands_of}
 use Rattle.dbsurvey.specs.InOrder.{AreQuiet}
 use Rattle.dbsurvey.specs.Traverse.{is_followed}
 use Rattle.dbsurvey.proofs.Order.{IsIn-cases}
@@ -17,7 +17,7 @@ use Rattle.dbformat.specs.File.{page_bytes}
 use Rattle.dbformat.specs.Header.{usable_size}
 use Rattle.dbformat.specs.Numbers.{u32_at}
 use Rattle.dbformat.specs.PageFaults.{trunk_fault, role_faults, page_faults}
-use Rattle.dbformat.specs.Reference.{Role, trunk, Way, Reference, role_of, link, next_trunk, leaf_count, most_leaves}
+use Rattle.dbformat.specs.Reference.{Role, trunk, Reference, role_of, link, next_trunk, leaf_count, most_leaves}
 use Rattle.dbformat.specs.Rows.{row_in}
 use Rattle.dbformat.specs.Story.{Event, at_page, own_visit, story_of}
 use Rattle.dbformat.specs.Survey.{rules_of}
@@ -33,7 +33,7 @@ use Rattle.dbwalk.specs.Left.{IsLeft}
 use Rattle.dbwalk.specs.Marking.{role_mark, AreMarksOf}
 use Rattle.dbwalk.specs.Outcomes.{StopsBy}
 use Rattle.dbwalk.specs.Trunks.{IsFirstTrunk, IsOnTrunks, TrunkTurns, trunk_step, next_step}
-use Rattle.dbwalk.proofs.Telling.Belows.{told_refused, told_visit}
+use Rattle.dbwalk.proofs.Telling.Belows.{told_visit}
 use Rattle.dbwalk.proofs.Telling.Lefts.{left_start, left_refused, left_visit, left_none, left_stop}
 use Rattle.dbformat.specs.Survey.{is_too_deep}
 
@@ -114,18 +114,10 @@ module _ {S : Type 0} (takes drops : S → Finding → S → Type 0) (file : Lis
       (subst (λ L. StopsBy takes drops x s L t) (sym (told_too_many file (U ++ d ∷ []) d role l)) k)
 
 module _ {S : Type 0} (takes drops : S → Finding → S → Type 0) (file : List ℕ) (W : List Reference) (c : Reference) (before : S) (step : Step) (marks : List Mark) (s : S) (on : IsOnTrunks takes file W c before step marks s) where
-  relabel : (U : List Reference) (left : List (Errand Way Event)) (m m' : List Mark) (t : S) → IsLeft takes file W (Go c ∷ []) before U left m t → AreMarksOf file U m' → IsLeft takes file W (Go c ∷ []) before U left m' t
-  relabel U left m m' t h k = record { marked = k; past = h.past; apart = h.apart; visits = h.visits; items = h.items; told = h.told; rest = h.rest }
-
   -- the next trunk is refused
   pub trunk_refused : (marks' : List Mark) (t : S) → Enters takes drops file on.visited on.d (Ok false) marks' s t → IsDone {A = Unit {0}} takes drops file W (Go c ∷ []) (Ok tt) marks' before t
   trunk_refused marks' t e = left_none takes file W (Go c ∷ []) before on.visited marks' t drops tt
-      (relabel on.visited [] marks marks' t (left_refused takes file W (Go c ∷ []) before on.visited marks s t on.d [] on.rest e.0 e.2) e.1)
-
-  -- and that could not be told
-  pub trunk_not_told : (x : RunError) (marks' : List Mark) (t : S) → Enters takes drops file on.visited on.d (Err x) marks' s t → IsDone {A = Unit {0}} takes drops file W (Go c ∷ []) (Err x) marks' before t
-  trunk_not_told x marks' t e = left_stop takes file W (Go c ∷ []) before on.visited marks s drops t marks' x (Go on.d ∷ []) _ (told_below file on.visited []) on.rest
-      (sym (told_refused file on.visited on.d [] e.0)) e.2
+      (left_refused takes file W (Go c ∷ []) before on.visited marks s t marks' on.d [] on.rest e.0 e.1 e.2)
 
   -- it is followed, but its page could not be read
   pub trunk_unread : (x : RunError) (marks' : List Mark) (m : S) → Enters takes drops file on.visited on.d (Ok true) marks' s m → StopsBy takes drops x m [] m

@@ -21,6 +21,7 @@ use Rattle.dbwalk.specs.Marking.{AreMarksOf}
 use Rattle.dbwalk.specs.Finding.{Finding, told_at, told_below, visited_below}
 use Rattle.dbwalk.specs.Outcomes.{StopsBy}
 use Rattle.dbwalk.specs.Done.{IsDone}
+use Rattle.dbwalk.specs.Entered.{Enters}
 use Rattle.dbwalk.specs.Left.{IsLeft}
 use Rattle.dbwalk.proofs.Telling.Tellings.{stops_by_first, stops_by_after}
 use Rattle.dbwalk.proofs.Telling.Belows.{visited_none, visited_refused, visited_visit, visited_join, told_none, told_join, told_event, told_refused, told_visit}
@@ -68,10 +69,10 @@ module _ {S : Type 0} (takes : S → Finding → S → Type 0) (file : List ℕ)
     }
 
     -- a candidate is refused, and that is told
-    pub left_refused : (t : S) (c : Reference) (es : List (Errand Way Event)) → IsLeft takes file W errands before U (Go c ∷ es) marks s → is_followed (rules_of file) U c ≡ false
-        → Moves takes s (told_at file U (at_refused c)) t → IsLeft takes file W errands before U es marks t
-    left_refused t c es h f m = record {
-      marked = h.marked;
+    pub left_refused : (t : S) (marks' : List Mark) (c : Reference) (es : List (Errand Way Event)) → IsLeft takes file W errands before U (Go c ∷ es) marks s → is_followed (rules_of file) U c ≡ false
+        → AreMarksOf file U marks' → Moves takes s (told_at file U (at_refused c)) t → IsLeft takes file W errands before U es marks' t
+    left_refused t marks' c es h f marked m = record {
+      marked = marked;
       past = past_rest U (Go c) es h.past;
       apart = h.apart.1;
       visits = ap (λ V. U ++ V) (sym (visited_refused file U c es f)) ∙ h.visits;
@@ -124,3 +125,8 @@ module _ {S : Type 0} (takes : S → Finding → S → Type 0) (file : List ℕ)
       told = subst (λ L. StopsBy takes drops e before L t) (ap (λ L. h.items ++ L) whole ∙ h.rest)
           (stops_by_after takes drops e before s t h.items (part ++ rest) h.told (stops_by_first takes drops e s t part rest k));
     }
+
+    -- an error, while it is told that a reference is refused
+    pub left_untold : (drops : S → Finding → S → Type 0) (t : S) (marks' : List Mark) (e : RunError) (c : Reference) (es : List (Errand Way Event))
+        → IsLeft takes file W errands before U (Go c ∷ es) marks s → Enters takes drops file U c (Err e) marks' s t → IsDone {A = Unit {0}} takes drops file W errands (Err e) marks' before t
+    left_untold drops t marks' e c es h n = left_stop drops t marks' e (Go c ∷ es) _ (told_below file U es) h (sym (told_refused file U c es n.0)) n.2

@@ -77,7 +77,7 @@ module _ {S : Type 0} (takes drops : S → Finding → S → Type 0) (file : Lis
   -- it is refused, and that was told
   pub refused_passed : (marks : List Mark) (t : S) → Enters takes drops file W c (Ok false) marks s t → IsPassed takes drops file W c (Ok false) marks greatest leaf s t
   refused_passed marks t e = record {
-    done = left_none takes file W (Go c ∷ []) s W marks t drops false (left_refused takes file W (Go c ∷ []) s W marks s t c [] (at_start marks e.1) e.0 e.2);
+    done = left_none takes file W (Go c ∷ []) s W marks t drops false (left_refused takes file W (Go c ∷ []) s W marks s t marks c [] (at_start marks e.1) e.0 e.1 e.2);
     running = λ long.
         let b = below_of c.address long candidate.chain in
         subst (λ V. IsRunning file (start_of c.address) V (place_behind c.address) greatest leaf) (sym none)

@@ -1,17 +1,19 @@
 use Rattle.std.proofs.Common.{rules, ◌≡◌, ◌-◌, [], ◌∷◌, ◌++◌, Ok, Err, sym, ap, subst, ◌∙◌, ◌≤◌, ◌<◌}
 use Rattle.std.proofs.lemmas.Result.{err_from_is_err_and}
+use Rattle.dbsurvey.specs.Story.{Go}
 use Rattle.dbformat.specs.Header.{usable_size}
 use Rattle.dbwalk.specs.Entered.{Enters}
 use Rattle.dbwalk.specs.Chains.{Turns}
 use Rattle.dbwalk.proofs.Marking.Readings.{log_none, log_page}
-use Rattle.dbwalk.proofs.Chaining.ChainTurns.{turn_refused, turn_not_told, turn_stopped, turn_last, turn_more_by}
+use Rattle.dbwalk.proofs.Chaining.ChainTurns.{turn_refused, turn_stopped, turn_last, turn_more_by}
+use Rattle.dbwalk.proofs.Telling.Lefts.{left_untold}
 use Rattle.dbwalk.proofs.chain.turn.Goals as goal
 
 pub returns-in_err-enter-clause-log : goal.returns-in_err-enter-clause-log
 returns-in_err-enter-clause-log g c = log_none c.args.bench.now.geometry.page_size c.args.marks.now c.enter.new.marks (g.S.Source.held c.args.source.now) c.in_err-enter.ensures.after_error.1 (λ file e W d before first on.
     let q = err_from_is_err_and c.from_residual.result c.from_residual.ensures.1 in
     subst (λ r. Turns g.K.Sink.takes g.K.Sink.drops file W d before c.args.chain.now r c.enter.new.marks c.enter.new.sink first c.args.sieve.now) (sym (q.1 ∙ ap Err q.2))
-    (turn_not_told g.K.Sink.takes g.K.Sink.drops file W d before c.args.chain.now c.args.place c.args.marks.now c.args.sink.now on c.in_err-enter.field-0.0 c.enter.new.marks c.enter.new.sink
+    (left_untold g.K.Sink.takes file W (Go d ∷ []) before on.visited c.args.marks.now c.args.sink.now g.K.Sink.drops c.enter.new.sink c.enter.new.marks c.in_err-enter.field-0.0 on.d [] on.rest
     (c.in_err-enter.ensures.entered file on.visited on.d on.step on.rest.past on.rest.marked)))
 
 pub returns-then-not-branch-clause-log : goal.returns-then-not-branch-clause-log

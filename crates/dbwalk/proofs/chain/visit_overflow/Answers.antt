@@ -1,27 +1,25 @@
-use Rattle.std.proofs.Common.{ℕ, ◌-◌, ◌*◌, [], ◌∷◌, Ok, Err, sym, ap, subst, ◌∙◌}
+use Rattle.std.proofs.Common.{ℕ, Ok, Err, sym, ap, subst, ◌∙◌}
 use Rattle.std.proofs.lemmas.Result.{err_from_is_err_and}
 use Rattle.dbsurvey.specs.Moves.{Moves}
 use Rattle.dbformat.specs.File.{page_bytes}
 use Rattle.dbformat.specs.Header.{usable_size}
-use Rattle.dbformat.specs.Log.{range}
 use Rattle.dbformat.specs.Payload.{overflow_bytes, overflow_next}
 use Rattle.dbformat.specs.Story.{at_page}
-use Rattle.dbsource.specs.declared.source.ReadFailed.{ReadFailed}
-use Rattle.dbsource.proofs.Logs.{has_one}
+use Rattle.dbsource.proofs.Logs.{has_weaker}
 use Rattle.dbwalk.specs.Chains.{IsOverflowVisited}
 use Rattle.dbwalk.specs.Feeding.{Feeds}
 use Rattle.dbwalk.proofs.Chaining.Feedings.{held_is}
 use Rattle.dbwalk.specs.Finding.{told_at}
 use Rattle.dbwalk.specs.Outcomes.{Tells}
 use Rattle.dbwalk.proofs.Chaining.Overflows.{page_read, told_is, moves_none}
+use Rattle.dbwalk.proofs.Marking.Readings.{log_load}
 use Rattle.dbwalk.proofs.chain.visit_overflow.Goals as goal
 
 pub returns-in_err-load-clause-log : goal.returns-in_err-load-clause-log
 returns-in_err-load-clause-log g c =
     let read = c.in_err-load.ensures.level in
     let q = err_from_is_err_and c.from_residual.result c.from_residual.ensures.1 in
-    has_one {A = Unit {0}} {E = ReadFailed} (Err c.in_err-load.field-0.0) ((c.args.page - 1) * c.args.bench.now.geometry.page_size) read.bytes c.load.ensures.told read.holds.0 tt
-    (ap (λ n. range ((c.args.page - 1) * c.args.bench.now.geometry.page_size) n ∷ []) read.size)
+    has_weaker _ _ (log_load c.args.bench.now.geometry.page_size c.args.page read.bytes (Err c.in_err-load.field-0.0) c.load.ensures.told read.size read.holds) (λ log l. l)
     (λ file h e. subst (λ r. IsOverflowVisited g.K.Sink.takes g.K.Sink.drops file c.args.chain.now c.args.number c.args.page c.args.left r c.args.sieve.now c.args.sieve.now c.args.sink.now c.args.sink.now) (sym (q.1 ∙ ap Err q.2)) (record {
       next = tt;
       told = λ U d p l on. moves_none g.K.Sink.takes c.args.sink.now (told_at file U (at_page d));
@@ -31,8 +29,7 @@ returns-in_err-load-clause-log g c =
 pub returns-in_err-tell-clause-log : goal.returns-in_err-tell-clause-log
 returns-in_err-tell-clause-log g c =
     let read = c.in_ok-load.ensures.level in
-    has_one {A = Unit {0}} {E = ReadFailed} (Ok tt) ((c.args.page - 1) * c.args.bench.now.geometry.page_size) read.bytes c.load.ensures.told read.holds.0 read.holds.1
-    (ap (λ n. range ((c.args.page - 1) * c.args.bench.now.geometry.page_size) n ∷ []) read.size)
+    has_weaker _ _ (log_load c.args.bench.now.geometry.page_size c.args.page read.bytes (Ok tt) c.load.ensures.told read.size read.holds) (λ log l. l)
     (λ file h e.
     let k = page_read file read.bytes c.args.bench.now.geometry.page_size c.args.page read.size h (sym (ap (λ g. g.page_size) e)) in
     let n = c.next_page-next.ensures ∙ ap overflow_next (c.page.ensures.bytes ∙ ap (λ b. b.chain) read.only ∙ k) in
@@ -51,8 +48,7 @@ returns-in_err-tell-clause-log g c =
 pub returns-clause-log : goal.returns-clause-log
 returns-clause-log g c =
     let read = c.in_ok-load.ensures.level in
-    has_one {A = Unit {0}} {E = ReadFailed} (Ok tt) ((c.args.page - 1) * c.args.bench.now.geometry.page_size) read.bytes c.load.ensures.told read.holds.0 read.holds.1
-    (ap (λ n. range ((c.args.page - 1) * c.args.bench.now.geometry.page_size) n ∷ []) read.size)
+    has_weaker _ _ (log_load c.args.bench.now.geometry.page_size c.args.page read.bytes (Ok tt) c.load.ensures.told read.size read.holds) (λ log l. l)
     (λ file h e.
     let k = page_read file read.bytes c.args.bench.now.geometry.page_size c.args.page read.size h (sym (ap (λ g. g.page_size) e)) in
     let n = c.next_page-next.ensures ∙ ap overflow_next (c.page.ensures.bytes ∙ ap (λ b. b.chain) read.only ∙ k) in

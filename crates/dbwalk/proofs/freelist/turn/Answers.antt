@@ -8,7 +8,8 @@ use Rattle.dbwalk.specs.Left.{IsLeft}
 use Rattle.dbwalk.specs.Marking.{IsUse, is_none, unmarked_pages}
 use Rattle.dbwalk.specs.Trunks.{TrunkTurns, next_step}
 use Rattle.dbwalk.proofs.Chaining.ChainTurns.{if_some_all}
-use Rattle.dbwalk.proofs.Freelists.FreeTrunks.{trunk_refused, trunk_not_told, trunk_unread, next_turned}
+use Rattle.dbwalk.proofs.Freelists.FreeTrunks.{trunk_refused, trunk_unread, next_turned}
+use Rattle.dbwalk.proofs.Telling.Lefts.{left_untold}
 use Rattle.dbwalk.proofs.Chaining.Overflows.{page_read}
 use Rattle.dbwalk.proofs.Marking.Readings.{put_count, log_load, log_none, log_opened, log_page}
 use Rattle.dbwalk.proofs.freelist.turn.Goals as goal
@@ -24,7 +25,7 @@ pub returns-in_err-enter-clause-log : goal.returns-in_err-enter-clause-log
 returns-in_err-enter-clause-log g c = log_none c.args.bench.now.geometry.page_size c.args.marks.now c.enter.new.marks (g.S.Source.held c.args.source.now) c.in_err-enter.ensures.after_error.1 (λ file e W d before on.
     let q = err_from_is_err_and c.from_residual.result c.from_residual.ensures.1 in
     subst (λ r. TrunkTurns g.K.Sink.takes g.K.Sink.drops file W d before r c.enter.new.marks c.enter.new.sink) (sym (q.1 ∙ ap Err q.2))
-    (trunk_not_told g.K.Sink.takes g.K.Sink.drops file W d before c.args.step c.args.marks.now c.args.sink.now on c.in_err-enter.field-0.0 c.enter.new.marks c.enter.new.sink
+    (left_untold g.K.Sink.takes file W (Go d ∷ []) before on.visited c.args.marks.now c.args.sink.now g.K.Sink.drops c.enter.new.sink c.enter.new.marks c.in_err-enter.field-0.0 on.d [] on.rest
     (c.in_err-enter.ensures.entered file on.visited on.d on.step on.rest.past on.rest.marked)))
 
 pub returns-then-not-branch-clause-log : goal.returns-then-not-branch-clause-log

@@ -5,7 +5,8 @@ use Rattle.dbwalk.specs.FreeLeaves.{Leaves, leaves_from}
 use Rattle.dbwalk.specs.Left.{IsLeft}
 use Rattle.dbwalk.specs.Marking.{Keeps, unmarked_pages}
 use Rattle.dbwalk.specs.declared.mark.Mark.TheVariants.{FreeLeaf}
-use Rattle.dbwalk.proofs.Freelists.FreeLeaves.{leaf_of, leaves_more, next_of_left, leaf_entered, leaf_stopped}
+use Rattle.dbwalk.proofs.Freelists.FreeLeaves.{leaf_of, leaves_more, next_of_left, leaf_entered}
+use Rattle.dbwalk.proofs.Telling.Lefts.{left_untold}
 use Rattle.dbwalk.proofs.Marking.Readings.{keeps_same, keeps_then, keeps_put, put_count}
 use Rattle.dbwalk.proofs.freelist.walk_leaves.Goals as goal
 
@@ -24,7 +25,7 @@ returns-in_err-enter-clause-done g c = λ file W errands before U d tail p h.
     let e = leaf_of d c.args.bytes.now c.loop-index.index in
     let es = leaves_from d c.args.bytes.now (c.loop-index.index + 1) (c.args.count - c.loop-index.index - 1) ++ tail in
     subst (λ r. Leaves g.K.Sink.takes g.K.Sink.drops file W errands before tail r c.enter.new.marks c.enter.new.sink) (sym (q.1 ∙ ap Err q.2))
-    (leaf_stopped g.K.Sink.takes g.K.Sink.drops file W errands before k.0 e es c.loop-index.marks c.enter.new.marks c.loop-index.sink c.enter.new.sink l c.in_err-enter.field-0.0
+    (left_untold g.K.Sink.takes file W errands before k.0 c.loop-index.marks c.loop-index.sink g.K.Sink.drops c.enter.new.sink c.enter.new.marks c.in_err-enter.field-0.0 e es l
     (c.in_err-enter.ensures.entered file k.0 e (record { page = sym c.u32_at.ensures; mark = refl; from = p; item = refl; deep = refl })
     (next_of_left g.K.Sink.takes g.K.Sink.drops file W errands before k.0 e es c.loop-index.marks c.enter.new.marks c.loop-index.sink c.enter.new.sink l) l.marked))
 
