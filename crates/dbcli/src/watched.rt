@@ -65,11 +65,9 @@ struct Beginning<'a> {
 }
 
 impl Source for Beginning<'_> {
-    ghost use Rattle.std.specs.Prelude.{None};
-    ghost use Rattle.dbsource.specs.Answers.{no_trail};
-    ghost use Rattle.dbsource.specs.Sources.{no_step};
+    ghost use Rattle.dbsource.specs.Sources.{no_step, untold_source};
 
-    ghost held = { λ s. record { bytes = None; trail = no_trail; failures = s.failures } };
+    ghost held = { λ s. record untold_source { failures = s.failures } };
 
     ghost step = { no_step };
 

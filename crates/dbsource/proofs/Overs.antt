@@ -3,16 +3,12 @@ use Rattle.std.proofs.Common.{◌≡◌, ℕ, ◌≤◌, Bool, true, false, cond
 use Rattle.std.specs.Prelude.{min, nat_lt, IfSome, ◌==◌, ◌⊎◌}
 use Rattle.std.specs.Str.{bytes_eq}
 use Rattle.std.proofs.Math.ListN.{drop_of_length-le}
-use Rattle.std.proofs.lemmas.Grind.{common_steps}
 use Rattle.std.proofs.lemmas.Bool.{cases_Bool}
 use Rattle.std.proofs.lemmas.Bool.Decides.{nat_tests}
-use Rattle.std.proofs.lemmas.List.{take-take, take-append-drop, length-take}
+use Rattle.std.proofs.lemmas.List.{take_all, take-take, take-append-drop, length-take}
 use Rattle.std.proofs.lemmas.Slice.Eq.{bytes_eq-Decides}
 use Rattle.dbsource.specs.Answers.{IsRangeOf}
 use Rattle.dbsource.specs.Headed.{over, begun}
-
-pub take_whole : (xs : List ℕ) (n : ℕ) → length xs ≤ n → take n xs ≡ xs
-take_whole xs n h = grind (arith, common_steps)
 
 -- a copy of the header's part
 pub over_first : (head buf new : List ℕ) (offset count : ℕ) → offset ≡ 0 → length head ≡ 100 → count ≡ min (length head) (length buf) → new ≡ take count head
@@ -29,7 +25,7 @@ over_first head buf new offset count z h c n =
     by_length (inr e) =
         let l : 100 ≤ length buf = grind (arith, nat_tests) in
         let k : count ≡ 100 = omega arith in
-        ap (λ n. take n head ++ drop n buf) k ∙ ap (λ xs. xs ++ drop 100 buf) (take_whole head 100 (omega arith) ∙ sym (take_whole head (length buf) (omega arith)))
+        ap (λ n. take n head ++ drop n buf) k ∙ ap (λ xs. xs ++ drop 100 buf) (take_all 100 head (omega arith) ∙ sym (take_all (length buf) head (omega arith)))
 
 -- the first bytes of a range from the beginning on are the file's
 over_same : (file buf : List ℕ) → buf ≡ take (length buf) file → take (length buf) (take 100 file) ++ drop 100 buf ≡ buf
@@ -43,7 +39,7 @@ over_same file buf e = by_length (cases_Bool (nat_lt (length buf) 100))
     by_length (inr f) =
         let l : 100 ≤ length buf = grind (arith, nat_tests) in
         let first : take (length buf) (take 100 file) ≡ take 100 buf =
-        take_whole (take 100 file) (length buf) (simp length-take (omega arith)) ∙ sym (take-take 100 (length buf) file l) ∙ sym (ap (take 100) e) in
+        take_all (length buf) (take 100 file) (simp length-take (omega arith)) ∙ sym (take-take 100 (length buf) file l) ∙ sym (ap (take 100) e) in
         ap (λ xs. xs ++ drop 100 buf) first ∙ take-append-drop 100 buf
 
 over_range : (head file : List ℕ) (offset : ℕ) (buf : List ℕ) → take 100 file ≡ head → IsRangeOf file offset buf → over head offset buf ≡ buf

@@ -4,7 +4,7 @@ use Rattle.std.specs.Prelude.{IfSome, min, ◌==◌, ◌⊎◌}
 use Rattle.std.specs.Str.{bytes_eq}
 use Rattle.std.proofs.Math.Nat.{mul-le-mul_right, min-le_right, div-mul-le_self}
 use Rattle.std.proofs.Math.Seq.{take-append_seam}
-use Rattle.std.proofs.lemmas.List.{length-take, length-drop}
+use Rattle.std.proofs.lemmas.List.{take_all, length-take, length-drop}
 use Rattle.std.proofs.lemmas.Slice.Eq.{bytes_eq-Decides}
 use Rattle.dbformat.proofs.Accepted.{is_accepted}
 use Rattle.dbformat.specs.File.{refusal_of}
@@ -22,7 +22,6 @@ use Rattle.dbsource.specs.Sources.{HasLog, SourceState}
 use Rattle.dbsource.specs.declared.error.OpenError.{OpenError}
 use Rattle.dbsource.specs.declared.error.OpenError.TheVariants.{Refused, ReadFailed}
 use Rattle.dbsource.proofs.Headers.{header_of}
-use Rattle.dbsource.proofs.Overs.{take_whole}
 use Rattle.dbsource.proofs.Snapshots.{BeginsSo, snapshot}
 use Rattle.dbsource.proofs.Told.{if_told, if_told_both}
 
@@ -90,7 +89,7 @@ over_begins head (failed r ∷ log) size (p ∷ pages) h big e = over_begins hea
 over_begins head (given o bytes ∷ log) size (p ∷ pages) h big e = (
   λ z.
       let n : length bytes ≡ size = ap (λ (r : ByteRange). r.len) (let k : range o (length bytes) ≡ page_range size p = cc in k) in
-      ap (λ o. take 100 (over head o bytes)) z ∙ ap (λ l. take 100 (l ++ drop 100 bytes)) (take_whole head (length bytes) (omega arith))
+      ap (λ o. take 100 (over head o bytes)) z ∙ ap (λ l. take 100 (l ++ drop 100 bytes)) (take_all (length bytes) head (omega arith))
       ∙ ap (λ n. take n (head ++ drop 100 bytes)) (sym h) ∙ take-append_seam head (drop 100 bytes),
   over_begins head log size pages h big (let k : map asked log ≡ map (page_range size) pages = cc in k),
 )

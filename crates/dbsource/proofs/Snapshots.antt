@@ -1,16 +1,16 @@
 -- A file that agrees with a log of whole pages, put together of the pages as they were when each was read.
 use Rattle.std.proofs.Common.{◌≡◌, ◌≢◌, ℕ, suc, ◌+◌, ◌-◌, ◌*◌, ◌<◌, ◌≤◌, List, [], ◌∷◌, ◌++◌, length, map, take, drop, refl, sym, ap, subst, ◌∙◌, ◌⊎◌, inl, inr, arith, append_assoc, length-append}
-use Rattle.std.proofs.Math.ListN.{replicate}
 use Rattle.std.proofs.Math.Nat.{mul-le-mul_right, suc-mul}
 use Rattle.std.proofs.Math.Seq.{drop-append-add, drop-append_seam, take-append_seam}
 use Rattle.std.proofs.lemmas.Bool.{cases_Bool}
 use Rattle.std.proofs.lemmas.Bool.Decides.{nat_tests}
 use Rattle.std.specs.Prelude.{nat_lt}
-use Rattle.std.proofs.lemmas.List.{take-append-drop, take-append-le, drop-append-le, length-take, length-drop, length-replicate}
+use Rattle.std.proofs.lemmas.List.{take-append-drop, take-append-le, drop-append-le, length-take, length-drop}
 use Rattle.dbsurvey.specs.Address.{IsIn, EachPair}
 use Rattle.dbformat.specs.Log.{page_range, range}
 use Rattle.dbformat.specs.declared.ByteRange.{ByteRange}
 use Rattle.dbsource.specs.Answers.{Answer, given, failed, IsRangeOf, asked, Fits}
+use Rattle.dbsource.proofs.Headers.{beginning}
 
 -- the file with these bytes from offset on
 abbrev pub put : List ℕ → ℕ → List ℕ → List ℕ
@@ -126,24 +126,13 @@ put_begins size p len head file bytes big one s h first old = elim (first_or_lat
       ∙ ap (take 100) (take-append-drop ((p - 1) * size) file) ∙ old)
 ]
 
-abbrev zeros : ℕ → List ℕ
-zeros n = replicate n 0
-
-zeros_length : (n : ℕ) → length (zeros n) ≡ n
-zeros_length n = length-replicate n 0
-
 -- there is one for each log of distinct whole pages in range
 pub snapshot : (size len : ℕ) (head : List ℕ) (log : List Answer) (pages : List ℕ) → 100 ≤ size → 100 ≤ len → length head ≡ 100
     → map asked log ≡ map (page_range size) pages → ((p : ℕ) → IsIn p pages → (1 ≤ p) × (p * size ≤ len)) → EachPair (λ p q. p ≢ q) pages → BeginsSo head log
     → (file : List ℕ) × IsSnapshot head len log file
-snapshot size len head [] pages big long h e ok d b = (
-  head ++ zeros (len - 100),
-  record {
-    length = length-append head (zeros (len - 100)) ∙ ap (λ n. n + length (zeros (len - 100))) h ∙ ap (λ n. 100 + n) (zeros_length (len - 100)) ∙ omega arith;
-    begins = ap (λ n. take n (head ++ zeros (len - 100))) (sym h) ∙ take-append_seam head (zeros (len - 100));
-    fits = tt;
-  },
-)
+snapshot size len head [] pages big long h e ok d b =
+    let f = beginning head len (omega arith) in
+    (f.0, record { length = f.1; begins = ap (λ n. take n f.0) (sym h) ∙ sym f.2.1; fits = tt })
 snapshot size len head (a ∷ log) [] big long h e ok d b = cc
 snapshot size len head (failed r ∷ log) (p ∷ pages) big long h e ok d b =
     let k = same_head _ _ (map asked log) (map (page_range size) pages) e in

@@ -10,7 +10,7 @@ use Rattle.dbformat.specs.declared.Fixed.TheVariants.{Map}
 use Rattle.dbformat.specs.declared.Geometry.{Geometry}
 use Rattle.dbsource.specs.Bench.{Pages}
 use Rattle.dbsource.specs.declared.source.ReadFailed.{ReadFailed}
-use Rattle.dbsource.proofs.Logs.{has_one}
+use Rattle.dbsource.proofs.Logs.{has_weaker}
 use Rattle.dbwalk.specs.EndMarks.{mark_fault, late_fault}
 use Rattle.dbwalk.specs.Outcomes.{Tells}
 use Rattle.dbreport.specs.EndPass.{is_fixed_mark, page_items}
@@ -18,6 +18,7 @@ use Rattle.dbreport.specs.MapReads.{entry_value, HasMapFor, IsMapInUse}
 use Rattle.dbreport.proofs.EndItems.{fixed_items, other_items}
 use Rattle.dbreport.proofs.MapLogs.{asks_nothing}
 use Rattle.dbwalk.proofs.Chaining.Overflows.{moves_none, page_read}
+use Rattle.dbwalk.proofs.Marking.Readings.{log_load}
 use Rattle.dbreport.proofs.MapPlaces.{next_read, next_kept, not_map, on_ok, not_in_use}
 use Rattle.dbreport.proofs.end_pass.end_page.Goals as goal
 
@@ -28,8 +29,7 @@ returns-in_err-load-clause-asks g c =
     let size = c.args.bench.now.geometry.page_size in
     let level = c.in_err-load.ensures.level in
     rw q.1 (rw q.2 (record {
-      log = has_one {A = Unit {0}} {E = ReadFailed} (Err c.in_err-load.field-0.0) ((c.args.page - 1) * size) level.bytes c.in_err-load.ensures.told level.holds.0 tt
-          (inr (ap (λ n. range ((c.args.page - 1) * size) n ∷ []) level.size, used))
+      log = has_weaker _ _ (log_load size c.args.page level.bytes (Err c.in_err-load.field-0.0) c.in_err-load.ensures.told level.size level.holds) (λ log l. inr (l, used))
           (λ file bytes mark m e ok same chain. (moves_none g.K.Sink.takes c.args.sink.now (page_items file c.args.least_other c.args.page mark), tt));
       count = c.in_err-load.ensures.count;
     }))
@@ -40,8 +40,8 @@ returns-in_ok-load-clause-asks g c =
     let size = c.args.bench.now.geometry.page_size in
     let level = c.in_ok-load.ensures.level in
     record {
-      log = has_one {A = Unit {0}} {E = ReadFailed} (Ok tt) ((c.args.page - 1) * size) level.bytes c.in_ok-load.ensures.told level.holds.0 level.holds.1
-          (inr (ap (λ n. range ((c.args.page - 1) * size) n ∷ []) level.size, subst (λ (g : Geometry). IsMapInUse g c.args.page) c.geometry.ensures.value used))
+      log = has_weaker _ _ (log_load size c.args.page level.bytes (Ok tt) c.in_ok-load.ensures.told level.size level.holds)
+          (λ log l. inr (l, subst (λ (g : Geometry). IsMapInUse g c.args.page) c.geometry.ensures.value used))
           (λ file bytes mark m e ok same chain.
           let k : mark ≡ c.get-mark.result = let q = c.get-mark.ensures in cc in
           let fixed : is_fixed_mark mark ≡ true = ap is_fixed_mark k ∙ sym c.is_fixed.ensures ∙ c.if-is_fixed.true in
