@@ -12,9 +12,13 @@ use Rattle.dbformat.specs.declared.Command.{Command}
 use Rattle.dbformat.specs.declared.Refusal.{Refusal}
 use Rattle.dbformat.specs.declared.Verdict.{Verdict}
 use Rattle.dbformat.specs.declared.Verdict.TheVariants.{Clean, Faulty}
-use Rattle.dbreport.specs.Runs.{IsAnswerOf, IsRunOf, IsUnwritten}
+use Rattle.dbreport.specs.Runs.{AsksHeaderAlone, IsAnswerOf, IsRunOf, IsUnwritten}
 use Rattle.dbsource.proofs.Beginnings.{all_begun}
+use Rattle.dbsource.specs.Answers.{Step, Trail}
+use Rattle.dbsource.specs.Headers.{IsOpenLog}
 use Rattle.dbsource.specs.Outs.{Begins, OutState, Writes}
+use Rattle.dbsource.specs.Sources.{HasRanges}
+use Rattle.dbsource.specs.declared.error.OpenError.TheVariants as opening
 use Rattle.dbsource.specs.declared.error.RunError.{RunError}
 use Rattle.dbsource.specs.declared.error.RunError.TheVariants.{Refused, ReadFailed, OutOfMemory, WriteFailed}
 use Rattle.dbcli.specs.Exit.{BeginsThenLine, IsExit, IsFinishOf, IsKnown, IsOkIfSound, IsStatusOf, PutsLine}
@@ -139,6 +143,16 @@ unwritten_at_3 (Err (Refused e)) old new u k = u
 unwritten_at_3 (Err ReadFailed) old new u k = absurd (omega arith)
 unwritten_at_3 (Err OutOfMemory) old new u k = absurd (omega arith)
 unwritten_at_3 (Err WriteFailed) old new u k = absurd (omega arith)
+
+-- and the header alone was asked for
+pub refused_at_3 : (step : Step) (outcome : Result Verdict RunError) (old new : Trail) → AsksHeaderAlone step outcome old new → exit_status outcome ≡ 3
+    → (why : Refusal) × HasRanges step (IsOpenLog (Err (opening.Refused why))) old new
+refused_at_3 step (Ok Clean) old new h k = absurd (omega arith)
+refused_at_3 step (Ok (Faulty n)) old new h k = absurd (omega arith)
+refused_at_3 step (Err (Refused e)) old new h k = (e, h)
+refused_at_3 step (Err ReadFailed) old new h k = absurd (omega arith)
+refused_at_3 step (Err OutOfMemory) old new h k = absurd (omega arith)
+refused_at_3 step (Err WriteFailed) old new h k = absurd (omega arith)
 
 -- and what is told of it
 pub untold : {X Y : Type 0} (f : X → Y) (outcome : Result Verdict RunError) (old new : X) → IsUnwritten outcome old new → IsUnwritten outcome (f old) (f new)

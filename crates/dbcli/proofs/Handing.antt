@@ -8,10 +8,11 @@ use Rattle.dbformat.specs.Sound.{Sound}
 use Rattle.dbformat.specs.declared.Command.{Command}
 use Rattle.dbformat.specs.declared.Verdict.{Verdict}
 use Rattle.dbformat.specs.declared.Verdict.TheVariants.{Clean, Faulty}
-use Rattle.dbreport.specs.Runs.{IsAnswerOf, IsRunOf, IsUnwritten}
+use Rattle.dbreport.specs.Runs.{AsksHeaderAlone, IsAnswerOf, IsRunOf, IsUnwritten}
 use Rattle.dbreport.specs.StatSink.{failures_of_each}
 use Rattle.dbsource.proofs.Beginnings.{all_begun}
 use Rattle.dbsource.proofs.Puts.{appends_kept}
+use Rattle.dbsource.specs.Answers.{Step, Trail}
 use Rattle.dbsource.specs.Errors.{is_read_failed, is_write_failed}
 use Rattle.dbsource.specs.Failures.{CountsAfter, HasOneMore, failures_after, is_any, one_more}
 use Rattle.dbsource.specs.Outs.{Begins, Flushes, OutState, Writes}
@@ -62,6 +63,15 @@ module _ (out out' err err' : OutState) where
   still_unwritten (Err ReadFailed) r a b c h u k = rw h.0 tt
   still_unwritten (Err OutOfMemory) r a b c h u k = rw h.0 tt
   still_unwritten (Err WriteFailed) r a b c h u k = rw h.0 tt
+
+  -- the header alone was asked for
+  pub still_refused : (step : Step) (o r : Result Verdict RunError) (a b : Trail) → IsHanded o r out out' err err' → AsksHeaderAlone step o a b → AsksHeaderAlone step r a b
+  still_refused step (Ok v) (Ok w) a b h k = tt
+  still_refused step (Ok v) (Err e) a b h k = rw h.0 tt
+  still_refused step (Err (Refused x)) r a b h k = rw h.0 k
+  still_refused step (Err ReadFailed) r a b h k = rw h.0 tt
+  still_refused step (Err OutOfMemory) r a b h k = rw h.0 tt
+  still_refused step (Err WriteFailed) r a b h k = rw h.0 tt
 
   -- what was written of bytes to the first Out
   still_writes : (o r : Result Verdict RunError) (before : Option (List ℕ)) (bytes : List ℕ)

@@ -1,10 +1,13 @@
 // From an opened file to an exit status.
-ghost use Rattle.std.specs.Prelude.{◌≡◌, ◌≤◌, ◌⊎◌, IsErr, IsOk, IfOk, OnErr, OnOk};
+ghost use Rattle.std.specs.Prelude.{◌≡◌, ◌≤◌, ◌⊎◌, Err, IsErr, IsOk, IfOk, OnErr, OnOk};
 ghost use Rattle.std.specs.Io.KnownBytes.{Keeps};
 ghost use Rattle.dbformat.specs.File.{geometry};
 ghost use Rattle.dbformat.specs.Log.{IsRunLog, IsSomeRunLog};
+ghost use Rattle.dbformat.specs.declared.Refusal.{Refusal};
+ghost use Rattle.dbsource.specs.Headers.{IsOpenLog};
 ghost use Rattle.dbsource.specs.Snapshots.{HasRead};
-ghost use Rattle.dbsource.specs.Sources.{SourceState};
+ghost use Rattle.dbsource.specs.Sources.{HasRanges};
+ghost use Rattle.dbsource.specs.declared.error.OpenError.TheVariants.{Refused};
 ghost use Rattle.dbreport.specs.Runs.{IsCheck, IsUnwritten};
 ghost use Rattle.dbcli.specs.Exit.{HasFailed, IsFinishOf, IsHandedOn, IsHandedOnOrFailed, IsKnown, PutsLine};
 ghost use Rattle.dbcli.specs.Exit.{failures_at_4, first_most, second_most};
@@ -105,14 +108,16 @@ pub fn finish_opened<S: Source, O: Out, E: Out, N: Notes>(
     err: &mut E,
     notes: &mut N,
 ) -> u8
-    // Whatever the source answers: there is a file, of the length that it answered, that agrees with every byte that was read;
-    // and of each such file this was the run, and the status says what became of it. No page is asked for twice, but page 1
+    // Whatever the source answers: there is a file, of the length that it answered, that agrees with every byte that the run
+    // used; and of each such file this was the run, and the status says what became of it. No page is asked for twice, but page 1
     // behind its header.
-    ensures read { HasRead S.step IsSomeRunLog
+    ensures read { HasRead S.step S.lengths IsSomeRunLog
         (λ file ranges. IsRunLog (geometry file) ranges × IsFinishOf result command file (O.held out.old) (O.held out.new) (E.held err.old) (E.held err.new))
         (S.held source.old) (S.held source.new) }
     // The source failed, once, exactly where the status is 4.
     ensures unread { (S.held source.new).failures ≡ failures_at_4 result (S.held source.old).failures }
+    // At 3 it was asked for its header alone, once; and not even that, where the file is too short to have one.
+    ensures refused { result ≡ 3 → (why : Refusal) × HasRanges S.step (IsOpenLog (Err (Refused why))) (S.held source.old).trail (S.held source.new).trail }
     ensures statuses { IsKnown result }
     // At 0 and 1 all was handed on, and neither Out failed.
     ensures whole { result ≤ 1
@@ -141,9 +146,10 @@ pub fn finish<S: Source + Drop, O: Out, E: Out, N: Notes>(
     err: &mut E,
     notes: &mut N,
 ) -> u8
-    ensures opened { IfOk opened (λ source. (new : SourceState) × HasRead S.step IsSomeRunLog
+    // What the source was left as is some state of it, in which it had failed, once, exactly where the status is 4.
+    ensures opened { IfOk opened (λ source. (left : S) × HasRead S.step S.lengths IsSomeRunLog
         (λ file ranges. IsRunLog (geometry file) ranges × IsFinishOf result command file (O.held out.old) (O.held out.new) (E.held err.old) (E.held err.new))
-        (S.held source) new) }
+        (S.held source) (S.held left) × ((S.held left).failures ≡ failures_at_4 result (S.held source).failures)) }
     ensures statuses { IsKnown result }
     ensures whole { result ≤ 1
         → IsHandedOn (O.held out.old) (O.held out.new) × IsHandedOn (E.held err.old) (E.held err.new) }

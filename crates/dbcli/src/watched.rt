@@ -65,11 +65,13 @@ struct Beginning<'a> {
 }
 
 impl Source for Beginning<'_> {
-    ghost use Rattle.dbsource.specs.Sources.{no_step, untold_source};
+    ghost use Rattle.dbsource.specs.Sources.{any_length, no_step, untold_source};
 
     ghost held = { λ s. record untold_source { failures = s.failures } };
 
     ghost step = { no_step };
+
+    ghost lengths = { any_length };
 
     fn len(&mut self) -> Result<u64, ReadFailed> {
         Ok(self.file_len)
@@ -122,6 +124,8 @@ impl<S: Source, W: Print> Source for Watched<'_, '_, S, W> {
     ghost held = { λ s. S.held s.source };
 
     ghost step = { S.step };
+
+    ghost lengths = { S.lengths };
 
     fn len(&mut self) -> Result<u64, ReadFailed> {
         let len = self.source.len()?;

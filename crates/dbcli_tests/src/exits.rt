@@ -304,11 +304,13 @@ struct Torn<'a> {
 }
 
 impl Source for Torn<'_> {
-    ghost use Rattle.dbsource.specs.Sources.{no_step, untold_source};
+    ghost use Rattle.dbsource.specs.Sources.{any_length, no_step, untold_source};
 
     ghost held = { λ s. record untold_source { failures = s.failures } };
 
     ghost step = { no_step };
+
+    ghost lengths = { any_length };
 
     fn len(&mut self) -> Result<u64, ReadFailed> {
         Ok(self.bytes.len() as u64)

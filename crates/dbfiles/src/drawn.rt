@@ -1,5 +1,5 @@
 // Pages that are drawn from a counter, and a source that gives other bytes at each read.
-ghost use Rattle.dbsource.specs.Sources.{no_step, untold_source};
+ghost use Rattle.dbsource.specs.Sources.{any_length, no_step, untold_source};
 
 use crate::bytes::patch;
 use arrayvec::ArrayVec;
@@ -82,6 +82,8 @@ impl Source for DrawnSource<'_> {
     ghost held = { λ s. record untold_source { failures = s.failures } };
 
     ghost step = { no_step };
+
+    ghost lengths = { any_length };
 
     fn len(&mut self) -> Result<u64, ReadFailed> {
         Ok(self.len)

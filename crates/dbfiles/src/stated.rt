@@ -1,6 +1,6 @@
 // A source that states a length and fails where a test asks for it.
 ghost use Rattle.std.specs.Prelude.{◌≡◌};
-ghost use Rattle.dbsource.specs.Sources.{no_step, untold_source};
+ghost use Rattle.dbsource.specs.Sources.{any_length, no_step, untold_source};
 
 use crate::bytes::patch;
 use dbsource::{Failures, ReadFailed, Source};
@@ -47,6 +47,8 @@ impl Source for StatedSource<'_> {
     ghost held = { λ s. record untold_source { failures = s.failures } };
 
     ghost step = { no_step };
+
+    ghost lengths = { any_length };
 
     fn len(&mut self) -> Result<u64, ReadFailed> {
         if self.is_to_fail() {

@@ -7,16 +7,16 @@ use Rattle.dbformat.specs.Log.{header_range, IsPageLog, IsRunLog, IsSomeRunLog}
 use Rattle.dbformat.specs.declared.ByteRange.{ByteRange}
 use Rattle.dbformat.specs.declared.Geometry.{Geometry}
 use Rattle.dbformat.specs.declared.Refusal.TheVariants.{Short, Magic, PageSize, Usable, NoPage, TooManyPages, MapAtLock}
-use Rattle.dbsource.specs.Answers.{Step, given}
+use Rattle.dbsource.specs.Answers.{Lengths, Step, given}
 use Rattle.dbsource.specs.Headed.{HeadedStep, headed}
 use Rattle.dbsource.specs.HeaderBytes.{HeaderBytes}
 use Rattle.dbsource.specs.Headers.{IsHeaderOf, IsOpenLog, IsRefusalOf, Opens}
-use Rattle.dbsource.specs.Snapshots.{FitsBehindHeader, HasRead, HasReadBehind}
+use Rattle.dbsource.specs.Snapshots.{HasRead, HasReadBehind}
 use Rattle.dbsource.specs.Sources.{HasLog, SourceState}
 use Rattle.dbsource.specs.declared.error.OpenError.{OpenError}
 use Rattle.dbsource.specs.declared.error.OpenError.TheVariants.{Refused, ReadFailed}
-use Rattle.dbsource.proofs.Headers.{opens_told}
 use Rattle.dbsource.proofs.Runs.{opened, ran, read_behind, read_weaker}
+use Rattle.dbsource.proofs.Told.{told_all}
 
 no_pages : (g : Geometry) → IsPageLog g []
 no_pages g = record { pages = []; ranges = refl; readable = λ p i. absurd i; distinct = tt }
@@ -71,6 +71,7 @@ pub behind_weaker : {step : Step} {P : List ByteRange → Type 0} (h : HeaderByt
 behind_weaker h T k q = record {
   log = k.log;
   leads = k.leads;
+  told = k.told;
   holds = k.holds;
   there_is = k.there_is;
   files = λ file is f. q file is (k.files file is f);
@@ -83,27 +84,24 @@ pub behind_none : {step : Step} {T : List ℕ → Type 0} (h : HeaderBytes) (s :
 behind_none h s file is q = record {
   log = [];
   leads = refl;
+  told = refl;
   holds = no_pages (geometry_of h.bytes h.file_len);
   there_is = (file, is, tt);
   files = λ file is f. q file is;
-  tells = by_told s.bytes refl;
+  tells = told_all s.bytes (λ file is. tt);
 }
-  where
-    by_told : (o : Option (List ℕ)) → o ≡ s.bytes → IfSome o (λ file. IsHeaderOf h file → FitsBehindHeader file [] × (s.bytes ≡ Some file))
-    by_told None e = tt
-    by_told (Some file) e = λ is. (tt, sym e)
 
 -- the header, and what was read behind it, of a run
-pub whole_run : {step : Step} {T : List ℕ → Type 0} (h : HeaderBytes) {old mid new : SourceState} → Opens step (Ok h) old mid → step old.trail (given 0 h.bytes) mid.trail
+pub whole_run : {step : Step} {lengths : Lengths} {T : List ℕ → Type 0} (h : HeaderBytes) {old mid new : SourceState} → Opens step lengths (Ok h) old mid → step old.trail (given 0 h.bytes) mid.trail
     → (refusal_of h.bytes h.file_len ≡ None) × (length h.bytes ≡ 100) → IsInRange (geometry_of h.bytes h.file_len)
-    → HasReadBehind step (IsPageLog (geometry_of h.bytes h.file_len)) h T mid new → HasRead step IsSomeRunLog (λ file ranges. IsRunLog (geometry file) ranges × T file) old new
-whole_run {step} {T} h {old} {mid} {new} opens first accepted range behind =
+    → HasReadBehind step (IsPageLog (geometry_of h.bytes h.file_len)) h T mid new → HasRead step lengths IsSomeRunLog (λ file ranges. IsRunLog (geometry file) ranges × T file) old new
+whole_run {step} {lengths} {T} h {old} {mid} {new} opens first accepted range behind =
     let g = geometry_of h.bytes h.file_len in
-    read_weaker (IsRunLog g) _ (ran step h T old mid new accepted.0 accepted.1 (opens_told (Ok h) opens) opens.asks.log.told first behind)
+    read_weaker (IsRunLog g) _ (ran step lengths h T old mid new accepted.0 accepted.1 opens first behind)
     (λ ranges p. (g, range, p)) (λ file ranges p t. (subst (λ s. IsRunLog s ranges) t.0.shape p, t.1))
 
 -- a run whose header was not read, or is refused
-pub opened_run : {step : Step} {T : List ℕ → Type 0} (e : OpenError) {old new : SourceState} → Opens step (Err e) old new → ((file : List ℕ) → IsRefusalOf e file → T file)
-    → HasRead step IsSomeRunLog (λ file ranges. IsRunLog (geometry file) ranges × T file) old new
-opened_run {step} {T} e {old} {new} opens q =
-    read_weaker (IsOpenLog (Err e)) _ (opened step e T old new opens q) (opened_some_log (Err e)) (λ file ranges p t. (opened_log (geometry file) (Err e) ranges p, t))
+pub opened_run : {step : Step} {lengths : Lengths} {T : List ℕ → Type 0} (e : OpenError) {old new : SourceState} → Opens step lengths (Err e) old new → ((file : List ℕ) → IsRefusalOf e file → T file)
+    → HasRead step lengths IsSomeRunLog (λ file ranges. IsRunLog (geometry file) ranges × T file) old new
+opened_run {step} {lengths} {T} e {old} {new} opens q =
+    read_weaker (IsOpenLog (Err e)) _ (opened step lengths e T old new opens q) (opened_some_log (Err e)) (λ file ranges p t. (opened_log (geometry file) (Err e) ranges p, t))

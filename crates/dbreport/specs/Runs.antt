@@ -12,7 +12,7 @@ use Rattle.dbformat.specs.declared.Command.{Command}
 use Rattle.dbformat.specs.declared.Command.TheVariants.{Check, Stat}
 use Rattle.dbformat.specs.declared.Verdict.{Verdict}
 use Rattle.dbformat.specs.declared.Verdict.TheVariants.{Clean}
-use Rattle.dbsource.specs.Answers.{Step, Trail}
+use Rattle.dbsource.specs.Answers.{Lengths, Step, Trail}
 use Rattle.dbsource.specs.Headers.{IsOpenLog}
 use Rattle.dbsource.specs.Outs.{Writes}
 use Rattle.dbsource.specs.Snapshots.{HasRead}
@@ -75,7 +75,7 @@ pub record IsToldRun (step : Step) (command : Command) (r : Result Verdict RunEr
   pub unread : length file < 100 → new.trail ≡ old.trail
 
 -- So it is where what was left is so of each file that agrees with what was read.
-abbrev pub ToldFilesAreRead : Step → Type 0
-ToldFilesAreRead step = (command : Command) (r : Result Verdict RunError) (out_old out_new err_old err_new : Option (List ℕ)) (old new : SourceState)
-    → HasRead step IsSomeRunLog (λ file ranges. IsRunLog (geometry file) ranges × IsRunOf command file r out_old out_new err_old err_new) old new
+abbrev pub ToldFilesAreRead : Step → Lengths → Type 0
+ToldFilesAreRead step lengths = (command : Command) (r : Result Verdict RunError) (out_old out_new err_old err_new : Option (List ℕ)) (old new : SourceState)
+    → HasRead step lengths IsSomeRunLog (λ file ranges. IsRunLog (geometry file) ranges × IsRunOf command file r out_old out_new err_old err_new) old new
     → IfSome old.bytes (IsToldRun step command r out_old out_new err_old err_new old new)

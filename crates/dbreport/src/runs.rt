@@ -142,7 +142,7 @@ pub fn run_in<A: Allocator + Copy, S: Source, O: Out, E: Out>(
 ) -> Result<Verdict, RunError>
     // What is kept of the file is no larger than memory, as is so unless the allocator itself is about that large.
     requires fits { DeskFitsInMemory A.row A.Allocator }
-    ensures read { HasRead S.step IsSomeRunLog
+    ensures read { HasRead S.step S.lengths IsSomeRunLog
         (λ file ranges. IsRunLog (geometry file) ranges
         × IsRunOf command file result (O.held out.old).bytes (O.held out.new).bytes (E.held err.old).bytes (E.held err.new).bytes)
         (S.held source.old) (S.held source.new) }
@@ -178,9 +178,9 @@ pub fn run<S: Source, O: Out, E: Out>(
     out: &mut O,
     err: &mut E,
 ) -> Result<Verdict, RunError>
-    // Whatever the source answers: there is a file, of the length that it answered, that agrees with every byte that was read,
-    // and of each such file this was the run.
-    ensures read { HasRead S.step IsSomeRunLog
+    // Whatever the source answers: there is a file, of the length that it answered, that agrees with every byte that the run
+    // used, and of each such file this was the run.
+    ensures read { HasRead S.step S.lengths IsSomeRunLog
         (λ file ranges. IsRunLog (geometry file) ranges
         × IsRunOf command file result (O.held out.old).bytes (O.held out.new).bytes (E.held err.old).bytes (E.held err.new).bytes)
         (S.held source.old) (S.held source.new) }
@@ -200,5 +200,5 @@ pub fn run<S: Source, O: Out, E: Out>(
 /// What [`run`] says of each file that agrees with what was read is so of the bytes that a source tells, as memory does: by any
 /// survey of them each Out got its part of the report, `Clean` is the answer exactly where they are sound, and so on.
 pub fn told_files_are_read<S: Source>()
-    ensures { ToldFilesAreRead S.step }
+    ensures { ToldFilesAreRead S.step S.lengths }
 {}

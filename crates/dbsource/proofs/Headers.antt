@@ -17,7 +17,7 @@ use Rattle.dbformat.proofs.TestsLemmas.{found_value}
 use Rattle.dbsource.specs.Headers.{IsHeaderOf, IsOpenLog, IsOpenOf, Opens}
 use Rattle.dbsource.specs.HeaderBytes.{HeaderBytes}
 use Rattle.dbsource.specs.Sources.{SourceState}
-use Rattle.dbsource.specs.Answers.{IsRangeOf, Step}
+use Rattle.dbsource.specs.Answers.{IsRangeOf, Lengths, Step}
 use Rattle.dbsource.specs.declared.error.OpenError.{OpenError}
 use Rattle.dbsource.specs.declared.error.OpenError.TheVariants.{Refused}
 use Rattle.dbsource.proofs.Logs.{has_told}
@@ -98,5 +98,5 @@ beginning bytes len h =
     (bytes ++ zeros, whole, (omega arith, sym (take-append_seam bytes zeros)))
 
 -- so it is of told bytes
-pub opens_told : {step : Step} (r : Result HeaderBytes OpenError) {old new : SourceState} → Opens step r old new → IfSome old.bytes (IsOpenOf r)
+pub opens_told : {step : Step} {lengths : Lengths} (r : Result HeaderBytes OpenError) {old new : SourceState} → Opens step lengths r old new → IfSome old.bytes (IsOpenOf r)
 opens_told r {old = old} o = if_told_both old.bytes (λ file f e. f e) (has_told o.asks.log) o.same

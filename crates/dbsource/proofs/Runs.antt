@@ -1,7 +1,6 @@
 -- What a run read: its header, and then pages through a source that gives the header again.
-use Rattle.std.proofs.Common.{◌≡◌, ℕ, ◌*◌, ◌/◌, ◌<◌, ◌≤◌, Bool, true, false, cond, List, [], ◌∷◌, ◌++◌, length, map, take, drop, refl, sym, ap, ap₂, subst, ◌∙◌, arith, Option, Some, None, Err, inl, inr, length-append}
+use Rattle.std.proofs.Common.{◌≡◌, ℕ, ◌*◌, ◌/◌, ◌<◌, ◌≤◌, Bool, true, false, cond, List, [], ◌∷◌, ◌++◌, length, map, take, drop, refl, sym, ap, ap₂, subst, ◌∙◌, arith, Option, Some, None, Err, inl, inr, length-append, Ok, Result}
 use Rattle.std.specs.Prelude.{IfSome, min, ◌==◌, ◌⊎◌}
-use Rattle.std.specs.Str.{bytes_eq}
 use Rattle.std.proofs.Math.Nat.{mul-le-mul_right, min-le_right, div-mul-le_self}
 use Rattle.std.proofs.Math.Seq.{take-append_seam}
 use Rattle.std.proofs.lemmas.List.{take_all, length-take, length-drop}
@@ -13,7 +12,9 @@ use Rattle.dbformat.specs.Header.{page_size, page_count, whole_pages, stated_pag
 use Rattle.dbformat.specs.Log.{header_range, range, page_range, IsPageLog, IsRunLog}
 use Rattle.dbformat.specs.declared.ByteRange.{ByteRange}
 use Rattle.dbformat.specs.declared.Refusal.TheVariants.{Short, Magic, PageSize, Usable, NoPage, TooManyPages, MapAtLock}
-use Rattle.dbsource.specs.Answers.{Answer, Fits, FitsAnswer, Front, IsRangeOf, Leads, Step, Trail, asked, failed, given}
+use Rattle.dbsource.specs.Answers.{Answer, Fits, FitsAnswer, Front, IsRangeOf, Leads, Step, Trail, asked, failed, given, Lengths}
+use Rattle.dbsource.specs.Errors.{is_open_failed}
+use Rattle.dbsource.specs.Failures.{failures_after, one_more}
 use Rattle.dbsource.specs.Headed.{over, over_answer, begun, headed, headed_trail, HeadedStep}
 use Rattle.dbsource.specs.HeaderBytes.{HeaderBytes}
 use Rattle.dbsource.specs.Headers.{IsHeaderOf, IsOpenLog, IsRefusalOf, Opens}
@@ -21,43 +22,44 @@ use Rattle.dbsource.specs.Snapshots.{FitsBehindHeader, FitsRun, HasRead, HasRead
 use Rattle.dbsource.specs.Sources.{HasLog, SourceState}
 use Rattle.dbsource.specs.declared.error.OpenError.{OpenError}
 use Rattle.dbsource.specs.declared.error.OpenError.TheVariants.{Refused, ReadFailed}
-use Rattle.dbsource.proofs.Headers.{header_of}
+use Rattle.dbsource.proofs.Headers.{header_of, opens_told}
 use Rattle.dbsource.proofs.Snapshots.{BeginsSo, snapshot}
-use Rattle.dbsource.proofs.Told.{if_told, if_told_both}
+use Rattle.dbsource.proofs.Told.{if_told_both}
 
-pub same_trail : (n m : ℕ) (a b : List ℕ) (s t : Trail) → headed_trail n a s ≡ headed_trail m b t → (n ≡ m) × (a ≡ b) × (s ≡ t)
-same_trail n m a b s t e =
-    let fronts : front n a ∷ s.fronts ≡ front m b ∷ t.fronts = ap (λ (x : Trail). x.fronts) e in
-    let first : front n a ≡ front m b = cc in
+pub same_trail : (n m : ℕ) (a b : List ℕ) (o p : Option (List ℕ)) (s t : Trail) → headed_trail n a o s ≡ headed_trail m b p t → (n ≡ m) × (a ≡ b) × (o ≡ p) × (s ≡ t)
+same_trail n m a b o p s t e =
+    let fronts : front n a o ∷ s.fronts ≡ front m b p ∷ t.fronts = ap (λ (x : Trail). x.fronts) e in
+    let first : front n a o ≡ front m b p = cc in
     let rest : s.fronts ≡ t.fronts = cc in
-    (ap (λ (f : Front). f.name) first, ap (λ (f : Front). f.head) first, same_parts rest (ap (λ (x : Trail). x.ranges) e))
+    (ap (λ (f : Front). f.name) first, ap (λ (f : Front). f.head) first, ap (λ (f : Front). f.told) first, same_parts rest (ap (λ (x : Trail). x.ranges) e))
   where
-    front : ℕ → List ℕ → Front
-    front name head = record { name = name; head = head }
+    front : ℕ → List ℕ → Option (List ℕ) → Front
+    front name head told = record { name = name; head = head; told = told }
 
     same_parts : s.fronts ≡ t.fronts → s.ranges ≡ t.ranges → s ≡ t
     same_parts f r = ap₂ (λ (a : List Front) (b : List ByteRange). let x : Trail = record { fronts = a; ranges = b } in x) f r
 
 -- what the source behind a header was asked, and what it answered
-pub record Behind (step : Step) (name : ℕ) (head : List ℕ) (old : Trail) (log : List Answer) (new : Trail) : Type 0 where
+pub record Behind (step : Step) (name : ℕ) (head : List ℕ) (told : Option (List ℕ)) (old : Trail) (log : List Answer) (new : Trail) : Type 0 where
   pub raw : List Answer
   pub after : Trail
-  pub is : new ≡ headed_trail name head after
+  pub is : new ≡ headed_trail name head told after
   pub leads : Leads step old raw after
   pub given_as : log ≡ map (over_answer head) raw
 
-pub behind : (step : Step) (name : ℕ) (head : List ℕ) (old new : Trail) (log : List Answer)
-    → Leads (HeadedStep step) (headed_trail name head old) log new → Behind step name head old log new
-behind step name head old new [] e = record { raw = []; after = old; is = e; leads = refl; given_as = refl }
-behind step name head old new (a ∷ log) (mid, s, k) =
-    let m = same_trail name s.name head s.head old s.before s.was in
-    let here : mid ≡ headed_trail name head s.after = s.is ∙ ap (λ d. headed_trail s.name d s.after) (sym m.1) ∙ ap (λ n. headed_trail n head s.after) (sym m.0) in
-    let rest = behind step name head s.after new log (subst (λ t. Leads (HeadedStep step) t log new) here k) in
+pub behind : (step : Step) (name : ℕ) (head : List ℕ) (told : Option (List ℕ)) (old new : Trail) (log : List Answer)
+    → Leads (HeadedStep step) (headed_trail name head told old) log new → Behind step name head told old log new
+behind step name head told old new [] e = record { raw = []; after = old; is = e; leads = refl; given_as = refl }
+behind step name head told old new (a ∷ log) (mid, s, k) =
+    let m = same_trail name s.name head s.head told s.told old s.before s.was in
+    let here : mid ≡ headed_trail name head told s.after =
+    s.is ∙ ap (λ o. headed_trail s.name s.head o s.after) (sym m.2) ∙ ap (λ d. headed_trail s.name d told s.after) (sym m.1) ∙ ap (λ n. headed_trail n head told s.after) (sym m.0) in
+    let rest = behind step name head told s.after new log (subst (λ t. Leads (HeadedStep step) t log new) here k) in
     record {
       raw = s.raw ∷ rest.raw;
       after = rest.after;
       is = rest.is;
-      leads = (s.after, subst (λ t. step t s.raw s.after) (sym m.2) s.moved, rest.leads);
+      leads = (s.after, subst (λ t. step t s.raw s.after) (sym m.3) s.moved, rest.leads);
       given_as = ap (λ x. x ∷ log) (s.given_as ∙ ap (λ d. over_answer d s.raw) (sym m.1)) ∙ ap (λ l. over_answer head s.raw ∷ l) rest.given_as;
     }
 
@@ -109,14 +111,6 @@ pages_within bytes len = omega (arith, div-mul-le_self len (page_size bytes), mu
 begun_told : (head file : List ℕ) → take 100 file ≡ head → begun head (Some file) ≡ Some file
 begun_told head file e = ap (λ b. cond b (Some file) None) ((bytes_eq-Decides (take 100 file) head).1 e)
 
-begun_back : (head file : List ℕ) (o : Option (List ℕ)) → begun head o ≡ Some file → o ≡ Some file
-begun_back head file None e = cc
-begun_back head file (Some f) e = by_head (bytes_eq (take 100 f) head) e
-  where
-    by_head : (b : Bool) → cond b (Some f) None ≡ Some file → Some f ≡ Some file
-    by_head false k = cc
-    by_head true k = k
-
 -- the header's bytes at the beginning of a file
 begin_range : (head file : List ℕ) → length head ≡ 100 → head ≡ take 100 file → 100 ≤ length file → IsRangeOf file 0 head
 begin_range head file size e l = (omega arith, e ∙ ap (λ n. take n file) (sym size))
@@ -125,8 +119,8 @@ begin_range head file size e l = (omega arith, e ∙ ap (λ n. take n file) (sym
 pub same_front : (step : Step) (name name' : ℕ) (head head' : List ℕ) (P : List ByteRange → Type 0) (Q : List ℕ → Type 0) (old new : SourceState)
     → HasLog (HeadedStep step) P Q (headed name head old) (headed name' head' new) → (name' ≡ name) × (head' ≡ head)
 same_front step name name' head head' P Q old new log =
-    let b = behind step name head old.trail (headed_trail name' head' new.trail) log.log log.leads in
-    let m = same_trail name' name head' head new.trail b.after b.is in (m.0, m.1)
+    let b = behind step name head old.bytes old.trail (headed_trail name' head' new.bytes new.trail) log.log log.leads in
+    let m = same_trail name' name head' head new.bytes old.bytes new.trail b.after b.is in (m.0, m.1)
 
 -- what was asked of a source with its header before it, as it was asked of the source behind that
 pub read_behind : (step : Step) (name name' : ℕ) (h : HeaderBytes) (head' : List ℕ) (T : List ℕ → Type 0) (old new : SourceState)
@@ -136,8 +130,8 @@ pub read_behind : (step : Step) (name name' : ℕ) (h : HeaderBytes) (head' : Li
 read_behind step name name' h head' T old new accepted size log =
     let g = geometry_of h.bytes h.file_len in
     let ok = is_accepted h.bytes h.file_len accepted in
-    let b = behind step name h.bytes old.trail (headed_trail name' head' new.trail) log.log log.leads in
-    let m = same_trail name' name head' h.bytes new.trail b.after b.is in
+    let b = behind step name h.bytes old.bytes old.trail (headed_trail name' head' new.bytes new.trail) log.log log.leads in
+    let m = same_trail name' name head' h.bytes new.bytes old.bytes new.trail b.after b.is in
     let ranges : map asked log.log ≡ map asked b.raw = ap (map asked) b.given_as ∙ over_asked h.bytes b.raw size in
     let big : 100 ≤ page_size h.bytes = omega (arith, ok.range.page_size.0) in
     let f = snapshot (page_size h.bytes) h.file_len h.bytes log.log log.holds.pages big ok.long size log.holds.ranges
@@ -145,7 +139,8 @@ read_behind step name name' h head' T old new accepted size log =
     (subst (BeginsSo h.bytes) (sym b.given_as) (over_begins h.bytes b.raw (page_size h.bytes) log.holds.pages size big (sym ranges ∙ log.holds.ranges))) in
     record {
       log = b.raw;
-      leads = subst (λ t. Leads step old.trail b.raw t) (sym m.2) b.leads;
+      leads = subst (λ t. Leads step old.trail b.raw t) (sym m.3) b.leads;
+      told = m.2;
       holds = subst (IsPageLog g) ranges log.holds;
       there_is = (
         f.0,
@@ -155,10 +150,8 @@ read_behind step name name' h head' T old new accepted size log =
       files = λ file is k. log.files file (subst (Fits file) (sym b.given_as) (over_fits h.bytes file b.raw (sym is.begins) k)) is;
       tells = by_told old.bytes (λ file told is.
           let t : begun h.bytes old.bytes ≡ Some file = ap (begun h.bytes) told ∙ begun_told h.bytes file (sym is.begins) in
-          let w : Fits file log.log = subst (λ o. IfSome o (λ file. Fits file log.log)) t log.tells in (
-            fits_over h.bytes file b.raw (sym is.begins) (subst (Fits file) b.given_as w),
-            begun_back head' file new.bytes (log.told ∙ t),
-          )) refl;
+          let w : Fits file log.log = subst (λ o. IfSome o (λ file. Fits file log.log)) t log.tells in
+          fits_over h.bytes file b.raw (sym is.begins) (subst (Fits file) b.given_as w)) refl;
     }
   where
     within : (p : ℕ) → p ≤ page_count h.bytes h.file_len → 512 ≤ page_size h.bytes → p * page_size h.bytes ≤ h.file_len
@@ -169,28 +162,31 @@ read_behind step name name' h head' T old new accepted size log =
     by_told (Some file) f e = f file (sym e)
 
 -- the header's read, and then what was read behind it
-pub ran : (step : Step) (h : HeaderBytes) (T : List ℕ → Type 0) (old mid new : SourceState)
-    → refusal_of h.bytes h.file_len ≡ None → length h.bytes ≡ 100 → IfSome old.bytes (IsHeaderOf h) → mid.bytes ≡ old.bytes → step old.trail (given 0 h.bytes) mid.trail
-    → HasReadBehind step (IsPageLog (geometry_of h.bytes h.file_len)) h T mid new → HasRead step (IsRunLog (geometry_of h.bytes h.file_len)) (λ file ranges. IsHeaderOf h file × T file) old new
-ran step h T old mid new accepted size tells same first behind =
+pub ran : (step : Step) (lengths : Lengths) (h : HeaderBytes) (T : List ℕ → Type 0) (old mid new : SourceState)
+    → refusal_of h.bytes h.file_len ≡ None → length h.bytes ≡ 100 → Opens step lengths (Ok h) old mid → step old.trail (given 0 h.bytes) mid.trail
+    → HasReadBehind step (IsPageLog (geometry_of h.bytes h.file_len)) h T mid new → HasRead step lengths (IsRunLog (geometry_of h.bytes h.file_len)) (λ file ranges. IsHeaderOf h file × T file) old new
+ran step lengths h T old mid new accepted size opens first behind =
     let ok = is_accepted h.bytes h.file_len accepted in
     let f = behind.there_is in
     record {
       len = h.file_len;
       log = given 0 h.bytes ∷ behind.log;
       leads = (mid.trail, first, behind.leads);
+      told = behind.told ∙ opens.asks.log.told;
+      answered = elim opens.answered [ inl a ↦ inl (subst (lengths old.trail) (sym (same_len opens.there_is)) a) | inr e ↦ absurd (read_of e.0) ];
       holds = inr (map asked behind.log, ap (λ n. range 0 n ∷ map asked behind.log) size, behind.holds);
       there_is = (f.0, sym f.1.whole, (begin_range h.bytes f.0 size f.1.begins (omega (arith, f.1.whole, ok.long)), f.2));
       files = λ file e k. let is = header_of file h.bytes h.file_len h (sym e) size k.0 accepted refl refl in (is, behind.files file is k.1);
-      tells = if_told_both old.bytes (λ file is behind.
-          let k = behind is in (
-            sym is.whole,
-            (begin_range h.bytes file size is.begins (omega (arith, is.whole, ok.long)), k.0),
-            k.1,
-          ))
-          tells (subst (λ o. IfSome o (λ file. IsHeaderOf h file → FitsBehindHeader file behind.log × (new.bytes ≡ Some file))) same behind.tells);
+      tells = if_told_both old.bytes (λ file is behind. (sym is.whole, (begin_range h.bytes file size is.begins (omega (arith, is.whole, ok.long)), behind is)))
+          (opens_told (Ok h) opens) (subst (λ o. IfSome o (λ file. IsHeaderOf h file → FitsBehindHeader file behind.log)) opens.asks.log.told behind.tells);
       short = λ l. absurd (omega (arith, l, ok.long));
     }
+  where
+    same_len : (f : (file : List ℕ) × (length file ≡ opens.len) × Fits file opens.asks.log.log) → h.file_len ≡ opens.len
+    same_len f = let is : IsHeaderOf h f.0 = opens.asks.log.files f.0 f.2 f.1 in is.whole ∙ f.1
+
+    read_of : (let r : Result HeaderBytes OpenError = Ok h in r) ≡ Err ReadFailed → ⊥
+    read_of e = cc
 
 -- ---- the header was not read, or it is refused
 
@@ -223,34 +219,36 @@ run_fits file (a ∷ []) h k = k
 run_fits file (a ∷ b ∷ log) h k = absurd (two_answers a b log h)
 
 -- what was read then, and of each file that agrees what is so of one that is refused for that reason
-pub opened : (step : Step) (e : OpenError) (T : List ℕ → Type 0) (old new : SourceState)
-    → Opens step (Err e) old new → ((file : List ℕ) → IsRefusalOf e file → T file) → HasRead step (IsOpenLog (Err e)) (λ file ranges. T file) old new
-opened step e T old new h q =
+pub opened : (step : Step) (lengths : Lengths) (e : OpenError) (T : List ℕ → Type 0) (old new : SourceState)
+    → Opens step lengths (Err e) old new → ((file : List ℕ) → IsRefusalOf e file → T file) → HasRead step lengths (IsOpenLog (Err e)) (λ file ranges. T file) old new
+opened step lengths e T old new h q =
     let log = h.asks.log in
     let short = opened_short e log.log log.holds in
     record {
       len = h.len;
       log = log.log;
       leads = log.leads;
+      told = log.told;
+      answered = elim h.answered [ inl a ↦ inl a | inr k ↦ inr (k.1, failed_once (Err e) k.0 h.asks.count) ];
       holds = log.holds;
       there_is = (h.there_is.0, h.there_is.1, fits_run h.there_is.0 log.log short h.there_is.2);
       files = λ file l k. q file (log.files file (run_fits file log.log short k) l);
-      tells = by_told old.bytes h.same log.tells refl;
+      tells = if_told_both old.bytes (λ file l f. (l, fits_run file log.log short f)) h.same log.tells;
       short = h.short;
     }
   where
-    by_told : (o : Option (List ℕ)) → IfSome o (λ file. length file ≡ h.len) → IfSome o (λ file. Fits file h.asks.log.log) → o ≡ old.bytes
-        → IfSome o (λ file. (length file ≡ h.len) × FitsRun file h.asks.log.log × (new.bytes ≡ Some file))
-    by_told None l f e = tt
-    by_told (Some file) l f is = (l, fits_run file h.asks.log.log (opened_short e h.asks.log.log h.asks.log.holds) f, h.asks.log.told ∙ sym is)
+    failed_once : (r : Result HeaderBytes OpenError) → r ≡ Err ReadFailed → new.failures ≡ failures_after is_open_failed r old.failures → new.failures ≡ one_more old.failures
+    failed_once r k count = subst (λ (x : Result HeaderBytes OpenError). new.failures ≡ failures_after is_open_failed x old.failures) k count
 
 -- of what was read, something weaker
-pub read_weaker : {step : Step} (P : List ByteRange → Type 0) {P' : List ByteRange → Type 0} (Q : List ℕ → List ByteRange → Type 0) {Q' : List ℕ → List ByteRange → Type 0} {old new : SourceState}
-    → HasRead step P Q old new → ((ranges : List ByteRange) → P ranges → P' ranges) → ((file : List ℕ) (ranges : List ByteRange) → P ranges → Q file ranges → Q' file ranges) → HasRead step P' Q' old new
+pub read_weaker : {step : Step} {lengths : Lengths} (P : List ByteRange → Type 0) {P' : List ByteRange → Type 0} (Q : List ℕ → List ByteRange → Type 0) {Q' : List ℕ → List ByteRange → Type 0} {old new : SourceState}
+    → HasRead step lengths P Q old new → ((ranges : List ByteRange) → P ranges → P' ranges) → ((file : List ℕ) (ranges : List ByteRange) → P ranges → Q file ranges → Q' file ranges) → HasRead step lengths P' Q' old new
 read_weaker P Q h f q = record {
   len = h.len;
   log = h.log;
   leads = h.leads;
+  told = h.told;
+  answered = h.answered;
   holds = f (map asked h.log) h.holds;
   there_is = h.there_is;
   files = λ file l k. q file (map asked h.log) h.holds (h.files file l k);
@@ -259,10 +257,15 @@ read_weaker P Q h f q = record {
 }
 
 -- What is so of each file that agrees is so of told bytes, which stay; and of one that is too short nothing was read.
-pub read_told : (step : Step) (P : List ByteRange → Type 0) (Q : List ℕ → List ByteRange → Type 0) (old new : SourceState) (h : HasRead step P Q old new)
+pub read_told : (step : Step) (lengths : Lengths) (P : List ByteRange → Type 0) (Q : List ℕ → List ByteRange → Type 0) (old new : SourceState) (h : HasRead step lengths P Q old new)
     → IfSome old.bytes (λ file. Q file (map asked h.log) × (new.bytes ≡ Some file) × (length file < 100 → new.trail ≡ old.trail))
-read_told step P Q old new h = if_told old.bytes (λ file k. (
-  h.files file k.0 k.1,
-  k.2,
-  λ l. let leads : Leads step old.trail [] new.trail = subst (λ log. Leads step old.trail log new.trail) (h.short (subst (λ n. n < 100) k.0 l)) h.leads in leads,
-)) h.tells
+read_told step lengths P Q old new h = by_told old.bytes h.tells refl
+  where
+    by_told : (o : Option (List ℕ)) → IfSome o (λ file. (length file ≡ h.len) × FitsRun file h.log) → o ≡ old.bytes
+        → IfSome o (λ file. Q file (map asked h.log) × (new.bytes ≡ Some file) × (length file < 100 → new.trail ≡ old.trail))
+    by_told None k e = tt
+    by_told (Some file) k e = (
+      h.files file k.0 k.1,
+      h.told ∙ sym e,
+      λ l. let leads : Leads step old.trail [] new.trail = subst (λ log. Leads step old.trail log new.trail) (h.short (subst (λ n. n < 100) k.0 l)) h.leads in leads,
+    )

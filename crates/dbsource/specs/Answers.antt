@@ -1,5 +1,5 @@
 -- What a source answered to the reads of a call, and which files agree with it.
-use Rattle.std.specs.Prelude.{◌≡◌, ℕ, ◌+◌, ◌≤◌, List, [], ◌∷◌, length, take, drop, Result, Ok, Err}
+use Rattle.std.specs.Prelude.{◌≡◌, ℕ, ◌+◌, ◌≤◌, List, [], ◌∷◌, length, take, drop, Option, Result, Ok, Err}
 use Rattle.dbformat.specs.Log.{range}
 use Rattle.dbformat.specs.declared.ByteRange.{ByteRange}
 
@@ -32,10 +32,11 @@ abbrev pub Fits : List ℕ → List Answer → Type 0
 Fits file [] = Unit {0}
 Fits file (a ∷ log) = FitsAnswer file a × Fits file log
 
--- a header that is put over what a source gives, and the name of the reference to that source
+-- a header that is put over what a source gives, the name of the reference to that source, and the bytes that it tells
 pub record Front : Type 0 where
   pub name : ℕ
   pub head : List ℕ
+  pub told : Option (List ℕ)
 
 -- what a source keeps: the headers that stand before it, which no read changes, and ranges that it was asked for
 pub record Trail : Type 0 where
@@ -49,6 +50,10 @@ no_trail = record { fronts = []; ranges = [] }
 -- from which trail to which an answer may lead
 abbrev pub Step : Type 1
 Step = Trail → Answer → Trail → Type 0
+
+-- which lengths a source may answer, by its trail
+abbrev pub Lengths : Type 1
+Lengths = Trail → ℕ → Type 0
 
 -- The answers of a log, one after another, lead a source's trail from old to new, each by the source's step for it.
 abbrev pub Leads : Step → Trail → List Answer → Trail → Type 0

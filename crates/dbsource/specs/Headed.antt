@@ -1,7 +1,7 @@
 -- A source that gives the bytes of a header that was read for the first bytes of the file.
 use Rattle.std.specs.Prelude.{◌≡◌, ℕ, List, ◌∷◌, ◌++◌, length, take, drop, Option, Some, None, if◌then◌else◌, ◌==◌}
 use Rattle.std.specs.Str.{bytes_eq}
-use Rattle.dbsource.specs.Answers.{Answer, Step, Trail, failed, given}
+use Rattle.dbsource.specs.Answers.{Answer, Lengths, Step, Trail, failed, given}
 use Rattle.dbsource.specs.Sources.{SourceState}
 
 -- bytes that were read at an offset, with the header put over those of the file's beginning
@@ -19,20 +19,30 @@ begun head None = None
 begun head (Some file) = if bytes_eq (take 100 file) head then Some file else None
 
 -- its trail is that of the source behind it, with the header before it
-abbrev pub headed_trail : ℕ → List ℕ → Trail → Trail
-headed_trail name head trail = record { fronts = record { name = name; head = head } ∷ trail.fronts; ranges = trail.ranges }
+abbrev pub headed_trail : ℕ → List ℕ → Option (List ℕ) → Trail → Trail
+headed_trail name head told trail = record { fronts = record { name = name; head = head; told = told } ∷ trail.fronts; ranges = trail.ranges }
 
 abbrev pub headed : ℕ → List ℕ → SourceState → SourceState
-headed name head s = record { bytes = begun head s.bytes; trail = headed_trail name head s.trail; failures = s.failures }
+headed name head s = record { bytes = begun head s.bytes; trail = headed_trail name head s.bytes s.trail; failures = s.failures }
 
 -- A step of it: one of the source behind it, whose answer it gives with the header over it.
 pub record HeadedStep (step : Step) (old : Trail) (a : Answer) (new : Trail) : Type 0 where
   pub name : ℕ
   pub head : List ℕ
+  pub told : Option (List ℕ)
   pub before : Trail
   pub after : Trail
   pub raw : Answer
-  pub was : old ≡ headed_trail name head before
-  pub is : new ≡ headed_trail name head after
+  pub was : old ≡ headed_trail name head told before
+  pub is : new ≡ headed_trail name head told after
   pub given_as : a ≡ over_answer head raw
   pub moved : step before raw after
+
+-- a length of it: one of the source behind it
+pub record HeadedLength (lengths : Lengths) (trail : Trail) (n : ℕ) : Type 0 where
+  pub name : ℕ
+  pub head : List ℕ
+  pub told : Option (List ℕ)
+  pub before : Trail
+  pub was : trail ≡ headed_trail name head told before
+  pub length : lengths before n

@@ -5,7 +5,7 @@ use Rattle.dbformat.specs.File.{refusal, geometry}
 use Rattle.dbformat.specs.Log.{header_range}
 use Rattle.dbformat.specs.declared.ByteRange.{ByteRange}
 use Rattle.dbformat.specs.declared.Refusal.TheVariants.{Short}
-use Rattle.dbsource.specs.Answers.{Fits, Step}
+use Rattle.dbsource.specs.Answers.{Fits, Lengths, Step}
 use Rattle.dbsource.specs.Errors.{is_open_failed}
 use Rattle.dbsource.specs.HeaderBytes.{HeaderBytes}
 use Rattle.dbsource.specs.Sources.{Asks, SourceState}
@@ -36,12 +36,13 @@ abbrev pub IsOpenOf : Result HeaderBytes OpenError → List ℕ → Type 0
 IsOpenOf (Ok h) file = IsHeaderOf h file
 IsOpenOf (Err e) file = IsRefusalOf e file
 
--- There is a length: the one that the source answered, if it answered one, and that of the told bytes, where there are any.
+-- There is a length: one that the source answered, unless it failed at that; and that of the told bytes, where there are any.
 -- What is answered is so of each file of this length that agrees with what was read, and there is such a file. Where the length
 -- is too short for a header nothing was read.
-pub record Opens (step : Step) (r : Result HeaderBytes OpenError) (old new : SourceState) : Type 0 where
+pub record Opens (step : Step) (lengths : Lengths) (r : Result HeaderBytes OpenError) (old new : SourceState) : Type 0 where
   pub len : ℕ
   pub same : IfSome old.bytes (λ file. length file ≡ len)
   pub asks : Asks step (IsOpenLog r) (λ file. length file ≡ len → IsOpenOf r file) is_open_failed r old new
   pub there_is : (file : List ℕ) × (length file ≡ len) × Fits file asks.log.log
   pub short : len < 100 → asks.log.log ≡ []
+  pub answered : lengths old.trail len ⊎ ((r ≡ Err ReadFailed) × (asks.log.log ≡ []))

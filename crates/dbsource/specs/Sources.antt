@@ -1,7 +1,7 @@
 -- What a source gives, and what it keeps of what it was asked for.
 use Rattle.std.specs.Prelude.{◌≡◌, ℕ, ◌+◌, ◌<◌, ◌≤◌, ◌^◌, Bool, List, [], ◌∷◌, ◌++◌, length, map, slice_index, nat_lt, Option, Some, None, IfSome, Result, if◌then◌else◌}
 use Rattle.dbformat.specs.declared.ByteRange.{ByteRange}
-use Rattle.dbsource.specs.Answers.{Answer, asked, Fits, Leads, Step, Trail, no_trail}
+use Rattle.dbsource.specs.Answers.{Answer, asked, Fits, Leads, Lengths, Step, Trail, no_trail}
 use Rattle.dbsource.specs.Failures.{failures_after}
 
 -- a source as contracts see it: the bytes that it tells, or that it tells none; what it keeps; and how many calls failed
@@ -45,6 +45,10 @@ pub record HasRanges (step : Step) (P : List ByteRange → Type 0) (old new : Tr
   pub log : List Answer
   pub leads : Leads step old log new
   pub holds : P (map asked log)
+
+-- a source of whose lengths nothing is said beside the bytes that it tells
+abbrev pub any_length : Lengths
+any_length trail n = Unit {0}
 
 -- a source that keeps no trail
 abbrev pub no_step : Step

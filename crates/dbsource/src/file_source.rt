@@ -1,6 +1,6 @@
 // A source over a file.
 ghost use Rattle.std.specs.Prelude.{◌≡◌, IfOk};
-ghost use Rattle.dbsource.specs.Sources.{no_step, untold_source};
+ghost use Rattle.dbsource.specs.Sources.{any_length, no_step, untold_source};
 
 use crate::{Failures, ReadFailed, Source};
 use std::fs::{File, Metadata};
@@ -61,6 +61,8 @@ impl Source for FileSource {
     ghost held = { λ s. s };
 
     ghost step = { no_step };
+
+    ghost lengths = { any_length };
 
     // The metadata of a block device have no length, and its end has.
     fn len(&mut self) -> Result<u64, ReadFailed> {

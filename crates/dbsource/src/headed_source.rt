@@ -35,11 +35,13 @@ fn put_over(header: &[u8], offset: u64, buf: &mut [u8])
 }
 
 impl<S: Source> Source for HeadedSource<'_, S> {
-    ghost use Rattle.dbsource.specs.Headed.{HeadedStep, headed};
+    ghost use Rattle.dbsource.specs.Headed.{HeadedLength, HeadedStep, headed};
 
     ghost held = { λ s. headed s.source.ghost_name s.header.now.bytes (S.held s.source.now) };
 
     ghost step = { HeadedStep S.step };
+
+    ghost lengths = { HeadedLength S.lengths };
 
     fn len(&mut self) -> Result<u64, ReadFailed> {
         self.source.len()

@@ -40,7 +40,7 @@ impl Header {
     /// [`OpenError::Refused`] where length and bytes say that the file is not to be read, [`OpenError::ReadFailed`]
     /// exactly where the source failed. A file of fewer than 100 bytes is refused by its length, before any read.
     pub fn read<S: Source>(source: &mut S) -> Result<Header, OpenError>
-        ensures opens { Opens S.step result (S.held source.old) (S.held source.new) }
+        ensures opens { Opens S.step S.lengths result (S.held source.old) (S.held source.new) }
         // What the header was read of.
         ensures read { IfOk result (λ h. S.step (S.held source.old).trail (given 0 h.bytes) (S.held source.new).trail) }
         ensures accepted { IfOk result (λ h. (refusal_of h.bytes h.file_len ≡ None) × (length h.bytes ≡ 100)) }

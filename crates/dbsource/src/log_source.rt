@@ -2,7 +2,7 @@
 ghost use Rattle.std.specs.Prelude.{◌≡◌, ◌+◌, ◌<◌, ◌≤◌, length, IfOk, IfSome, IsOk, OnOk, ◌↔◌};
 ghost use Rattle.dbsource.specs.Answers.{IsRangeOf, answer};
 ghost use Rattle.dbsource.specs.Failures.{failures_after, is_any};
-ghost use Rattle.dbsource.specs.Sources.{AreBytes, KeepsItsLog, kept_step, source_of};
+ghost use Rattle.dbsource.specs.Sources.{AreBytes, KeepsItsLog, any_length, kept_step, source_of};
 
 use crate::memory_source::{byte_count, copy_range};
 use crate::{ByteRange, Failures, ReadFailed, Source};
@@ -57,10 +57,13 @@ impl Source for LogSource<'_> {
 
     ghost step = { kept_step };
 
+    ghost lengths = { any_length };
+
     fn len(&mut self) -> Result<u64, ReadFailed>
         ensures told { self.new.bytes ≡ self.old.bytes }
         ensures trail { self.new.trail ≡ self.old.trail }
         ensures count { self.new.failures ≡ failures_after is_any result self.old.failures }
+        ensures length { IfOk result (any_length self.old.trail) }
         ensures number { IfOk result (λ n. IfSome self.old.bytes (λ bytes. n ≡ length bytes)) }
         ensures bytes { IfSome self.old.bytes AreBytes }
         // It never fails.

@@ -2,7 +2,7 @@
 ghost use Rattle.std.specs.Prelude.{◌≡◌, ◌+◌, ◌≤◌, length, IfOk, IfSome, IsOk, OnOk, IsTrue, ◌↔◌};
 ghost use Rattle.dbsource.specs.Answers.{IsRangeOf, answer};
 ghost use Rattle.dbsource.specs.Failures.{failures_after, is_any};
-ghost use Rattle.dbsource.specs.Sources.{AreBytes, no_step, source_of};
+ghost use Rattle.dbsource.specs.Sources.{AreBytes, any_length, no_step, source_of};
 
 use crate::{Failures, ReadFailed, Source};
 use std::marker::Model;
@@ -63,10 +63,13 @@ impl Source for MemSource<'_> {
 
     ghost step = { no_step };
 
+    ghost lengths = { any_length };
+
     fn len(&mut self) -> Result<u64, ReadFailed>
         ensures told { self.new.bytes ≡ self.old.bytes }
         ensures trail { self.new.trail ≡ self.old.trail }
         ensures count { self.new.failures ≡ failures_after is_any result self.old.failures }
+        ensures length { IfOk result (any_length self.old.trail) }
         ensures number { IfOk result (λ n. IfSome self.old.bytes (λ bytes. n ≡ length bytes)) }
         ensures bytes { IfSome self.old.bytes AreBytes }
         // It never fails.

@@ -13,13 +13,16 @@ pub struct ReadFailed;
 
 /// What can be asked for its bytes, range by range.
 pub trait Source {
-    ghost use Rattle.dbsource.specs.Answers.{Step};
+    ghost use Rattle.dbsource.specs.Answers.{Lengths, Step};
     ghost use Rattle.dbsource.specs.Sources.{SourceState};
 
     // The bytes that it tells, if it does, what it keeps of the ranges that it was asked for, and its failures.
     ghost held: { Self → SourceState };
     // What a read, by its answer, makes of the trail.
     ghost step: { Step };
+    // Which lengths it may answer, by the trail. So of a source of which no more is known than its trait, a length that is
+    // spoken of is one that it answered.
+    ghost lengths: { Lengths };
 
     /// How many bytes there are.
     ///
@@ -30,6 +33,7 @@ pub trait Source {
         ensures told { (held self.new).bytes ≡ (held self.old).bytes }
         ensures trail { (held self.new).trail ≡ (held self.old).trail }
         ensures count { (held self.new).failures ≡ failures_after is_any result (held self.old).failures }
+        ensures length { IfOk result (lengths (held self.old).trail) }
         ensures number { IfOk result (λ n. IfSome (held self.old).bytes (λ bytes. n ≡ length bytes)) }
         ensures bytes { IfSome (held self.old).bytes AreBytes };
 

@@ -1,5 +1,5 @@
 // A source whose file is written while it is read.
-ghost use Rattle.dbsource.specs.Sources.{no_step, untold_source};
+ghost use Rattle.dbsource.specs.Sources.{any_length, no_step, untold_source};
 
 use dbfiles::patch;
 use dbsource::{Failures, ReadFailed, Source};
@@ -136,6 +136,8 @@ impl Source for ChangingSource<'_> {
     ghost held = { λ s. record untold_source { failures = s.failures } };
 
     ghost step = { no_step };
+
+    ghost lengths = { any_length };
 
     fn len(&mut self) -> Result<u64, ReadFailed> {
         self.lens = self.lens.wrapping_add(1);

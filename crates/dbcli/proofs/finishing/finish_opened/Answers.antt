@@ -1,6 +1,6 @@
 use Rattle.dbsource.proofs.Runs.{read_weaker}
-use Rattle.dbcli.proofs.Exits.{finish_of, known, untold, unwritten_at_3}
-use Rattle.dbcli.proofs.Handing.{failed_at_6, first_at_error, second_at_error, source_failures, still_run, still_unwritten, whole_at_verdict}
+use Rattle.dbcli.proofs.Exits.{finish_of, known, refused_at_3, untold, unwritten_at_3}
+use Rattle.dbcli.proofs.Handing.{failed_at_6, first_at_error, second_at_error, source_failures, still_refused, still_run, still_unwritten, whole_at_verdict}
 use Rattle.dbcli.proofs.finishing.finish_opened.Goals as goal
 
 pub returns-clause-read : goal.returns-clause-read
@@ -26,6 +26,11 @@ pub returns-clause-unread : goal.returns-clause-unread
 returns-clause-unread g c = rw c.end.ensures.status
     (source_failures (g.O.Out.held c.run-outcome.new.out) (g.O.Out.held c.hand_on-outcome.new.out) (g.E.Out.held c.run-outcome.new.err) (g.E.Out.held c.hand_on-outcome.new.err)
     c.run-outcome.result c.hand_on-outcome.result c.hand_on-outcome.ensures.handed _ _ c.run-outcome.ensures.count)
+
+pub returns-clause-refused : goal.returns-clause-refused
+returns-clause-refused g c = rw c.end.ensures.status (refused_at_3 _ c.hand_on-outcome.result _ _
+    (still_refused (g.O.Out.held c.run-outcome.new.out) (g.O.Out.held c.hand_on-outcome.new.out) (g.E.Out.held c.run-outcome.new.err) (g.E.Out.held c.hand_on-outcome.new.err) _
+    c.run-outcome.result c.hand_on-outcome.result _ _ c.hand_on-outcome.ensures.handed c.run-outcome.ensures.refused))
 
 pub returns-clause-statuses : goal.returns-clause-statuses
 returns-clause-statuses g c = rw c.end.ensures.status (known c.hand_on-outcome.result)

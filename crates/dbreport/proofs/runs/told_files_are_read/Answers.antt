@@ -8,4 +8,4 @@ returns g c command r out_old out_new err_old err_new old new h = if_told old.by
   stay = t.1;
   log = record { log = h.log; leads = h.leads; holds = t.0.0 };
   unread = t.2;
-}) (read_told _ _ _ old new h)
+}) (read_told _ _ _ _ old new h)

@@ -18,6 +18,7 @@ returns-in_err-file_len-clause-opens g c =
       asks = record { log = has_none _ _ c.in_err-file_len.ensures.told c.in_err-file_len.ensures.trail (inl refl) (λ file e. tt); count = c.in_err-file_len.ensures.count };
       there_is = let f = beginning [] (told_len (g.S.Source.held c.args.source.now).bytes) (omega arith) in (f.0, f.1, tt);
       short = λ l. refl;
+      answered = inr (refl, refl);
     }))
 
 pub returns-then-file_len-clause-opens : goal.returns-then-file_len-clause-opens
@@ -30,6 +31,7 @@ returns-then-file_len-clause-opens g c = record {
   };
   there_is = let f = beginning [] c.in_ok-file_len.file_len (omega arith) in (f.0, f.1, tt);
   short = λ l. refl;
+  answered = inl c.in_ok-file_len.ensures.length;
 }
 
 pub returns-in_err-read_at-clause-opens : goal.returns-in_err-read_at-clause-opens
@@ -42,6 +44,7 @@ returns-in_err-read_at-clause-opens g c =
           c.in_err-read_at.ensures.told c.in_err-read_at.ensures.trail c.in_err-read_at.ensures.count tt (λ n. refl) (inr (ap (λ n. range 0 n ∷ []) c.read_at.auto.buf)) (λ file h e. tt);
       there_is = let f = beginning [] c.in_ok-file_len.file_len (omega arith) in (f.0, f.1, (tt, tt));
       short = λ l. absurd (omega (arith, l, c.if-file_len.false));
+      answered = inl c.in_ok-file_len.ensures.length;
     }))
 
 pub returns-in-Some-clause-opens : goal.returns-in-Some-clause-opens
@@ -55,6 +58,7 @@ returns-in-Some-clause-opens g c = record {
       (λ file read e. refused_by file c.read_at.new.buf c.in_ok-file_len.file_len c.in-Some.refusal (sym e) c.read_at.auto.buf read (sym c.refusal_of.ensures ∙ c.in-Some.is));
   there_is = let f = beginning c.read_at.new.buf c.in_ok-file_len.file_len (omega (arith, c.read_at.auto.buf, c.if-file_len.false)) in (f.0, f.1, (f.2, tt));
   short = λ l. absurd (omega (arith, l, c.if-file_len.false));
+  answered = inl c.in_ok-file_len.ensures.length;
 }
 
 pub returns-in-None-clause-opens : goal.returns-in-None-clause-opens
@@ -67,4 +71,5 @@ returns-in-None-clause-opens g c = record {
       (λ file read e. header_of file c.read_at.new.buf c.in_ok-file_len.file_len c.accepted.result (sym e) c.read_at.auto.buf read (sym c.refusal_of.ensures ∙ c.in-None.is) c.accepted.ensures.bytes c.accepted.ensures.file_len);
   there_is = let f = beginning c.read_at.new.buf c.in_ok-file_len.file_len (omega (arith, c.read_at.auto.buf, c.if-file_len.false)) in (f.0, f.1, (f.2, tt));
   short = λ l. absurd (omega (arith, l, c.if-file_len.false));
+  answered = inl c.in_ok-file_len.ensures.length;
 }
