@@ -11,7 +11,7 @@ use Rattle.dbsource.specs.HeaderBytes.{HeaderBytes}
 use Rattle.dbsource.specs.Headers.{IsHeaderOf}
 use Rattle.dbsource.specs.Outs.{Begins, OutState, Puts, Writes}
 use Rattle.dbsource.specs.declared.error.RunError.{RunError}
-use Rattle.dbwalk.specs.Finding.{Finding}
+use Rattle.dbtrace.specs.Finding.{Finding}
 use Rattle.dbwalk.specs.Outcomes.{StopsBy}
 use Rattle.dbwalk.specs.Telling.{findings}
 use Rattle.dbwalk.proofs.Telling.Tellings.{stops_by_after}

@@ -15,7 +15,7 @@ use Rattle.dbsource.specs.Outs.{Begins, OutState, Puts}
 use Rattle.dbsource.specs.declared.error.RunError.{RunError}
 use Rattle.dbsource.specs.declared.error.RunError.TheVariants.{ReadFailed, WriteFailed, OutOfMemory, Refused}
 use Rattle.dbsource.proofs.Puts.{appends_nothing, puts_then}
-use Rattle.dbwalk.specs.Finding.{Finding, told_row, told_fault}
+use Rattle.dbtrace.specs.Finding.{Finding, told_row, told_fault}
 use Rattle.dbwalk.specs.Outcomes.{StopsBy}
 use Rattle.dbwalk.proofs.Telling.Tellings.{stops_by_first}
 use Rattle.dbreport.specs.CheckSink.{PutsAll, ShowsFault, Shows, Cuts, end_text, verdict_of}

@@ -24,7 +24,7 @@ use Rattle.dbsource.specs.HeaderBytes.{HeaderBytes}
 use Rattle.dbsource.specs.Headers.{IsHeaderOf}
 use Rattle.dbsource.specs.declared.error.RunError.{RunError}
 use Rattle.dbwalk.specs.EndMarks.{is_free_mark, greatest_root_marked, least_other_marked, mark_fault, late_fault}
-use Rattle.dbwalk.specs.Finding.{Finding, told_fault}
+use Rattle.dbtrace.specs.Finding.{Finding, told_fault}
 use Rattle.dbwalk.specs.Marking.{mark_of, marks_of, role_mark, visit_mark, AreMarksOf}
 use Rattle.dbwalk.specs.Outcomes.{Tells}
 use Rattle.dbwalk.specs.declared.mark.Mark.{Mark}

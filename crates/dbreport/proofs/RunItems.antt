@@ -26,7 +26,7 @@ use Rattle.dbwalk.specs.Outcomes.{Tells}
 use Rattle.dbwalk.specs.declared.mark.Mark.{Mark}
 use Rattle.dbwalk.proofs.Telling.Lefts.{left_start, left_call, left_stop}
 use Rattle.dbreport.proofs.Starts.{quiet_go}
-use Rattle.dbwalk.specs.Finding.{Finding, told_below, visited_below}
+use Rattle.dbtrace.specs.Finding.{Finding, told_below, visited_below}
 use Rattle.dbwalk.proofs.Telling.Belows.{visited_join, told_join}
 use Rattle.dbreport.specs.Starts.{AreBelowStarts, AreWalked, schema_reference, later_errands}
 

@@ -18,7 +18,7 @@ use Rattle.dbformat.proofs.HeaderPrefix.{header_faults_within}
 use Rattle.dbformat.proofs.LookBack.{looks_back}
 use Rattle.dbsource.specs.HeaderBytes.{HeaderBytes}
 use Rattle.dbsource.specs.Headers.{IsHeaderOf}
-use Rattle.dbwalk.specs.Finding.{told_row, told_at, told_below}
+use Rattle.dbtrace.specs.Finding.{told_row, told_at, told_below}
 use Rattle.dbwalk.specs.Telling.{findings}
 use Rattle.dbreport.specs.Findings.{fault_in, faults_in}
 use Rattle.dbreport.specs.RunItems.{run_items}

@@ -31,7 +31,7 @@ use Rattle.dbformat.specs.declared.PageType.TheVariants.{Internal, Leaf}
 use Rattle.dbformat.proofs.Rising.{starts_rise}
 use Rattle.dbformat.proofs.Theory.{are_rules, is_story, shows_visits, no_tell}
 use Rattle.dbformat.proofs.Visited.{has_address}
-use Rattle.dbwalk.specs.Finding.{told_row, told_fault, told_at, told_below}
+use Rattle.dbtrace.specs.Finding.{told_row, told_fault, told_at, told_below}
 use Rattle.dbreport.specs.Findings.{is_leaf, is_schema_leaf, is_schema_row}
 
 or_none : (a b : Bool) → b ≡ false → (a || b) ≡ a

@@ -10,7 +10,7 @@ use Rattle.dbformat.specs.declared.Encoding.{Encoding}
 use Rattle.dbformat.proofs.LookBack.{by_starts}
 use Rattle.dbsource.specs.declared.error.RunError.{RunError}
 use Rattle.dbwalk.specs.Done.{IsDone}
-use Rattle.dbwalk.specs.Finding.{Finding, told_below, visited_below}
+use Rattle.dbtrace.specs.Finding.{Finding, told_below, visited_below}
 use Rattle.dbwalk.specs.Marking.{AreMarksOf}
 use Rattle.dbwalk.specs.Roots.{IsRootAfter}
 use Rattle.dbwalk.specs.Taking.{Gives, readable_rows}

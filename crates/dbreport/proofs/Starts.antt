@@ -19,14 +19,14 @@ use Rattle.dbformat.specs.declared.RowKind.{RowKind}
 use Rattle.dbformat.specs.declared.RowKind.TheVariants as row
 use Rattle.dbsource.specs.declared.error.RunError.{RunError}
 use Rattle.dbwalk.specs.Done.{IsDone}
-use Rattle.dbwalk.specs.Finding.{Finding, told_below, visited_below}
+use Rattle.dbtrace.specs.Finding.{Finding, told_below, visited_below}
 use Rattle.dbwalk.specs.Entered.{IsNext}
 use Rattle.dbwalk.specs.Marking.{AreMarksOf}
 use Rattle.dbwalk.specs.Trunks.{IsFirstTrunk, freelist_reference}
 use Rattle.dbwalk.specs.FreeLeaves.{Leaves}
 use Rattle.dbwalk.specs.Left.{IsLeft}
 use Rattle.dbwalk.specs.Roots.{kind_in, IsRootAfter}
-use Rattle.dbwalk.specs.Running.{IsOfEarlierStart}
+use Rattle.dbtrace.specs.Starts.{IsOfEarlierStart}
 use Rattle.dbwalk.specs.declared.mark.Mark.{Mark}
 use Rattle.dbwalk.proofs.Telling.Belows.{told_join}
 use Rattle.dbwalk.proofs.Telling.Lefts.{left_call, left_none, left_stop}

@@ -10,7 +10,7 @@ use Rattle.dbsource.specs.Outs.{Begins, OutState}
 use Rattle.dbsource.specs.declared.error.RunError.{RunError}
 use Rattle.dbsource.specs.declared.error.RunError.TheVariants.{ReadFailed, WriteFailed, OutOfMemory, Refused}
 use Rattle.dbsource.proofs.Puts.{appends_append, appends_nothing}
-use Rattle.dbwalk.specs.Finding.{Finding, told_row, told_fault}
+use Rattle.dbtrace.specs.Finding.{Finding, told_row, told_fault}
 use Rattle.dbwalk.specs.Outcomes.{StopsBy}
 use Rattle.dbreport.specs.Findings.{faults_in}
 use Rattle.dbreport.specs.TreeNames.{label_text}

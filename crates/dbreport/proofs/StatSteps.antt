@@ -18,7 +18,7 @@ use Rattle.dbsource.specs.Outs.{OutState}
 use Rattle.dbsource.specs.declared.error.RunError.{RunError}
 use Rattle.dbwalk.specs.Done.{IsDone}
 use Rattle.dbwalk.specs.Entered.{IsNext}
-use Rattle.dbwalk.specs.Finding.{Finding, told_below}
+use Rattle.dbtrace.specs.Finding.{Finding, told_below}
 use Rattle.dbwalk.specs.Marking.{AreMarksOf}
 use Rattle.dbwalk.specs.Outcomes.{Tells}
 use Rattle.dbwalk.specs.Roots.{IsRootAfter}

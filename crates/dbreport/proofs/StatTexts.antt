@@ -29,7 +29,7 @@ use Rattle.dbformat.specs.Survey.{Survey, rules_of}
 use Rattle.dbformat.specs.declared.Fault.{Fault}
 use Rattle.dbformat.proofs.Rising.{starts_rise}
 use Rattle.dbformat.proofs.Theory.{are_rules, is_story, shows_visits}
-use Rattle.dbwalk.specs.Finding.{told_row, told_fault, told_at, told_below, visited_below}
+use Rattle.dbtrace.specs.Finding.{told_row, told_fault, told_at, told_below, visited_below}
 use Rattle.dbwalk.proofs.Telling.Belows.{visited_none, told_join}
 use Rattle.dbreport.specs.Findings.{fault_in, faults_in}
 use Rattle.dbreport.specs.StatLines.{row_told, rows_told, tree_text, starts_text}

@@ -9,7 +9,7 @@ use Rattle.dbformat.specs.declared.Fault.{Fault}
 use Rattle.dbsource.specs.Outs.{OutState}
 use Rattle.dbsource.specs.declared.error.RunError.{RunError}
 use Rattle.dbsource.proofs.Puts.{appends_append, appends_nothing}
-use Rattle.dbwalk.specs.Finding.{Finding}
+use Rattle.dbtrace.specs.Finding.{Finding}
 use Rattle.dbwalk.specs.Outcomes.{Tells}
 use Rattle.dbwalk.specs.Telling.{findings}
 use Rattle.dbreport.specs.Findings.{faults_in}

@@ -6,7 +6,7 @@ use Rattle.std.proofs.Math.Bool.{or_assoc, or-false}
 use Rattle.dbsurvey.specs.Moves.{Moves, Stops, MovesBySome}
 use Rattle.dbsource.specs.declared.error.RunError.{RunError}
 use Rattle.dbsource.specs.declared.error.RunError.TheVariants.{ReadFailed, WriteFailed, OutOfMemory, Refused}
-use Rattle.dbwalk.specs.Finding.{Finding}
+use Rattle.dbtrace.specs.Finding.{Finding}
 use Rattle.dbwalk.specs.Outcomes.{StopsBy}
 use Rattle.dbreport.specs.Findings.{is_schema_row}
 use Rattle.dbreport.specs.SchemaWatch.{HandsOn}

@@ -6,7 +6,7 @@ use Rattle.dbformat.specs.declared.Fault.{Fault}
 use Rattle.dbformat.specs.declared.Verdict.{Verdict}
 use Rattle.dbformat.specs.declared.Verdict.TheVariants.{Clean, Faulty}
 use Rattle.dbsource.specs.Outs.{OutState, Puts}
-use Rattle.dbwalk.specs.Finding.{Finding, told_row, told_fault}
+use Rattle.dbtrace.specs.Finding.{Finding, told_row, told_fault}
 use Rattle.dbreport.specs.declared.check_sink.CheckSink.{CheckSink}
 
 -- these bytes were put whole

@@ -11,7 +11,7 @@ use Rattle.dbformat.specs.declared.Fault.{Fault}
 use Rattle.dbformat.specs.declared.FaultCode.TheVariants.{H08, H09, H10}
 use Rattle.dbsource.specs.declared.error.RunError.{RunError}
 use Rattle.dbwalk.specs.EndMarks.{mark_fault, late_fault}
-use Rattle.dbwalk.specs.Finding.{Finding, told_fault}
+use Rattle.dbtrace.specs.Finding.{Finding, told_fault}
 use Rattle.dbwalk.specs.Marking.{mark_of}
 use Rattle.dbwalk.specs.Outcomes.{Tells}
 use Rattle.dbwalk.specs.declared.mark.Mark.{Mark}

@@ -5,7 +5,7 @@ use Rattle.dbformat.specs.Rows.{StatRow}
 use Rattle.dbformat.specs.declared.Fault.{Fault}
 use Rattle.dbformat.specs.declared.PageType.{PageType}
 use Rattle.dbformat.specs.declared.PageType.TheVariants.{Leaf}
-use Rattle.dbwalk.specs.Finding.{Finding, told_row, told_fault}
+use Rattle.dbtrace.specs.Finding.{Finding, told_row, told_fault}
 
 -- the fault of a finding, if it is one
 abbrev pub fault_in : Finding → Option Fault

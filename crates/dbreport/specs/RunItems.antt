@@ -4,7 +4,7 @@ use Rattle.dbformat.specs.EndFaults.{end_faults}
 use Rattle.dbformat.specs.HeaderFaults.{header_faults}
 use Rattle.dbformat.specs.Reference.{Reference}
 use Rattle.dbformat.specs.Story.{start_errands}
-use Rattle.dbwalk.specs.Finding.{Finding, told_below}
+use Rattle.dbtrace.specs.Finding.{Finding, told_below}
 use Rattle.dbwalk.specs.Telling.{findings}
 
 -- what is told below all starts, and the faults at the end

@@ -1,6 +1,6 @@
 -- A sink that hands on what it is told, and notes whether the schema has a row.
 use Rattle.std.specs.Prelude.{◌≡◌, ◌||◌}
-use Rattle.dbwalk.specs.Finding.{Finding}
+use Rattle.dbtrace.specs.Finding.{Finding}
 use Rattle.dbreport.specs.Findings.{is_schema_row}
 use Rattle.dbreport.specs.declared.schema_watch.SchemaWatch.{SchemaWatch}
 

@@ -7,7 +7,7 @@ use Rattle.dbformat.specs.Lines.{page_line, tree_line, tree_name}
 use Rattle.dbformat.specs.Reference.{Way, Reference}
 use Rattle.dbformat.specs.Rows.{StatRow}
 use Rattle.dbformat.specs.Story.{Event}
-use Rattle.dbwalk.specs.Finding.{Finding, told_row, told_fault, told_below, visited_below}
+use Rattle.dbtrace.specs.Finding.{Finding, told_row, told_fault, told_below, visited_below}
 
 -- the row of a finding, if it is one
 abbrev pub row_told : Finding → Option StatRow

@@ -13,7 +13,7 @@ use Rattle.dbsource.specs.Errors.{is_write_failed}
 use Rattle.dbsource.specs.Failures.{CountsAfter}
 use Rattle.dbsource.specs.Outs.{Begins, Flushes, OutState, Writes}
 use Rattle.dbsource.specs.declared.error.RunError.{RunError}
-use Rattle.dbwalk.specs.Finding.{Finding, told_row, told_fault}
+use Rattle.dbtrace.specs.Finding.{Finding, told_row, told_fault}
 use Rattle.dbwalk.specs.declared.mark.Mark.{Mark}
 use Rattle.dbreport.specs.CheckSink.{PutsAll}
 use Rattle.dbreport.specs.TreeNames.{label_text}

@@ -8,7 +8,7 @@ ghost use Rattle.dbformat.specs.Survey.{Survey};
 ghost use Rattle.dbsource.specs.Errors.{is_read_failed, is_write_failed};
 ghost use Rattle.dbsource.specs.Headers.{IsHeaderOf};
 ghost use Rattle.dbsource.specs.Sources.{Asks};
-ghost use Rattle.dbwalk.specs.Finding.{told_fault};
+ghost use Rattle.dbtrace.specs.Finding.{told_fault};
 ghost use Rattle.dbwalk.specs.Marking.{AreMarksOf, page_mark};
 ghost use Rattle.dbwalk.specs.Outcomes.{Tells, IsReadOrWrite};
 ghost use Rattle.dbwalk.specs.declared.mark.Mark as marking;

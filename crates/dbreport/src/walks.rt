@@ -12,7 +12,7 @@ ghost use Rattle.dbsource.specs.Failures.{failures_after};
 ghost use Rattle.dbsource.specs.Headers.{IsHeaderOf};
 ghost use Rattle.dbsource.specs.Sources.{Asks};
 ghost use Rattle.dbwalk.specs.Done.{IsDone};
-ghost use Rattle.dbwalk.specs.Finding.{visited_below};
+ghost use Rattle.dbtrace.specs.Finding.{visited_below};
 ghost use Rattle.dbwalk.specs.FreeLeaves.{Leaves};
 ghost use Rattle.dbwalk.specs.Left.{IsLeft};
 ghost use Rattle.dbwalk.specs.Marking.{AreMarksOf};

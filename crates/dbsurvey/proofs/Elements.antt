@@ -76,3 +76,8 @@ each_map rel f (x ∷ xs) h = ((λ y i. let m = IsIn-from_map f xs y i in subst 
 pub each_weaker : {X : Type 0} (rel also : X → X → Type 0) (xs : List X) → ((x y : X) → rel x y → also x y) → EachPair rel xs → EachPair also xs
 each_weaker rel also [] h k = tt
 each_weaker rel also (x ∷ xs) h k = ((λ y i. h x y (k.0 y i)), each_weaker rel also xs h k.1)
+
+-- so where all elements are of the list
+pub each_within : {X : Type 0} (rel also : X → X → Type 0) (xs : List X) → ((x y : X) → IsIn x xs → IsIn y xs → rel x y → also x y) → EachPair rel xs → EachPair also xs
+each_within rel also [] h each = tt
+each_within rel also (x ∷ xs) h each = ((λ y i. h x y (inl refl) (inr i) (each.0 y i)), each_within rel also xs (λ y z i j. h y z (inr i) (inr j)) each.1)

@@ -1,11 +1,12 @@
 -- The theorems on surveys: statements of the contracts.
-use Rattle.std.specs.Prelude.{◌≡◌, ℕ, ◌≤◌, ◌↔◌, Bool, true, false, int_lt, Option, None, List, [], ◌∷◌, ◌++◌}
+use Rattle.std.specs.Prelude.{◌≡◌, ℕ, ◌≤◌, ◌↔◌, Bool, true, false, int_lt, Option, None, filter_map, List, [], ◌∷◌, ◌++◌}
 use Rattle.dbsurvey.specs.Address.{Address, IsIn, IsBefore, IsAscending}
 use Rattle.dbsurvey.specs.Greatest.{Entry, IsLine, IsOut, greater, greatest_from, is_out}
 use Rattle.dbsurvey.specs.Story.{Told, Item, links_in, AreRising, Story, IsStoryOf, Errand, Go, Tell, errands_at, errands_of, goes, AreErrandsApart, told_own, told_refused, IsTold, IsTelling, tell_below, telling_of}
 use Rattle.dbsurvey.specs.Survey.{Rules, AreRules, IsRising, IsSurvey, Triple, Link, IsPart, IsOwned, IsNamed, children, named_at}
 use Rattle.dbsurvey.specs.From.{IsSurveyFrom, under, first_part, survey_from}
 use Rattle.dbsurvey.specs.InOrder.{ShowsVisits, AreQuiet, IsPast, earlier, is_visited, telling_by, visits_in, read_back, read_below}
+use Rattle.dbsurvey.specs.Run.{Machine, Run, up_to, advance, run, run_below}
 use Rattle.dbsurvey.specs.Traverse.{AreApart, free, is_followed, traverse, part_of, survey_of}
 use Rattle.dbsurvey.specs.Whole.{IsWhole, IsNoneRefused, HasEachPageOnce}
 
@@ -164,6 +165,36 @@ pub record Passing (R E : Type 0) : Type 0 where
       → AreErrandsApart (errands_of story t)
   pub earlier : (W : List (Triple R)) (a : Address) → ((u : Triple R) → IsIn u W → IsBefore u.address a)
       → earlier W a ≡ W
+
+-- A machine's run along all that is told below errands, step by step: for a program with a list of errands that are still
+-- to be done. Its visits are those of the traversal, and what it puts out is added to what was put out before. And where
+-- at each event it puts out what is read off by the visits alone, it does so on the whole.
+pub record Runs (R E S X Y : Type 0) : Type 0 where
+  pub none : (rules : Rules R) (story : Story R E) (pages : ℕ) (machine : Machine R E S X) (now : Run R S X)
+      → AreRules rules pages → run_below rules story pages machine now [] ≡ now
+  pub event : (rules : Rules R) (story : Story R E) (pages : ℕ) (machine : Machine R E S X) (now : Run R S X) (t : Told E) (es : List (Errand R E))
+      → AreRules rules pages → machine.visit t.event ≡ None
+      → run_below rules story pages machine now (Tell t ∷ es) ≡ run_below rules story pages machine (advance machine now t.event) es
+  pub refused : (rules : Rules R) (story : Story R E) (pages : ℕ) (machine : Machine R E S X) (now : Run R S X) (c : Triple R) (es : List (Errand R E))
+      → AreRules rules pages → ShowsVisits story machine.visit → is_followed rules now.visits c ≡ false
+      → run_below rules story pages machine now (Go c ∷ es) ≡ run_below rules story pages machine (advance machine now (story.refused c)) es
+  pub visit : (rules : Rules R) (story : Story R E) (pages : ℕ) (machine : Machine R E S X) (now : Run R S X) (c : Triple R) (es : List (Errand R E))
+      → AreRules rules pages → IsStoryOf rules story → ShowsVisits story machine.visit → is_followed rules now.visits c ≡ true
+      → run_below rules story pages machine now (Go c ∷ es) ≡ run_below rules story pages machine (advance machine now (story.own c)) (errands_of story c ++ es)
+  pub join : (rules : Rules R) (story : Story R E) (pages : ℕ) (machine : Machine R E S X) (now : Run R S X) (es fs : List (Errand R E))
+      → AreRules rules pages → IsStoryOf rules story → ShowsVisits story machine.visit → AreQuiet machine.visit es
+      → run_below rules story pages machine now (es ++ fs) ≡ run_below rules story pages machine (run_below rules story pages machine now es) fs
+  pub visits : (rules : Rules R) (story : Story R E) (pages : ℕ) (machine : Machine R E S X) (now : Run R S X) (es : List (Errand R E))
+      → AreRules rules pages → IsStoryOf rules story → ShowsVisits story machine.visit → AreQuiet machine.visit es
+      → (run_below rules story pages machine now es).visits ≡ now.visits ++ part_of rules pages now.visits (goes es)
+  pub items : (rules : Rules R) (story : Story R E) (pages : ℕ) (machine : Machine R E S X) (now : Run R S X) (es : List (Errand R E))
+      → (run_below rules story pages machine now es).items ≡ now.items ++ (run_below rules story pages machine (record now { items = [] }) es).items
+  pub state : (rules : Rules R) (story : Story R E) (pages : ℕ) (machine : Machine R E S X) (now : Run R S X) (es : List (Errand R E))
+      → (run_below rules story pages machine now es).state ≡ (run_below rules story pages machine (record now { items = [] }) es).state
+  pub reads : (f : X → Option Y) (each : List (Triple R) → E → List Y) (machine : Machine R E S X) (now : Run R S X) (L : List (Told E))
+      → ((A B : List (Told E)) (t : Told E) → L ≡ A ++ (t ∷ B)
+      → filter_map f (machine.out (up_to machine (run machine now A) t.event) (run machine now A).state t.event) ≡ each (up_to machine (run machine now A) t.event) t.event)
+      → filter_map f (run machine now L).items ≡ filter_map f now.items ++ read_back machine.visit each now.visits L
 
 -- By the greatest key so far alone an entry is found to be out of order exactly where it is so after an earlier one.
 pub record RunningGreatest (K : Type 0) : Type 0 where

@@ -11,7 +11,7 @@ use Rattle.dbsource.specs.declared.error.RunError.{RunError}
 use Rattle.dbwalk.specs.declared.mark.Mark.{Mark}
 use Rattle.dbwalk.specs.declared.entering.Step.{Step}
 use Rattle.dbwalk.specs.Marking.{visit_mark, AreMarksOf}
-use Rattle.dbwalk.specs.Finding.{Finding, told_at}
+use Rattle.dbtrace.specs.Finding.{Finding, told_at}
 use Rattle.dbwalk.specs.Outcomes.{StopsBy}
 
 -- all visits of W stand before a candidate

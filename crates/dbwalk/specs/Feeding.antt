@@ -6,7 +6,7 @@ use Rattle.dbformat.specs.Schema.{held_bytes}
 use Rattle.dbformat.specs.declared.Encoding.{Encoding}
 use Rattle.dbbytes.specs.Sieve.{HasTaken}
 use Rattle.dbbytes.specs.declared.sieve.RowSieve.{RowSieve}
-use Rattle.dbwalk.specs.Finding.{visited_below}
+use Rattle.dbtrace.specs.Finding.{visited_below}
 
 -- A sieve that had taken some bytes has taken these behind them. There is one still where there was one.
 abbrev pub Feeds : Option RowSieve → List ℕ → Option RowSieve → Type 0

@@ -7,7 +7,7 @@ use Rattle.dbformat.specs.Reference.{Way, Reference}
 use Rattle.dbformat.specs.Story.{Event}
 use Rattle.dbsource.specs.declared.error.RunError.{RunError}
 use Rattle.dbwalk.specs.declared.mark.Mark.{Mark}
-use Rattle.dbwalk.specs.Finding.{Finding}
+use Rattle.dbtrace.specs.Finding.{Finding}
 use Rattle.dbwalk.specs.Left.{IsLeft}
 use Rattle.dbwalk.specs.Done.{IsDone}
 

@@ -4,7 +4,6 @@ pub mod Done
 pub mod EndMarks
 pub mod Entered
 pub mod Feeding
-pub mod Finding
 pub mod Found
 pub mod FreeLeaves
 pub mod KeySpans

@@ -7,7 +7,7 @@ use Rattle.dbformat.specs.PageFaults.{inner_faults}
 use Rattle.dbformat.specs.Rows.{StatRow}
 use Rattle.dbformat.specs.declared.Fault.{Fault}
 use Rattle.dbformat.specs.declared.PageType.TheVariants.{Internal, Leaf, Damaged}
-use Rattle.dbwalk.specs.Finding.{Finding, told_row}
+use Rattle.dbtrace.specs.Finding.{Finding, told_row}
 use Rattle.dbwalk.specs.Telling.{findings}
 
 -- of an undamaged page

@@ -11,7 +11,7 @@ use Rattle.dbformat.specs.declared.RowFault.TheVariants.{Malformed, Root}
 use Rattle.dbsource.specs.declared.error.RunError.{RunError}
 use Rattle.dbsource.specs.declared.error.RunError.TheVariants.{OutOfMemory, WriteFailed}
 use Rattle.dbwalk.specs.Telling.{findings}
-use Rattle.dbwalk.specs.Finding.{Finding}
+use Rattle.dbtrace.specs.Finding.{Finding}
 use Rattle.dbwalk.specs.RootRoom.{is_full}
 use Rattle.dbwalk.specs.declared.taker.Taken.{Taken}
 use Rattle.dbwalk.specs.declared.schema_row.RowPlace.{RowPlace}

@@ -1,6 +1,6 @@
 -- What a walk keeps of the pages that it has visited, beside their marks: the greatest key, the depth of the leaves, and
 -- the rows of the schema that it has come by. W has the visits so far, and the walk has come to a place.
-use Rattle.std.specs.Prelude.{◌≡◌, ℕ, ◌<◌, Bool, false, List, [], ◌∷◌, ◌++◌, filter, filter_map, find, Option, Some, None, option_map, ℤ, int_lt, int_le, if◌then◌else◌}
+use Rattle.std.specs.Prelude.{◌≡◌, ℕ, Bool, false, List, [], ◌∷◌, ◌++◌, filter, filter_map, find, Option, Some, None, option_map, ℤ, int_lt, int_le, if◌then◌else◌}
 use Rattle.std.specs.Result.{result_ok}
 use Rattle.dbsurvey.specs.Address.{IsIn, Address, IsBefore}
 use Rattle.dbsurvey.specs.InOrder.{is_before}
@@ -10,15 +10,6 @@ use Rattle.dbformat.specs.KeyFaults.{Key, keys}
 use Rattle.dbformat.specs.PageFaults.{is_leaf_of}
 use Rattle.dbformat.specs.Schema.{SchemaCell, rows_at, schema}
 use Rattle.dbformat.specs.SchemaRow.{SchemaRow}
-
--- the address is below a start before this one
-abbrev pub IsOfEarlierStart : ℕ → Address → Type 0
-IsOfEarlierStart k [] = ⊥
-IsOfEarlierStart k (start ∷ a) = start < k
-
--- all visits so far are below earlier starts
-abbrev pub AreOfEarlierStarts : ℕ → List Reference → Type 0
-AreOfEarlierStarts k W = (u : Reference) → IsIn u W → IsOfEarlierStart k u.address
 
 -- all visits so far stand before the place
 abbrev pub AreBefore : List Reference → Address → Type 0

@@ -12,7 +12,7 @@ use Rattle.dbbytes.specs.Sieve.{HasTaken}
 use Rattle.dbbytes.specs.declared.sieve.RowSieve.{RowSieve}
 use Rattle.dbwalk.specs.Running.{AreBefore}
 use Rattle.dbwalk.specs.LeafCells.{overflow_errands}
-use Rattle.dbwalk.specs.Finding.{visited_below}
+use Rattle.dbtrace.specs.Finding.{visited_below}
 
 -- there is a sieve, and it has taken these bytes of a row that was to have so many
 abbrev pub HasFed : Option RowSieve → ℕ → Encoding → List ℕ → Type 0

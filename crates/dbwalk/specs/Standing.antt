@@ -15,12 +15,13 @@ use Rattle.dbformat.specs.Story.{story_of}
 use Rattle.dbformat.specs.Survey.{rules_of}
 use Rattle.dbformat.specs.declared.Geometry.{Geometry}
 use Rattle.dbwalk.specs.Entered.{IsNext}
-use Rattle.dbwalk.specs.Finding.{Finding}
+use Rattle.dbtrace.specs.Finding.{Finding}
 use Rattle.dbwalk.specs.Found.{StandsAt}
 use Rattle.dbwalk.specs.LeafCells.{overflow_errands}
 use Rattle.dbwalk.specs.Marking.{AreMarksOf}
 use Rattle.dbwalk.specs.RootRoom.{StartsEmpty}
-use Rattle.dbwalk.specs.Running.{AreOfEarlierStarts, first_leaf}
+use Rattle.dbwalk.specs.Running.{first_leaf}
+use Rattle.dbtrace.specs.Starts.{AreOfEarlierStarts}
 use Rattle.dbwalk.specs.WalkGiven.{IsGivenWalk}
 use Rattle.dbwalk.specs.Walking.{IsCandidate, IsLeafAt, IsRunning}
 use Rattle.dbwalk.specs.declared.frame.Frame.{Frame}

@@ -9,7 +9,7 @@ use Rattle.dbsource.specs.declared.error.RunError.{RunError}
 use Rattle.dbwalk.specs.declared.entering.Step.{Step}
 use Rattle.dbwalk.specs.declared.mark.Mark.{Mark}
 use Rattle.dbwalk.specs.declared.mark.Mark.TheVariants.{Trunk}
-use Rattle.dbwalk.specs.Finding.{Finding}
+use Rattle.dbtrace.specs.Finding.{Finding}
 use Rattle.dbwalk.specs.Entered.{IsStepOf}
 use Rattle.dbwalk.specs.Left.{IsLeft}
 use Rattle.dbwalk.specs.Done.{IsDone}

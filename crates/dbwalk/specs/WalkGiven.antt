@@ -8,7 +8,7 @@ use Rattle.dbformat.specs.SchemaRow.{SchemaRow}
 use Rattle.dbformat.specs.declared.TreeKind.{TreeKind}
 use Rattle.dbsource.specs.declared.error.RunError.{RunError}
 use Rattle.dbwalk.specs.Done.{IsDone}
-use Rattle.dbwalk.specs.Finding.{Finding, visited_below}
+use Rattle.dbtrace.specs.Finding.{Finding, visited_below}
 use Rattle.dbwalk.specs.RootRoom.{StartsEmpty}
 use Rattle.dbwalk.specs.Stack.{top_visit}
 use Rattle.dbwalk.specs.Walking.{IsEntered, IsWalking, place_behind}

@@ -18,7 +18,7 @@ use Rattle.dbsource.specs.declared.error.RunError.{RunError}
 use Rattle.dbwalk.specs.Running.{AreBefore, IsVisit, IsGreatest, first_leaf}
 use Rattle.dbwalk.specs.declared.mark.Mark.{Mark}
 use Rattle.dbwalk.specs.Marking.{AreMarksOf, unmarked_pages}
-use Rattle.dbwalk.specs.Finding.{Finding, told_at, visited_below}
+use Rattle.dbtrace.specs.Finding.{Finding, told_at, visited_below}
 use Rattle.dbwalk.specs.Done.{IsDone}
 use Rattle.dbwalk.specs.Left.{IsLeft}
 use Rattle.dbwalk.specs.Stack.{top_visit, left_over, IsFrame, AreFrames, AreCalls}

@@ -1,6 +1,6 @@
 // Who is told of rows and faults.
 ghost use Rattle.std.specs.Prelude.{MatchResult};
-ghost use Rattle.dbwalk.specs.Finding.{Finding, told_row, told_fault};
+ghost use Rattle.dbtrace.specs.Finding.{Finding, told_row, told_fault};
 ghost use Rattle.dbwalk.specs.Rows.{row_of};
 ghost use Rattle.dbwalk.specs.Sinks.{SinkAfter};
 ghost use Rattle.dbsource.specs.Failures.{is_any};
@@ -62,7 +62,7 @@ pub struct Row<'a> {
 /// One that can fail has a field `failures: Failures` (of `dbsource`), calls `self.failures.add()` before each `Err`, and
 /// writes `held = { λ s. record { lent = []; failures = s.failures ∷ [] } }`, where `◌∷◌` is brought in beside `[]`.
 pub trait Sink {
-    ghost use Rattle.dbwalk.specs.Finding.{Finding};
+    ghost use Rattle.dbtrace.specs.Finding.{Finding};
     ghost use Rattle.dbwalk.specs.Sinks.{SinkState};
 
     // What an item that is taken makes of it.

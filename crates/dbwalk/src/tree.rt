@@ -16,7 +16,7 @@ ghost use Rattle.dbwalk.specs.Outcomes.{IsReadOrWrite, IsReadWriteOrMemory};
 ghost use Rattle.dbwalk.specs.Reads.{Reads};
 ghost use Rattle.dbwalk.specs.RootRoom.{StartsEmpty};
 ghost use Rattle.dbwalk.specs.Roots.{IsRootAfter};
-ghost use Rattle.dbwalk.specs.Running.{AreOfEarlierStarts};
+ghost use Rattle.dbtrace.specs.Starts.{AreOfEarlierStarts};
 ghost use Rattle.dbwalk.specs.WalkGiven.{IsTreeDone};
 ghost use Rattle.dbwalk.specs.Walking.{IsCandidate};
 ghost use Rattle.dbwalk.specs.declared.root.RootKind.TheVariants as root_kind;

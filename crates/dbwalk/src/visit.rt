@@ -5,7 +5,7 @@ ghost use Rattle.dbformat.specs.Story.{at_page};
 ghost use Rattle.dbwalk.specs.Running.{first_leaf};
 ghost use Rattle.dbwalk.specs.Found.{IsFound};
 ghost use Rattle.dbwalk.specs.Telling.{IsTold};
-ghost use Rattle.dbwalk.specs.Finding.{told_at};
+ghost use Rattle.dbtrace.specs.Finding.{told_at};
 ghost use Rattle.dbsource.specs.Failures.{is_any};
 ghost use Rattle.dbwalk.specs.Standing.{AtRead, IsSameButLeaf};
 ghost use Rattle.dbwalk.specs.Sinks.{SinkAfter};

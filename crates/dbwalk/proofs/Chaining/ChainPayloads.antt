@@ -23,7 +23,7 @@ use Rattle.dbbytes.specs.Sieve.{HasTaken}
 use Rattle.dbbytes.specs.declared.sieve.RowSieve.{RowSieve}
 use Rattle.dbwalk.specs.Entered.{IsNext}
 use Rattle.dbwalk.specs.Feeding.{FeedsChain}
-use Rattle.dbwalk.specs.Finding.{visited_below}
+use Rattle.dbtrace.specs.Finding.{visited_below}
 
 -- what is longer begins with it
 begins : (a s : Address) → starts_with nat_eq (a ++ s) a ≡ true

@@ -22,7 +22,7 @@ use Rattle.dbwalk.specs.Chains.{IsChainOf, IsOnWay, next_of}
 use Rattle.dbwalk.specs.Done.{IsDone}
 use Rattle.dbwalk.specs.Entered.{IsNext, Enters}
 use Rattle.dbwalk.specs.Feeding.{Feeds, FeedsChain}
-use Rattle.dbwalk.specs.Finding.{Finding, told_at, told_below}
+use Rattle.dbtrace.specs.Finding.{Finding, told_at, told_below}
 use Rattle.dbwalk.specs.Left.{IsLeft}
 use Rattle.dbwalk.specs.Marking.{role_mark, AreMarksOf}
 use Rattle.dbwalk.specs.Outcomes.{StopsBy}

@@ -11,7 +11,7 @@ use Rattle.dbformat.specs.Reference.{Role, root, child, first_overflow, later_ov
 use Rattle.dbformat.specs.Payload.{overflow_next}
 use Rattle.dbformat.specs.Survey.{rules_of}
 use Rattle.dbsurvey.specs.Story.{Go}
-use Rattle.dbwalk.specs.Finding.{visited_below}
+use Rattle.dbtrace.specs.Finding.{visited_below}
 
 -- the roles of overflow pages
 abbrev pub IsOverflow : Role → Type 0

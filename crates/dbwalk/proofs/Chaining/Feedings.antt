@@ -14,7 +14,7 @@ use Rattle.dbformat.specs.Survey.{rules_of}
 use Rattle.dbbytes.specs.Sieve.{HasTaken}
 use Rattle.dbbytes.specs.declared.sieve.RowSieve.{RowSieve}
 use Rattle.dbwalk.specs.Feeding.{Feeds, FeedsPages, FeedsChain}
-use Rattle.dbwalk.specs.Finding.{visited_below}
+use Rattle.dbtrace.specs.Finding.{visited_below}
 use Rattle.dbwalk.proofs.Telling.Belows.{visited_none, visited_refused}
 
 -- nothing was fed

@@ -27,7 +27,7 @@ use Rattle.dbformat.proofs.Looping.{by_chain}
 use Rattle.dbsource.specs.Answers.{IsRangeOf}
 use Rattle.dbwalk.specs.declared.chain.Chain.{Chain}
 use Rattle.dbwalk.specs.Chains.{IsOnChain, next_of}
-use Rattle.dbwalk.specs.Finding.{told_row, told_fault, told_at}
+use Rattle.dbtrace.specs.Finding.{told_row, told_fault, told_at}
 
 -- nothing is a beginning of anything
 pub moves_none : {S E : Type 0} (takes : S → E → S → Type 0) (s : S) (es : List E) → MovesBySome takes s es s

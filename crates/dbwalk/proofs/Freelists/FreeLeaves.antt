@@ -13,7 +13,7 @@ use Rattle.dbformat.specs.Story.{Event, at_page, own_visit, story_of}
 use Rattle.dbformat.proofs.Looping.{none_at_free_leaf}
 use Rattle.dbwalk.specs.declared.mark.Mark.{Mark}
 use Rattle.dbwalk.specs.Entered.{IsNext, Enters}
-use Rattle.dbwalk.specs.Finding.{Finding, told_row, told_fault, told_at}
+use Rattle.dbtrace.specs.Finding.{Finding, told_row, told_fault, told_at}
 use Rattle.dbwalk.specs.FreeLeaves.{leaves_from}
 use Rattle.dbwalk.specs.Left.{IsLeft}
 use Rattle.dbwalk.proofs.Telling.Lefts.{left_refused, left_visit}

@@ -28,7 +28,7 @@ use Rattle.dbwalk.specs.declared.entering.Step.{Step}
 use Rattle.dbwalk.specs.declared.mark.Mark.{Mark}
 use Rattle.dbwalk.specs.Done.{IsDone}
 use Rattle.dbwalk.specs.Entered.{IsNext, Enters}
-use Rattle.dbwalk.specs.Finding.{Finding, told_row, told_fault, told_at, told_below}
+use Rattle.dbtrace.specs.Finding.{Finding, told_row, told_fault, told_at, told_below}
 use Rattle.dbwalk.specs.Left.{IsLeft}
 use Rattle.dbwalk.specs.Marking.{role_mark, AreMarksOf}
 use Rattle.dbwalk.specs.Outcomes.{StopsBy}

@@ -25,7 +25,7 @@ use Rattle.dbwalk.proofs.Running.RunningKeys.{greatest_same, keys_at_return}
 use Rattle.dbwalk.specs.Walking.{IsRunning, IsLeafAt, place_behind}
 use Rattle.dbwalk.proofs.Leaves.LeafWays.{errands_rest, IsOnLeaf, leaf_start, at_cell, past_cell, leaf_more, leaf_stop, leaf_end}
 use Rattle.dbwalk.specs.Done.{IsDone}
-use Rattle.dbwalk.specs.Finding.{Finding, visited_below}
+use Rattle.dbtrace.specs.Finding.{Finding, visited_below}
 use Rattle.dbwalk.specs.Marking.{AreMarksOf}
 use Rattle.dbwalk.specs.declared.mark.Mark.{Mark}
 use Rattle.dbwalk.specs.declared.taker.Taken.{Taken}

@@ -36,7 +36,7 @@ use Rattle.dbsource.specs.declared.error.RunError.{RunError}
 use Rattle.dbwalk.specs.Running.{IsVisit, IsGreatest, is_late}
 use Rattle.dbwalk.proofs.Running.RunningKeys.{child_no_key, overflow_no_key, greatest_same, keys_at_bad_cell, keys_at_cell_without, cell_key, cell_key_is, greatest_at_cell, key_told}
 use Rattle.dbwalk.specs.Done.{IsDone}
-use Rattle.dbwalk.specs.Finding.{Finding, told_at, told_below, visited_below}
+use Rattle.dbtrace.specs.Finding.{Finding, told_at, told_below, visited_below}
 use Rattle.dbwalk.specs.Marking.{AreMarksOf}
 use Rattle.dbwalk.specs.Outcomes.{StopsBy}
 use Rattle.dbwalk.specs.declared.mark.Mark.{Mark}

@@ -29,7 +29,7 @@ use Rattle.dbformat.specs.declared.TreeKind.{TreeKind}
 use Rattle.dbformat.proofs.Looping.{cells_apart}
 use Rattle.dbpage.specs.Packed.{IsAbove, IsAllLocal, key_at}
 use Rattle.dbwalk.specs.CellTaken.{IsRowsDone}
-use Rattle.dbwalk.specs.Finding.{Finding}
+use Rattle.dbtrace.specs.Finding.{Finding}
 use Rattle.dbwalk.specs.KeySpans.{HasSpan, AreRisingFrom, ArePassedAt}
 use Rattle.dbwalk.specs.LeafCells.{late_faults, top_after}
 use Rattle.dbwalk.specs.Marking.{AreMarksOf}

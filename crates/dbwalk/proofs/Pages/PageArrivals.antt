@@ -13,9 +13,10 @@ use Rattle.dbformat.specs.Reference.{Reference, tree_view}
 use Rattle.dbformat.specs.Story.{at_page, story_of}
 use Rattle.dbformat.specs.Survey.{rules_of}
 use Rattle.dbformat.specs.declared.TreeKind.{TreeKind}
-use Rattle.dbwalk.specs.Running.{AreOfEarlierStarts, first_leaf}
+use Rattle.dbwalk.specs.Running.{first_leaf}
+use Rattle.dbtrace.specs.Starts.{AreOfEarlierStarts}
 use Rattle.dbwalk.specs.Entered.{IsNext}
-use Rattle.dbwalk.specs.Finding.{Finding, told_at}
+use Rattle.dbtrace.specs.Finding.{Finding, told_at}
 use Rattle.dbwalk.specs.Marking.{AreMarksOf}
 use Rattle.dbwalk.specs.declared.mark.Mark.{Mark}
 use Rattle.dbwalk.specs.Found.{StandsAt, IsDamagedAt, IsOpenLeaf}

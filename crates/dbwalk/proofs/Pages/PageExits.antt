@@ -15,7 +15,7 @@ use Rattle.dbformat.specs.declared.FaultCode.TheVariants.{T05}
 use Rattle.dbformat.specs.declared.TreeKind.{TreeKind}
 use Rattle.dbwalk.specs.Running.{first_leaf}
 use Rattle.dbwalk.specs.Sinks.{SinkState}
-use Rattle.dbwalk.specs.Finding.{Finding, told_row, told_at}
+use Rattle.dbtrace.specs.Finding.{Finding, told_row, told_at}
 use Rattle.dbwalk.specs.PageRows.{view_row, damaged_row}
 use Rattle.dbwalk.specs.Telling.{IsTold, findings}
 use Rattle.dbwalk.specs.Walking.{IsCandidate}

@@ -8,7 +8,7 @@ use Rattle.std.proofs.lemmas.Bool.Decides.{nat_tests}
 use Rattle.dbsurvey.proofs.Moving.{Moves-append, stops_first, stops_after}
 use Rattle.dbformat.specs.declared.Fault.{Fault}
 use Rattle.dbwalk.specs.Sinks.{HasFailed, SinkState}
-use Rattle.dbwalk.specs.Finding.{Finding, told_fault}
+use Rattle.dbtrace.specs.Finding.{Finding, told_fault}
 use Rattle.dbwalk.specs.Telling.{IsTold, findings}
 
 -- some items, and then others

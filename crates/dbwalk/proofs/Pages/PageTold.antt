@@ -11,7 +11,7 @@ use Rattle.dbformat.specs.PageFaults.{tree_page_faults, depth_fault, role_faults
 use Rattle.dbformat.specs.Rows.{tree_page_row, row_in}
 use Rattle.dbformat.specs.Story.{at_page}
 use Rattle.dbformat.specs.declared.TreeKind.{TreeKind}
-use Rattle.dbwalk.specs.Finding.{told_row, told_fault, told_at}
+use Rattle.dbtrace.specs.Finding.{told_row, told_fault, told_at}
 use Rattle.dbwalk.specs.PageRows.{view_row, damaged_row}
 use Rattle.dbwalk.specs.Telling.{findings}
 

@@ -19,7 +19,7 @@ use Rattle.dbformat.specs.declared.FaultCode.TheVariants.{T05}
 use Rattle.dbformat.specs.declared.TreeKind.{TreeKind}
 use Rattle.dbwalk.specs.Running.{first_leaf}
 use Rattle.dbwalk.proofs.Running.RunningLeaves.{depth_told, depth_quiet, leaf_at_leaf, leaf_at_other}
-use Rattle.dbwalk.specs.Finding.{told_row, told_at}
+use Rattle.dbtrace.specs.Finding.{told_row, told_at}
 use Rattle.dbwalk.specs.PageRows.{view_row, damaged_row}
 use Rattle.dbwalk.specs.Telling.{findings}
 use Rattle.dbwalk.specs.Walking.{IsCandidate, role_at}

@@ -40,7 +40,7 @@ use Rattle.dbwalk.proofs.Chaining.Chained.{chain_visits}
 use Rattle.dbwalk.proofs.Leaves.LeafTurns.{read_overflow, rows_of, visits, run_from, run_key, visit, stop_chain, stop_key, cell_done}
 use Rattle.dbwalk.proofs.Trees.Walkings.{no_tree, below_begins}
 use Rattle.dbwalk.specs.Done.{IsDone}
-use Rattle.dbwalk.specs.Finding.{Finding, told_fault, visited_below}
+use Rattle.dbtrace.specs.Finding.{Finding, told_fault, visited_below}
 use Rattle.dbwalk.specs.Outcomes.{StopsBy, IsReadOrWrite}
 use Rattle.dbwalk.specs.RootRoom.{held_of, HasRootRoom}
 use Rattle.dbwalk.specs.declared.mark.Mark.{Mark}

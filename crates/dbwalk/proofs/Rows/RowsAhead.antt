@@ -28,7 +28,7 @@ use Rattle.dbformat.specs.Story.{Event, story_of}
 use Rattle.dbformat.specs.Survey.{rules_of}
 use Rattle.dbformat.specs.declared.TreeKind.{TreeKind}
 use Rattle.dbformat.proofs.Theory.{are_rules}
-use Rattle.dbwalk.specs.Finding.{visited_below}
+use Rattle.dbtrace.specs.Finding.{visited_below}
 use Rattle.dbwalk.specs.Running.{AreRowsBefore}
 use Rattle.dbwalk.specs.Stack.{errands_from, child_at, top_visit, left_over, AreCalls}
 use Rattle.dbwalk.specs.declared.frame.Frame.{Frame}

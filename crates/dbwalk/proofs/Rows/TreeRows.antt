@@ -12,9 +12,10 @@ use Rattle.dbformat.specs.SchemaRow.{SchemaRow}
 use Rattle.dbformat.specs.Story.{Event}
 use Rattle.dbformat.specs.declared.TreeKind.{TreeKind}
 use Rattle.dbsource.specs.declared.error.RunError.{RunError}
-use Rattle.dbwalk.specs.Finding.{Finding, visited_below}
+use Rattle.dbtrace.specs.Finding.{Finding, visited_below}
 use Rattle.dbwalk.specs.RootRoom.{StartsEmpty}
-use Rattle.dbwalk.specs.Running.{IsOfEarlierStart, AreOfEarlierStarts, AreRowsBefore, rows_before}
+use Rattle.dbwalk.specs.Running.{AreRowsBefore, rows_before}
+use Rattle.dbtrace.specs.Starts.{IsOfEarlierStart, AreOfEarlierStarts}
 use Rattle.dbwalk.specs.Taking.{gives, IsTaking, StopsGiving, readable_rows}
 use Rattle.dbwalk.specs.WalkGiven.{IsGivenBefore, IsEntryDone, IsGivenWalk, IsTreeDone}
 use Rattle.dbwalk.specs.Walking.{IsCandidate, place_behind}

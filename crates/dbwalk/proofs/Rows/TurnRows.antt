@@ -10,7 +10,7 @@ use Rattle.dbformat.specs.SchemaRow.{SchemaRow}
 use Rattle.dbformat.specs.declared.TreeKind.{TreeKind}
 use Rattle.dbsource.specs.declared.error.RunError.{RunError}
 use Rattle.dbwalk.specs.Done.{IsDone}
-use Rattle.dbwalk.specs.Finding.{Finding, visited_below}
+use Rattle.dbtrace.specs.Finding.{Finding, visited_below}
 use Rattle.dbwalk.specs.Outcomes.{IsReadOrWrite}
 use Rattle.dbwalk.specs.Stack.{child_at, top_visit, left_over}
 use Rattle.dbwalk.specs.Steps.{IsChainAt, IsChildAt}

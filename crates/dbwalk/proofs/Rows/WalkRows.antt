@@ -18,7 +18,7 @@ use Rattle.dbwalk.specs.declared.frame.Frame.{Frame}
 use Rattle.dbwalk.proofs.Chaining.Chained.{IsOverflow, chain_visits}
 use Rattle.dbwalk.proofs.Trees.Stacking.{top-push, frames-front}
 use Rattle.dbwalk.proofs.Trees.Walkings.{last_same, calls_last, no_tree, below_begins}
-use Rattle.dbwalk.specs.Finding.{Finding, visited_below}
+use Rattle.dbtrace.specs.Finding.{Finding, visited_below}
 use Rattle.dbwalk.specs.declared.mark.Mark.{Mark}
 use Rattle.dbwalk.specs.declared.taker.Taken.{Taken}
 use Rattle.dbwalk.specs.Taking.{IsTaking}

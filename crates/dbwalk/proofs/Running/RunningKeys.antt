@@ -22,7 +22,8 @@ use Rattle.dbformat.specs.Reference.{Reference, role_of, tree_kind, tree_view}
 use Rattle.dbformat.specs.KeyFaults.{Key, key_of, keys_of_view, keys_at, keys, earlier_keys, is_out_of_order, key_faults}
 use Rattle.dbformat.specs.declared.FaultCode.TheVariants.{T06}
 use Rattle.dbformat.specs.declared.CellFault.{CellFault}
-use Rattle.dbwalk.specs.Running.{IsOfEarlierStart, AreOfEarlierStarts, AreBefore, IsVisit, IsKeyBefore, IsGreatest, is_late, greater_key}
+use Rattle.dbwalk.specs.Running.{AreBefore, IsVisit, IsKeyBefore, IsGreatest, is_late, greater_key}
+use Rattle.dbtrace.specs.Starts.{IsOfEarlierStart, AreOfEarlierStarts}
 use Rattle.dbwalk.proofs.Running.ReadableCells.{cells_from, cells_in}
 use Rattle.dbwalk.proofs.Running.Places.{up_to_step, before_next, not_below, same_last, last_below}
 

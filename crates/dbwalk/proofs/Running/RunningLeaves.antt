@@ -12,7 +12,8 @@ use Rattle.dbformat.specs.Reference.{Reference, tree_view}
 use Rattle.dbformat.specs.PageFaults.{is_leaf_of, leaf_depth, depth_fault}
 use Rattle.dbformat.specs.declared.FaultCode.TheVariants.{T05}
 use Rattle.std.specs.Prelude.{pos}
-use Rattle.dbwalk.specs.Running.{IsOfEarlierStart, AreOfEarlierStarts, first_leaf}
+use Rattle.dbwalk.specs.Running.{first_leaf}
+use Rattle.dbtrace.specs.Starts.{IsOfEarlierStart, AreOfEarlierStarts}
 
 module _ (file : List ℕ) (k : ℕ) where
   -- at the start of a tree there is no leaf

@@ -13,7 +13,7 @@ use Rattle.dbformat.specs.Reference.{Way, Reference}
 use Rattle.dbformat.specs.Survey.{rules_of}
 use Rattle.dbformat.specs.Story.{Event, at_page, at_refused, own_visit, story_of}
 use Rattle.dbformat.proofs.Theory.{are_rules, is_story, shows_visits}
-use Rattle.dbwalk.specs.Finding.{told_at, told_below, visited_below}
+use Rattle.dbtrace.specs.Finding.{told_at, told_below, visited_below}
 
 event_of : Event → Errand Way Event → Event
 event_of x (Go c) = x

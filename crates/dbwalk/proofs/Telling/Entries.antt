@@ -13,7 +13,7 @@ use Rattle.dbwalk.specs.declared.mark.Mark.{Mark}
 use Rattle.dbwalk.specs.declared.mark.Mark.TheVariants.{Unmarked, Fixed, Root, Trunk, FreeLeaf, FirstOverflow, LaterOverflow, Child}
 use Rattle.dbwalk.specs.declared.entering.Step.{Step}
 use Rattle.dbwalk.specs.Marking.{visit_mark, AreMarksOf, page_mark}
-use Rattle.dbwalk.specs.Finding.{told_fault, told_at}
+use Rattle.dbtrace.specs.Finding.{told_fault, told_at}
 use Rattle.dbwalk.specs.Refusal.{refusal_by}
 use Rattle.dbwalk.specs.Entered.{IsNext, IsStepOf}
 use Rattle.dbwalk.proofs.Marking.Markings.{refused-by_mark, followed-unrefused, followed-refused, marked-visit}

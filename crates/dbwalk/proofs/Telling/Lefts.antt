@@ -18,7 +18,7 @@ use Rattle.dbformat.proofs.Theory.{are_rules, is_story}
 use Rattle.dbsource.specs.declared.error.RunError.{RunError}
 use Rattle.dbwalk.specs.declared.mark.Mark.{Mark}
 use Rattle.dbwalk.specs.Marking.{AreMarksOf}
-use Rattle.dbwalk.specs.Finding.{Finding, told_at, told_below, visited_below}
+use Rattle.dbtrace.specs.Finding.{Finding, told_at, told_below, visited_below}
 use Rattle.dbwalk.specs.Outcomes.{StopsBy}
 use Rattle.dbwalk.specs.Done.{IsDone}
 use Rattle.dbwalk.specs.Entered.{Enters}

@@ -22,12 +22,13 @@ use Rattle.dbformat.specs.Survey.{rules_of}
 use Rattle.dbformat.specs.declared.TreeKind.{TreeKind}
 use Rattle.dbformat.proofs.Looping.{by_cell, none_at_damage, all_quiet}
 use Rattle.dbsource.specs.declared.error.RunError.{RunError}
-use Rattle.dbwalk.specs.Running.{AreOfEarlierStarts, IsVisit, IsKeyBefore, first_leaf}
+use Rattle.dbwalk.specs.Running.{IsVisit, IsKeyBefore, first_leaf}
+use Rattle.dbtrace.specs.Starts.{AreOfEarlierStarts}
 use Rattle.dbwalk.proofs.Running.Places.{before_next, before_more, visit_new}
 use Rattle.dbwalk.proofs.Running.RunningKeys.{greatest_same, keys_at_child, keys_at_root, keys_at_damage}
 use Rattle.dbwalk.specs.Done.{IsDone}
 use Rattle.dbwalk.specs.Entered.{IsNext, Enters}
-use Rattle.dbwalk.specs.Finding.{Finding, told_at, told_below, visited_below}
+use Rattle.dbtrace.specs.Finding.{Finding, told_at, told_below, visited_below}
 use Rattle.dbwalk.specs.Left.{IsLeft}
 use Rattle.dbwalk.specs.Marking.{marks_of, AreMarksOf}
 use Rattle.dbwalk.specs.Outcomes.{StopsBy}

@@ -10,12 +10,12 @@ use Rattle.dbformat.specs.Reference.{Reference, role_of, tree_kind}
 use Rattle.dbformat.specs.Story.{story_of}
 use Rattle.dbformat.specs.declared.TreeKind.{TreeKind}
 use Rattle.dbsource.specs.declared.error.RunError.{RunError}
-use Rattle.dbwalk.specs.Running.{IsOfEarlierStart, AreOfEarlierStarts}
+use Rattle.dbtrace.specs.Starts.{IsOfEarlierStart, AreOfEarlierStarts}
 use Rattle.dbwalk.proofs.Running.RunningKeys.{greatest_before_root}
 use Rattle.dbwalk.proofs.Running.RunningLeaves.{leaf_at_start}
 use Rattle.dbwalk.specs.Done.{IsDone}
 use Rattle.dbwalk.specs.Entered.{IsNext}
-use Rattle.dbwalk.specs.Finding.{Finding}
+use Rattle.dbtrace.specs.Finding.{Finding}
 use Rattle.dbwalk.specs.Left.{IsLeft}
 use Rattle.dbwalk.specs.Marking.{marks_of}
 use Rattle.dbwalk.specs.declared.mark.Mark.{Mark}

@@ -12,11 +12,11 @@ use Rattle.dbformat.specs.Head.{View}
 use Rattle.dbformat.specs.Reference.{first_overflow, Reference, role_of, tree_kind, tree_view}
 use Rattle.dbformat.specs.declared.TreeKind.{TreeKind}
 use Rattle.dbsource.specs.declared.error.RunError.{RunError}
-use Rattle.dbwalk.specs.Running.{AreOfEarlierStarts}
+use Rattle.dbtrace.specs.Starts.{AreOfEarlierStarts}
 use Rattle.dbwalk.specs.Chains.{IsChainOf}
 use Rattle.dbwalk.specs.Done.{IsDone}
 use Rattle.dbwalk.specs.Entered.{IsNext}
-use Rattle.dbwalk.specs.Finding.{Finding, visited_below}
+use Rattle.dbtrace.specs.Finding.{Finding, visited_below}
 use Rattle.dbwalk.specs.Marking.{AreMarksOf}
 use Rattle.dbwalk.specs.declared.chain.Chain.{Chain}
 use Rattle.dbwalk.specs.declared.mark.Mark.{Mark}

@@ -11,7 +11,7 @@ use Rattle.dbformat.specs.Head.{View}
 use Rattle.dbformat.specs.declared.TreeKind.{TreeKind}
 use Rattle.dbwalk.specs.declared.mark.Mark.{Mark}
 use Rattle.dbwalk.specs.Marking.{AreMarksOf}
-use Rattle.dbwalk.specs.Finding.{Finding, told_at, visited_below}
+use Rattle.dbtrace.specs.Finding.{Finding, told_at, visited_below}
 use Rattle.dbwalk.specs.Done.{IsDone}
 use Rattle.dbwalk.specs.Left.{IsLeft}
 use Rattle.dbwalk.proofs.Telling.Lefts.{left_event, left_visit, left_call}

@@ -23,7 +23,7 @@ use Rattle.dbsource.specs.declared.error.RunError.TheVariants.{WriteFailed}
 use Rattle.dbwalk.specs.Running.{IsGreatest, is_late, greater_key}
 use Rattle.dbwalk.proofs.Running.RunningKeys.{greatest_same, child_no_key, overflow_no_key, keys_at_bad_cell, keys_at_cell_without, cell_key, cell_key_is, greatest_at_cell, key_told}
 use Rattle.dbwalk.specs.Done.{IsDone}
-use Rattle.dbwalk.specs.Finding.{Finding, told_at, told_below, visited_below}
+use Rattle.dbtrace.specs.Finding.{Finding, told_at, told_below, visited_below}
 use Rattle.dbwalk.specs.Left.{IsLeft}
 use Rattle.dbwalk.specs.Outcomes.{StopsBy}
 use Rattle.dbwalk.specs.declared.mark.Mark.{Mark}

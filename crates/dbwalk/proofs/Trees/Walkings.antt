@@ -30,7 +30,7 @@ use Rattle.dbwalk.proofs.Chaining.Chained.{IsOverflow, chain_visits}
 use Rattle.std.specs.Prelude.{◌==◌, ◌&&◌}
 use Rattle.std.specs.Option.{option_map_or}
 use Rattle.dbwalk.specs.declared.mark.Mark.{Mark}
-use Rattle.dbwalk.specs.Finding.{Finding, told_at, visited_below}
+use Rattle.dbtrace.specs.Finding.{Finding, told_at, visited_below}
 use Rattle.dbwalk.specs.Done.{IsDone}
 use Rattle.dbwalk.specs.Marking.{AreMarksOf}
 use Rattle.std.specs.Prelude.{slice_get}

@@ -4,7 +4,7 @@ use Rattle.dbformat.specs.EndFaults.{end_faults}
 use Rattle.dbformat.specs.Story.{start_errands}
 use Rattle.dbsource.specs.Answers.{asked}
 use Rattle.dbsource.proofs.Logs.{asks_then, asks_weaker}
-use Rattle.dbwalk.specs.Finding.{told_below}
+use Rattle.dbtrace.specs.Finding.{told_below}
 use Rattle.dbwalk.specs.Marking.{AreMarksFor, marks_of}
 use Rattle.dbwalk.specs.Reads.{Reads}
 use Rattle.dbwalk.specs.Telling.{findings}

@@ -6,7 +6,7 @@ use Rattle.dbsource.specs.Errors.{is_read_failed}
 use Rattle.dbsource.specs.Sources.{Asks}
 use Rattle.dbformat.specs.Reference.{Way, Reference}
 use Rattle.dbformat.specs.Story.{Event}
-use Rattle.dbwalk.specs.Finding.{visited_below}
+use Rattle.dbtrace.specs.Finding.{visited_below}
 use Rattle.dbwalk.specs.Left.{IsLeft}
 use Rattle.dbwalk.specs.Reads.{Reads}
 use Rattle.dbreport.specs.Starts.{AreBelowStarts, errands_from}

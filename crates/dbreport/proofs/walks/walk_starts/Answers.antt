@@ -4,7 +4,7 @@ use Rattle.dbformat.specs.Story.{start_errands}
 use Rattle.dbsurvey.specs.Story.{Go}
 use Rattle.dbsource.proofs.Logs.{asks_weaker}
 use Rattle.dbwalk.specs.Left.{IsLeft}
-use Rattle.dbwalk.specs.Finding.{visited_below}
+use Rattle.dbtrace.specs.Finding.{visited_below}
 use Rattle.dbwalk.proofs.Marking.Readings.{asks_then}
 use Rattle.dbreport.specs.Starts.{schema_reference}
 use Rattle.dbreport.proofs.RunItems.{survey_below_starts, schema_stopped, schema_walked, later_walked}

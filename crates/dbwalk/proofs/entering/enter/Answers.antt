@@ -3,7 +3,7 @@ use Rattle.std.proofs.lemmas.Result.{err_from_is_err_and}
 use Rattle.dbsurvey.specs.Moves.{Moves, Stops}
 use Rattle.dbwalk.specs.Marking.{AreMarksOf}
 use Rattle.dbwalk.specs.Entered.{Enters}
-use Rattle.dbwalk.specs.Finding.{told_fault}
+use Rattle.dbtrace.specs.Finding.{told_fault}
 use Rattle.dbwalk.proofs.Telling.Entries.{refusal_shallow, entered_yes, entered_no}
 use Rattle.dbwalk.proofs.entering.enter.Goals as goal
 

@@ -10,7 +10,7 @@ use Rattle.dbformat.specs.Reference.{next_trunk, leaf_count, most_leaves}
 use Rattle.dbformat.specs.declared.FaultCode.TheVariants.{L01}
 use Rattle.std.specs.Prelude.{pos}
 use Rattle.dbsource.specs.declared.error.RunError.TheVariants.{WriteFailed}
-use Rattle.dbwalk.specs.Finding.{told_fault}
+use Rattle.dbtrace.specs.Finding.{told_fault}
 use Rattle.dbwalk.specs.Left.{IsLeft}
 use Rattle.dbwalk.specs.Trunks.{Opens}
 use Rattle.dbwalk.proofs.Freelists.FreeTrunks.{opened_fitting, opened_crowded, opened_untold}

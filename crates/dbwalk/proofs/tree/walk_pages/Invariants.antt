@@ -10,7 +10,7 @@ use Rattle.dbwalk.specs.Found.{StandsAt}
 use Rattle.dbwalk.specs.Marking.{AreMarksOf}
 use Rattle.dbwalk.specs.Reads.{Reads}
 use Rattle.dbwalk.specs.RootRoom.{StartsEmpty}
-use Rattle.dbwalk.specs.Running.{AreOfEarlierStarts}
+use Rattle.dbtrace.specs.Starts.{AreOfEarlierStarts}
 use Rattle.dbwalk.specs.WalkGiven.{IsGivenWalk}
 use Rattle.dbwalk.specs.Walking.{IsCandidate, AreOpen, path_of, cost}
 use Rattle.dbwalk.specs.declared.frame.Frame.{Frame}

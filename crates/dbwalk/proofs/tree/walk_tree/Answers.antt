@@ -9,12 +9,12 @@ use Rattle.dbsource.specs.Failures.{failures_after}
 use Rattle.dbsource.specs.declared.error.RunError.TheVariants.{ReadFailed}
 use Rattle.dbwalk.specs.Done.{IsDone}
 use Rattle.dbwalk.specs.Entered.{Enters}
-use Rattle.dbwalk.specs.Finding.{visited_below}
+use Rattle.dbtrace.specs.Finding.{visited_below}
 use Rattle.dbwalk.specs.Found.{StandsAt}
 use Rattle.dbwalk.specs.Marking.{page_mark}
 use Rattle.dbwalk.specs.Outcomes.{IsReadOrWrite}
 use Rattle.dbwalk.specs.Roots.{kind_of, kind_in}
-use Rattle.dbwalk.specs.Running.{AreOfEarlierStarts}
+use Rattle.dbtrace.specs.Starts.{AreOfEarlierStarts}
 use Rattle.dbwalk.specs.Taking.{readable_rows}
 use Rattle.dbwalk.specs.WalkGiven.{IsTreeDone}
 use Rattle.dbwalk.specs.declared.mark.Mark.TheVariants.{Unmarked}

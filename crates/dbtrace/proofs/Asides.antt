@@ -1,0 +1,118 @@
+-- Below a page of no tree stands no page of a tree; so what is told there leaves the progress.
+use Rattle.std.proofs.Common.{◌≡◌, ℕ, zero, suc, ◌<◌, inl, inr, Bool, true, false, cond, not, ◌&&◌, List, [], ◌∷◌, ◌++◌, map, length, Option, Some, None, refl, sym, ap, subst, arith, ◌∙◌}
+use Rattle.std.specs.Prelude.{option_to_list, unwrap_or, pos, ◌==◌}
+use Rattle.std.specs.Option.{option_map_or}
+use Rattle.std.proofs.lemmas.List.{append-nil, length-append}
+use Rattle.dbsurvey.specs.Address.{IsIn, Address}
+use Rattle.dbsurvey.specs.Run.{run, up_to}
+use Rattle.dbsurvey.specs.Story.{Told}
+use Rattle.dbsurvey.specs.Survey.{children}
+use Rattle.dbsurvey.proofs.Advancing.{run_reads}
+use Rattle.dbsurvey.proofs.Composing.{named_at-step}
+use Rattle.dbsurvey.proofs.Order.{IsIn-right}
+use Rattle.dbformat.specs.Tests.{told_if}
+use Rattle.dbformat.specs.Faults.{fault}
+use Rattle.dbformat.specs.Address.{start_of, depth}
+use Rattle.dbformat.specs.Head.{is_interior}
+use Rattle.dbformat.specs.Reference.{Reference, role_of, tree_kind, tree_view}
+use Rattle.dbformat.specs.PageFaults.{is_leaf_of, page_faults}
+use Rattle.dbformat.specs.Report.{event_faults}
+use Rattle.dbformat.specs.Laws.{event_row}
+use Rattle.dbformat.specs.Story.{Event, at_page, at_key, at_refused, own_visit}
+use Rattle.dbformat.specs.Survey.{rules_of}
+use Rattle.dbformat.specs.declared.FaultCode.TheVariants.{T05}
+use Rattle.dbformat.specs.declared.TreeKind.{TreeKind}
+use Rattle.dbtrace.specs.Finding.{told_row, told_fault, told_at}
+use Rattle.dbtrace.specs.Item.{finding_in, given_rows, readable, rows_at_event, faults_at}
+use Rattle.dbtrace.specs.Progress.{Progress, leaf_after, depth_faults, step}
+use Rattle.dbtrace.specs.Steps.{AreAside}
+use Rattle.dbtrace.specs.Walk.{Walk, machine, advance}
+use Rattle.dbtrace.proofs.Depths.{page_parts, no_leaf}
+use Rattle.dbtrace.proofs.Folding.{findings_at, given_are}
+use Rattle.dbtrace.proofs.RowsTold.{rows_told}
+use Rattle.dbtrace.proofs.SchemaOrder.{parent_inside, view_kind}
+use Rattle.dbtrace.proofs.Told.{visited, trace, part, tells, IsOf, told_as}
+
+module _ (file : List ℕ) where
+  no_view : (r : Reference) → tree_kind (role_of r) ≡ None → tree_view file r ≡ None
+  unfolding tree_view
+  no_view r e = rw e refl
+
+  -- an event of no page of a tree
+  abbrev IsOff : Event → Type 0
+  IsOff (at_page r) = tree_view file r ≡ None
+  IsOff (at_key r v x) = ⊥
+  IsOff (at_refused r) = Unit {0}
+
+  not_leaf : (k : ℕ) (r : Reference) → tree_view file r ≡ None → is_leaf_of file k r ≡ false
+  not_leaf k r e = by_start (start_of r.address == k)
+    where
+      by_start : (b : Bool) → (b && option_map_or (λ v. not (is_interior v.kind)) (tree_view file r) false) ≡ false
+      by_start true = rw e refl
+      by_start false = refl
+
+  step_off : (U : List Reference) (p : Progress) (e : Event) → IsOff e → step file U p e ≡ p
+  step_off U p (at_page r) h = ap (λ leaf. record { greatest = p.greatest; leaf = leaf; roots = p.roots }) (kept p.leaf)
+    where
+      kept : (leaf : Option ℕ) → leaf_after file leaf r ≡ leaf
+      kept None = ap (λ b. cond b (Some (depth r.address)) None) (not_leaf (start_of r.address) r h)
+      kept (Some d) = refl
+  step_off U p (at_key r v x) h = absurd h
+  step_off U p (at_refused r) h = refl
+
+  faults_off : (U : List Reference) (p : Progress) (e : Event) → IsOff e → faults_at file U p e ≡ event_faults file U e
+  faults_off U p (at_page r) h = ap (λ l. page_faults file [] r ++ l) (quiet ∙ sym (no_leaf file U r h)) ∙ sym (page_parts file U r)
+    where
+      quiet : depth_faults file p.leaf r ≡ []
+      quiet = ap (λ b. told_if (b && not (depth r.address == unwrap_or p.leaf (depth r.address))) (fault T05 r.page 0 (pos (depth r.address)))) (not_leaf (start_of r.address) r h)
+  faults_off U p (at_key r v x) h = absurd h
+  faults_off U p (at_refused r) h = refl
+
+  rows_off : (U : List Reference) (e : Event) → IsOff e → rows_at_event file U e ≡ []
+  rows_off U (at_page r) h = refl
+  rows_off U (at_key r v x) h = absurd h
+  rows_off U (at_refused r) h = refl
+
+  -- along a trace of such events
+  state_off : (now : Walk) (L : List (Told Event)) → ((t : Told Event) → IsIn t L → IsOff t.event) → (run (machine file) now L).state ≡ now.state
+  state_off now [] h = refl
+  state_off now (t ∷ L) h = state_off (advance file now t.event) L (λ u i. h u (inr i)) ∙ step_off (advance file now t.event).visits now.state t.event (h t (inl refl))
+
+  rows_told_off : (W : List Reference) (L : List (Told Event)) → ((t : Told Event) → IsIn t L → IsOff t.event) → rows_told file W L ≡ []
+  rows_told_off W [] h = refl
+  rows_told_off W (t ∷ L) h = let U = W ++ option_to_list (own_visit t.event) in ap (λ l. l ++ rows_told file U L) (rows_off U t.event (h t (inl refl))) ∙ rows_told_off U L (λ u i. h u (inr i))
+
+module _ (file : List ℕ) (W : List Reference) (c : Reference) (none : tree_kind (role_of c) ≡ None) where
+  no_tree_below : (r : Reference) → IsIn r (visited file W c) → tree_kind (role_of r) ≡ None
+  no_tree_below r i = go (suc (length r.address)) r i (omega arith)
+    where
+      go : (n : ℕ) (r : Reference) → IsIn r (visited file W c) → length r.address < n → tree_kind (role_of r) ≡ None
+      go zero r i l = absurd (omega arith)
+      go (suc n) r i l = elim (((part file W c).exact r).0 i).0 [
+        | inl m ↦ (elim m [ inl e ↦ ap (λ c. tree_kind (role_of c)) e ∙ none | inr f ↦ absurd f ])
+        | inr m ↦ (let s = named_at-step m.0.address ((rules_of file).links m.0.page m.0.role) r m.2 in
+            let z = ap length s.1 ∙ length-append m.0.address (s.0 ∷ []) in
+            by_kind m.0 m.2 (tree_kind (role_of r)) refl (go n m.0 m.1 (omega arith)))
+      ]
+        where
+          by_kind : (p : Reference) → IsIn r (children (rules_of file) p) → (o : Option TreeKind) → tree_kind (role_of r) ≡ o → tree_kind (role_of p) ≡ None → tree_kind (role_of r) ≡ None
+          by_kind p h None e f = e
+          by_kind p h (Some kind) e f = let v = parent_inside file p r kind h e in let k = view_kind file p v.0 v.1 in let g = sym f ∙ k.1 in cc
+
+  off : (t : Told Event) → IsIn t (trace file W c) → IsOff file t.event
+  off t i = by_event t.key t.event (told_as file W c t (((tells file W c).exact t).0 i))
+    where
+      by_event : (place : Address) (e : Event) → IsOf file (visited file W c) place e → IsOff file e
+      by_event place (at_page r) h = no_view file r (no_tree_below r h.0)
+      by_event place (at_key r v x) h = let e = sym (no_view file r (no_tree_below r h.0)) ∙ h.1 in cc
+      by_event place (at_refused r) h = tt
+
+pub are_aside : (file : List ℕ) → AreAside file
+are_aside file now c none = record {
+  state = state_off file now (trace file now.visits c) (off file now.visits c none);
+  findings_are = run_reads (machine file) finding_in (told_at file) now (trace file now.visits c) (λ A B t split.
+      let m = run (machine file) now A in
+      findings_at file (up_to (machine file) m t.event) m.state t.event
+      ∙ ap (λ fs. map told_row (option_to_list (event_row file t.event)) ++ map told_fault fs) (faults_off file (up_to (machine file) m t.event) m.state t.event (off file now.visits c none t (subst (IsIn t) (sym split) (IsIn-right t A (t ∷ B) (inl refl))))));
+  rows = given_are file now (trace file now.visits c) ∙ ap (λ rows. given_rows now.items ++ readable rows) (rows_told_off file now.visits (trace file now.visits c) (off file now.visits c none)) ∙ append-nil (given_rows now.items);
+}

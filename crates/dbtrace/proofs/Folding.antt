@@ -1,0 +1,212 @@
+-- What is told of a start is read off the progress of its walk.
+use Rattle.std.proofs.Common.{◌≡◌, ℕ, inl, inr, Bool, true, false, cond, not, ◌&&◌, List, [], ◌∷◌, ◌++◌, map, length, None, refl, sym, ap, subst, arith, ◌∙◌, append_assoc}
+use Rattle.std.specs.Prelude.{flat_map, option_to_list, nat_le, ◌==◌}
+use Rattle.std.proofs.lemmas.Bool.{and_parts, eqb-true}
+use Rattle.std.proofs.lemmas.List.{append-nil}
+use Rattle.std.proofs.lemmas.List.Elements.{filter_map-append}
+use Rattle.std.specs.Result.{result_ok}
+use Rattle.dbsurvey.specs.Address.{IsIn, Address}
+use Rattle.dbsurvey.specs.Run.{run, up_to}
+use Rattle.dbsurvey.specs.Story.{Told, Go}
+use Rattle.dbsurvey.specs.InOrder.{visits_in, AreQuiet}
+use Rattle.dbsurvey.proofs.Advancing.{run_visits, run_reads, run_below_visits}
+use Rattle.dbsurvey.proofs.Lists.{flat_map-same, flat_map-none}
+use Rattle.dbsurvey.proofs.Order.{IsIn-right}
+use Rattle.dbsurvey.proofs.ReadBack.{read_as}
+use Rattle.dbformat.specs.File.{geometry}
+use Rattle.dbformat.specs.Address.{start_of, then_step, key_step, schema_start, last_root_start}
+use Rattle.dbformat.specs.Head.{View, is_interior}
+use Rattle.dbformat.specs.Cell.{Cell}
+use Rattle.dbformat.specs.Reference.{Reference}
+use Rattle.dbformat.specs.Schema.{SchemaCell, schema_cell, schema, rooted_rows}
+use Rattle.dbformat.specs.SchemaRow.{SchemaRow}
+use Rattle.dbformat.specs.Survey.{rules_of}
+use Rattle.dbformat.specs.PageFaults.{page_faults}
+use Rattle.dbformat.specs.KeyFaults.{earlier_roots, key_of, key_faults, row_faults_if, row_faults, row_faults_at, cell_place_faults}
+use Rattle.dbformat.specs.Story.{Event, at_page, at_key, at_refused, own_visit, story_of}
+use Rattle.dbformat.specs.Report.{event_faults}
+use Rattle.dbformat.specs.Laws.{event_row}
+use Rattle.dbformat.proofs.Places.{key_place}
+use Rattle.dbformat.proofs.Theory.{are_rules, is_story, shows_visits}
+use Rattle.dbtrace.specs.Finding.{Finding, told_row, told_fault, told_at, told_below, visited_below}
+use Rattle.dbtrace.specs.Fold.{IsFold}
+use Rattle.dbtrace.specs.Item.{found, given, finding_in, row_in, findings, given_rows, readable, faults_at, rows_at_event, items_at}
+use Rattle.dbtrace.specs.Progress.{Progress, rows_of, late_faults, depth_faults}
+use Rattle.dbtrace.specs.Starts.{IsOfEarlierStart, AreOfEarlierStarts}
+use Rattle.dbtrace.specs.Walk.{Walk, machine, begin, advance, run_below}
+use Rattle.dbtrace.proofs.Depths.{leaf_from, depth_is, page_parts}
+use Rattle.dbtrace.proofs.Keys.{greatest_is, started, late_is}
+use Rattle.dbtrace.proofs.RowsTold.{rows_told, roots_are, schema_told, rows_before}
+use Rattle.dbtrace.proofs.Told.{visited, trace, tells, IsOf, told_as, below_start, visited_before}
+
+-- items, by what they are for
+
+found_only : (fs : List Finding) → findings (map found fs) ≡ fs
+found_only [] = refl
+found_only (f ∷ fs) = ap (λ l. f ∷ l) (found_only fs)
+
+given_found : (rows : List SchemaRow) → findings (map given rows) ≡ []
+given_found [] = refl
+given_found (r ∷ rows) = given_found rows
+
+given_only : (rows : List SchemaRow) → given_rows (map given rows) ≡ rows
+given_only [] = refl
+given_only (r ∷ rows) = ap (λ l. r ∷ l) (given_only rows)
+
+found_given : (fs : List Finding) → given_rows (map found fs) ≡ []
+found_given [] = refl
+found_given (f ∷ fs) = found_given fs
+
+module _ (file : List ℕ) where
+  pub findings_at : (U : List Reference) (p : Progress) (e : Event) → findings (items_at file U p e) ≡ map told_row (option_to_list (event_row file e)) ++ map told_fault (faults_at file U p e)
+  findings_at U p e =
+      let rows = readable (rows_at_event file U e) in
+      let fs = map told_row (option_to_list (event_row file e)) ++ map told_fault (faults_at file U p e) in
+      filter_map-append finding_in (map given rows) (map found fs) ∙ ap (λ l. l ++ findings (map found fs)) (given_found rows) ∙ found_only fs
+
+  pub rows_at_item : (U : List Reference) (p : Progress) (e : Event) → given_rows (items_at file U p e) ≡ readable (rows_at_event file U e)
+  rows_at_item U p e =
+      let rows = readable (rows_at_event file U e) in
+      let fs = map told_row (option_to_list (event_row file e)) ++ map told_fault (faults_at file U p e) in
+      filter_map-append row_in (map given rows) (map found fs) ∙ ap (λ l. given_rows (map given rows) ++ l) (found_given fs) ∙ append-nil (given_rows (map given rows)) ∙ given_only rows
+
+  -- the rows that were given
+  pub given_are : (now : Walk) (A : List (Told Event)) → given_rows (run (machine file) now A).items ≡ given_rows now.items ++ readable (rows_told file now.visits A)
+  given_are now [] = sym (append-nil (given_rows now.items))
+  given_are now (t ∷ A) =
+      let U = up_to (machine file) now t.event in
+      let R = rows_at_event file U t.event in
+      given_are (advance file now t.event) A
+      ∙ ap (λ l. l ++ readable (rows_told file U A)) (filter_map-append row_in now.items (items_at file U now.state t.event) ∙ ap (λ l. given_rows now.items ++ l) (rows_at_item U now.state t.event))
+      ∙ append_assoc (given_rows now.items) (readable R) (readable (rows_told file U A))
+      ∙ ap (λ l. given_rows now.items ++ l) (sym (filter_map-append (λ c. result_ok c.row) R (rows_told file U A)))
+
+  -- the depth of the first leaf
+  leaf_is : (now : Walk) (A : List (Told Event)) → (run (machine file) now A).state.leaf ≡ leaf_from file now.state.leaf (visits_in own_visit A)
+  leaf_is now [] = refl
+  leaf_is now (t ∷ A) = by_event t.event (λ m. leaf_is m A)
+    where
+      by_event : (e : Event) → ((m : Walk) → (run (machine file) m A).state.leaf ≡ leaf_from file m.state.leaf (visits_in own_visit A))
+          → (run (machine file) (advance file now e) A).state.leaf ≡ leaf_from file now.state.leaf (visits_in own_visit (record { key = t.key; event = e } ∷ A))
+      by_event (at_page r) h = h (advance file now (at_page r))
+      by_event (at_key r v x) h = h (advance file now (at_key r v x))
+      by_event (at_refused r) h = h (advance file now (at_refused r))
+
+-- no start is before the schema's
+none_earlier : (W : List Reference) → AreOfEarlierStarts schema_start W → W ≡ []
+none_earlier [] early = refl
+none_earlier (u ∷ W) early = absurd (none u.address (early u (inl refl)))
+  where
+    none : (a : Address) → IsOfEarlierStart schema_start a → ⊥
+    none [] h = h
+    none (x ∷ a) h = omega arith
+
+module _ (file : List ℕ) (k : ℕ) (W : List Reference) (c : Reference) (at : c.address ≡ k ∷ []) (early : AreOfEarlierStarts k W) where
+  abbrev after : List (Told Event) → Walk
+  after A = run (machine file) (begin W) A
+
+  module _ (A B : List (Told Event)) (t : Told Event) (split : trace file W c ≡ A ++ (t ∷ B)) where
+    abbrev X : List Reference
+    X = visits_in own_visit A
+
+    visits_so_far : (after A).visits ≡ W ++ X
+    visits_so_far = run_visits (machine file) (begin W) A
+
+    here : IsOf file (visited file W c) t.key t.event
+    here = told_as file W c t (((tells file W c).exact t).0 (subst (IsIn t) (sym split) (IsIn-right t A (t ∷ B) (inl refl))))
+
+    at_start : (r : Reference) → IsIn r (visited file W c) → start_of r.address ≡ k
+    at_start r i = ap start_of (below_start file W c k at r i).1
+
+    -- a page: by the depth of the first leaf
+    page : (r : Reference) → IsIn r (visited file W c) → faults_at file (up_to (machine file) (after A) (at_page r)) (after A).state (at_page r) ≡ page_faults file (up_to (machine file) (after A) (at_page r)) r
+    page r i = sym (
+        ap (λ U. page_faults file (U ++ r ∷ []) r) visits_so_far
+        ∙ ap (λ U. page_faults file U r) (append_assoc W X (r ∷ []))
+        ∙ page_parts file (W ++ (X ++ r ∷ [])) r
+        ∙ ap (λ fs. page_faults file [] r ++ fs) (depth_is file k W X r early (λ u j. at_start u ((visited_before file W c A B t split u).0 j).0) (at_start r i)
+        ∙ ap (λ leaf. depth_faults file leaf r) (sym (leaf_is file (begin W) A))))
+
+    -- a key: by the greatest
+    keys : (r : Reference) (v : View) (x : ℕ × Cell) → IsIn r (visited file W c) → t.key ≡ then_step r.address (key_step x.0)
+        → flat_map (late_faults (after A).state.greatest) (key_of r v x) ≡ flat_map (key_faults file (W ++ X)) (key_of r v x)
+    keys r v x i place = flat_map-same (late_faults (after A).state.greatest) (key_faults file (W ++ X)) (key_of r v x) (λ key j.
+        let stands = key_place r v x key j in
+        ap (λ top. late_faults top key) (greatest_is file (begin W) A)
+        ∙ sym (late_is file k W c at early A B t split key (stands ∙ sym place) (ap start_of stands ∙ started file k W c at early r (key_step x.0) i)))
+
+    -- a row of the schema: by how many have a root
+    full : k ≡ schema_start → own_visit t.event ≡ None → earlier_roots file (W ++ X) t.key ≡ (after A).state.roots
+    full e quiet =
+        let none : W ≡ [] = none_earlier W (subst (λ k. AreOfEarlierStarts k W) e early) in
+        ap (λ W. earlier_roots file (W ++ X) t.key) none
+        ∙ ap (λ l. length (rooted_rows l)) (rows_before file c (at ∙ ap (λ k. k ∷ []) e) A B t (subst (λ W. trace file W c ≡ A ++ (t ∷ B)) none split) quiet)
+        ∙ (let f = roots_are file (begin W) A in let g = ap (λ W. length (rooted_rows (rows_told file W A))) none in omega arith)
+
+    rows : (r : Reference) (v : View) (x : ℕ × Cell) → t.event ≡ at_key r v x → IsIn r (visited file W c) → t.key ≡ then_step r.address (key_step x.0)
+        → flat_map (row_faults_if (nat_le last_root_start (after A).state.roots)) (rows_of file (W ++ X) r v x) ≡ row_faults_at file (W ++ X) r v x
+    unfolding row_faults
+    rows r v x e i place = by_test ((start_of r.address == schema_start) && not (is_interior v.kind)) refl
+      where
+        d : SchemaCell
+        d = schema_cell file (W ++ X) r x
+
+        roots : (start_of r.address == schema_start) ≡ true → earlier_roots file (W ++ X) d.place ≡ (after A).state.roots
+        roots f = ap (earlier_roots file (W ++ X)) (sym place) ∙ full (sym (at_start r i) ∙ eqb-true (start_of r.address) schema_start f) (ap own_visit e)
+
+        by_test : (b : Bool) → ((start_of r.address == schema_start) && not (is_interior v.kind)) ≡ b
+            → flat_map (row_faults_if (nat_le last_root_start (after A).state.roots)) (cond b (d ∷ []) []) ≡ cond b (row_faults file (W ++ X) d) []
+        by_test false f = refl
+        by_test true f = append-nil (row_faults_if (nat_le last_root_start (after A).state.roots) d)
+            ∙ ap (λ n. row_faults_if (nat_le last_root_start n) d) (sym (roots (and_parts (start_of r.address == schema_start) (not (is_interior v.kind)) f).0))
+
+    faults : (e : Event) → t.event ≡ e → IsOf file (visited file W c) t.key e
+        → faults_at file (up_to (machine file) (after A) e) (after A).state e ≡ event_faults file (up_to (machine file) (after A) e) e
+    faults (at_page r) f h = page r h.0
+    faults (at_refused r) f h = refl
+    faults (at_key r v x) f h = subst (λ U. flat_map (row_faults_if (nat_le last_root_start (after A).state.roots)) (rows_of file U r v x) ++ flat_map (late_faults (after A).state.greatest) (key_of r v x) ≡ cell_place_faults file U r v x)
+        (sym (append-nil (after A).visits ∙ visits_so_far))
+        (ap (λ l. l ++ flat_map (late_faults (after A).state.greatest) (key_of r v x)) (rows r v x f h.0 h.3) ∙ ap (λ l. row_faults_at file (W ++ X) r v x ++ l) (keys r v x h.0 h.3))
+
+    told : findings (items_at file (up_to (machine file) (after A) t.event) (after A).state t.event) ≡ told_at file (up_to (machine file) (after A) t.event) t.event
+    told = findings_at file (up_to (machine file) (after A) t.event) (after A).state t.event
+        ∙ ap (λ fs. map told_row (option_to_list (event_row file t.event)) ++ map told_fault fs) (faults t.event refl here)
+
+  pub all_findings : findings (run_below file (begin W) (Go c ∷ [])).items ≡ told_below file W (Go c ∷ [])
+  all_findings = run_reads (machine file) finding_in (told_at file) (begin W) (trace file W c) told
+
+  quiet_start : AreQuiet {E = Event} own_visit (Go c ∷ [])
+  quiet_start e i = elim i [ inl f ↦ cc | inr n ↦ absurd n ]
+
+  pub all_visits : (run_below file (begin W) (Go c ∷ [])).visits ≡ W ++ visited_below file W (Go c ∷ [])
+  all_visits = run_below_visits (rules_of file) (story_of file) (geometry file).pages (are_rules file) (machine file) (is_story file) (shows_visits file) (begin W) (Go c ∷ []) quiet_start
+
+  -- the rows of the schema are given at the schema's start alone
+  no_rows : (k == schema_start) ≡ false → rows_told file W (trace file W c) ≡ []
+  no_rows other = read_as own_visit (rows_at_event file) (λ e. []) W (trace file W c) (λ A B t split. by_event A t.key t.event (here A B t split))
+      ∙ flat_map-none (λ t. []) (trace file W c) (λ t i. refl)
+    where
+      by_event : (A : List (Told Event)) (place : Address) (e : Event) → IsOf file (visited file W c) place e → rows_at_event file ((W ++ visits_in own_visit A) ++ option_to_list (own_visit e)) e ≡ []
+      by_event A place (at_page r) h = refl
+      by_event A place (at_refused r) h = refl
+      by_event A place (at_key r v x) h = ap (λ b. cond (b && not (is_interior v.kind)) (schema_cell file ((W ++ visits_in own_visit A) ++ []) r x ∷ []) [])
+          (ap (λ s. s == schema_start) (ap start_of (below_start file W c k at r h.0).1) ∙ other)
+
+  pub all_rows : given_rows (run_below file (begin W) (Go c ∷ [])).items ≡ cond (k == schema_start) (readable (schema file (W ++ visited_below file W (Go c ∷ [])))) []
+  all_rows = given_are file (begin W) (trace file W c) ∙ by_start (k == schema_start) refl
+    where
+      by_start : (b : Bool) → (k == schema_start) ≡ b → readable (rows_told file W (trace file W c)) ≡ cond b (readable (schema file (W ++ visited file W c))) []
+      by_start false e = ap readable (no_rows e)
+      by_start true e =
+          let f : k ≡ schema_start = eqb-true k schema_start e in
+          let none : W ≡ [] = none_earlier W (subst (λ k. AreOfEarlierStarts k W) f early) in
+          ap (λ W. readable (rows_told file W (trace file W c))) none
+          ∙ ap readable (sym (schema_told file c (at ∙ ap (λ k. k ∷ []) f)))
+          ∙ ap (λ W. readable (schema file (W ++ visited file W c))) (sym none)
+
+pub is_fold : (file : List ℕ) → IsFold file
+is_fold file = record {
+  findings_are = λ k W c at early. all_findings file k W c at early;
+  rows_are = λ k W c at early. all_rows file k W c at early;
+  visits_are = λ k W c at early. all_visits file k W c at early;
+}

@@ -1,0 +1,146 @@
+-- The greatest key so far is a fold over the events, and by it a key is found to be out of order exactly where it is so after
+-- a key of the tree at a smaller place.
+use Rattle.std.proofs.Common.{◌≡◌, ℕ, ℤ, int_lt, ◌↔◌, inl, inr, Bool, true, false, cond, not, ◌&&◌, List, [], ◌∷◌, ◌++◌, map, Option, Some, None, refl, sym, ap, subst, arith, ◌∙◌}
+use Rattle.std.specs.Prelude.{flat_map, int_le, ◌==◌}
+use Rattle.std.specs.List.{list_any}
+use Rattle.std.proofs.lemmas.Bool.{and_parts, and_from, eqb-true, eq-eqb, both_ways}
+use Rattle.std.proofs.lemmas.Int.{ints}
+use Rattle.dbsurvey.specs.Address.{IsIn, Address, IsBefore}
+use Rattle.dbsurvey.specs.Greatest.{IsOut, IsOutAfter, is_out}
+use Rattle.dbsurvey.specs.Run.{run}
+use Rattle.dbsurvey.specs.Story.{Told}
+use Rattle.dbsurvey.specs.InOrder.{is_before, visits_in}
+use Rattle.dbsurvey.proofs.Lists.{filter-from, filter-has, any_true, any_one}
+use Rattle.dbsurvey.proofs.Order.{IsIn-right, IsIn-cases}
+use Rattle.dbsurvey.proofs.Ordering.{is_before-means, is_before-from, IsIn-map, IsIn-from_map, IsIn-flat_map, IsIn-from_flat_map}
+use Rattle.dbsurvey.proofs.Running.{running_greatest, int_line}
+use Rattle.dbformat.specs.Tests.{told_if}
+use Rattle.dbformat.specs.Faults.{fault}
+use Rattle.dbformat.specs.Address.{start_of, then_step, key_step}
+use Rattle.dbformat.specs.Head.{View}
+use Rattle.dbformat.specs.Cell.{cells}
+use Rattle.dbformat.specs.Reference.{Reference, tree_view}
+use Rattle.dbformat.specs.KeyFaults.{Key, key_of, keys_of_view, keys_at, keys, earlier_keys, is_out_of_order, key_faults}
+use Rattle.dbformat.specs.Story.{Event, at_page, at_key, at_refused, own_visit}
+use Rattle.dbformat.specs.declared.FaultCode.TheVariants.{T06}
+use Rattle.dbformat.proofs.Places.{key_place}
+use Rattle.dbtrace.specs.Progress.{key_entry, greatest_after, late_faults}
+use Rattle.dbtrace.specs.Starts.{IsOfEarlierStart, AreOfEarlierStarts}
+use Rattle.dbtrace.specs.Walk.{Walk, machine, advance}
+use Rattle.dbtrace.proofs.Depths.{other_start}
+use Rattle.dbtrace.proofs.Told.{visited, trace, IsOf, told_as, key_told, below_start, before, visited_before, page_before}
+
+-- the keys of what was told
+abbrev pub keys_told_at : Event → List Key
+keys_told_at (at_page r) = []
+keys_told_at (at_key r v x) = key_of r v x
+keys_told_at (at_refused r) = []
+
+abbrev pub keys_told : List (Told Event) → List Key
+keys_told A = flat_map (λ t. keys_told_at t.event) A
+
+greatest_both : (top : Option ℤ) (ks js : List Key) → greatest_after top (ks ++ js) ≡ greatest_after (greatest_after top ks) js
+greatest_both top [] js = refl
+greatest_both top (k ∷ ks) js = greatest_both (greatest_after top (k ∷ [])) ks js
+
+pub greatest_is : (file : List ℕ) (now : Walk) (A : List (Told Event)) → (run (machine file) now A).state.greatest ≡ greatest_after now.state.greatest (keys_told A)
+greatest_is file now [] = refl
+greatest_is file now (t ∷ A) = by_event t.event (λ m. greatest_is file m A)
+  where
+    by_event : (e : Event) → ((m : Walk) → (run (machine file) m A).state.greatest ≡ greatest_after m.state.greatest (keys_told A))
+        → (run (machine file) (advance file now e) A).state.greatest ≡ greatest_after now.state.greatest (keys_told_at e ++ keys_told A)
+    by_event (at_page r) h = h (advance file now (at_page r))
+    by_event (at_key r v x) h = h (advance file now (at_key r v x)) ∙ sym (greatest_both now.state.greatest (key_of r v x) (keys_told A))
+    by_event (at_refused r) h = h (advance file now (at_refused r))
+
+-- the two tests for a key out of order are one
+
+by_both : (a b : Bool) → (a ≡ true → b ≡ true) → (b ≡ true → a ≡ true) → a ≡ b
+by_both true b f g = sym (f refl)
+by_both false true f g = g refl
+by_both false false f g = refl
+
+pub le_is : (a b : ℤ) → int_le a b ≡ not (int_lt b a)
+le_is a b = by_both (int_le a b) (not (int_lt b a)) (λ e. grind (arith, ints)) (λ e. grind (arith, ints))
+
+same_test : (key k : Key) → is_out_of_order key k ≡ cond key.is_rowid (not (int_lt k.value key.value)) (int_lt key.value k.value)
+same_test key k = ap (λ b. cond key.is_rowid b (int_lt key.value k.value)) (le_is key.value k.value)
+
+earlier_longer : (k : ℕ) (a b : Address) → IsOfEarlierStart k a → IsOfEarlierStart k (a ++ b)
+earlier_longer k [] b h = absurd h
+earlier_longer k (x ∷ a) b h = h
+
+module _ (file : List ℕ) (k : ℕ) (W : List Reference) (c : Reference) (at : c.address ≡ k ∷ []) (early : AreOfEarlierStarts k W) where
+  pub started : (r : Reference) (s : ℕ) → IsIn r (visited file W c) → start_of (then_step r.address s) ≡ k
+  started r s i = let b = below_start file W c k at r i in ap (λ a. start_of (then_step a s)) b.1
+
+  module _ (A B : List (Told Event)) (t : Told Event) (split : trace file W c ≡ A ++ (t ∷ B)) (key : Key) (is_at : key.place ≡ t.key) (start : start_of key.place ≡ k) where
+    abbrev U : List Reference
+    U = W ++ visits_in own_visit A
+
+    abbrev is_earlier : Key → Bool
+    is_earlier j = (start_of j.place == start_of key.place) && is_before j.place key.place
+
+    -- a key of the visits that is of this tree and stands before the place was told
+    was_told : (j : Key) → IsIn j (earlier_keys file U key) → IsIn j (keys_told A)
+    unfolding keys
+    was_told j i =
+        let f = filter-from is_earlier (keys file U) j i in
+        let p = and_parts (start_of j.place == start_of key.place) (is_before j.place key.place) f.1 in
+        let m = IsIn-from_flat_map (keys_at file) U j f.0 in
+        by_view m.0 m.1 (tree_view file m.0) refl m.2 (eqb-true (start_of j.place) (start_of key.place) p.0 ∙ start) (subst (IsBefore j.place) is_at (is_before-means j.place key.place p.1))
+      where
+        by_view : (r : Reference) → IsIn r U → (o : Option View) → tree_view file r ≡ o → IsIn j (keys_of_view r o) → start_of j.place ≡ k → IsBefore j.place t.key → IsIn j (keys_told A)
+        by_view r i None e h s b = absurd h
+        by_view r i (Some v) e h s b =
+            let m = IsIn-from_flat_map (key_of r v) (cells v) j h in
+            let place = key_place r v m.0 j m.2 in elim (IsIn-cases r W (visits_in own_visit A) i) [
+              | inl w ↦ absurd (both_ways (start_of j.place == k) (other_start k j.place (subst (IsOfEarlierStart k) (sym place) (earlier_longer k r.address (key_step m.0.0 ∷ []) (early r w)))) (eq-eqb (start_of j.place) k s))
+              | inr w ↦ IsIn-flat_map (λ t. keys_told_at t.event) A (record { key = then_step r.address (key_step m.0.0); event = at_key r v m.0 }) j
+                  ((before file W c A B t split (record { key = then_step r.address (key_step m.0.0); event = at_key r v m.0 })).1
+                  (key_told file W c r v m.0 ((visited_before file W c A B t split r).0 w).0 e m.1, subst (λ a. IsBefore a t.key) place b))
+                  m.2
+            ]
+
+    -- and the other way
+    was_earlier : (j : Key) → IsIn j (keys_told A) → IsIn j (earlier_keys file U key)
+    unfolding keys
+    was_earlier j i =
+        let m = IsIn-from_flat_map (λ t. keys_told_at t.event) A j i in
+        let b = (before file W c A B t split m.0).0 m.1 in
+        by_event m.0.key m.0.event (told_as file W c m.0 b.0) b.1 m.2
+      where
+        by_event : (place : Address) (e : Event) → IsOf file (visited file W c) place e → IsBefore place t.key → IsIn j (keys_told_at e) → IsIn j (earlier_keys file U key)
+        by_event place (at_page r) h b l = absurd l
+        by_event place (at_refused r) h b l = absurd l
+        by_event place (at_key r v x) h b l =
+            let stands = key_place r v x j l in
+            let b' = subst (λ a. IsBefore a t.key) h.3 b in
+            filter-has is_earlier (keys file U) j
+            (IsIn-flat_map (keys_at file) U r j (IsIn-right r W (visits_in own_visit A) (page_before file W c A B t split r (key_step x.0) h.0 b'))
+            (subst (λ o. IsIn j (keys_of_view r o)) (sym h.1) (IsIn-flat_map (key_of r v) (cells v) x j h.2 l)))
+            (and_from (start_of j.place == start_of key.place) (is_before j.place key.place)
+            (eq-eqb (start_of j.place) (start_of key.place) (ap start_of stands ∙ started r (key_step x.0) h.0 ∙ sym start))
+            (is_before-from j.place key.place (subst (IsBefore j.place) (sym is_at) (subst (λ a. IsBefore a t.key) (sym stands) b'))))
+
+    abbrev top : Option ℤ
+    top = greatest_after None (keys_told A)
+
+    -- by the greatest key so far
+    late : list_any (is_out_of_order key) (earlier_keys file U key) ≡ is_out int_lt top (key_entry key)
+    late = by_both (list_any (is_out_of_order key) (earlier_keys file U key)) (is_out int_lt top (key_entry key)) (λ e. exact.1 (there e)) (λ e. back (exact.0 e))
+      where
+        exact : (is_out int_lt top (key_entry key) ≡ true) ↔ IsOut int_lt (map key_entry (keys_told A)) (key_entry key)
+        exact = running_greatest int_lt int_line (map key_entry (keys_told A)) (key_entry key)
+
+        there : list_any (is_out_of_order key) (earlier_keys file U key) ≡ true → IsOut int_lt (map key_entry (keys_told A)) (key_entry key)
+        there e = let m = any_one (is_out_of_order key) (earlier_keys file U key) e in
+            (key_entry m.0, IsIn-map key_entry (keys_told A) m.0 (was_told m.0 m.1), sym (same_test key m.0) ∙ m.2)
+
+        back : IsOut int_lt (map key_entry (keys_told A)) (key_entry key) → list_any (is_out_of_order key) (earlier_keys file U key) ≡ true
+        back h = let m = IsIn-from_map key_entry (keys_told A) h.0 h.1 in
+            any_true (is_out_of_order key) (earlier_keys file U key) m.0 (was_earlier m.0 m.1) (same_test key m.0 ∙ subst (λ d. IsOutAfter int_lt d (key_entry key)) m.2 h.2)
+
+    pub late_is : key_faults file U key ≡ late_faults top key
+    unfolding key_faults
+    late_is = ap (λ b. told_if b (fault T06 key.page key.item key.value)) late
