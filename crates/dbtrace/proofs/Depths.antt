@@ -72,7 +72,7 @@ module _ (file : List ℕ) (k : ℕ) where
 
 -- the faults of a page for itself, and that of its depth
 module _ (file : List ℕ) where
-  no_depth : (r : Reference) → depth_fault file [] r ≡ []
+  pub no_depth : (r : Reference) → depth_fault file [] r ≡ []
   unfolding depth_fault
   no_depth r = by_leaf (is_leaf_of file (start_of r.address) r)
     where

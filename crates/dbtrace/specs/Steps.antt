@@ -1,5 +1,5 @@
 -- A walk step by step, for a program with a list of errands that are still to be done.
-use Rattle.std.specs.Prelude.{◌≡◌, ℕ, Bool, true, false, not, List, [], ◌∷◌, ◌++◌, length, filter, None, ◌==◌}
+use Rattle.std.specs.Prelude.{◌≡◌, ℕ, ◌+◌, Bool, true, false, not, List, [], ◌∷◌, ◌++◌, length, filter, None, ◌==◌}
 use Rattle.dbsurvey.specs.InOrder.{AreQuiet}
 use Rattle.dbsurvey.specs.Story.{Told, Errand, Go, Tell, errands_of}
 use Rattle.dbsurvey.specs.Traverse.{is_followed}
@@ -8,16 +8,16 @@ use Rattle.dbformat.specs.SchemaRow.{SchemaRow}
 use Rattle.dbformat.specs.Story.{Event, at_page, at_refused, own_visit, story_of}
 use Rattle.dbformat.specs.Survey.{rules_of}
 use Rattle.dbtrace.specs.Finding.{told_below, visited_below}
-use Rattle.dbtrace.specs.Item.{findings, given_rows}
-use Rattle.dbtrace.specs.Walk.{Walk, advance, run_below}
+use Rattle.dbtrace.specs.Item.{Item, findings, given_rows}
+use Rattle.dbtrace.specs.Walk.{Walk, bare, advance, run_below}
 
 -- whether a row has a root page
 abbrev pub has_root : SchemaRow → Bool
 has_root row = not (row.root == 0)
 
--- the progress counts the rows with a root page among those that were given
-abbrev pub CountsRoots : Walk → Type 0
-CountsRoots now = now.state.roots ≡ length (filter has_root (given_rows now.items))
+-- how many rows with a root page are among the items
+abbrev pub roots_in : List Item → ℕ
+roots_in items = length (filter has_root (given_rows items))
 
 -- Nothing left; an event; a reference that is refused; one that is followed, where what its page leads to is to be done next;
 -- and errands that are done in one go.
@@ -34,9 +34,9 @@ pub record HasSteps (file : List ℕ) : Type 0 where
   pub visits : (now : Walk) (es : List (Errand Way Event)) → AreQuiet own_visit es
       → (run_below file now es).visits ≡ now.visits ++ visited_below file now.visits es
   pub items : (now : Walk) (es : List (Errand Way Event))
-      → (run_below file now es).items ≡ now.items ++ (run_below file (record now { items = [] }) es).items
-  pub state : (now : Walk) (es : List (Errand Way Event)) → (run_below file now es).state ≡ (run_below file (record now { items = [] }) es).state
-  pub roots : (now : Walk) (event : Event) → CountsRoots now → CountsRoots (advance file now event)
+      → (run_below file now es).items ≡ now.items ++ (run_below file (bare now) es).items
+  pub state : (now : Walk) (es : List (Errand Way Event)) → (run_below file now es).state ≡ (run_below file (bare now) es).state
+  pub roots : (now : Walk) (es : List (Errand Way Event)) → (run_below file now es).state.roots ≡ now.state.roots + roots_in (run_below file (bare now) es).items
 
 -- What is below a reference to a page of no tree, as an overflow chain or the freelist, leaves the progress, gives no row, and
 -- tells what the definitions give by the visits.

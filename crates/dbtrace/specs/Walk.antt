@@ -22,6 +22,10 @@ Walk = Run Way Progress Item
 abbrev pub begin : List Reference → Walk
 begin W = record { visits = W; state = at_start; items = [] }
 
+-- the same walk, with no items yet
+abbrev pub bare : Walk → Walk
+bare now = record now { items = [] }
+
 -- one event on
 abbrev pub advance : List ℕ → Walk → Event → Walk
 advance file now event = machines.advance (machine file) now event

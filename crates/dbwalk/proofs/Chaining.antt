@@ -3,4 +3,4 @@ pub mod Overflows
 pub mod ChainTurns
 pub mod ChainPayloads
 pub mod Feedings
-pub mod Chained
+pub mod ChainStarts

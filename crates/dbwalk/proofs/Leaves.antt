@@ -1,6 +1,4 @@
 -- The cells of a leaf.
 pub mod LeafCells
-pub mod LeafTurns
-pub mod LeafWays
-pub mod LeafRows
-pub mod PackedLeaves
+pub mod LeafErrands
+pub mod RisingKeys

@@ -7,3 +7,4 @@ pub mod Pages
 pub mod Leaves
 pub mod Rows
 pub mod Trees
+pub mod Underway

@@ -1,8 +1,3 @@
--- The greatest key, the depth of leaves and the rows so far, place by place.
+-- Places, and the cells of a page that can be read.
 pub mod Places
 pub mod ReadableCells
-pub mod RunningKeys
-pub mod RunningLeaves
-pub mod CellRows
-pub mod RunningCells
-pub mod RunningRows

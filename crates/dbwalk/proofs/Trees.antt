@@ -1,13 +1,10 @@
 -- The stack of frames, and the loop over it.
 pub mod Stacking
-pub mod Turning
 pub mod Walkings
-pub mod Behind
 pub mod Arrivals
 pub mod StepReads
 pub mod Frames
 pub mod TreeWays
 pub mod Turns
-pub mod TurnCalls
 pub mod TurnFrames
 pub mod TreeLoop

@@ -1,16 +1,27 @@
 -- What a call has done below some errands, after the visits of W.
-use Rattle.std.specs.Prelude.{ℕ, List, ◌++◌, Result, OnOk}
-use Rattle.dbsurvey.specs.Story.{Errand}
+use Rattle.std.specs.Prelude.{◌≡◌, ℕ, List, [], ◌∷◌, ◌++◌, Result, OnOk}
+use Rattle.dbsurvey.specs.Story.{Errand, Go}
+use Rattle.dbformat.specs.Address.{start_of, schema_start}
 use Rattle.dbformat.specs.Reference.{Way, Reference}
+use Rattle.dbformat.specs.SchemaRow.{SchemaRow}
 use Rattle.dbformat.specs.Story.{Event}
 use Rattle.dbsource.specs.declared.error.RunError.{RunError}
 use Rattle.dbwalk.specs.declared.mark.Mark.{Mark}
 use Rattle.dbwalk.specs.Marking.{AreMarksOf}
 use Rattle.dbtrace.specs.Finding.{Finding, told_below, visited_below}
 use Rattle.dbwalk.specs.Outcomes.{Tells}
+use Rattle.dbwalk.specs.Taking.{Gives, readable_rows}
+use Rattle.dbwalk.specs.declared.taker.Taken.{Taken}
 
 -- At Ok the marks are those of W and of all that is visited below the errands. The sink was told what is told below
 -- them, or after an error a beginning of it.
 pub record IsDone {S A : Type 0} (takes drops : S → Finding → S → Type 0) (file : List ℕ) (W : List Reference) (errands : List (Errand Way Event)) (r : Result A RunError) (marks : List Mark) (before after : S) : Type 0 where
   pub marked : OnOk r (AreMarksOf file (W ++ visited_below file W errands) marks)
   pub told : Tells takes drops r before (told_below file W errands) after
+
+-- What the walk over a whole tree leaves; and of the taker, where the tree is the schema's: it was given the rows that can
+-- be read.
+pub record IsTreeDone {S T : Type 0} (takes drops : S → Finding → S → Type 0) (keeps : T → SchemaRow → Taken → T → Type 0) (refuses : T → SchemaRow → T → Type 0) (file : List ℕ) (W : List Reference) (c : Reference) (r : Result (Unit {0}) RunError)
+    (marks : List Mark) (before after : S) (first t : T) : Type 0 where
+  pub done : IsDone takes drops file W (Go c ∷ []) r marks before after
+  pub given : start_of c.address ≡ schema_start → Gives keeps refuses r first (readable_rows file (W ++ visited_below file W (Go c ∷ []))) t

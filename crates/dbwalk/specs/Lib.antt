@@ -1,4 +1,3 @@
-pub mod CellTaken
 pub mod Chains
 pub mod Done
 pub mod EndMarks
@@ -28,5 +27,7 @@ pub mod Steps
 pub mod Taking
 pub mod Telling
 pub mod Trunks
-pub mod WalkGiven
+pub mod Underway
 pub mod Walking
+pub mod WalkingOn
+pub mod Watching

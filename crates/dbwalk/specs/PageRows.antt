@@ -1,13 +1,17 @@
 -- The row of a page of a tree, as a program comes by it.
-use Rattle.std.specs.Prelude.{ℕ, Bool, List, [], ◌∷◌, length, map, None, fold, max, sum_by, if◌then◌else◌}
+use Rattle.std.specs.Prelude.{ℕ, Bool, List, [], ◌∷◌, ◌++◌, length, map, Option, None, option_to_list, fold, max, sum_by, if◌then◌else◌}
 use Rattle.dbformat.specs.Head.{View, is_interior}
 use Rattle.dbformat.specs.Cell.{cells, count}
 use Rattle.dbformat.specs.Coverage.{unused}
-use Rattle.dbformat.specs.PageFaults.{inner_faults}
+use Rattle.dbformat.specs.Laws.{event_row}
+use Rattle.dbformat.specs.PageFaults.{inner_faults, page_faults}
+use Rattle.dbformat.specs.Reference.{Reference}
+use Rattle.dbformat.specs.Story.{at_page}
 use Rattle.dbformat.specs.Rows.{StatRow}
 use Rattle.dbformat.specs.declared.Fault.{Fault}
 use Rattle.dbformat.specs.declared.PageType.TheVariants.{Internal, Leaf, Damaged}
-use Rattle.dbtrace.specs.Finding.{Finding, told_row}
+use Rattle.dbtrace.specs.Finding.{Finding, told_row, told_fault}
+use Rattle.dbtrace.specs.Progress.{depth_faults}
 use Rattle.dbwalk.specs.Telling.{findings}
 
 -- of an undamaged page
@@ -45,3 +49,7 @@ undamaged_findings start path v is_child = told_row (view_row start path v) ∷ 
 -- and of a damaged one: its row, and its one fault
 abbrev pub damaged_findings : ℕ → List ℕ → ℕ → Fault → List Finding
 damaged_findings start path page damage = told_row (damaged_row start path page) ∷ findings (damage ∷ [])
+
+-- what is told of the visit of a page of a tree: its row, and its faults, by the depth of the first leaf before it
+abbrev pub page_findings : List ℕ → Option ℕ → Reference → List Finding
+page_findings file leaf c = map told_row (option_to_list (event_row file (at_page c))) ++ map told_fault (page_faults file [] c ++ depth_faults file leaf c)

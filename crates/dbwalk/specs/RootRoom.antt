@@ -27,6 +27,11 @@ pub record StartsEmpty {T : Type 0} (takes : T → SchemaRow → Taken → T →
 abbrev pub held_of : ℕ → ℕ
 held_of roots = if nat_le last_root_start roots then last_root_start else roots
 
+-- It has room so, and holds what it would behind so many rows with a root.
+pub record HasRoom {T : Type 0} (takes : T → SchemaRow → Taken → T → Type 0) (held : T → ℕ) (roots : ℕ) (t : T) : Type 0 where
+  pub room : HasRootRoom takes held
+  pub holds : held t ≡ held_of roots
+
 -- whether there was no room
 abbrev pub is_full : Taken → Bool
 is_full answer.Full = true

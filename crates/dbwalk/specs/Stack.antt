@@ -8,7 +8,6 @@ use Rattle.dbformat.specs.Cell.{count, child_number}
 use Rattle.dbformat.specs.Reference.{Way, Reference, child, tree_view}
 use Rattle.dbformat.specs.Story.{Event, story_of}
 use Rattle.dbformat.specs.declared.TreeKind.{TreeKind}
-use Rattle.dbwalk.specs.Running.{IsVisit}
 use Rattle.dbwalk.specs.declared.frame.Frame.{Frame}
 
 -- what a visited page leads to, from a step on
@@ -38,19 +37,18 @@ abbrev pub left_over : List ℕ → TreeKind → Reference → List Frame → Li
 left_over file kind r [] = []
 left_over file kind r (f ∷ fs) = left_over file kind (child_at file kind r (f.next - 1)) fs ++ errands_from file r f.next
 
--- the frame of an undamaged interior page that is visited once, at one of its steps or behind them
-pub record IsFrame (file : List ℕ) (U : List Reference) (r : Reference) (f : Frame) : Type 0 where
+-- the frame of an undamaged interior page, at one of its steps or behind them
+pub record IsOpenFrame (file : List ℕ) (r : Reference) (f : Frame) : Type 0 where
   pub page : f.page ≡ r.page
-  pub visit : IsVisit U r
   pub view : View
   pub viewed : tree_view file r ≡ Some view
   pub interior : is_interior view.kind ≡ true
   pub within : f.next ≤ 3 * count view + 2
 
 -- all of them
-abbrev pub AreFrames : List ℕ → List Reference → TreeKind → Reference → List Frame → Type 0
-AreFrames file U kind r [] = Unit {0}
-AreFrames file U kind r (f ∷ fs) = IsFrame file U r f × AreFrames file U kind (child_at file kind r (f.next - 1)) fs
+abbrev pub AreOpenFrames : List ℕ → TreeKind → Reference → List Frame → Type 0
+AreOpenFrames file kind r [] = Unit {0}
+AreOpenFrames file kind r (f ∷ fs) = IsOpenFrame file r f × AreOpenFrames file kind (child_at file kind r (f.next - 1)) fs
 
 -- each but the last is behind the step of a child
 abbrev pub AreCalls : List Frame → Type 0

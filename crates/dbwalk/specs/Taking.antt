@@ -1,23 +1,17 @@
 -- What the taker of the schema's rows was given, where a walk has come to a place.
 use Rattle.std.specs.Prelude.{ℕ, List, Result, Ok, Err, filter_map}
 use Rattle.std.specs.Result.{result_ok}
-use Rattle.dbsurvey.specs.Address.{Address}
 use Rattle.dbsurvey.specs.Moves.{Moves, Stops, MovesBySome}
 use Rattle.dbformat.specs.Reference.{Reference}
 use Rattle.dbformat.specs.Schema.{schema}
 use Rattle.dbformat.specs.SchemaRow.{SchemaRow}
 use Rattle.dbsource.specs.declared.error.RunError.{RunError}
 use Rattle.dbsource.specs.declared.error.RunError.TheVariants.{OutOfMemory}
-use Rattle.dbwalk.specs.Running.{rows_before}
 use Rattle.dbwalk.specs.declared.taker.Taken.{Taken}
 
 -- a row moves a taker, whatever it answers
 abbrev pub gives : {T : Type 0} → (T → SchemaRow → Taken → T → Type 0) → T → SchemaRow → T → Type 0
 gives takes s row t = (a : Taken) × takes s row a t
-
--- it was given the rows that stand before the place
-abbrev pub IsTaking : {T : Type 0} → (T → SchemaRow → Taken → T → Type 0) → List ℕ → List Reference → Address → T → T → Type 0
-IsTaking takes file U p first t = Moves (gives takes) first (rows_before file U p) t
 
 -- the rows of the schema that can be read, in their order
 abbrev pub readable_rows : List ℕ → List Reference → List SchemaRow
@@ -33,7 +27,3 @@ StopsGiving takes refuses e s rows t = MovesBySome (gives takes) s rows t
 abbrev pub Gives : {A T : Type 0} → (T → SchemaRow → Taken → T → Type 0) → (T → SchemaRow → T → Type 0) → Result A RunError → T → List SchemaRow → T → Type 0
 Gives takes refuses (Ok a) s rows t = Moves (gives takes) s rows t
 Gives takes refuses (Err e) s rows t = StopsGiving takes refuses e s rows t
-
--- so for the rows that stand before a place
-abbrev pub GivesBefore : {A T : Type 0} → (T → SchemaRow → Taken → T → Type 0) → (T → SchemaRow → T → Type 0) → List ℕ → Result A RunError → List Reference → Address → T → T → Type 0
-GivesBefore takes refuses file r U p first t = Gives takes refuses r first (rows_before file U p) t

@@ -8,7 +8,6 @@ ghost use Rattle.dbwalk.specs.LeafCells.{overflow_errands, late_faults, top_afte
 ghost use Rattle.dbwalk.specs.Sieving.{FeedsPayload};
 ghost use Rattle.dbwalk.specs.Standing.{AtOverflow, AtCell, IsSameButGreatest};
 ghost use Rattle.dbwalk.specs.Telling.{IsTold, findings};
-ghost use Rattle.dbwalk.specs.Walking.{IsCellDone};
 ghost use Rattle.dbwalk.specs.Done.{IsDone};
 ghost use Rattle.dbwalk.specs.Outcomes.{IsReadOrWrite};
 ghost use Rattle.dbwalk.specs.Reads.{Reads};
@@ -86,48 +85,4 @@ pub(crate) fn tell_rowid<K: Sink>(
         None => Ok(()),
         Some(key) => tree.tell_key(page, i, key, true, sink),
     }
-}
-
-/// Walks over cell `i` of the leaf at the level of the tree's path, where this is not the tree of the schema: its overflow
-/// chain, and its key.
-///
-/// # Errors
-///
-/// [`RunError::ReadFailed`] exactly where the source failed, [`RunError::WriteFailed`] exactly where the sink failed.
-pub(crate) fn walk_cell<A: Allocator, S: Source, K: Sink>(
-    source: &mut S,
-    bench: &mut Bench<A>,
-    marks: &mut Marks<A>,
-    tree: &mut Tree,
-    page: u32,
-    i: u32,
-    sink: &mut K,
-) -> Result<(), RunError>
-    requires level { length tree.old.path.items < 20 }
-    requires page { IsPageNumber page }
-    requires start { 1 ≤ tree.old.start }
-    ensures bench { (bench.new.geometry ≡ bench.old.geometry) × (bench.new.levels ≡ bench.old.levels) }
-    ensures tree { IsSameButGreatest tree.old tree.new }
-    ensures reads { (S.held source.new).failures ≡ failures_after is_read_failed result (S.held source.old).failures }
-    ensures writes { SinkAfter is_write_failed result (K.held sink.old) (K.held sink.new) }
-    ensures log { HasLog S.step (Reads bench.old.geometry.page_size marks.old marks.new) (λ file. bench.old.geometry ≡ shape_of file
-        → AtCell file tree.old bench.old.levels page i marks.old (λ U c v.
-        IsCellDone K.takes K.drops file tree.old.kind v i U c result marks.new tree.new.greatest tree.new.leaf sink.old sink.new))
-        (S.held source.old) (S.held source.new) }
-    ensures only { IfErr result IsReadOrWrite }
-{
-    let cell = leaf_cell(bench, tree.kind, tree.path.len(), page, i);
-    walk_overflow(
-        source,
-        bench,
-        marks,
-        tree,
-        page,
-        i,
-        cell.overflow,
-        &mut None,
-        sink,
-    )?;
-    tell_rowid(tree, page, i, cell.key, sink)?;
-    Ok(())
 }

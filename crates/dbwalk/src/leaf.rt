@@ -1,20 +1,24 @@
 // The cells of a leaf (Database File Format, 1.6).
 ghost use Rattle.std.specs.Prelude.{◌≡◌, ℕ, ◌<◌, ◌≤◌, length, IfErr};
 ghost use Rattle.dbformat.specs.FixedPages.{IsPageNumber};
-ghost use Rattle.dbformat.specs.Address.{then_step, schema_start};
+ghost use Rattle.dbsurvey.specs.Story.{errands_of};
+ghost use Rattle.dbformat.specs.Address.{schema_start};
 ghost use Rattle.dbformat.specs.File.{geometry as shape_of};
 ghost use Rattle.dbformat.specs.Header.{encoding as encoding_of};
 ghost use Rattle.dbwalk.specs.Outcomes.{IsReadOrWrite, IsReadWriteOrMemory};
 ghost use Rattle.dbwalk.specs.Reads.{Reads};
-ghost use Rattle.dbwalk.specs.CellTaken.{IsGiven, IsRowsDone};
+ghost use Rattle.dbwalk.specs.RootRoom.{HasRoom};
 ghost use Rattle.dbsource.specs.Errors.{is_out_of_memory, is_read_failed, is_write_failed};
 ghost use Rattle.dbsource.specs.Failures.{failures_after};
 ghost use Rattle.dbsource.specs.Sources.{HasLog};
 ghost use Rattle.dbwalk.specs.Standing.{AtLeaf, IsSameButGreatest};
+ghost use Rattle.dbformat.specs.Story.{story_of};
 ghost use Rattle.dbwalk.specs.Sinks.{SinkAfter};
+ghost use Rattle.dbwalk.specs.Underway.{HasDone, done_below};
+ghost use Rattle.dbwalk.specs.Watching.{fails, watches};
 
 use crate::cells::{leaf_cells, pass_cells};
-use crate::schema_cell::walk_leaf_cell;
+use crate::leaf_cell::walk_leaf_cell;
 use crate::state::Tree;
 use crate::{Marks, Sink, Taker};
 use dbformat::Encoding;
@@ -47,9 +51,10 @@ pub(crate) fn walk_leaf<A: Allocator, S: Source, K: Sink, T: Taker>(
     ensures refusals { T.refusals taker.new ≡ failures_after is_out_of_memory result (T.refusals taker.old) }
     ensures log { HasLog S.step (Reads bench.old.geometry.page_size marks.old marks.new)
         (λ file. bench.old.geometry ≡ shape_of file → encoding ≡ encoding_of file
-        → AtLeaf file tree.old bench.old.levels page marks.old (λ U c.
-        (held : T → ℕ) (first : T) → (tree.old.start ≡ schema_start → IsGiven T.takes held file U c (then_step c.address 0) first taker.old)
-        → IsRowsDone K.takes K.drops T.takes T.refuses file U c result marks.new tree.new.greatest tree.new.leaf sink.old sink.new first taker.new))
+        → AtLeaf file tree.old bench.old.levels page marks.old (λ from c.
+        (held : T → ℕ) → (tree.old.start ≡ schema_start → HasRoom T.takes held from.state.roots taker.old)
+        → HasDone (watches K.takes T.takes) (fails K.drops T.refuses) file (done_below file from (errands_of (story_of file) c)) result
+        (marks.new, tree.new) (sink.old, taker.old) (sink.new, taker.new)))
         (S.held source.old) (S.held source.new) }
     ensures only { IfErr result IsReadWriteOrMemory }
     ensures others { 1 ≤ tree.old.start → (taker.new ≡ taker.old) × IfErr result IsReadOrWrite }

@@ -10,22 +10,21 @@
 //! before it is read, and is not read where that is refused: hence no page is read twice, whatever the source answers
 //! (specs/Reads).
 //!
-//! **What a walk has done** (specs/Finding and Done). The survey's errands below a page are followed one by one. Of each list
-//! of errands a call says that the marks are now those of all visits below it, and that the sink was told just their rows and
-//! faults; or at an error, a beginning of them. Two such parts that follow one another are one, so that the contract of a
-//! tree is made from those of its pages, theirs from those of their cells, and theirs from those of their chains.
+//! **What a call has done** (specs/Underway, Watching and Done). A walk goes along the events of a trace; `dbtrace` says what it
+//! keeps of them, its progress, and which items it hands out: findings to the sink, rows of the schema to the taker. Of each
+//! file a call of the walk over a tree says one thing, `HasDone`: the marks and the tree's state are those behind its part of
+//! the walk, and all items of this part were handed out; or at an error, a beginning of them. Parts that follow one another are
+//! one part, so that the contract of a tree is made from those of its pages, theirs from those of their cells. Of an overflow
+//! chain and the freelist, which leave the progress, `IsDone` says the same by the visits.
 //!
-//! **Where a walk stands** (specs/Walking, Running and Stack; Standing has it for clauses). The state of a tree is its path of
-//! steps, the greatest key and the depth of the first leaf: what the report's rules on keys and depth ask of all earlier pages
-//! of the tree. Pages on the path stay in the bench, a level each, and at most 20 are held; behind a chain the path is taken up
-//! where it was left.
+//! **Where a walk stands** (specs/Walking, WalkingOn and Stack; Standing has it for clauses). The loop over interior pages keeps
+//! one equation: what its frames still have to do, gone on with from here, makes the walk whole (`IsUnderway`). Pages on the path
+//! stay in the bench, a level each, and at most 20 are held; behind a chain the path is taken up where it was left.
 //!
 //! **Pages told at once** (specs/KeySpans). Where one reading of a page tells all of its cells, the row and the faults are told
 //! from that; and of a leaf of which nothing but the keys is left to look at, the first key and the last stand for all cells.
 //!
-//! **Rows of the schema** (specs/Taking and RootRoom) go to the taker where they stand; what it answers decides S04. As the sink
-//! is told a beginning at an error, the taker was given one then: the rows before a place to which a walk has come are a
-//! beginning of all rows.
+//! **Rows of the schema** (specs/Taking and RootRoom) go to the taker where they stand; what it answers decides S04.
 //!
 //! At the end the marks alone tell which pages nothing refers to: [`marks_tell_the_end`].
 #![tactic(auto)]
@@ -37,6 +36,7 @@ mod entering;
 mod frame;
 mod freelist;
 mod leaf;
+mod leaf_cell;
 mod mark;
 mod marks;
 mod overflow;
@@ -44,7 +44,6 @@ mod page;
 mod page_entry;
 mod payload;
 mod root;
-mod schema_cell;
 mod schema_row;
 mod sieve;
 mod sink;

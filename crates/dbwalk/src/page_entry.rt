@@ -6,7 +6,9 @@ ghost use Rattle.dbformat.specs.File.{geometry as shape_of};
 ghost use Rattle.dbformat.specs.Header.{encoding as encoding_of};
 ghost use Rattle.dbformat.specs.Reference.{Reference};
 ghost use Rattle.dbformat.specs.declared.TreeKind.{TreeKind};
-ghost use Rattle.dbwalk.specs.WalkGiven.{IsEntryDone, IsGivenBefore};
+ghost use Rattle.dbwalk.specs.RootRoom.{HasRoom};
+ghost use Rattle.dbwalk.specs.Underway.{HasDone, IsEntered, entered};
+ghost use Rattle.dbwalk.specs.Watching.{fails, watches};
 ghost use Rattle.dbwalk.specs.Walking.{IsCandidate, IsOpen};
 ghost use Rattle.dbwalk.specs.Entered.{IsStepOf};
 ghost use Rattle.dbwalk.specs.Marking.{IsUse, unmarked_pages};
@@ -78,10 +80,11 @@ pub(crate) fn visit_page<A: Allocator, S: Source, K: Sink, T: Taker>(
     ensures refusals { T.refusals taker.new ≡ failures_after is_out_of_memory result (T.refusals taker.old) }
     ensures log { HasLog S.step (Reads bench.old.geometry.page_size marks.old marks.new)
         (λ file. bench.old.geometry ≡ shape_of file → encoding ≡ encoding_of file
-        → AtPage file tree.old bench.old.levels page marks.old (λ W c.
-        (held : T → ℕ) (first : T) → (tree.old.start ≡ schema_start → IsGivenBefore T.takes held file W c.address first taker.old)
-        → IsEntryDone K.takes K.drops T.takes T.refuses file W c
-        result bench.new.levels marks.new tree.new.greatest tree.new.leaf sink.old sink.new first taker.new))
+        → AtPage file tree.old bench.old.levels page marks.old (λ from c.
+        (held : T → ℕ) → (tree.old.start ≡ schema_start → HasRoom T.takes held from.state.roots taker.old)
+        → HasDone (watches K.takes T.takes) (fails K.drops T.refuses) file (entered file from c result) result
+        (marks.new, tree.new) (sink.old, taker.old) (sink.new, taker.new)
+        × IsEntered file from c result bench.new.levels))
         (S.held source.old) (S.held source.new) }
     ensures only { IfErr result IsReadWriteOrMemory }
     ensures others { 1 ≤ tree.old.start → (taker.new ≡ taker.old) × IfErr result IsReadOrWrite }
@@ -130,10 +133,11 @@ pub(crate) fn enter_page<A: Allocator, S: Source, K: Sink, T: Taker>(
     ensures refusals { T.refusals taker.new ≡ failures_after is_out_of_memory result (T.refusals taker.old) }
     ensures log { HasLog S.step (Reads bench.old.geometry.page_size marks.old marks.new)
         (λ file. bench.old.geometry ≡ shape_of file → encoding ≡ encoding_of file
-        → AtReference file tree.old page from item marks.old (λ W c.
-        (held : T → ℕ) (first : T) → (tree.old.start ≡ schema_start → IsGivenBefore T.takes held file W c.address first taker.old)
-        → IsEntryDone K.takes K.drops T.takes T.refuses file W c
-        result bench.new.levels marks.new tree.new.greatest tree.new.leaf sink.old sink.new first taker.new))
+        → AtReference file tree.old page from item marks.old (λ at c.
+        (held : T → ℕ) → (tree.old.start ≡ schema_start → HasRoom T.takes held at.state.roots taker.old)
+        → HasDone (watches K.takes T.takes) (fails K.drops T.refuses) file (entered file at c result) result
+        (marks.new, tree.new) (sink.old, taker.old) (sink.new, taker.new)
+        × IsEntered file at c result bench.new.levels))
         (S.held source.old) (S.held source.new) }
     ensures only { IfErr result IsReadWriteOrMemory }
     ensures others { 1 ≤ tree.old.start → (taker.new ≡ taker.old) × IfErr result IsReadOrWrite }

@@ -16,8 +16,11 @@ ghost use Rattle.dbwalk.specs.Outcomes.{IsReadOrWrite, IsReadWriteOrMemory};
 ghost use Rattle.dbwalk.specs.Reads.{Reads};
 ghost use Rattle.dbwalk.specs.RootRoom.{StartsEmpty};
 ghost use Rattle.dbwalk.specs.Roots.{IsRootAfter};
-ghost use Rattle.dbtrace.specs.Starts.{AreOfEarlierStarts};
-ghost use Rattle.dbwalk.specs.WalkGiven.{IsTreeDone};
+ghost use Rattle.dbwalk.specs.Entered.{IsNext};
+ghost use Rattle.dbwalk.specs.Underway.{HasDone};
+ghost use Rattle.dbwalk.specs.WalkingOn.{tree_walk};
+ghost use Rattle.dbwalk.specs.Watching.{fails, watches};
+ghost use Rattle.dbwalk.specs.Done.{IsTreeDone};
 ghost use Rattle.dbwalk.specs.Walking.{IsCandidate};
 ghost use Rattle.dbwalk.specs.declared.root.RootKind.TheVariants as root_kind;
 ghost use Rattle.dbwalk.specs.Sinks.{SinkAfter};
@@ -54,10 +57,10 @@ fn walk_pages<A: Allocator, S: Source, K: Sink, T: Taker>(
     ensures log { HasLog S.step (Reads bench.old.geometry.page_size marks.old marks.new)
         (λ file. bench.old.geometry ≡ shape_of file → encoding ≡ encoding_of file
         → (W : List Reference) (c : Reference) → IsCandidate tree.old.kind tree.old.start [] page 0 tree.old.start c
-        → StandsAt bench.old.levels 0 (page_bytes file page) → is_followed (rules_of file) W c ≡ true
-        → AreOfEarlierStarts tree.old.start W → AreMarksOf file (W ++ (c ∷ [])) marks.old
+        → StandsAt bench.old.levels 0 (page_bytes file page) → is_followed (rules_of file) W c ≡ true → IsNext W c → AreMarksOf file (W ++ (c ∷ [])) marks.old
         → (held : T → ℕ) → (tree.old.start ≡ schema_start → StartsEmpty T.takes held taker.old)
-        → IsTreeDone K.takes K.drops T.takes T.refuses file W c result marks.new sink.old sink.new taker.old taker.new)
+        → HasDone (watches K.takes T.takes) (fails K.drops T.refuses) file (tree_walk file W c) result
+        (marks.new, tree.new) (sink.old, taker.old) (sink.new, taker.new))
         (S.held source.old) (S.held source.new) }
     ensures only { IfErr result IsReadWriteOrMemory }
     ensures others { 1 ≤ tree.old.start → (taker.new ≡ taker.old) × IfErr result IsReadOrWrite }

@@ -1,10 +1,13 @@
 // One turn of the walk over a tree: a step of the last frame.
 ghost use Rattle.arrayvec.specs.ArrayVec.{array_vec_len};
-ghost use Rattle.std.specs.Prelude.{◌≡◌, ◌≤◌, ◌<◌, ◌++◌, [], ◌∷◌, List, OnOk, IfErr};
+ghost use Rattle.std.specs.Prelude.{◌≡◌, ℕ, ◌≤◌, ◌<◌, ◌++◌, [], ◌∷◌, List, OnOk, IfErr};
+ghost use Rattle.dbformat.specs.Address.{schema_start};
 ghost use Rattle.dbformat.specs.File.{geometry as shape_of};
 ghost use Rattle.dbformat.specs.Header.{encoding as encoding_of};
 ghost use Rattle.dbwalk.specs.Steps.{HasNext};
-ghost use Rattle.dbwalk.specs.WalkGiven.{IsTurnDone};
+ghost use Rattle.dbwalk.specs.RootRoom.{StartsEmpty};
+ghost use Rattle.dbwalk.specs.WalkingOn.{IsWalkingOn, tree_walk};
+ghost use Rattle.dbwalk.specs.Watching.{StopsAt, fails, watches};
 ghost use Rattle.dbwalk.specs.Walking.{AreOpen, path_of, cost};
 ghost use Rattle.dbwalk.specs.declared.frame.Frame.{Frame};
 ghost use Rattle.dbwalk.specs.declared.steps.Next.TheVariants as next_step;
@@ -56,9 +59,10 @@ fn enter_child<A: Allocator, S: Source, K: Sink, T: Taker>(
     ensures refusals { T.refusals taker.new ≡ failures_after is_out_of_memory result (T.refusals taker.old) }
     ensures log { HasLog S.step (Reads bench.old.geometry.page_size marks.old marks.new)
         (λ file. bench.old.geometry ≡ shape_of file → encoding ≡ encoding_of file
-        → AtStep K.takes T.takes file tree.old (frames.old.items ++ (frame ∷ [])) bench.old.levels marks.old sink.old taker.old (λ W c before first.
-        IsTurnDone K.takes K.drops T.takes T.refuses file tree.old.kind W c result before
-        frames.new.items bench.new.levels marks.new tree.new.greatest tree.new.leaf sink.new first taker.new))
+        → AtStep (watches K.takes T.takes) file tree.old (frames.old.items ++ (frame ∷ [])) bench.old.levels marks.old (sink.old, taker.old) (λ W c before.
+        (held : T → ℕ) → (tree.old.start ≡ schema_start → StartsEmpty T.takes held before.1)
+        → OnOk result (IsWalkingOn (watches K.takes T.takes) file W c before (frames.new.items, bench.new.levels) (marks.new, tree.new) (sink.new, taker.new))
+        × IfErr result (λ e. StopsAt (watches K.takes T.takes) (fails K.drops T.refuses) e before (tree_walk file W c).items (sink.new, taker.new))))
         (S.held source.old) (S.held source.new) }
     ensures only { IfErr result IsReadWriteOrMemory }
     ensures others { 1 ≤ tree.old.start → (taker.new ≡ taker.old) × IfErr result IsReadOrWrite }
@@ -107,9 +111,10 @@ pub(crate) fn turn<A: Allocator, S: Source, K: Sink, T: Taker>(
     ensures refusals { T.refusals taker.new ≡ failures_after is_out_of_memory result (T.refusals taker.old) }
     ensures log { HasLog S.step (Reads bench.old.geometry.page_size marks.old marks.new)
         (λ file. bench.old.geometry ≡ shape_of file → encoding ≡ encoding_of file
-        → AtStep K.takes T.takes file tree.old (frames.old.items ++ (frame ∷ [])) bench.old.levels marks.old sink.old taker.old (λ W c before first.
-        IsTurnDone K.takes K.drops T.takes T.refuses file tree.old.kind W c result before
-        frames.new.items bench.new.levels marks.new tree.new.greatest tree.new.leaf sink.new first taker.new))
+        → AtStep (watches K.takes T.takes) file tree.old (frames.old.items ++ (frame ∷ [])) bench.old.levels marks.old (sink.old, taker.old) (λ W c before.
+        (held : T → ℕ) → (tree.old.start ≡ schema_start → StartsEmpty T.takes held before.1)
+        → OnOk result (IsWalkingOn (watches K.takes T.takes) file W c before (frames.new.items, bench.new.levels) (marks.new, tree.new) (sink.new, taker.new))
+        × IfErr result (λ e. StopsAt (watches K.takes T.takes) (fails K.drops T.refuses) e before (tree_walk file W c).items (sink.new, taker.new))))
         (S.held source.old) (S.held source.new) }
     ensures only { IfErr result IsReadWriteOrMemory }
     ensures others { 1 ≤ tree.old.start → (taker.new ≡ taker.old) × IfErr result IsReadOrWrite }

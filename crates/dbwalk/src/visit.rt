@@ -1,11 +1,10 @@
 // What is told of a page of a tree that was read.
-ghost use Rattle.std.specs.Prelude.{◌≡◌, ◌+◌, ◌<◌, ◌++◌, [], ◌∷◌, length, IfOk, OnOk};
+ghost use Rattle.std.specs.Prelude.{◌≡◌, ◌<◌, length, IfOk, OnOk};
 ghost use Rattle.dbformat.specs.FixedPages.{IsPageNumber};
-ghost use Rattle.dbformat.specs.Story.{at_page};
-ghost use Rattle.dbwalk.specs.Running.{first_leaf};
 ghost use Rattle.dbwalk.specs.Found.{IsFound};
 ghost use Rattle.dbwalk.specs.Telling.{IsTold};
-ghost use Rattle.dbtrace.specs.Finding.{told_at};
+ghost use Rattle.dbtrace.specs.Progress.{leaf_after};
+ghost use Rattle.dbwalk.specs.PageRows.{page_findings};
 ghost use Rattle.dbsource.specs.Failures.{is_any};
 ghost use Rattle.dbwalk.specs.Standing.{AtRead, IsSameButLeaf};
 ghost use Rattle.dbwalk.specs.Sinks.{SinkAfter};
@@ -45,9 +44,9 @@ pub(crate) fn tell_page<A: Allocator, K: Sink>(
     ensures open { IfOk result (λ found. IsFound bench.new.geometry.usable tree.new.kind bench.new.levels (length tree.old.path.items) page found) }
     ensures writes { SinkAfter is_any result (K.held sink.old) (K.held sink.new) }
     // Where the bytes at the level are those of the page.
-    ensures told { AtRead bench.old.geometry tree.old bench.old.levels page (λ file W c.
-        IsTold K.takes K.drops K.held result sink.old (told_at file (W ++ (c ∷ [])) (at_page c)) sink.new
-        × OnOk result (first_leaf file tree.old.start (W ++ (c ∷ [])) ≡ tree.new.leaf)) }
+    ensures told { AtRead bench.old.geometry tree.old bench.old.levels page (λ file c.
+        IsTold K.takes K.drops K.held result sink.old (page_findings file tree.old.leaf c) sink.new
+        × OnOk result (tree.new.leaf ≡ leaf_after file tree.old.leaf c)) }
 {
     let level = tree.path.len();
     let usable = bench.geometry().usable;

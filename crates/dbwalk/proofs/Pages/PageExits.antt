@@ -1,22 +1,19 @@
 -- How the telling of a page ends.
-use Rattle.std.proofs.Common.{◌≡◌, ℕ, ◌+◌, Bool, true, false, not, List, [], ◌∷◌, ◌++◌, length, Option, Some, None, Result, Ok, Err, sym, ap, subst, ◌∙◌}
-use Rattle.std.specs.Prelude.{nat_lt, pos, ◌==◌, OnOk}
-use Rattle.std.specs.Option.{option_map_or}
+use Rattle.std.proofs.Common.{◌≡◌, ℕ, ◌+◌, Bool, true, false, List, [], ◌∷◌, length, Option, Some, None, Result, Ok, Err, sym, ap, subst, ◌∙◌}
+use Rattle.std.specs.Prelude.{nat_lt, OnOk}
 use Rattle.dbformat.specs.Header.{usable_size}
 use Rattle.dbformat.specs.File.{page_bytes}
 use Rattle.dbformat.specs.Head.{View, undamaged, is_interior}
-use Rattle.dbformat.specs.Faults.{fault}
-use Rattle.dbformat.specs.Tests.{told_if}
 use Rattle.dbformat.specs.Reference.{Reference}
-use Rattle.dbformat.specs.PageFaults.{inner_faults, tree_page_faults, depth_fault}
-use Rattle.dbformat.specs.Story.{at_page}
+use Rattle.dbformat.specs.PageFaults.{inner_faults, tree_page_faults}
 use Rattle.dbformat.specs.declared.Fault.{Fault}
-use Rattle.dbformat.specs.declared.FaultCode.TheVariants.{T05}
 use Rattle.dbformat.specs.declared.TreeKind.{TreeKind}
-use Rattle.dbwalk.specs.Running.{first_leaf}
 use Rattle.dbwalk.specs.Sinks.{SinkState}
-use Rattle.dbtrace.specs.Finding.{Finding, told_row, told_at}
-use Rattle.dbwalk.specs.PageRows.{view_row, damaged_row}
+use Rattle.dbtrace.specs.Finding.{Finding}
+use Rattle.dbtrace.specs.Progress.{leaf_after, depth_faults}
+use Rattle.dbwalk.specs.LeafCells.{first_depth}
+use Rattle.dbwalk.specs.LeafCells as depths
+use Rattle.dbwalk.specs.PageRows.{undamaged_findings, damaged_findings, page_findings}
 use Rattle.dbwalk.specs.Telling.{IsTold, findings}
 use Rattle.dbwalk.specs.Walking.{IsCandidate}
 use Rattle.dbwalk.proofs.Pages.PageTellings.{told_then, told_stop, told_ok}
@@ -26,11 +23,11 @@ pub on_err : {A E : Type 0} (P : Type 0) {e : E} (r : Result A E) → r ≡ Err 
 on_err P (Ok a) e = cc
 on_err P (Err x) e = tt
 
-module _ {S : Type 0} (A E : Type 0) (takes drops : S → Finding → S → Type 0) (held : S → SinkState) (file : List ℕ) (W : List Reference) (kind : TreeKind) (k : ℕ) (path : List ℕ) (p from item : ℕ) (c : Reference) (candidate : IsCandidate kind k path p from item c)
-    (usable : ℕ) (usable_is : usable ≡ usable_size file) (bytes : List ℕ) (bytes_are : bytes ≡ page_bytes file p) (leaf : Option ℕ) (first : first_leaf file k W ≡ leaf)
+module _ {S : Type 0} (A E : Type 0) (takes drops : S → Finding → S → Type 0) (held : S → SinkState) (file : List ℕ) (kind : TreeKind) (k : ℕ) (path : List ℕ) (p from item : ℕ) (c : Reference) (candidate : IsCandidate kind k path p from item c)
+    (usable : ℕ) (usable_is : usable ≡ usable_size file) (bytes : List ℕ) (bytes_are : bytes ≡ page_bytes file p) (leaf : Option ℕ)
     (path' : List ℕ) (path_is : path' ≡ path) (depth : ℕ) (depth_is : depth ≡ length path + 1) (s : S) where
   abbrev Exit : Result A E → S → Option ℕ → Type 0
-  Exit r t new = IsTold takes drops held r s (told_at file (W ++ (c ∷ [])) (at_page c)) t × OnOk r (first_leaf file k (W ++ (c ∷ [])) ≡ new)
+  Exit r t new = IsTold takes drops held r s (page_findings file leaf c) t × OnOk r (new ≡ leaf_after file leaf c)
 
   viewed_as : (o : Option View) → undamaged kind p usable bytes ≡ o → undamaged kind p (usable_size file) (page_bytes file p) ≡ o
   viewed_as o e = ap (λ u. undamaged kind p u (page_bytes file p)) (sym usable_is) ∙ ap (λ b. undamaged kind p usable b) (sym bytes_are) ∙ e
@@ -39,15 +36,15 @@ module _ {S : Type 0} (A E : Type 0) (takes drops : S → Finding → S → Type
   faults_as b fs e = ap (λ u. tree_page_faults kind b p u (page_bytes file p)) (sym usable_is) ∙ ap (λ y. tree_page_faults kind b p usable y) (sym bytes_are) ∙ e
 
   module _ (f : Fault) (none : undamaged kind p usable bytes ≡ None) (one : (b : Bool) → tree_page_faults kind b p usable bytes ≡ f ∷ []) {B : Type 0} (r0 : Result B E) (t : S)
-      (told : IsTold takes drops held r0 s (told_row (damaged_row k path' p) ∷ findings (f ∷ [])) t) where
-    all_told : told_at file (W ++ (c ∷ [])) (at_page c) ≡ told_row (damaged_row k path' p) ∷ findings (f ∷ [])
-    all_told = told_damaged file W kind k path p from item c candidate f (viewed_as None none) (faults_as (nat_lt 1 (length path + 1)) (f ∷ []) (one (nat_lt 1 (length path + 1))))
-        ∙ ap (λ q. told_row (damaged_row k q p) ∷ findings (f ∷ [])) (sym path_is)
+      (told : IsTold takes drops held r0 s (damaged_findings k path' p f) t) where
+    all_told : page_findings file leaf c ≡ damaged_findings k path' p f
+    all_told = told_damaged file kind k path p from item c candidate leaf f (viewed_as None none) (faults_as (nat_lt 1 (length path + 1)) (f ∷ []) (one (nat_lt 1 (length path + 1))))
+        ∙ ap (λ q. damaged_findings k q p f) (sym path_is)
 
     pub exit_damaged : (a : A) {b : B} → r0 ≡ Ok b → Exit (Ok a) t leaf
     exit_damaged a e = (
       subst (λ L. IsTold {E = E} takes drops held (Ok a) s L t) (sym all_told) (told_ok a r0 e told),
-      leaf_after_damaged file W kind k path p from item c candidate (viewed_as None none) ∙ first,
+      sym (leaf_after_damaged file kind k path p from item c candidate leaf (viewed_as None none)),
     )
 
     pub exit_damaged_stop : (new : Option ℕ) (r : Result A E) {e x : E} → r0 ≡ Err e → r ≡ Err x → Exit r t new
@@ -59,13 +56,13 @@ module _ {S : Type 0} (A E : Type 0) (takes drops : S → Finding → S → Type
         same (Err y) (Err z) e f h = record { items = h.items; count = h.count }
 
   module _ (v : View) (viewed : undamaged kind p usable bytes ≡ Some v) (number : v.number ≡ p) (within : (b : Bool) → tree_page_faults kind b p usable bytes ≡ inner_faults v b) {B : Type 0} (r0 : Result B E) (t : S)
-      (told : IsTold takes drops held r0 s (told_row (view_row k path' v) ∷ findings (inner_faults v (nat_lt 1 depth))) t) where
+      (told : IsTold takes drops held r0 s (undamaged_findings k path' v (nat_lt 1 depth)) t) where
     abbrev first_told : List Finding
-    first_told = told_row (view_row k path v) ∷ findings (inner_faults v (nat_lt 1 (length path + 1)))
+    first_told = undamaged_findings k path v (nat_lt 1 (length path + 1))
 
     told_first : IsTold takes drops held r0 s first_told t
-    told_first = subst (λ n. IsTold takes drops held r0 s (told_row (view_row k path v) ∷ findings (inner_faults v (nat_lt 1 n))) t) depth_is
-        (subst (λ q. IsTold takes drops held r0 s (told_row (view_row k q v) ∷ findings (inner_faults v (nat_lt 1 depth))) t) path_is told)
+    told_first = subst (λ n. IsTold takes drops held r0 s (undamaged_findings k path v (nat_lt 1 n)) t) depth_is
+        (subst (λ q. IsTold takes drops held r0 s (undamaged_findings k q v (nat_lt 1 depth)) t) path_is told)
 
     abbrev there : undamaged kind p (usable_size file) (page_bytes file p) ≡ Some v
     there = viewed_as (Some v) viewed
@@ -75,33 +72,33 @@ module _ {S : Type 0} (A E : Type 0) (takes drops : S → Finding → S → Type
 
     pub exit_stop : (new : Option ℕ) (r : Result A E) {e x : E} → r0 ≡ Err e → r ≡ Err x → Exit r t new
     exit_stop new r e f = (
-      subst (λ L. IsTold takes drops held r s L t) (sym (row_and_faults file W kind k path p from item c candidate v there number inner))
-          (told_stop r0 r first_told (findings (depth_fault file (W ++ (c ∷ [])) c)) e f told_first),
+      subst (λ L. IsTold takes drops held r s L t) (sym (row_and_faults file kind k path p from item c candidate leaf v there number inner))
+          (told_stop r0 r first_told (findings (depth_faults file leaf c)) e f told_first),
       on_err _ r f,
     )
 
     pub exit_interior : (a : A) {b : B} → r0 ≡ Ok b → is_interior v.kind ≡ true → Exit (Ok a) t leaf
     exit_interior a e i = (
-      subst (λ L. IsTold {E = E} takes drops held (Ok a) s L t) (sym (told_interior file W kind k path p from item c candidate v there number inner i)) (told_ok a r0 e told_first),
-      leaf_after_interior file W kind k path p from item c candidate v there number inner i ∙ first,
+      subst (λ L. IsTold {E = E} takes drops held (Ok a) s L t) (sym (told_interior file kind k path p from item c candidate leaf v there number inner i)) (told_ok a r0 e told_first),
+      sym (leaf_after_interior file kind k path p from item c candidate leaf v there number inner i),
     )
 
     module _ {b : B} (ok : r0 ≡ Ok b) (is_leaf : is_interior v.kind ≡ false) {C : Type 0} (r1 : Result C E) (t1 : S)
-        (last : IsTold takes drops held r1 t (findings (told_if (not (depth == option_map_or (λ n. n) leaf depth)) (fault T05 p 0 (pos depth)))) t1) where
+        (last : IsTold takes drops held r1 t (findings (depths.depth_faults leaf p depth)) t1) where
       abbrev last_told : List Finding
-      last_told = findings (told_if (not (length path + 1 == option_map_or (λ n. n) leaf (length path + 1))) (fault T05 p 0 (pos (length path + 1))))
+      last_told = findings (depths.depth_faults leaf p (length path + 1))
 
       told_last : IsTold takes drops held r1 t last_told t1
-      told_last = subst (λ n. IsTold takes drops held r1 t (findings (told_if (not (n == option_map_or (λ n. n) leaf n)) (fault T05 p 0 (pos n)))) t1) depth_is last
+      told_last = subst (λ n. IsTold takes drops held r1 t (findings (depths.depth_faults leaf p n)) t1) depth_is last
 
-      both_told : IsTold takes drops held r1 s (told_at file (W ++ (c ∷ [])) (at_page c)) t1
-      both_told = subst (λ L. IsTold takes drops held r1 s L t1) (sym (told_leaf file W kind k path p from item c candidate v there number inner leaf is_leaf first))
+      both_told : IsTold takes drops held r1 s (page_findings file leaf c) t1
+      both_told = subst (λ L. IsTold takes drops held r1 s L t1) (sym (told_leaf file kind k path p from item c candidate leaf v there number inner is_leaf))
           (told_then r0 r1 first_told last_told ok told_first told_last)
 
-      pub exit_leaf : (a : A) {z : C} (new : Option ℕ) → r1 ≡ Ok z → new ≡ Some (option_map_or (λ n. n) leaf depth) → Exit (Ok a) t1 new
+      pub exit_leaf : (a : A) {z : C} (new : Option ℕ) → r1 ≡ Ok z → new ≡ Some (first_depth leaf depth) → Exit (Ok a) t1 new
       exit_leaf a new e n = (
         told_ok a r1 e both_told,
-        leaf_after_leaf file W kind k path p from item c candidate v there number inner leaf is_leaf first ∙ ap (λ n. Some (option_map_or (λ n. n) leaf n)) (sym depth_is) ∙ sym n,
+        n ∙ ap (λ n. Some (first_depth leaf n)) depth_is ∙ sym (leaf_after_leaf file kind k path p from item c candidate leaf v there number inner is_leaf),
       )
 
       pub exit_leaf_stop : (new : Option ℕ) (r : Result A E) {e x : E} → r1 ≡ Err e → r ≡ Err x → Exit r t1 new

@@ -1,17 +1,11 @@
 -- What a taker with room for 65536 roots answers, row after row of the schema.
-use Rattle.std.proofs.Common.{zero, suc, map, take, ◌≡◌, ℕ, ◌+◌, ◌≤◌, Bool, true, false, cond, not, ◌&&◌, inl, inr, List, [], ◌∷◌, ◌++◌, length, Ok, refl, sym, ap, ◌∙◌, arith}
-use Rattle.std.specs.Prelude.{is_none, nat_lt, nat_le, ◌==◌, pos}
+use Rattle.std.proofs.Common.{zero, suc, map, take, ◌≡◌, ℕ, ◌+◌, ◌≤◌, Bool, true, false, cond, not, ◌&&◌, inl, inr, List, [], ◌∷◌, ◌++◌, length, refl, sym, ap, ◌∙◌, arith}
+use Rattle.std.specs.Prelude.{nat_lt, nat_le, ◌==◌}
 use Rattle.std.proofs.lemmas.Bool.{cases_Bool}
 use Rattle.std.proofs.lemmas.Bool.Decides.{nat_tests}
 use Rattle.std.proofs.lemmas.List.{append-nil, length-append, length-map, length-take-le, map-append, take-append-le}
 use Rattle.dbformat.specs.Address.{last_root_start}
-use Rattle.dbformat.specs.Faults.{fault}
-use Rattle.dbformat.specs.KeyFaults.{earlier_roots, row_faults, row_faults_if}
-use Rattle.dbformat.specs.Reference.{Reference}
-use Rattle.dbformat.specs.Schema.{SchemaCell}
 use Rattle.dbformat.specs.SchemaRow.{SchemaRow}
-use Rattle.dbformat.specs.Tests.{told_if}
-use Rattle.dbformat.specs.declared.FaultCode.TheVariants.{S02, S04}
 use Rattle.dbwalk.specs.declared.taker.Taken.{Taken}
 use Rattle.dbwalk.specs.declared.taker.Taken.TheVariants as answer
 use Rattle.dbwalk.specs.RootRoom.{answer_to, held_after, held_of, is_full, HasRootRoom, roots_after, ListTakes, first_roots}
@@ -65,13 +59,6 @@ module _ {T : Type 0} (takes : T → SchemaRow → Taken → T → Type 0) (held
 
   pub held_next : held t ≡ held_of (roots + cond (row.root == 0) 0 1)
   held_next = room.counts s t row a taken ∙ ap (λ n. held_after n row.root) at ∙ held_more roots row.root
-
-  pub told_taken : (file : List ℕ) (V : List Reference) (c : SchemaCell) → earlier_roots file V c.place ≡ roots → c.row ≡ Ok row
-      → row_faults file V c ≡ told_if (is_none row.name) (fault S02 c.page c.item c.rowid) ++ told_if (is_full a) (fault S04 c.page c.item (pos row.root))
-  unfolding row_faults
-  told_taken file V c e r = ap (λ n. row_faults_if (nat_le last_root_start n) c) e
-      ∙ ap (λ x. row_faults_if (nat_le last_root_start roots) (record { place = c.place; page = c.page; item = c.item; rowid = c.rowid; row = x })) r
-      ∙ ap (λ b. told_if (is_none row.name) (fault S02 c.page c.item c.rowid) ++ told_if b (fault S04 c.page c.item (pos row.root))) (sym answer_full)
 
 -- a list of roots is such a taker
 pub list_has_room : {E : Type 0} (entry : SchemaRow → E) → HasRootRoom (ListTakes entry) length

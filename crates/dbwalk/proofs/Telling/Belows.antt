@@ -1,12 +1,15 @@
 -- What is told and visited below some errands, errand by errand.
-use Rattle.std.proofs.Common.{◌≡◌, ℕ, true, false, inl, inr, List, [], ◌∷◌, ◌++◌, None, refl, sym, ap, ◌∙◌, append_assoc}
+use Rattle.std.proofs.Common.{◌≡◌, ℕ, true, false, inl, inr, List, [], ◌∷◌, ◌++◌, refl, sym, ap, ◌∙◌, append_assoc}
 use Rattle.std.proofs.lemmas.List.{append-nil}
-use Rattle.dbsurvey.specs.Survey.{children}
+use Rattle.dbsurvey.specs.Address.{Address, IsIn}
+use Rattle.dbsurvey.specs.Survey.{IsPart, children}
 use Rattle.dbsurvey.specs.Traverse.{is_followed, part_of}
-use Rattle.dbsurvey.specs.Story.{Told, Errand, Go, Tell, goes, errands_of}
+use Rattle.dbsurvey.specs.Story.{Errand, Go, goes, errands_of}
 use Rattle.dbsurvey.specs.InOrder.{AreQuiet}
+use Rattle.dbsurvey.proofs.Composing.{part_below}
+use Rattle.dbsurvey.proofs.Traversal.{traverse_part, free_at_most}
 use Rattle.dbsurvey.proofs.Remaining.{rest_none, rest_skip, rest_visit, rest_join}
-use Rattle.dbsurvey.proofs.ReadBack.{below_none, below_event, below_refused, below_visit, below_join}
+use Rattle.dbsurvey.proofs.ReadBack.{below_none, below_refused, below_visit, below_join}
 use Rattle.dbsurvey.proofs.Tellings.{goes-append, goes-of}
 use Rattle.dbformat.specs.File.{geometry}
 use Rattle.dbformat.specs.Reference.{Way, Reference}
@@ -14,15 +17,6 @@ use Rattle.dbformat.specs.Survey.{rules_of}
 use Rattle.dbformat.specs.Story.{Event, at_page, at_refused, own_visit, story_of}
 use Rattle.dbformat.proofs.Theory.{are_rules, is_story, shows_visits}
 use Rattle.dbtrace.specs.Finding.{told_at, told_below, visited_below}
-
-event_of : Event → Errand Way Event → Event
-event_of x (Go c) = x
-event_of x (Tell d) = d.event
-
-quiet_tell : (e : Told Event) → own_visit e.event ≡ None → AreQuiet own_visit (Tell e ∷ [])
-unfolding event_of
-quiet_tell e q d (inl h) = ap (λ x. own_visit (event_of e.event x)) h ∙ q
-quiet_tell e q d (inr h) = absurd h
 
 module _ (file : List ℕ) where
   abbrev pages : ℕ
@@ -74,14 +68,6 @@ module _ (file : List ℕ) where
   quiet_go c e (inl h) = cc
   quiet_go c e (inr h) = absurd h
 
-  pub told_event : (W : List Reference) (e : Told Event) (es : List (Errand Way Event)) → own_visit e.event ≡ None
-      → told_below file W (Tell e ∷ es) ≡ told_at file W e.event ++ told_below file W es
-  told_event W e es q =
-      told_join W (Tell e ∷ []) es (quiet_tell e q)
-      ∙ ap (λ L. L ++ told_below file (W ++ visited_below file W (Tell e ∷ [])) es) (below_event (rules_of file) (story_of file) pages (are_rules file) own_visit (told_at file) W e q)
-      ∙ ap (λ V. told_at file W e.event ++ told_below file (W ++ V) es) (visited_none W)
-      ∙ ap (λ U. told_at file W e.event ++ told_below file U es) (append-nil W)
-
   pub told_refused : (W : List Reference) (c : Reference) (es : List (Errand Way Event)) → is_followed (rules_of file) W c ≡ false
       → told_below file W (Go c ∷ es) ≡ told_at file W (at_refused c) ++ told_below file W es
   told_refused W c es h =
@@ -107,3 +93,13 @@ module _ (file : List ℕ) where
       ∙ ap (λ V. (told_at file U (at_page c) ++ told_below file U fs) ++ told_below file V es) below
       ∙ append_assoc (told_at file U (at_page c)) (told_below file U fs) (told_below file (U ++ visited_below file U fs) es)
       ∙ ap (λ L. told_at file U (at_page c) ++ L) (sym (told_join U fs es quiet))
+
+-- what is visited below a reference begins with its address
+pub below_begins : (file : List ℕ) (U : List Reference) (d u : Reference) → IsIn u (visited_below file U (Go d ∷ [])) → (b : Address) × (u.address ≡ d.address ++ b)
+below_begins file U d u i =
+    let part : IsPart (rules_of file) U (d ∷ []) (part_of (rules_of file) (geometry file).pages U (d ∷ [])) = traverse_part (rules_of file) (geometry file).pages (are_rules file) (geometry file).pages U (d ∷ []) (free_at_most (geometry file).pages U) ((λ y j. absurd j), tt) in
+    let m = part_below (rules_of file) U (d ∷ []) (part_of (rules_of file) (geometry file).pages U (d ∷ [])) part u i in
+    elim m.1 [
+      | inl e ↦ (m.2.0, m.2.1 ∙ ap (λ r. r.address ++ m.2.0) e)
+      | inr n ↦ absurd n
+    ]

@@ -1,10 +1,10 @@
 -- What is left of a walk, step by step.
-use Rattle.std.proofs.Common.{◌≡◌, ℕ, true, false, inl, inr, List, [], ◌∷◌, ◌++◌, None, Ok, Err, refl, sym, ap, subst, ◌∙◌, append_assoc}
+use Rattle.std.proofs.Common.{◌≡◌, ℕ, true, false, inl, inr, List, [], ◌∷◌, ◌++◌, Ok, Err, refl, sym, ap, subst, ◌∙◌, append_assoc}
 use Rattle.std.proofs.lemmas.List.{append-nil}
 use Rattle.dbsurvey.specs.Address.{IsIn, IsBefore, IsLeftOf}
 use Rattle.dbsurvey.specs.Traverse.{is_followed}
 use Rattle.dbsurvey.specs.Moves.{Moves}
-use Rattle.dbsurvey.specs.Story.{step_of, Told, Errand, Go, Tell, errand_key, errands_of, AreErrandsApart}
+use Rattle.dbsurvey.specs.Story.{step_of, Errand, Go, errand_key, errands_of, AreErrandsApart}
 use Rattle.dbsurvey.specs.InOrder.{AreQuiet, IsPast}
 use Rattle.dbsurvey.proofs.Order.{IsIn-cases, IsIn-right, EachPair-append, EachPair-left, EachPair-right, IsLeftOf-before, IsLeftOf-longer}
 use Rattle.dbsurvey.proofs.Moving.{Moves-append}
@@ -24,19 +24,19 @@ use Rattle.dbwalk.specs.Done.{IsDone}
 use Rattle.dbwalk.specs.Entered.{Enters}
 use Rattle.dbwalk.specs.Left.{IsLeft}
 use Rattle.dbwalk.proofs.Telling.Tellings.{stops_by_first, stops_by_after}
-use Rattle.dbwalk.proofs.Telling.Belows.{visited_none, visited_refused, visited_visit, visited_join, told_none, told_join, told_event, told_refused, told_visit}
+use Rattle.dbwalk.proofs.Telling.Belows.{visited_none, visited_refused, visited_visit, visited_join, told_none, told_join, told_refused, told_visit}
 
 past_rest : (U : List Reference) (e : Errand Way Event) (es : List (Errand Way Event)) → IsPast U (e ∷ es) → IsPast U es
 past_rest U e es h u f i j = h u f i (inr j)
 
 -- the errands of a visited candidate are apart, and left of those behind it
-visit_apart : (file : List ℕ) (c : Reference) (es : List (Errand Way Event)) → AreErrandsApart (Go c ∷ es) → AreErrandsApart (errands_of (story_of file) c ++ es)
+pub visit_apart : (file : List ℕ) (c : Reference) (es : List (Errand Way Event)) → AreErrandsApart (Go c ∷ es) → AreErrandsApart (errands_of (story_of file) c ++ es)
 visit_apart file c es h = EachPair-append (λ e f. IsLeftOf (errand_key e) (errand_key f)) (errands_of (story_of file) c) es
     (errands_apart (rules_of file) (story_of file) (is_story file) c) h.1
     (λ e f i j. let k = errands_at-step c.address ((story_of file).items c) e i in
     subst (λ a. IsLeftOf a (errand_key f)) (sym k.2) (subst (λ b. IsLeftOf (c.address ++ (step_of k.0 ∷ [])) b) (append-nil (errand_key f)) (IsLeftOf-longer c.address (errand_key f) (step_of k.0 ∷ []) [] (h.0 f j))))
 
-past_visit_all : (file : List ℕ) (U : List Reference) (c : Reference) (es : List (Errand Way Event)) → IsPast U (Go c ∷ es) → AreErrandsApart (Go c ∷ es) → IsPast (U ++ (c ∷ [])) (errands_of (story_of file) c ++ es)
+pub past_visit_all : (file : List ℕ) (U : List Reference) (c : Reference) (es : List (Errand Way Event)) → IsPast U (Go c ∷ es) → AreErrandsApart (Go c ∷ es) → IsPast (U ++ (c ∷ [])) (errands_of (story_of file) c ++ es)
 past_visit_all file U c es past apart u f i j = elim (IsIn-cases f (errands_of (story_of file) c) es j) [
   | inl k ↦ past_visit (story_of file) U c (λ v g m n. past v g m (first g n)) u f i k
   | inr k ↦ (elim (IsIn-cases u U (c ∷ []) i) [
@@ -55,19 +55,6 @@ module _ {S : Type 0} (takes : S → Finding → S → Type 0) (file : List ℕ)
   left_start marks m p a = record { marked = m; past = p; apart = a; visits = refl; items = []; told = refl; rest = refl }
 
   module _ (U : List Reference) (marks : List Mark) (s : S) where
-    -- an event is told
-    pub left_event : (t : S) (e : Told Event) (es : List (Errand Way Event)) → IsLeft takes file W errands before U (Tell e ∷ es) marks s → own_visit e.event ≡ None
-        → Moves takes s (told_at file U e.event) t → IsLeft takes file W errands before U es marks t
-    left_event t e es h q m = record {
-      marked = h.marked;
-      past = past_rest U (Tell e) es h.past;
-      apart = h.apart.1;
-      visits = h.visits;
-      items = h.items ++ told_at file U e.event;
-      told = Moves-append takes before s t h.items (told_at file U e.event) h.told m;
-      rest = append_assoc h.items (told_at file U e.event) (told_below file U es) ∙ ap (λ L. h.items ++ L) (sym (told_event file U e es q)) ∙ h.rest;
-    }
-
     -- a candidate is refused, and that is told
     pub left_refused : (t : S) (marks' : List Mark) (c : Reference) (es : List (Errand Way Event)) → IsLeft takes file W errands before U (Go c ∷ es) marks s → is_followed (rules_of file) U c ≡ false
         → AreMarksOf file U marks' → Moves takes s (told_at file U (at_refused c)) t → IsLeft takes file W errands before U es marks' t

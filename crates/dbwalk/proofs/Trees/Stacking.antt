@@ -1,11 +1,11 @@
 -- What is left of a walk with a stack, step by step.
-use Rattle.std.proofs.Common.{◌≡◌, ℕ, suc, ◌+◌, ◌-◌, ◌<◌, ◌≤◌, inl, inr, true, false, cond, List, [], ◌∷◌, ◌++◌, length, map, Option, Some, None, Result, Ok, Err, refl, sym, ap, subst, arith, ◌∙◌, append_assoc}
+use Rattle.std.proofs.Common.{◌≡◌, ℕ, suc, ◌-◌, ◌<◌, ◌≤◌, inl, inr, true, false, cond, List, [], ◌∷◌, ◌++◌, map, Option, Some, None, Result, Ok, Err, refl, sym, ap, subst, arith, ◌∙◌, append_assoc}
 use Rattle.std.specs.Prelude.{filter, flat_map, nat_le, option_map, option_to_list, option_and_then, unwrap_or, ◌==◌}
 use Rattle.std.specs.Option.{option_map_or}
 use Rattle.std.specs.Result.{result_ok}
 use Rattle.std.proofs.lemmas.Bool.{cases_Bool, cases_order, eqb-true}
 use Rattle.std.proofs.lemmas.Bool.Decides.{nat_tests}
-use Rattle.std.proofs.lemmas.List.{append-nil, length-append}
+use Rattle.std.proofs.lemmas.List.{append-nil}
 use Rattle.dbsurvey.specs.Address.{IsIn}
 use Rattle.dbsurvey.specs.Story.{Item, Follow, Place, step_of, Go, AreRising, errands_at, errands_of}
 use Rattle.dbsurvey.proofs.Order.{IsIn-left, IsIn-right, IsIn-cases}
@@ -22,8 +22,7 @@ use Rattle.dbformat.specs.declared.TreeKind.{TreeKind}
 use Rattle.dbformat.specs.declared.CellFault.{CellFault}
 use Rattle.dbformat.proofs.Theory.{is_story}
 use Rattle.dbwalk.proofs.Running.ReadableCells.{cells_in, cells_from}
-use Rattle.dbwalk.specs.Stack.{errands_from, child_page, child_at, top_visit, left_over, IsFrame, AreFrames}
-use Rattle.dbwalk.specs.Running.{IsVisit}
+use Rattle.dbwalk.specs.Stack.{errands_from, child_page, child_at, top_visit, left_over}
 use Rattle.dbwalk.specs.declared.frame.Frame.{Frame}
 
 -- rising items from a step on
@@ -232,30 +231,9 @@ module _ (file : List ℕ) (kind : TreeKind) where
   top-push c [] f = refl
   top-push c (g ∷ fs) f = top-push (child_at file kind c (g.next - 1)) fs f
 
-  pub top_depth : (c : Reference) (fs : List Frame) → length (top_visit file kind c fs).address ≡ length c.address + length fs
-  top_depth c [] = omega arith
-  top_depth c (f ∷ fs) =
-      let r = top_depth (child_at file kind c (f.next - 1)) fs in
-      let k = length-append c.address ((f.next - 1) ∷ []) in
-      omega arith
-
   pub top_kind : (c : Reference) (fs : List Frame) → tree_kind (role_of c) ≡ Some kind → tree_kind (role_of (top_visit file kind c fs)) ≡ Some kind
   top_kind c [] e = e
   top_kind c (f ∷ fs) e = top_kind (child_at file kind c (f.next - 1)) fs refl
-
-  module _ (U : List Reference) where
-    pub frames-push : (c : Reference) (fs : List Frame) (f : Frame) → AreFrames file U kind c fs → IsFrame file U (top_visit file kind c fs) f → AreFrames file U kind c (fs ++ (f ∷ []))
-    frames-push c [] f a e = (e, tt)
-    frames-push c (g ∷ fs) f a e = (a.0, frames-push (child_at file kind c (g.next - 1)) fs f a.1 e)
-
-    pub frames-front : (c : Reference) (fs : List Frame) (f : Frame) → AreFrames file U kind c (fs ++ (f ∷ [])) → AreFrames file U kind c fs × IsFrame file U (top_visit file kind c fs) f
-    frames-front c [] f a = (tt, a.0)
-    frames-front c (g ∷ fs) f a = let k = frames-front (child_at file kind c (g.next - 1)) fs f a.1 in ((a.0, k.0), k.1)
-
-  -- more visits keep the frames, where each stays the only one at its address
-  pub frames_more : (U V : List Reference) (c : Reference) (fs : List Frame) → ((r : Reference) → IsVisit U r → IsVisit (U ++ V) r) → AreFrames file U kind c fs → AreFrames file (U ++ V) kind c fs
-  frames_more U V c [] more a = tt
-  frames_more U V c (f ∷ fs) more a = (record { page = a.0.page; visit = more c a.0.visit; view = a.0.view; viewed = a.0.viewed; interior = a.0.interior; within = a.0.within }, frames_more U V (child_at file kind c (f.next - 1)) fs more a.1)
 
 -- A child of an undamaged page.
 module _ (file : List ℕ) (r : Reference) (kind : TreeKind) (v : View) (role : tree_kind (role_of r) ≡ Some kind) (viewed : tree_view file r ≡ Some v) where

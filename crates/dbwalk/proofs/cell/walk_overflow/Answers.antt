@@ -4,7 +4,7 @@ use Rattle.dbsurvey.specs.InOrder.{IsPast}
 use Rattle.dbwalk.specs.Done.{IsDone}
 use Rattle.dbwalk.proofs.Marking.Readings.{log_none}
 use Rattle.dbwalk.specs.LeafCells.{overflow_errands}
-use Rattle.dbwalk.proofs.Leaves.LeafTurns.{none_done, chain_start}
+use Rattle.dbwalk.proofs.Leaves.LeafErrands.{none_done, chain_start}
 use Rattle.dbwalk.proofs.Rows.RowChains.{on_ok, feeds_nothing, feeds_chain}
 use Rattle.dbwalk.proofs.cell.walk_overflow.Goals as goal
 
@@ -18,7 +18,7 @@ pub returns-in-Some-clause-log : goal.returns-in-Some-clause-log
 returns-in-Some-clause-log g c = has_weaker _ _ c.walk_chain.ensures.log (λ log r. r) (λ file h e U d at past m.
     let t = c.args.tree.now in
     let next = subst (λ o. IsPast U (overflow_errands d c.args.i o)) c.in-Some.is past in
-    let k = h e U _ (chain_start _ file t.kind t.start t.path.items U d c.args.bench.now.levels c.args.page c.args.i c.in-Some.first c.in-Some.left at refl c.as_slice.ensures.value refl refl refl refl) next m in (
+    let k = h e U _ (chain_start _ file t.kind t.start t.path.items d c.args.bench.now.levels c.args.page c.args.i c.in-Some.first c.in-Some.left at refl c.as_slice.ensures.value refl refl refl refl) next m in (
       subst (λ o. IsDone g.K.Sink.takes g.K.Sink.drops file U (overflow_errands d c.args.i o) c.walk_chain.result c.walk_chain.new.marks c.args.sink.now c.walk_chain.new.sink) (sym c.in-Some.is) k.0,
       on_ok c.walk_chain.result k.1 (feeds_chain file U d c.args.i c.in-Some.first c.in-Some.left c.args.overflow c.args.sieve.now c.walk_chain.new.sieve c.in-Some.is next),
     ))

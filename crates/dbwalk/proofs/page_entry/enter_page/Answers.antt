@@ -1,9 +1,11 @@
-use Rattle.std.proofs.Common.{rules, ◌≡◌, ◌+◌, ◌-◌, ◌*◌, ◌<◌, [], ◌∷◌, inl, inr, set, Ok, Err, refl, sym, ap, subst, arith, ◌∙◌}
+use Rattle.std.proofs.Common.{rules, ◌≡◌, ◌+◌, ◌-◌, ◌*◌, ◌<◌, [], ◌∷◌, inl, inr, false, set, Result, Ok, Err, refl, sym, ap, subst, arith, ◌∙◌}
 use Rattle.std.specs.Prelude.{slice_get, IfErr}
 use Rattle.std.proofs.lemmas.Result.{err_from_is_err_and}
 use Rattle.dbformat.specs.File.{page_bytes}
 use Rattle.dbformat.specs.Log.{range, page_range}
+use Rattle.dbsurvey.specs.Story.{Go}
 use Rattle.dbsource.specs.Answers.{IsRangeOf}
+use Rattle.dbsource.specs.declared.error.RunError.{RunError}
 use Rattle.dbsource.specs.declared.error.RunError.TheVariants.{ReadFailed}
 use Rattle.dbsource.specs.declared.source.ReadFailed as source_error
 use Rattle.dbsource.proofs.Logs.{has_one}
@@ -13,10 +15,9 @@ use Rattle.dbwalk.proofs.Chaining.Overflows.{page_read}
 use Rattle.dbwalk.proofs.Marking.Readings.{log_none, log_page, log_then, put_count}
 use Rattle.dbwalk.specs.Found.{StandsAt}
 use Rattle.dbwalk.specs.Outcomes.{IsReadOrWrite}
-use Rattle.dbwalk.specs.WalkGiven.{IsEntryDone}
-use Rattle.dbwalk.specs.Walking.{IsEntered}
-use Rattle.dbwalk.proofs.Rows.EntryRows.{entry_refused, entry_stopped}
-use Rattle.dbwalk.proofs.Trees.Arrivals.{refused_passed, refused_stop, unread_stop}
+use Rattle.dbwalk.specs.Underway.{HasDone, IsEntered, done_below, entered}
+use Rattle.dbwalk.specs.Watching.{watches, fails}
+use Rattle.dbwalk.proofs.Underway.Visits.{done_refused, refused_handed, entered_past, entered_err, unread}
 use Rattle.dbwalk.proofs.Pages.Levels.{geometry_kept, read_there, below_kept, keeps_fewer, if_ok_all}
 use Rattle.dbwalk.proofs.page_entry.enter_page.Goals as goal
 
@@ -31,26 +32,25 @@ returns-in_err-load-clause-others g c =
     λ l. (refl, subst (λ r. IfErr r IsReadOrWrite) (sym (q.1 ∙ ap Err q.2)) (inl refl))
 
 pub returns-in_err-enter-clause-log : goal.returns-in_err-enter-clause-log
-returns-in_err-enter-clause-log g c = log_none c.args.bench.now.geometry.page_size c.args.marks.now c.enter.new.marks (g.S.Source.held c.args.source.now) c.in_err-enter.ensures.after_error.1 (λ file e coded W d candidate next early m run held first given.
+returns-in_err-enter-clause-log g c = log_none c.args.bench.now.geometry.page_size c.args.marks.now c.enter.new.marks (g.S.Source.held c.args.source.now) c.in_err-enter.ensures.after_error.1 (λ file e coded from d candidate next at held room.
     let t = c.args.tree.now in
     let q = err_from_is_err_and c.from_residual.result c.from_residual.ensures.1 in
     let is = c.tree_step-step.ensures.step t.kind t.start t.path.items d (sym c.len-level.ensures.value) candidate in
-    subst (λ r. IsEntryDone g.K.Sink.takes g.K.Sink.drops g.T.Taker.takes g.T.Taker.refuses file W d r c.args.bench.now.levels c.enter.new.marks t.greatest t.leaf c.args.sink.now c.enter.new.sink first c.args.taker.now) (sym (q.1 ∙ ap Err q.2)) (record {
-      entered = refused_stop g.K.Sink.takes g.K.Sink.drops file W t.kind t.start t.path.items c.args.page c.args.from c.args.item d candidate next t.greatest t.leaf run c.args.sink.now
-          c.in_err-enter.field-0.0 c.enter.new.marks c.enter.new.sink (c.in_err-enter.ensures.entered file W d is next m);
-      given = λ z. entry_stopped g.T.Taker.takes g.T.Taker.refuses held file t.kind t.start t.path.items c.args.page c.args.from c.args.item d candidate W t.greatest t.leaf run first c.args.taker.now given z c.in_err-enter.field-0.0 (inr c.in_err-enter.ensures.after_error.0);
-    }))
+    let f = c.in_err-enter.ensures.after_error.0 in
+    let r : Result (Unit {0}) RunError = Err c.in_err-enter.field-0.0 in
+    let n = c.in_err-enter.ensures.entered file from.visits d is next at.0 in
+    entered_err (watches g.K.Sink.takes g.T.Taker.takes) (fails g.K.Sink.drops g.T.Taker.refuses) file from d c.args.bench.now.levels _ c.in_err-enter.field-0.0 (c.enter.new.marks, c.args.tree.now) (c.args.sink.now, c.args.taker.now) (c.enter.new.sink, c.args.taker.now) (q.1 ∙ ap Err q.2)
+    (done_refused (watches g.K.Sink.takes g.T.Taker.takes) (fails g.K.Sink.drops g.T.Taker.refuses) file from d r (c.enter.new.marks, c.args.tree.now) (c.args.sink.now, c.args.taker.now) (c.enter.new.sink, c.args.taker.now) n.0 (n.1, at.1, at.2)
+    (refused_handed g.K.Sink.takes g.K.Sink.drops g.T.Taker.takes g.T.Taker.refuses file from d r c.args.sink.now c.enter.new.sink c.args.taker.now (λ o. cc) n.2)))
 
 pub returns-then-not-branch-clause-log : goal.returns-then-not-branch-clause-log
-returns-then-not-branch-clause-log g c = log_none c.args.bench.now.geometry.page_size c.args.marks.now c.enter.new.marks (g.S.Source.held c.args.source.now) (c.in_ok-enter.ensures.unmarked c.if-not-branch.true) (λ file e coded W d candidate next early m run held first given.
+returns-then-not-branch-clause-log g c = log_none c.args.bench.now.geometry.page_size c.args.marks.now c.enter.new.marks (g.S.Source.held c.args.source.now) (c.in_ok-enter.ensures.unmarked c.if-not-branch.true) (λ file e coded from d candidate next at held room.
     let t = c.args.tree.now in
     let is = c.tree_step-step.ensures.step t.kind t.start t.path.items d (sym c.len-level.ensures.value) candidate in
-    let none = subst (λ b. Enters g.K.Sink.takes g.K.Sink.drops file W d (Ok b) c.enter.new.marks c.args.sink.now c.enter.new.sink) c.if-not-branch.true (c.in_ok-enter.ensures.entered file W d is next m) in
-    record {
-      entered = refused_passed g.K.Sink.takes g.K.Sink.drops file W t.kind t.start t.path.items c.args.page c.args.from c.args.item d candidate next t.greatest t.leaf run c.args.sink.now c.enter.new.marks c.enter.new.sink
-          none;
-      given = λ z. entry_refused g.T.Taker.takes g.T.Taker.refuses held file t.kind t.start t.path.items c.args.page c.args.from c.args.item d candidate W t.greatest t.leaf run first c.args.taker.now given z none.0;
-    })
+    let n = subst (λ b. Enters g.K.Sink.takes g.K.Sink.drops file from.visits d (Ok b) c.enter.new.marks c.args.sink.now c.enter.new.sink) c.if-not-branch.true (c.in_ok-enter.ensures.entered file from.visits d is next at.0) in
+    entered_past (watches g.K.Sink.takes g.T.Taker.takes) (fails g.K.Sink.drops g.T.Taker.refuses) file from d c.args.bench.now.levels false (c.enter.new.marks, c.args.tree.now) (c.args.sink.now, c.args.taker.now) (c.enter.new.sink, c.args.taker.now)
+    (done_refused (watches g.K.Sink.takes g.T.Taker.takes) (fails g.K.Sink.drops g.T.Taker.refuses) file from d (Ok false) (c.enter.new.marks, c.args.tree.now) (c.args.sink.now, c.args.taker.now) (c.enter.new.sink, c.args.taker.now) n.0 (n.1, at.1, at.2)
+    (refused_handed g.K.Sink.takes g.K.Sink.drops g.T.Taker.takes g.T.Taker.refuses file from d (Ok false) c.args.sink.now c.enter.new.sink c.args.taker.now (λ o. cc) n.2)))
 
 pub returns-in_err-load-clause-levels : goal.returns-in_err-load-clause-levels
 returns-in_err-load-clause-levels g c =
@@ -69,16 +69,14 @@ returns-in_err-load-clause-log g c =
     log_page (λ file. Unit {0}) size c.args.marks.now c.enter.new.marks step.result.page step.result.mark k.0 k.1 step.ensures.used
     (has_one {A = Unit {0}} {E = source_error.ReadFailed} (Err c.in_err-load.field-0.0) offset read.bytes c.load.ensures.told read.holds.0 tt
     (ap (λ n. range offset n ∷ []) read.size ∙ ap (λ p. page_range size p ∷ []) (sym step.ensures.page)) (λ file h. tt))
-    (λ file u e coded W d candidate next early m run held first given.
+    (λ file u e coded from d candidate next at held room.
     let t = c.args.tree.now in
     let q = err_from_is_err_and c.from_residual-in_err-load.result c.from_residual-in_err-load.ensures.1 in
     let is = c.tree_step-step.ensures.step t.kind t.start t.path.items d (sym c.len-level.ensures.value) candidate in
-    let n = subst (λ b. Enters g.K.Sink.takes g.K.Sink.drops file W d (Ok b) c.enter.new.marks c.args.sink.now c.enter.new.sink) c.if-not-branch.false (c.in_ok-enter.ensures.entered file W d is next m) in
-    subst (λ r. IsEntryDone g.K.Sink.takes g.K.Sink.drops g.T.Taker.takes g.T.Taker.refuses file W d r c.load.new.self.levels c.enter.new.marks t.greatest t.leaf c.args.sink.now c.enter.new.sink first c.args.taker.now) (sym (q.1 ∙ ap Err q.2)) (record {
-      entered = subst (λ s. IsEntered g.K.Sink.takes g.K.Sink.drops file W d (Err ReadFailed) c.load.new.self.levels c.enter.new.marks t.greatest t.leaf c.args.sink.now s) n.2
-          (unread_stop g.K.Sink.takes g.K.Sink.drops file W t.kind t.start t.path.items c.args.page c.args.from c.args.item d candidate next t.greatest t.leaf run c.args.sink.now n.0 ReadFailed c.enter.new.marks refl);
-      given = λ z. entry_stopped g.T.Taker.takes g.T.Taker.refuses held file t.kind t.start t.path.items c.args.page c.args.from c.args.item d candidate W t.greatest t.leaf run first c.args.taker.now given z ReadFailed (inl refl);
-    }))
+    let n = subst (λ b. Enters g.K.Sink.takes g.K.Sink.drops file from.visits d (Ok b) c.enter.new.marks c.args.sink.now c.enter.new.sink) c.if-not-branch.false (c.in_ok-enter.ensures.entered file from.visits d is next at.0) in
+    subst (λ s. HasDone (watches g.K.Sink.takes g.T.Taker.takes) (fails g.K.Sink.drops g.T.Taker.refuses) file (entered file from d c.from_residual-in_err-load.result) c.from_residual-in_err-load.result (c.enter.new.marks, c.args.tree.now) (c.args.sink.now, c.args.taker.now) (s, c.args.taker.now) × IsEntered file from d c.from_residual-in_err-load.result c.load.new.self.levels) n.2
+    (entered_err (watches g.K.Sink.takes g.T.Taker.takes) (fails g.K.Sink.drops g.T.Taker.refuses) file from d c.load.new.self.levels _ ReadFailed (c.enter.new.marks, c.args.tree.now) (c.args.sink.now, c.args.taker.now) (c.args.sink.now, c.args.taker.now) (q.1 ∙ ap Err q.2)
+    (unread {A = Unit {0}} (watches g.K.Sink.takes g.T.Taker.takes) (fails g.K.Sink.drops g.T.Taker.refuses) file (done_below file from (Go d ∷ [])) (c.enter.new.marks, c.args.tree.now) (c.args.sink.now, c.args.taker.now))))
 
 pub returns-clause-levels : goal.returns-clause-levels
 returns-clause-levels g c =
@@ -112,12 +110,12 @@ returns-clause-log g c =
     (ap (λ n. range offset n ∷ []) change.size ∙ ap (λ p. page_range size p ∷ []) (sym step.ensures.page)) (λ file h. h))
     (λ file h. h))
     c.visit_page.ensures.log
-    (λ file h done e coded W d candidate next early m run held first given.
+    (λ file h done e coded from d candidate next at held room.
     let t = c.args.tree.now in
     let is = c.tree_step-step.ensures.step t.kind t.start t.path.items d (sym c.len-level.ensures.value) candidate in
-    let n = subst (λ b. Enters g.K.Sink.takes g.K.Sink.drops file W d (Ok b) c.enter.new.marks c.args.sink.now c.enter.new.sink) c.if-not-branch.false (c.in_ok-enter.ensures.entered file W d is next m) in
+    let n = subst (λ b. Enters g.K.Sink.takes g.K.Sink.drops file from.visits d (Ok b) c.enter.new.marks c.args.sink.now c.enter.new.sink) c.if-not-branch.false (c.in_ok-enter.ensures.entered file from.visits d is next at.0) in
     let read = page_read file change.bytes c.args.bench.now.geometry.page_size c.args.page change.size h (sym (ap (λ s. s.page_size) e)) in
     let there = subst (λ l. StandsAt c.load.new.self.levels l (page_bytes file c.args.page)) c.len-level.ensures.value
     (read_there c.args.bench.now c.load.new.self c.len-level.result low change.bytes change.only (page_bytes file c.args.page) read) in
-    subst (λ s. IsEntryDone g.K.Sink.takes g.K.Sink.drops g.T.Taker.takes g.T.Taker.refuses file W d c.visit_page.result c.visit_page.new.bench.levels c.visit_page.new.marks c.visit_page.new.tree.greatest c.visit_page.new.tree.leaf s c.visit_page.new.sink first c.visit_page.new.taker) (sym n.2)
-    (done (same ∙ e) coded W d c.args.from c.args.item candidate there next n.0 early n.1 run held first given))
+    subst (λ s. HasDone (watches g.K.Sink.takes g.T.Taker.takes) (fails g.K.Sink.drops g.T.Taker.refuses) file (entered file from d c.visit_page.result) c.visit_page.result (c.visit_page.new.marks, c.visit_page.new.tree) (s, c.args.taker.now) (c.visit_page.new.sink, c.visit_page.new.taker) × IsEntered file from d c.visit_page.result c.visit_page.new.bench.levels) (sym n.2)
+    (done (same ∙ e) coded from d c.args.from c.args.item candidate there next n.0 n.1 at.1 at.2 held room))

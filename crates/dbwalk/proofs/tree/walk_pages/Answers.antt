@@ -1,16 +1,21 @@
-use Rattle.std.proofs.Common.{rules, ◌≡◌, ◌<◌, ◌≤◌, ◌++◌, [], ◌∷◌, length, Ok, Err, refl, sym, ap, subst, arith, ◌∙◌}
+use Rattle.std.proofs.Common.{rules, ◌≡◌, ◌<◌, ◌≤◌, ◌++◌, [], ◌∷◌, length, Some, Ok, Err, refl, sym, ap, subst, arith, ◌∙◌}
 use Rattle.std.specs.Prelude.{IfErr, option_to_list}
 use Rattle.std.proofs.lemmas.Result.{err_from_is_err_and}
 use Rattle.dbformat.specs.File.{page_bytes}
 use Rattle.dbwalk.specs.Found.{StandsAt}
 use Rattle.dbwalk.specs.Outcomes.{IsReadOrWrite}
-use Rattle.dbwalk.specs.Walking.{IsOpen, AreOpen, path_of, cost}
-use Rattle.dbwalk.specs.WalkGiven.{IsEntryDone, IsGivenWalk, IsTreeDone}
+use Rattle.dbwalk.specs.Walking.{IsCandidate, IsOpen, AreOpen, path_of, cost}
 use Rattle.dbsource.proofs.Logs.{has_weaker}
 use Rattle.dbwalk.proofs.Marking.Readings.{log_then}
-use Rattle.dbwalk.proofs.Rows.TreeRows.{root_given, rows_walked, rows_stopped, walk_started, walk_ended}
 use Rattle.dbwalk.proofs.Trees.Frames.{path_last}
-use Rattle.dbwalk.proofs.Trees.TreeLoop.{candidate_as, root_next, root_ready, none_left, passed_root, stopped_root}
+use Rattle.dbtrace.specs.Walk.{begin}
+use Rattle.dbwalk.specs.Underway.{HasDone, IsEntered, entered}
+use Rattle.dbwalk.specs.WalkingOn.{IsWalkingOn, tree_walk}
+use Rattle.dbwalk.specs.Watching.{fails, watches}
+use Rattle.dbwalk.proofs.Pages.PageVisits.{kind_is}
+use Rattle.dbwalk.proofs.Trees.TreeLoop.{candidate_as, none_left}
+use Rattle.dbwalk.proofs.Underway.RootRooms.{empty_room}
+use Rattle.dbwalk.proofs.Underway.WalkedTrees.{tree_started, tree_ended}
 use Rattle.dbwalk.proofs.tree.walk_pages.Goals as goal
 
 pub visit_page-requires : goal.visit_page-requires
@@ -24,33 +29,35 @@ returns-in_err-visit_page-clause-others g c =
     λ l. let o = c.in_err-visit_page.ensures.others l in (o.0, subst (λ r. IfErr r IsReadOrWrite) (sym (q.1 ∙ ap Err q.2)) o.1)
 
 pub returns-in_err-visit_page-clause-log : goal.returns-in_err-visit_page-clause-log
-returns-in_err-visit_page-clause-log g c = has_weaker _ _ c.in_err-visit_page.ensures.log (λ log r. r) (λ file h e coded W d candidate there followed early m held empty.
+returns-in_err-visit_page-clause-log g c = has_weaker _ _ c.in_err-visit_page.ensures.log (λ log r. r) (λ file h e coded W d candidate there followed next m held empty.
     let t = c.args.tree.now in
+    let w : g.row.K.Denot × g.row.T.Denot = (c.args.sink.now, c.args.taker.now) in
+    let moves = watches g.K.Sink.takes g.T.Taker.takes in
+    let stops = fails g.K.Sink.drops g.T.Taker.refuses in
     let n = c.visit_page.new in
+    let x : g.row.K.Denot × g.row.T.Denot = (n.sink, n.taker) in
+    let entry = h e coded (begin W) d 0 t.start (subst (λ l. IsCandidate t.kind t.start l c.args.page 0 t.start d) (sym c.requires.fresh.2) candidate)
+    (subst (λ l. StandsAt c.args.bench.now.levels (length l) (page_bytes file c.args.page)) (sym c.requires.fresh.2) there) next followed m c.requires.fresh.0 c.requires.fresh.1 held
+    (λ z. empty_room g.T.Taker.takes held c.args.taker.now (empty z)) in
     let q = err_from_is_err_and c.from_residual.result c.from_residual.ensures.1 in
-    let ready = root_ready file t.kind t.start c.args.page 0 t.start W d candidate early t.path.items t.greatest t.leaf c.requires.fresh.2 c.requires.fresh.0 c.requires.fresh.1 in
-    let given = root_given g.T.Taker.takes file t.kind t.start c.args.page 0 t.start W d candidate early c.args.taker.now held empty in
-    let entry = h e coded W d 0 t.start ready.0 (subst (λ l. StandsAt c.args.bench.now.levels (length l) (page_bytes file c.args.page)) (sym c.requires.fresh.2) there) (root_next file t.kind t.start c.args.page 0 t.start W d candidate early) followed (λ z. early) m ready.1 held c.args.taker.now given in
-    subst (λ r. IsTreeDone g.K.Sink.takes g.K.Sink.drops g.T.Taker.takes g.T.Taker.refuses file W d r n.marks c.args.sink.now n.sink c.args.taker.now n.taker) (sym (q.1 ∙ ap Err q.2)) (record {
-      done = stopped_root g.K.Sink.takes g.K.Sink.drops file t.kind W d c.args.sink.now n.bench.levels n.marks n.tree.greatest n.tree.leaf n.sink c.in_err-visit_page.field-0.0 entry.entered;
-      given = λ z. rows_stopped g.T.Taker.takes file t.kind t.start c.args.page 0 t.start W d candidate early c.args.taker.now g.T.Taker.refuses c.in_err-visit_page.field-0.0 n.taker z (entry.given z);
-    }))
+    subst (λ r. HasDone moves stops file (tree_walk file W d) r (n.marks, n.tree) w x) (sym (q.1 ∙ ap Err q.2)) (record { at = tt; handed = entry.0.handed }))
 
 pub returns-then-not-branch-clause-others : goal.returns-then-not-branch-clause-others
 returns-then-not-branch-clause-others g c = λ l. ((c.in_ok-visit_page.ensures.others l).0, tt)
 
 pub returns-then-not-branch-clause-log : goal.returns-then-not-branch-clause-log
-returns-then-not-branch-clause-log g c = has_weaker _ _ c.in_ok-visit_page.ensures.log (λ log r. r) (λ file h e coded W d candidate there followed early m held empty.
+returns-then-not-branch-clause-log g c = has_weaker _ _ c.in_ok-visit_page.ensures.log (λ log r. r) (λ file h e coded W d candidate there followed next m held empty.
     let t = c.args.tree.now in
+    let w : g.row.K.Denot × g.row.T.Denot = (c.args.sink.now, c.args.taker.now) in
+    let moves = watches g.K.Sink.takes g.T.Taker.takes in
+    let stops = fails g.K.Sink.drops g.T.Taker.refuses in
     let n = c.visit_page.new in
-    let ready = root_ready file t.kind t.start c.args.page 0 t.start W d candidate early t.path.items t.greatest t.leaf c.requires.fresh.2 c.requires.fresh.0 c.requires.fresh.1 in
-    let given = root_given g.T.Taker.takes file t.kind t.start c.args.page 0 t.start W d candidate early c.args.taker.now held empty in
-    let entry = h e coded W d 0 t.start ready.0 (subst (λ l. StandsAt c.args.bench.now.levels (length l) (page_bytes file c.args.page)) (sym c.requires.fresh.2) there) (root_next file t.kind t.start c.args.page 0 t.start W d candidate early) followed (λ z. early) m ready.1 held c.args.taker.now given in
-    let passed = subst (λ y. IsEntryDone g.K.Sink.takes g.K.Sink.drops g.T.Taker.takes g.T.Taker.refuses file W d (Ok y) n.bench.levels n.marks n.tree.greatest n.tree.leaf c.args.sink.now n.sink c.args.taker.now n.taker) c.if-not-branch.true entry in
-    record {
-      done = passed_root g.K.Sink.takes g.K.Sink.drops file t.kind W d c.args.sink.now n.bench.levels n.marks n.tree.greatest n.tree.leaf n.sink passed.entered;
-      given = λ z. rows_walked g.T.Taker.takes file t.kind t.start c.args.page 0 t.start W d candidate early c.args.taker.now n.taker z (passed.given z);
-    })
+    let x : g.row.K.Denot × g.row.T.Denot = (n.sink, n.taker) in
+    let entry = h e coded (begin W) d 0 t.start (subst (λ l. IsCandidate t.kind t.start l c.args.page 0 t.start d) (sym c.requires.fresh.2) candidate)
+    (subst (λ l. StandsAt c.args.bench.now.levels (length l) (page_bytes file c.args.page)) (sym c.requires.fresh.2) there) next followed m c.requires.fresh.0 c.requires.fresh.1 held
+    (λ z. empty_room g.T.Taker.takes held c.args.taker.now (empty z)) in
+    let passed = subst (λ y. HasDone moves stops file (entered file (begin W) d (Ok y)) (Ok y) (n.marks, n.tree) w x) c.if-not-branch.true entry.0 in
+    record { at = passed.at; handed = passed.handed })
 
 pub loop-frame-init : goal.loop-frame-init
 loop-frame-init g c =
@@ -69,13 +76,20 @@ loop-frame-init g c =
       writes = c.in_ok-visit_page.ensures.writes;
       refusals = c.in_ok-visit_page.ensures.refusals;
       others = λ l. (c.in_ok-visit_page.ensures.others l).0;
-      log = has_weaker _ _ c.in_ok-visit_page.ensures.log (λ log r. r) (λ file h e coded W d candidate there followed early m held empty.
-          let ready = root_ready file t.kind t.start c.args.page 0 t.start W d candidate early t.path.items t.greatest t.leaf c.requires.fresh.2 c.requires.fresh.0 c.requires.fresh.1 in
-          let given = root_given g.T.Taker.takes file t.kind t.start c.args.page 0 t.start W d candidate early c.args.taker.now held empty in
-          let entry = h e coded W d 0 t.start ready.0 (subst (λ l. StandsAt c.args.bench.now.levels (length l) (page_bytes file c.args.page)) (sym c.requires.fresh.2) there) (root_next file t.kind t.start c.args.page 0 t.start W d candidate early) followed (λ z. early) m ready.1 held c.args.taker.now given in
-          subst (λ l. IsGivenWalk g.K.Sink.takes g.T.Taker.takes file t.kind W d c.args.sink.now l n.bench.levels n.marks n.tree.greatest n.tree.leaf n.sink c.args.taker.now n.taker) (sym items)
-          (walk_started g.K.Sink.takes g.K.Sink.drops g.T.Taker.takes g.T.Taker.refuses file t.kind t.start c.args.page 0 t.start W d candidate early c.args.taker.now c.args.sink.now n.sink n.bench.levels n.marks n.tree.greatest n.tree.leaf (record { page = c.args.page; next = 0 }) refl refl n.taker
-          (subst (λ y. IsEntryDone g.K.Sink.takes g.K.Sink.drops g.T.Taker.takes g.T.Taker.refuses file W d (Ok y) n.bench.levels n.marks n.tree.greatest n.tree.leaf c.args.sink.now n.sink c.args.taker.now n.taker) c.if-not-branch.false entry)));
+      log = has_weaker _ _ c.in_ok-visit_page.ensures.log (λ log r. r) (λ file h e coded W d candidate there followed next m held empty.
+          let t = c.args.tree.now in
+          let w : g.row.K.Denot × g.row.T.Denot = (c.args.sink.now, c.args.taker.now) in
+          let moves = watches g.K.Sink.takes g.T.Taker.takes in
+          let stops = fails g.K.Sink.drops g.T.Taker.refuses in
+          let n = c.visit_page.new in
+          let x : g.row.K.Denot × g.row.T.Denot = (n.sink, n.taker) in
+          let entry = h e coded (begin W) d 0 t.start (subst (λ l. IsCandidate t.kind t.start l c.args.page 0 t.start d) (sym c.requires.fresh.2) candidate)
+          (subst (λ l. StandsAt c.args.bench.now.levels (length l) (page_bytes file c.args.page)) (sym c.requires.fresh.2) there) next followed m c.requires.fresh.0 c.requires.fresh.1 held
+          (λ z. empty_room g.T.Taker.takes held c.args.taker.now (empty z)) in
+          let first = subst (λ y. HasDone moves stops file (entered file (begin W) d (Ok y)) (Ok y) (n.marks, n.tree) w x × IsEntered file (begin W) d (Ok y) n.bench.levels) c.if-not-branch.false entry in
+          subst (λ l. IsWalkingOn moves file W d w (l, n.bench.levels) (n.marks, n.tree) x) (sym items)
+          (tree_started moves stops file W d w n.bench.levels n.marks n.tree (record { page = c.args.page; next = 0 }) x (sym candidate.page) refl next
+          (kind_is file t.kind t.start [] c.args.page 0 t.start d candidate ∙ ap Some (sym c.visit_page.ensures.tree.1)) candidate.depth first.0 (first.1 (search rules))));
     }
 
 pub turn-requires : goal.turn-requires
@@ -110,12 +124,11 @@ loop-frame-preserved g c =
       writes = c.in_ok-turn.ensures.writes ∙ inv.writes;
       refusals = c.in_ok-turn.ensures.refusals ∙ inv.refusals;
       others = λ l. (c.in_ok-turn.ensures.others (subst (λ k. 1 ≤ k) (sym inv.start_same) l)).0 ∙ inv.others l;
-      log = log_then _ _ (ap (λ x. x.page_size) inv.shape) inv.log c.in_ok-turn.ensures.log (λ file walking turned e coded W d candidate there followed early m held empty.
-          subst (λ q. IsGivenWalk g.K.Sink.takes g.T.Taker.takes file q W d c.args.sink.now n.frames.items n.bench.levels n.marks n.tree.greatest n.tree.leaf n.sink c.args.taker.now n.taker) inv.kind_same
-          (turned (inv.shape ∙ e) coded W d c.args.sink.now (candidate_as t.kind s.tree.kind t.start s.tree.start [] [] c.args.page d.page 0 t.start s.tree.start d inv.kind_same inv.start_same refl candidate.page inv.start_same candidate) held c.args.taker.now
-          (λ z. empty (sym inv.start_same ∙ z))
-          (subst (λ q. IsGivenWalk g.K.Sink.takes g.T.Taker.takes file q W d c.args.sink.now (c.pop.new.self.items ++ (c.in-Some.frame ∷ [])) s.bench.levels s.marks s.tree.greatest s.tree.leaf s.sink c.args.taker.now s.taker) (sym inv.kind_same)
-          (subst (λ l. IsGivenWalk g.K.Sink.takes g.T.Taker.takes file t.kind W d c.args.sink.now l s.bench.levels s.marks s.tree.greatest s.tree.leaf s.sink c.args.taker.now s.taker) popped (walking e coded W d candidate there followed early m held empty)))));
+      log = log_then _ _ (ap (λ x. x.page_size) inv.shape) inv.log c.in_ok-turn.ensures.log (λ file walking turned e coded W d candidate there followed next m held empty.
+          let w : g.row.K.Denot × g.row.T.Denot = (c.args.sink.now, c.args.taker.now) in
+          let moves = watches g.K.Sink.takes g.T.Taker.takes in
+          (turned (inv.shape ∙ e) coded W d w (candidate_as t.kind s.tree.kind t.start s.tree.start [] [] c.args.page d.page 0 t.start s.tree.start d inv.kind_same inv.start_same refl candidate.page inv.start_same candidate)
+          (subst (λ l. IsWalkingOn moves file W d w (l, s.bench.levels) (s.marks, s.tree) (s.sink, s.taker)) popped (walking e coded W d candidate there followed next m held empty)) held (λ z. empty (sym inv.start_same ∙ z))).0);
     }
 
 pub returns-in_err-turn-clause-shape : goal.returns-in_err-turn-clause-shape
@@ -133,13 +146,14 @@ returns-in_err-turn-clause-log g c =
     let s = c.loop-frame in
     let n = c.turn.new in
     let popped = c.pop.ensures.items ∙ ap (λ o. c.pop.new.self.items ++ option_to_list o) c.in-Some.is in
-    log_then _ _ (ap (λ x. x.page_size) inv.shape) inv.log c.in_err-turn.ensures.log (λ file walking turned e coded W d candidate there followed early m held empty.
+    log_then _ _ (ap (λ x. x.page_size) inv.shape) inv.log c.in_err-turn.ensures.log (λ file walking turned e coded W d candidate there followed next m held empty.
+    let w : g.row.K.Denot × g.row.T.Denot = (c.args.sink.now, c.args.taker.now) in
+    let moves = watches g.K.Sink.takes g.T.Taker.takes in
+    let stops = fails g.K.Sink.drops g.T.Taker.refuses in
     let q = err_from_is_err_and c.from_residual-in_err-turn.result c.from_residual-in_err-turn.ensures.1 in
-    let stopped = turned (inv.shape ∙ e) coded W d c.args.sink.now (candidate_as t.kind s.tree.kind t.start s.tree.start [] [] c.args.page d.page 0 t.start s.tree.start d inv.kind_same inv.start_same refl candidate.page inv.start_same candidate) held c.args.taker.now
-    (λ z. empty (sym inv.start_same ∙ z))
-    (subst (λ q. IsGivenWalk g.K.Sink.takes g.T.Taker.takes file q W d c.args.sink.now (c.pop.new.self.items ++ (c.in-Some.frame ∷ [])) s.bench.levels s.marks s.tree.greatest s.tree.leaf s.sink c.args.taker.now s.taker) (sym inv.kind_same)
-    (subst (λ l. IsGivenWalk g.K.Sink.takes g.T.Taker.takes file t.kind W d c.args.sink.now l s.bench.levels s.marks s.tree.greatest s.tree.leaf s.sink c.args.taker.now s.taker) popped (walking e coded W d candidate there followed early m held empty))) in
-    subst (λ r. IsTreeDone g.K.Sink.takes g.K.Sink.drops g.T.Taker.takes g.T.Taker.refuses file W d r n.marks c.args.sink.now n.sink c.args.taker.now n.taker) (sym (q.1 ∙ ap Err q.2)) (record { done = stopped.0; given = stopped.1 }))
+    let stopped = turned (inv.shape ∙ e) coded W d w (candidate_as t.kind s.tree.kind t.start s.tree.start [] [] c.args.page d.page 0 t.start s.tree.start d inv.kind_same inv.start_same refl candidate.page inv.start_same candidate)
+    (subst (λ l. IsWalkingOn moves file W d w (l, s.bench.levels) (s.marks, s.tree) (s.sink, s.taker)) popped (walking e coded W d candidate there followed next m held empty)) held (λ z. empty (sym inv.start_same ∙ z)) in
+    subst (λ r. HasDone moves stops file (tree_walk file W d) r (n.marks, n.tree) w (n.sink, n.taker)) (sym (q.1 ∙ ap Err q.2)) (record { at = tt; handed = stopped.1 }))
 
 pub returns-clause-others : goal.returns-clause-others
 returns-clause-others g c = λ l. (c.loop-frame.invariant.others l, tt)
@@ -150,5 +164,6 @@ returns-clause-log g c =
     let t = c.args.tree.now in
     let s = c.loop-frame in
     let empty = none_left s.frames.items c.pop.result c.in_default.is c.pop.ensures.variant in
-    has_weaker _ _ inv.log (λ log r. r) (λ file walking e coded W d candidate there followed early m held starts.
-    walk_ended g.K.Sink.takes g.K.Sink.drops g.T.Taker.takes g.T.Taker.refuses file t.kind t.start c.args.page 0 t.start W d candidate early c.args.taker.now c.args.sink.now s.sink s.bench.levels s.marks s.tree.greatest s.tree.leaf s.frames.items empty s.taker (walking e coded W d candidate there followed early m held starts))
+    has_weaker _ _ inv.log (λ log r. r) (λ file walking e coded W d candidate there followed next m held starts.
+    tree_ended (watches g.K.Sink.takes g.T.Taker.takes) (fails g.K.Sink.drops g.T.Taker.refuses) file W d (c.args.sink.now, c.args.taker.now) s.bench.levels s.marks s.tree s.frames.items (s.sink, s.taker) empty
+    (walking e coded W d candidate there followed next m held starts))

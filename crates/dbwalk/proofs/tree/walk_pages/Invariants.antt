@@ -10,8 +10,9 @@ use Rattle.dbwalk.specs.Found.{StandsAt}
 use Rattle.dbwalk.specs.Marking.{AreMarksOf}
 use Rattle.dbwalk.specs.Reads.{Reads}
 use Rattle.dbwalk.specs.RootRoom.{StartsEmpty}
-use Rattle.dbtrace.specs.Starts.{AreOfEarlierStarts}
-use Rattle.dbwalk.specs.WalkGiven.{IsGivenWalk}
+use Rattle.dbwalk.specs.Entered.{IsNext}
+use Rattle.dbwalk.specs.WalkingOn.{IsWalkingOn}
+use Rattle.dbwalk.specs.Watching.{watches}
 use Rattle.dbwalk.specs.Walking.{IsCandidate, AreOpen, path_of, cost}
 use Rattle.dbwalk.specs.declared.frame.Frame.{Frame}
 use Rattle.dbwalk.proofs.tree.walk_pages.Given as goal
@@ -30,8 +31,8 @@ invariant-loop-frame g l = record {
   others : 1 ≤ l.fn.tree.start → l.taker ≡ l.fn.taker;
   log : HasLog g.S.Source.step (Reads l.fn.bench.geometry.page_size l.fn.marks l.marks) (λ file. l.fn.bench.geometry ≡ geometry file → l.fn.encoding ≡ encoding file → (W : List Reference) (c : Reference)
       → IsCandidate l.fn.tree.kind l.fn.tree.start [] l.fn.page 0 l.fn.tree.start c → StandsAt l.fn.bench.levels 0 (page_bytes file l.fn.page) → is_followed (rules_of file) W c ≡ true
-      → AreOfEarlierStarts l.fn.tree.start W → AreMarksOf file (W ++ (c ∷ [])) l.fn.marks → (held : g.row.T.Denot → ℕ) → (l.fn.tree.start ≡ schema_start → StartsEmpty g.T.Taker.takes held l.fn.taker)
-      → IsGivenWalk g.K.Sink.takes g.T.Taker.takes file l.fn.tree.kind W c l.fn.sink l.frames.items l.bench.levels l.marks l.tree.greatest l.tree.leaf l.sink l.fn.taker l.taker)
+      → IsNext W c → AreMarksOf file (W ++ (c ∷ [])) l.fn.marks → (held : g.row.T.Denot → ℕ) → (l.fn.tree.start ≡ schema_start → StartsEmpty g.T.Taker.takes held l.fn.taker)
+      → IsWalkingOn (watches g.K.Sink.takes g.T.Taker.takes) file W c (l.fn.sink, l.fn.taker) (l.frames.items, l.bench.levels) (l.marks, l.tree) (l.sink, l.taker))
       (g.S.Source.held l.fn.source) (g.S.Source.held l.source);
 }
 

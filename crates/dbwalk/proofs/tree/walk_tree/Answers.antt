@@ -1,31 +1,24 @@
-use Rattle.std.proofs.Common.{rules, ◌≡◌, ◌-◌, ◌<◌, ◌≤◌, [], ◌∷◌, ◌++◌, set, Some, None, Ok, Err, inl, inr, refl, sym, ap, subst, arith, ◌∙◌}
+use Rattle.std.proofs.Common.{rules, ◌≡◌, ◌-◌, ◌<◌, ◌≤◌, [], set, Some, Ok, Err, inl, inr, refl, sym, ap, subst, arith, ◌∙◌}
 use Rattle.std.specs.Prelude.{IfErr}
 use Rattle.std.proofs.lemmas.Result.{err_from_is_err_and}
-use Rattle.dbsurvey.specs.Story.{Go}
 use Rattle.dbformat.specs.File.{page_bytes}
 use Rattle.dbsource.specs.Bench.{bytes_at}
 use Rattle.dbsource.specs.Errors.{is_read_failed}
 use Rattle.dbsource.specs.Failures.{failures_after}
 use Rattle.dbsource.specs.declared.error.RunError.TheVariants.{ReadFailed}
-use Rattle.dbwalk.specs.Done.{IsDone}
 use Rattle.dbwalk.specs.Entered.{Enters}
-use Rattle.dbtrace.specs.Finding.{visited_below}
 use Rattle.dbwalk.specs.Found.{StandsAt}
 use Rattle.dbwalk.specs.Marking.{page_mark}
 use Rattle.dbwalk.specs.Outcomes.{IsReadOrWrite}
 use Rattle.dbwalk.specs.Roots.{kind_of, kind_in}
-use Rattle.dbtrace.specs.Starts.{AreOfEarlierStarts}
-use Rattle.dbwalk.specs.Taking.{readable_rows}
-use Rattle.dbwalk.specs.WalkGiven.{IsTreeDone}
+use Rattle.dbwalk.specs.Done.{IsTreeDone}
 use Rattle.dbwalk.specs.declared.mark.Mark.TheVariants.{Unmarked}
 use Rattle.dbwalk.proofs.Chaining.Overflows.{page_read}
 use Rattle.dbwalk.proofs.Marking.Readings.{log_load, log_none, log_page, log_then}
 use Rattle.dbwalk.proofs.Pages.Levels.{geometry_kept, read_there}
-use Rattle.dbwalk.proofs.Rows.EntryRows.{entry_refused}
-use Rattle.dbwalk.proofs.Rows.TreeRows.{root_given, rows_walked}
-use Rattle.dbwalk.proofs.Rows.Takings.{giving_none}
-use Rattle.dbwalk.proofs.Trees.Arrivals.{refused_passed, refused_stop, unread_stop}
-use Rattle.dbwalk.proofs.Trees.TreeLoop.{candidate_as, root_next, root_running, passed_root, stopped_root}
+use Rattle.dbwalk.proofs.Trees.Arrivals.{root_address}
+use Rattle.dbwalk.proofs.Trees.TreeLoop.{candidate_as, root_next}
+use Rattle.dbwalk.proofs.Underway.WalkedTrees.{tree_done, tree_refused, tree_unread}
 use Rattle.dbwalk.proofs.tree.walk_tree.Goals as goal
 
 pub returns-in_err-enter-clause-asks : goal.returns-in_err-enter-clause-asks
@@ -36,13 +29,10 @@ returns-in_err-enter-clause-asks g c =
           let root = c.args.root in
           let is = c.tree_step-step.ensures.step (kind_in file root) root.start [] d refl at.candidate in
           let next = root_next file (kind_in file root) root.start root.page 0 root.start W d at.candidate at.early in
-          let run = root_running file (kind_in file root) root.start root.page 0 root.start W d at.candidate at.early in
-          subst (λ r. IsTreeDone g.K.Sink.takes g.K.Sink.drops g.T.Taker.takes g.T.Taker.refuses file W d r c.enter.new.marks c.args.sink.now c.enter.new.sink c.args.taker.now c.args.taker.now) (sym (q.1 ∙ ap Err q.2)) (record {
-            done = stopped_root g.K.Sink.takes g.K.Sink.drops file (kind_in file root) W d c.args.sink.now c.args.bench.now.levels c.enter.new.marks None None c.enter.new.sink c.in_err-enter.field-0.0
-                (refused_stop g.K.Sink.takes g.K.Sink.drops file W (kind_in file root) root.start [] root.page 0 root.start d at.candidate next None None run c.args.sink.now c.in_err-enter.field-0.0 c.enter.new.marks c.enter.new.sink
-                (c.in_err-enter.ensures.entered file W d is next at.marked));
-            given = λ z. giving_none g.T.Taker.takes g.T.Taker.refuses c.in_err-enter.field-0.0 c.args.taker.now (readable_rows file (W ++ visited_below file W (Go d ∷ []))) (inr c.in_err-enter.ensures.after_error.0);
-          }));
+          let one = root_address d.address root.start at.candidate.depth at.candidate.start in
+          subst (λ r. IsTreeDone g.K.Sink.takes g.K.Sink.drops g.T.Taker.takes g.T.Taker.refuses file W d r c.enter.new.marks c.args.sink.now c.enter.new.sink c.args.taker.now c.args.taker.now) (sym (q.1 ∙ ap Err q.2))
+          (let n = c.in_err-enter.ensures.entered file W d is next at.marked in
+          tree_refused g.K.Sink.takes g.K.Sink.drops g.T.Taker.takes g.T.Taker.refuses file root.start W d one at.early (Err c.in_err-enter.field-0.0) c.enter.new.marks c.args.sink.now c.enter.new.sink c.args.taker.now (inr c.in_err-enter.ensures.after_error.0) n.0 n.1 n.2));
       count = subst (λ r. (g.S.Source.held c.args.source.now).failures ≡ failures_after is_read_failed r (g.S.Source.held c.args.source.now).failures) (sym (q.1 ∙ ap Err (q.2 ∙ c.in_err-enter.ensures.after_error.0))) refl;
     }
 
@@ -57,15 +47,9 @@ returns-then-not-branch-clause-asks g c = record {
       let root = c.args.root in
       let is = c.tree_step-step.ensures.step (kind_in file root) root.start [] d refl at.candidate in
       let next = root_next file (kind_in file root) root.start root.page 0 root.start W d at.candidate at.early in
-      let run = root_running file (kind_in file root) root.start root.page 0 root.start W d at.candidate at.early in
+      let one = root_address d.address root.start at.candidate.depth at.candidate.start in
       let none = subst (λ b. Enters g.K.Sink.takes g.K.Sink.drops file W d (Ok b) c.enter.new.marks c.args.sink.now c.enter.new.sink) c.if-not-branch.true (c.in_ok-enter.ensures.entered file W d is next at.marked) in
-      record {
-        done = passed_root g.K.Sink.takes g.K.Sink.drops file (kind_in file root) W d c.args.sink.now c.args.bench.now.levels c.enter.new.marks None None c.enter.new.sink
-            (refused_passed g.K.Sink.takes g.K.Sink.drops file W (kind_in file root) root.start [] root.page 0 root.start d at.candidate next None None run c.args.sink.now c.enter.new.marks c.enter.new.sink none);
-        given = λ z. rows_walked g.T.Taker.takes file (kind_in file root) root.start root.page 0 root.start W d at.candidate at.early c.args.taker.now c.args.taker.now z
-            (entry_refused g.T.Taker.takes g.T.Taker.refuses held file (kind_in file root) root.start [] root.page 0 root.start d at.candidate W None None run c.args.taker.now c.args.taker.now
-            (root_given g.T.Taker.takes file (kind_in file root) root.start root.page 0 root.start W d at.candidate at.early c.args.taker.now held (λ z. empty (c.requires.schema.1 z))) z none.0);
-      });
+      tree_refused g.K.Sink.takes g.K.Sink.drops g.T.Taker.takes g.T.Taker.refuses file root.start W d one at.early (Ok tt) c.enter.new.marks c.args.sink.now c.enter.new.sink c.args.taker.now tt none.0 none.1 none.2);
   count = refl;
 }
 
@@ -82,14 +66,11 @@ returns-in_err-load-clause-asks g c =
           let root = c.args.root in
           let is = c.tree_step-step.ensures.step (kind_in file root) root.start [] d refl at.candidate in
           let next = root_next file (kind_in file root) root.start root.page 0 root.start W d at.candidate at.early in
-          let run = root_running file (kind_in file root) root.start root.page 0 root.start W d at.candidate at.early in
+          let one = root_address d.address root.start at.candidate.depth at.candidate.start in
           let n = subst (λ b. Enters g.K.Sink.takes g.K.Sink.drops file W d (Ok b) c.enter.new.marks c.args.sink.now c.enter.new.sink) c.if-not-branch.false (c.in_ok-enter.ensures.entered file W d is next at.marked) in
-          subst (λ r. IsTreeDone g.K.Sink.takes g.K.Sink.drops g.T.Taker.takes g.T.Taker.refuses file W d r c.enter.new.marks c.args.sink.now c.enter.new.sink c.args.taker.now c.args.taker.now) (sym (q.1 ∙ ap Err q.2)) (record {
-            done = subst (λ s. IsDone {A = Unit {0}} g.K.Sink.takes g.K.Sink.drops file W (Go d ∷ []) (Err ReadFailed) c.enter.new.marks c.args.sink.now s) n.2
-                (stopped_root g.K.Sink.takes g.K.Sink.drops file (kind_in file root) W d c.args.sink.now c.args.bench.now.levels c.enter.new.marks None None c.args.sink.now ReadFailed
-                (unread_stop g.K.Sink.takes g.K.Sink.drops file W (kind_in file root) root.start [] root.page 0 root.start d at.candidate next None None run c.args.sink.now n.0 ReadFailed c.enter.new.marks refl));
-            given = λ z. giving_none g.T.Taker.takes g.T.Taker.refuses ReadFailed c.args.taker.now (readable_rows file (W ++ visited_below file W (Go d ∷ []))) (inl refl);
-          }));
+          subst (λ r. IsTreeDone g.K.Sink.takes g.K.Sink.drops g.T.Taker.takes g.T.Taker.refuses file W d r c.enter.new.marks c.args.sink.now c.enter.new.sink c.args.taker.now c.args.taker.now) (sym (q.1 ∙ ap Err q.2))
+          (subst (λ s. IsTreeDone g.K.Sink.takes g.K.Sink.drops g.T.Taker.takes g.T.Taker.refuses file W d (Err ReadFailed) c.enter.new.marks c.args.sink.now s c.args.taker.now c.args.taker.now) n.2
+          (tree_unread g.K.Sink.takes g.K.Sink.drops g.T.Taker.takes g.T.Taker.refuses file root.start W d one at.early c.enter.new.marks c.args.sink.now c.args.taker.now)));
       count = subst (λ r. (g.S.Source.held c.load.new.source).failures ≡ failures_after is_read_failed r (g.S.Source.held c.args.source.now).failures) (sym (q.1 ∙ ap Err q.2)) c.in_err-load.ensures.count;
     }
 
@@ -112,6 +93,7 @@ returns-clause-asks g c =
           let root = c.args.root in
           let is = c.tree_step-step.ensures.step (kind_in file root) root.start [] d refl at.candidate in
           let next = root_next file (kind_in file root) root.start root.page 0 root.start W d at.candidate at.early in
+          let one = root_address d.address root.start at.candidate.depth at.candidate.start in
           let t = c.new-tree.result in
           let same = page_read file read.bytes size root.page read.size h (sym (ap (λ s. s.page_size) e)) in
           let there : StandsAt c.load.new.self.levels 0 (page_bytes file root.page) = read_there c.args.bench.now c.load.new.self 0 low read.bytes read.only (page_bytes file root.page) same in
@@ -119,8 +101,9 @@ returns-clause-asks g c =
           let starts = c.new-tree.ensures.names.0 in
           let n = subst (λ b. Enters g.K.Sink.takes g.K.Sink.drops file W d (Ok b) c.enter.new.marks c.args.sink.now c.enter.new.sink) c.if-not-branch.false (c.in_ok-enter.ensures.entered file W d is next at.marked) in
           subst (λ s. IsTreeDone g.K.Sink.takes g.K.Sink.drops g.T.Taker.takes g.T.Taker.refuses file W d c.walk_pages.result c.walk_pages.new.marks s c.walk_pages.new.sink c.args.taker.now c.walk_pages.new.taker) (sym n.2)
+          (tree_done g.K.Sink.takes g.K.Sink.drops g.T.Taker.takes g.T.Taker.refuses file root.start W d one at.early c.walk_pages.result c.walk_pages.new.marks c.walk_pages.new.tree (c.enter.new.sink, c.args.taker.now) (c.walk_pages.new.sink, c.walk_pages.new.taker)
           (done (shape ∙ e) coded W d (candidate_as (kind_in file root) t.kind root.start t.start [] [] root.page root.page 0 root.start t.start d kinds starts refl refl starts at.candidate)
-          there n.0 (subst (λ k. AreOfEarlierStarts k W) (sym starts) at.early) n.1 held (λ z. empty (c.requires.schema.1 (sym starts ∙ z)))));
+          there n.0 next n.1 held (λ z. empty (c.requires.schema.1 (sym starts ∙ z))))));
       count = c.walk_pages.ensures.reads ∙ ap (failures_after is_read_failed c.walk_pages.result) c.in_ok-load.ensures.count;
     }
 

@@ -6,14 +6,18 @@ use Rattle.dbsource.proofs.Logs.{has_weaker}
 use Rattle.dbwalk.specs.Stack.{child_at, top_visit}
 use Rattle.dbformat.specs.Address.{schema_start}
 use Rattle.dbwalk.specs.Outcomes.{IsReadOrWrite}
-use Rattle.dbwalk.specs.WalkGiven.{IsGivenBefore, IsEntryDone, IsGivenWalk, IsTurnDone}
 use Rattle.dbwalk.specs.Walking.{IsOpen, AreOpen, cost}
 use Rattle.dbwalk.specs.declared.steps.Next.TheVariants.{Child}
 use Rattle.dbwalk.proofs.Trees.Frames.{open_kept, open_push, ends_on, ends_enter, path_last}
-use Rattle.dbwalk.proofs.Trees.TurnCalls.{child_asked}
-use Rattle.dbwalk.proofs.Rows.TurnRows.{before_child, past_child, in_child, stopped_child}
 use Rattle.dbwalk.proofs.Trees.TurnFrames.{at_step, step_on, as_deep, way_on}
-use Rattle.dbwalk.proofs.Trees.Turns.{next_here}
+use Rattle.dbwalk.specs.RootRoom.{HasRoom}
+use Rattle.dbwalk.specs.Underway.{HasDone, IsEntered, entered}
+use Rattle.dbwalk.specs.WalkingOn.{IsWalkingOn, tree_walk}
+use Rattle.dbwalk.specs.Watching.{StopsAt, fails, watches}
+use Rattle.dbwalk.proofs.Underway.RootRooms.{room_after}
+use Rattle.dbwalk.proofs.Underway.TreeSteps.{by_other}
+use Rattle.dbwalk.proofs.Underway.TreeTurns as turns
+use Rattle.dbwalk.proofs.Underway.TreeTurns.{turn_failed}
 use Rattle.dbwalk.proofs.tree_turn.enter_child.Goals as goal
 
 pub stepped-requires : goal.stepped-requires
@@ -39,22 +43,28 @@ pub returns-clause-others : goal.returns-clause-others
 returns-clause-others g c = λ l. ((c.in_ok-enter_page.ensures.others l).0, tt)
 
 pub returns-in_err-enter_page-clause-log : goal.returns-in_err-enter_page-clause-log
-returns-in_err-enter_page-clause-log g c = has_weaker _ _ c.in_err-enter_page.ensures.log (λ log r. r) (λ file h e coded W d before candidate held first empty walk.
+returns-in_err-enter_page-clause-log g c = has_weaker _ _ c.in_err-enter_page.ensures.log (λ log r. r) (λ file h e coded W d before candidate walk held empty.
     let t = c.args.tree.now in
     let b = c.args.bench.now in
     let fs = c.args.frames.now.items in
     let f = c.args.frame in
+    let m = c.args.marks.now in
+    let w : g.row.K.Denot × g.row.T.Denot = (c.args.sink.now, c.args.taker.now) in
+    let moves = watches g.K.Sink.takes g.T.Taker.takes in
     let on = c.stepped.result in
     let n = c.enter_page.new in
-    let q = err_from_is_err_and c.from_residual.result c.from_residual.ensures.1 in
+    let x : g.row.K.Denot × g.row.T.Denot = (n.sink, n.taker) in
+    let stops = fails g.K.Sink.drops g.T.Taker.refuses in
     let ways = c.push-2.ensures.items ∙ ap (λ l. l ++ (f.next / 3 ∷ [])) c.requires.path in
-    let child = next_here g.K.Sink.takes g.K.Sink.drops file t.kind t.start W d candidate before b.levels fs f c.args.marks.now t.greatest t.leaf c.args.sink.now walk.walking b.geometry.usable (ap (λ s. s.usable) e) (Child c.args.page) c.requires.child in
-    let entry = child_asked g.K.Sink.takes g.K.Sink.drops file t.kind t.start W d candidate before b.levels fs f c.args.marks.now t.greatest t.leaf c.args.sink.now walk.walking on c.stepped.ensures.page c.stepped.ensures.next c.args.page child
-    c.push-2.new.self.items ways (λ V r. (held : g.row.T.Denot → ℕ) (first : g.row.T.Denot) → (t.start ≡ schema_start → IsGivenBefore g.T.Taker.takes held file V r.address first c.args.taker.now)
-    → IsEntryDone g.K.Sink.takes g.K.Sink.drops g.T.Taker.takes g.T.Taker.refuses file V r (Err c.in_err-enter_page.field-0.0) n.bench.levels n.marks n.tree.greatest n.tree.leaf c.args.sink.now n.sink first n.taker)
-    (h e coded) held first (before_child g.K.Sink.takes g.K.Sink.drops g.T.Taker.takes g.T.Taker.refuses file t.kind t.start W d candidate before b.levels fs f c.args.marks.now t.greatest t.leaf c.args.sink.now first c.args.taker.now walk on c.stepped.ensures.page c.stepped.ensures.next c.args.page child held empty) in
-    subst (λ r. IsTurnDone g.K.Sink.takes g.K.Sink.drops g.T.Taker.takes g.T.Taker.refuses file t.kind W d r before c.push.new.self.items n.bench.levels n.marks n.tree.greatest n.tree.leaf n.sink first n.taker) (sym (q.1 ∙ ap Err q.2))
-    (stopped_child g.K.Sink.takes g.K.Sink.drops g.T.Taker.takes g.T.Taker.refuses file t.kind t.start W d candidate before b.levels fs f c.args.marks.now t.greatest t.leaf c.args.sink.now first c.args.taker.now walk on c.stepped.ensures.page c.stepped.ensures.next c.args.page child n.bench.levels n.marks n.tree.greatest n.tree.leaf n.sink n.taker c.in_err-enter_page.field-0.0 entry))
+    let deep = as_deep fs f on c.stepped.ensures.next c.push-2.new.self.items ways in
+    let here = turns.next_here moves file W d before b.levels fs f m t w walk candidate b.geometry.usable (ap (λ s. s.usable) e) (Child c.args.page) c.requires.child in
+    let asked = turns.child_asked moves file W d before b.levels fs f m t w walk candidate on c.stepped.ensures.page c.stepped.ensures.next c.args.page here c.push-2.new.self.items ways
+    (λ V r. (held : g.row.T.Denot → ℕ) → (t.start ≡ schema_start → HasRoom g.T.Taker.takes held V.state.roots c.args.taker.now)
+    → HasDone moves stops file (entered file V r (Err c.in_err-enter_page.field-0.0)) (Err c.in_err-enter_page.field-0.0) (n.marks, n.tree) w x × IsEntered file V r (Err c.in_err-enter_page.field-0.0) n.bench.levels)
+    (h e coded) held (λ z. room_after g.K.Sink.takes g.K.Sink.drops g.T.Taker.takes g.T.Taker.refuses held walk.now.items before w walk.now.state.roots walk.roots (empty z) walk.under.handed) in
+    let q = err_from_is_err_and c.from_residual.result c.from_residual.ensures.1 in
+    turn_failed _ (λ e. StopsAt moves stops e before (tree_walk file W d).items x) c.from_residual.result c.in_err-enter_page.field-0.0 (q.1 ∙ ap Err q.2)
+    (turns.child_stopped moves file W d before b.levels fs f m t w walk candidate on c.stepped.ensures.page c.stepped.ensures.next c.args.page here stops n.marks n.tree x c.enter_page.ensures.tree.1 c.in_err-enter_page.field-0.0 asked.0))
 
 pub returns-then-not-branch-clause-open : goal.returns-then-not-branch-clause-open
 returns-then-not-branch-clause-open g c =
@@ -81,24 +91,32 @@ returns-then-not-branch-clause-ends g c =
     (ends_on c.args.marks.now c.enter_page.new.marks fs f c.stepped.result c.in_ok-enter_page.ensures.fewer.0 c.stepped.ensures.next s.most)
 
 pub returns-then-not-branch-clause-log : goal.returns-then-not-branch-clause-log
-returns-then-not-branch-clause-log g c = has_weaker _ _ c.in_ok-enter_page.ensures.log (λ log r. r) (λ file h e coded W d before candidate held first empty walk.
+returns-then-not-branch-clause-log g c = has_weaker _ _ c.in_ok-enter_page.ensures.log (λ log r. r) (λ file h e coded W d before candidate walk held empty.
     let t = c.args.tree.now in
     let b = c.args.bench.now in
     let fs = c.args.frames.now.items in
     let f = c.args.frame in
+    let m = c.args.marks.now in
+    let w : g.row.K.Denot × g.row.T.Denot = (c.args.sink.now, c.args.taker.now) in
+    let moves = watches g.K.Sink.takes g.T.Taker.takes in
     let on = c.stepped.result in
     let n = c.enter_page.new in
+    let x : g.row.K.Denot × g.row.T.Denot = (n.sink, n.taker) in
+    let stops = fails g.K.Sink.drops g.T.Taker.refuses in
     let ways = c.push-2.ensures.items ∙ ap (λ l. l ++ (f.next / 3 ∷ [])) c.requires.path in
     let deep = as_deep fs f on c.stepped.ensures.next c.push-2.new.self.items ways in
-    let child = next_here g.K.Sink.takes g.K.Sink.drops file t.kind t.start W d candidate before b.levels fs f c.args.marks.now t.greatest t.leaf c.args.sink.now walk.walking b.geometry.usable (ap (λ s. s.usable) e) (Child c.args.page) c.requires.child in
-    let asked = child_asked g.K.Sink.takes g.K.Sink.drops file t.kind t.start W d candidate before b.levels fs f c.args.marks.now t.greatest t.leaf c.args.sink.now walk.walking on c.stepped.ensures.page c.stepped.ensures.next c.args.page child
-    c.push-2.new.self.items ways (λ V r. (held : g.row.T.Denot → ℕ) (first : g.row.T.Denot) → (t.start ≡ schema_start → IsGivenBefore g.T.Taker.takes held file V r.address first c.args.taker.now)
-    → IsEntryDone g.K.Sink.takes g.K.Sink.drops g.T.Taker.takes g.T.Taker.refuses file V r (Ok c.in_ok-enter_page.field-0) n.bench.levels n.marks n.tree.greatest n.tree.leaf c.args.sink.now n.sink first n.taker)
-    (h e coded) held first (before_child g.K.Sink.takes g.K.Sink.drops g.T.Taker.takes g.T.Taker.refuses file t.kind t.start W d candidate before b.levels fs f c.args.marks.now t.greatest t.leaf c.args.sink.now first c.args.taker.now walk on c.stepped.ensures.page c.stepped.ensures.next c.args.page child held empty) in
-    let entry = subst (λ y. IsEntryDone g.K.Sink.takes g.K.Sink.drops g.T.Taker.takes g.T.Taker.refuses file walk.walking.U (child_at file t.kind (top_visit file t.kind d fs) f.next) (Ok y) n.bench.levels n.marks n.tree.greatest n.tree.leaf c.args.sink.now n.sink first n.taker) c.if-not-branch.true asked in
-    subst (λ l. IsGivenWalk g.K.Sink.takes g.T.Taker.takes file t.kind W d before l n.bench.levels n.marks n.tree.greatest n.tree.leaf n.sink first n.taker) (sym c.push.ensures.items)
-    (past_child g.K.Sink.takes g.K.Sink.drops g.T.Taker.takes g.T.Taker.refuses file t.kind t.start W d candidate before b.levels fs f c.args.marks.now t.greatest t.leaf c.args.sink.now first c.args.taker.now walk on c.stepped.ensures.page c.stepped.ensures.next c.args.page child
-    n.bench.levels n.marks n.tree.greatest n.tree.leaf n.sink n.taker (λ m l. c.enter_page.ensures.levels m (omega arith)) entry))
+    let here = turns.next_here moves file W d before b.levels fs f m t w walk candidate b.geometry.usable (ap (λ s. s.usable) e) (Child c.args.page) c.requires.child in
+    let asked = turns.child_asked moves file W d before b.levels fs f m t w walk candidate on c.stepped.ensures.page c.stepped.ensures.next c.args.page here c.push-2.new.self.items ways
+    (λ V r. (held : g.row.T.Denot → ℕ) → (t.start ≡ schema_start → HasRoom g.T.Taker.takes held V.state.roots c.args.taker.now)
+    → HasDone moves stops file (entered file V r (Ok c.in_ok-enter_page.field-0)) (Ok c.in_ok-enter_page.field-0) (n.marks, n.tree) w x × IsEntered file V r (Ok c.in_ok-enter_page.field-0) n.bench.levels)
+    (h e coded) held (λ z. room_after g.K.Sink.takes g.K.Sink.drops g.T.Taker.takes g.T.Taker.refuses held walk.now.items before w walk.now.state.roots walk.roots (empty z) walk.under.handed) in
+    let entry = subst (λ y. HasDone moves stops file (entered file walk.now (child_at file t.kind (top_visit file t.kind d fs) f.next) (Ok y)) (Ok y) (n.marks, n.tree) w x
+    × IsEntered file walk.now (child_at file t.kind (top_visit file t.kind d fs) f.next) (Ok y) n.bench.levels) c.if-not-branch.true asked in
+    let long = ap length c.push.ensures.items in (
+      by_other moves file W d before c.push.new.self.items b.levels n.bench.levels n.marks n.tree _ x refl refl refl (λ k l. c.enter_page.ensures.levels k (omega arith))
+          (subst (λ l. IsWalkingOn moves file W d before (l, b.levels) (n.marks, n.tree) x) (sym c.push.ensures.items) (turns.child_passed moves file W d before b.levels fs f m t w walk candidate on c.stepped.ensures.page c.stepped.ensures.next c.args.page here stops n.marks n.tree x c.enter_page.ensures.tree.1 entry.0)),
+      tt,
+    ))
 
 pub returns-clause-open : goal.returns-clause-open
 returns-clause-open g c =
@@ -138,21 +156,28 @@ returns-clause-ends g c =
     (ends_enter c.args.marks.now c.enter_page.new.marks fs f c.stepped.result (record { page = c.args.page; next = 0 }) (c.in_ok-enter_page.ensures.fewer.1 (search rules)) c.stepped.ensures.next s.most refl)
 
 pub returns-clause-log : goal.returns-clause-log
-returns-clause-log g c = has_weaker _ _ c.in_ok-enter_page.ensures.log (λ log r. r) (λ file h e coded W d before candidate held first empty walk.
+returns-clause-log g c = has_weaker _ _ c.in_ok-enter_page.ensures.log (λ log r. r) (λ file h e coded W d before candidate walk held empty.
     let t = c.args.tree.now in
     let b = c.args.bench.now in
     let fs = c.args.frames.now.items in
     let f = c.args.frame in
+    let m = c.args.marks.now in
+    let w : g.row.K.Denot × g.row.T.Denot = (c.args.sink.now, c.args.taker.now) in
+    let moves = watches g.K.Sink.takes g.T.Taker.takes in
     let on = c.stepped.result in
     let n = c.enter_page.new in
+    let x : g.row.K.Denot × g.row.T.Denot = (n.sink, n.taker) in
+    let stops = fails g.K.Sink.drops g.T.Taker.refuses in
     let ways = c.push-2.ensures.items ∙ ap (λ l. l ++ (f.next / 3 ∷ [])) c.requires.path in
     let deep = as_deep fs f on c.stepped.ensures.next c.push-2.new.self.items ways in
-    let child = next_here g.K.Sink.takes g.K.Sink.drops file t.kind t.start W d candidate before b.levels fs f c.args.marks.now t.greatest t.leaf c.args.sink.now walk.walking b.geometry.usable (ap (λ s. s.usable) e) (Child c.args.page) c.requires.child in
-    let asked = child_asked g.K.Sink.takes g.K.Sink.drops file t.kind t.start W d candidate before b.levels fs f c.args.marks.now t.greatest t.leaf c.args.sink.now walk.walking on c.stepped.ensures.page c.stepped.ensures.next c.args.page child
-    c.push-2.new.self.items ways (λ V r. (held : g.row.T.Denot → ℕ) (first : g.row.T.Denot) → (t.start ≡ schema_start → IsGivenBefore g.T.Taker.takes held file V r.address first c.args.taker.now)
-    → IsEntryDone g.K.Sink.takes g.K.Sink.drops g.T.Taker.takes g.T.Taker.refuses file V r (Ok c.in_ok-enter_page.field-0) n.bench.levels n.marks n.tree.greatest n.tree.leaf c.args.sink.now n.sink first n.taker)
-    (h e coded) held first (before_child g.K.Sink.takes g.K.Sink.drops g.T.Taker.takes g.T.Taker.refuses file t.kind t.start W d candidate before b.levels fs f c.args.marks.now t.greatest t.leaf c.args.sink.now first c.args.taker.now walk on c.stepped.ensures.page c.stepped.ensures.next c.args.page child held empty) in
-    let entry = subst (λ y. IsEntryDone g.K.Sink.takes g.K.Sink.drops g.T.Taker.takes g.T.Taker.refuses file walk.walking.U (child_at file t.kind (top_visit file t.kind d fs) f.next) (Ok y) n.bench.levels n.marks n.tree.greatest n.tree.leaf c.args.sink.now n.sink first n.taker) c.if-not-branch.false asked in
-    subst (λ l. IsGivenWalk g.K.Sink.takes g.T.Taker.takes file t.kind W d before l n.bench.levels n.marks n.tree.greatest n.tree.leaf n.sink first n.taker) (sym (c.push-3.ensures.items ∙ ap (λ l. l ++ (record { page = c.args.page; next = 0 } ∷ [])) c.push.ensures.items))
-    (in_child g.K.Sink.takes g.K.Sink.drops g.T.Taker.takes g.T.Taker.refuses file t.kind t.start W d candidate before b.levels fs f c.args.marks.now t.greatest t.leaf c.args.sink.now first c.args.taker.now walk on c.stepped.ensures.page c.stepped.ensures.next c.args.page child
-    n.bench.levels n.marks n.tree.greatest n.tree.leaf n.sink n.taker (λ m l. c.enter_page.ensures.levels m (omega arith)) entry (record { page = c.args.page; next = 0 }) refl refl))
+    let here = turns.next_here moves file W d before b.levels fs f m t w walk candidate b.geometry.usable (ap (λ s. s.usable) e) (Child c.args.page) c.requires.child in
+    let asked = turns.child_asked moves file W d before b.levels fs f m t w walk candidate on c.stepped.ensures.page c.stepped.ensures.next c.args.page here c.push-2.new.self.items ways
+    (λ V r. (held : g.row.T.Denot → ℕ) → (t.start ≡ schema_start → HasRoom g.T.Taker.takes held V.state.roots c.args.taker.now)
+    → HasDone moves stops file (entered file V r (Ok c.in_ok-enter_page.field-0)) (Ok c.in_ok-enter_page.field-0) (n.marks, n.tree) w x × IsEntered file V r (Ok c.in_ok-enter_page.field-0) n.bench.levels)
+    (h e coded) held (λ z. room_after g.K.Sink.takes g.K.Sink.drops g.T.Taker.takes g.T.Taker.refuses held walk.now.items before w walk.now.state.roots walk.roots (empty z) walk.under.handed) in
+    let entry = subst (λ y. HasDone moves stops file (entered file walk.now (child_at file t.kind (top_visit file t.kind d fs) f.next) (Ok y)) (Ok y) (n.marks, n.tree) w x
+    × IsEntered file walk.now (child_at file t.kind (top_visit file t.kind d fs) f.next) (Ok y) n.bench.levels) c.if-not-branch.false asked in (
+      subst (λ l. IsWalkingOn moves file W d before (l, n.bench.levels) (n.marks, n.tree) x) (sym (c.push-3.ensures.items ∙ ap (λ l. l ++ (record { page = c.args.page; next = 0 } ∷ [])) c.push.ensures.items))
+          (turns.child_entered moves file W d before b.levels fs f m t w walk candidate on c.stepped.ensures.page c.stepped.ensures.next c.args.page here stops n.marks n.tree x c.enter_page.ensures.tree.1 n.bench.levels (record { page = c.args.page; next = 0 }) refl refl (λ k l. c.enter_page.ensures.levels k (omega arith)) entry.0 (entry.1 (search rules))),
+      tt,
+    ))

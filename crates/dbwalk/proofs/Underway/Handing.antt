@@ -1,0 +1,112 @@
+-- Items that are handed to a sink and a taker, one list after another.
+use Rattle.std.proofs.Common.{◌≡◌, inl, inr, List, [], ◌∷◌, ◌++◌, map, Result, Ok, Err, refl, sym, ap, subst}
+use Rattle.dbsurvey.specs.Moves.{Moves, Stops, MovesBySome}
+use Rattle.dbsurvey.proofs.Moving.{Moves-append, some_none, some_first, some_after, stops_first, stops_after}
+use Rattle.dbformat.specs.SchemaRow.{SchemaRow}
+use Rattle.dbsource.specs.declared.error.RunError.{RunError}
+use Rattle.dbsource.specs.declared.error.RunError.TheVariants.{Refused, ReadFailed, WriteFailed, OutOfMemory}
+use Rattle.dbtrace.specs.Finding.{Finding}
+use Rattle.dbtrace.specs.Item.{Item, found, given, findings, given_rows}
+use Rattle.dbwalk.specs.Outcomes.{Tells}
+use Rattle.dbwalk.specs.Taking.{gives, Gives}
+use Rattle.dbwalk.specs.Watching.{watches, fails, StopsAt, Handed}
+use Rattle.dbwalk.specs.declared.taker.Taken.{Taken}
+
+module _ {P : Type 0} (moves : P → Item → P → Type 0) (stops : RunError → P → Item → P → Type 0) where
+  -- an error in the first of two lists
+  pub stop_first : (e : RunError) (w x : P) (L M : List Item) → StopsAt moves stops e w L x → StopsAt moves stops e w (L ++ M) x
+  stop_first (Refused r) w x L M h = some_first moves w x L M h
+  stop_first ReadFailed w x L M h = some_first moves w x L M h
+  stop_first OutOfMemory w x L M h = stops_first moves (stops OutOfMemory) w x L M h
+  stop_first WriteFailed w x L M h = stops_first moves (stops WriteFailed) w x L M h
+
+  -- some items, and then an error
+  pub stop_after : (e : RunError) (w m x : P) (L M : List Item) → Moves moves w L m → StopsAt moves stops e m M x → StopsAt moves stops e w (L ++ M) x
+  stop_after (Refused r) w m x L M h k = some_after moves w m x L M h k
+  stop_after ReadFailed w m x L M h k = some_after moves w m x L M h k
+  stop_after OutOfMemory w m x L M h k = stops_after moves (stops OutOfMemory) w m x L M h k
+  stop_after WriteFailed w m x L M h k = stops_after moves (stops WriteFailed) w m x L M h k
+
+  -- some items, and then those of a call
+  pub handed_after : {A : Type 0} (r : Result A RunError) (w m x : P) (L M : List Item) → Moves moves w L m → Handed moves stops r m M x → Handed moves stops r w (L ++ M) x
+  handed_after (Ok a) w m x L M h k = Moves-append moves w m x L M h k
+  handed_after (Err e) w m x L M h k = stop_after e w m x L M h k
+
+module _ {S T : Type 0} (takes drops : S → Finding → S → Type 0) (keeps : T → SchemaRow → Taken → T → Type 0) (refuses : T → SchemaRow → T → Type 0) where
+  abbrev moves : (S × T) → Item → (S × T) → Type 0
+  moves w i x = watches takes keeps w i x
+
+  -- findings alone, to the sink
+  pub found_moves : (fs : List Finding) (s s' : S) (t : T) → Moves takes s fs s' → Moves (watches takes keeps) (s, t) (map found fs) (s', t)
+  found_moves [] s s' t e = ap (λ m. (m, t)) e
+  found_moves (f ∷ fs) s s' t h = ((h.0, t), (h.1, refl), found_moves fs h.0 s' t h.2)
+
+  pub found_some : (fs : List Finding) (s s' : S) (t : T) → MovesBySome takes s fs s' → MovesBySome (watches takes keeps) (s, t) (map found fs) (s', t)
+  found_some [] s s' t e = ap (λ m. (m, t)) e
+  found_some (f ∷ fs) s s' t (inl e) = inl (ap (λ m. (m, t)) e)
+  found_some (f ∷ fs) s s' t (inr h) = inr ((h.0, t), (h.1, refl), found_some fs h.0 s' t h.2)
+
+  pub found_stops : (fs : List Finding) (s s' : S) (t : T) → Stops takes drops s fs s' → Stops (watches takes keeps) (fails drops refuses WriteFailed) (s, t) (map found fs) (s', t)
+  found_stops [] s s' t h = absurd h
+  found_stops (f ∷ fs) s s' t (inl h) = inl (h, refl)
+  found_stops (f ∷ fs) s s' t (inr h) = inr ((h.0, t), (h.1, refl), found_stops fs h.0 s' t h.2)
+
+  -- at Ok and after an error of reading or writing
+  pub found_handed : {A : Type 0} (r : Result A RunError) (fs : List Finding) (s s' : S) (t : T) → (r ≡ Err OutOfMemory → ⊥) → Tells takes drops r s fs s' → Handed (watches takes keeps) (fails drops refuses) r (s, t) (map found fs) (s', t)
+  found_handed (Ok a) fs s s' t quiet h = found_moves fs s s' t h
+  found_handed (Err (Refused e)) fs s s' t quiet h = found_some fs s s' t h
+  found_handed (Err ReadFailed) fs s s' t quiet h = found_some fs s s' t h
+  found_handed (Err OutOfMemory) fs s s' t quiet h = absurd (quiet refl)
+  found_handed (Err WriteFailed) fs s s' t quiet h = found_stops fs s s' t h
+
+  -- One list of items is both stories.
+
+  pub moves_both : (items : List Item) (w x : S × T) → Moves (watches takes keeps) w items x → Moves takes w.0 (findings items) x.0 × Moves (gives keeps) w.1 (given_rows items) x.1
+  moves_both [] w x e = (ap (λ p. p.0) e, ap (λ p. p.1) e)
+  moves_both (found f ∷ items) w x h =
+      let k = moves_both items h.0 x h.2 in
+      ((h.0.0, h.1.0, k.0), subst (λ t. Moves (gives keeps) t (given_rows items) x.1) (sym h.1.1) k.1)
+  moves_both (given row ∷ items) w x h =
+      let k = moves_both items h.0 x h.2 in
+      (subst (λ t. Moves takes t (findings items) x.0) (sym h.1.1) k.0, (h.0.1, h.1.0, k.1))
+
+  some_both : (items : List Item) (w x : S × T) → MovesBySome (watches takes keeps) w items x → MovesBySome takes w.0 (findings items) x.0 × MovesBySome (gives keeps) w.1 (given_rows items) x.1
+  some_both [] w x e = (ap (λ p. p.0) e, ap (λ p. p.1) e)
+  some_both (found f ∷ items) w x (inl e) = (inl (ap (λ p. p.0) e), subst (λ t. MovesBySome (gives keeps) w.1 (given_rows items) t) (ap (λ p. p.1) e) (some_none (gives keeps) w.1 (given_rows items)))
+  some_both (found f ∷ items) w x (inr h) =
+      let k = some_both items h.0 x h.2 in
+      (inr (h.0.0, h.1.0, k.0), subst (λ t. MovesBySome (gives keeps) t (given_rows items) x.1) (sym h.1.1) k.1)
+  some_both (given row ∷ items) w x (inl e) = (subst (λ t. MovesBySome takes w.0 (findings items) t) (ap (λ p. p.0) e) (some_none takes w.0 (findings items)), inl (ap (λ p. p.1) e))
+  some_both (given row ∷ items) w x (inr h) =
+      let k = some_both items h.0 x h.2 in
+      (subst (λ t. MovesBySome takes t (findings items) x.0) (sym h.1.1) k.0, inr (h.0.1, h.1.0, k.1))
+
+  write_both : (items : List Item) (w x : S × T) → Stops (watches takes keeps) (fails drops refuses WriteFailed) w items x → Stops takes drops w.0 (findings items) x.0 × MovesBySome (gives keeps) w.1 (given_rows items) x.1
+  write_both [] w x h = absurd h
+  write_both (found f ∷ items) w x (inl h) = (inl h.0, subst (λ t. MovesBySome (gives keeps) w.1 (given_rows items) t) h.1 (some_none (gives keeps) w.1 (given_rows items)))
+  write_both (found f ∷ items) w x (inr h) =
+      let k = write_both items h.0 x h.2 in
+      (inr (h.0.0, h.1.0, k.0), subst (λ t. MovesBySome (gives keeps) t (given_rows items) x.1) (sym h.1.1) k.1)
+  write_both (given row ∷ items) w x (inl h) = absurd h
+  write_both (given row ∷ items) w x (inr h) =
+      let k = write_both items h.0 x h.2 in
+      (subst (λ t. Stops takes drops t (findings items) x.0) (sym h.1.1) k.0, inr (h.0.1, h.1.0, k.1))
+
+  memory_both : (items : List Item) (w x : S × T) → Stops (watches takes keeps) (fails drops refuses OutOfMemory) w items x → MovesBySome takes w.0 (findings items) x.0 × Stops (gives keeps) refuses w.1 (given_rows items) x.1
+  memory_both [] w x h = absurd h
+  memory_both (found f ∷ items) w x (inl h) = absurd h
+  memory_both (found f ∷ items) w x (inr h) =
+      let k = memory_both items h.0 x h.2 in
+      (inr (h.0.0, h.1.0, k.0), subst (λ t. Stops (gives keeps) refuses t (given_rows items) x.1) (sym h.1.1) k.1)
+  memory_both (given row ∷ items) w x (inl h) = (subst (λ t. MovesBySome takes w.0 (findings items) t) h.1 (some_none takes w.0 (findings items)), inl h.0)
+  memory_both (given row ∷ items) w x (inr h) =
+      let k = memory_both items h.0 x h.2 in
+      (subst (λ t. MovesBySome takes t (findings items) x.0) (sym h.1.1) k.0, inr (h.0.1, h.1.0, k.1))
+
+  pub handed_both : {A : Type 0} (r : Result A RunError) (items : List Item) (w x : S × T) → Handed (watches takes keeps) (fails drops refuses) r w items x
+      → Tells takes drops r w.0 (findings items) x.0 × Gives keeps refuses r w.1 (given_rows items) x.1
+  handed_both (Ok a) items w x h = moves_both items w x h
+  handed_both (Err (Refused e)) items w x h = some_both items w x h
+  handed_both (Err ReadFailed) items w x h = some_both items w x h
+  handed_both (Err WriteFailed) items w x h = write_both items w x h
+  handed_both (Err OutOfMemory) items w x h = memory_both items w x h

@@ -1,0 +1,242 @@
+-- A cell of a leaf: its overflow chain, its row, where the tree is the schema's, and its key.
+use Rattle.std.proofs.Common.{◌≡◌, ℕ, ℤ, ◌≤◌, arith, true, false, not, inl, inr, List, [], ◌∷◌, ◌++◌, map, Option, Some, None, Result, Ok, Err, refl, sym, ap, subst, ◌∙◌}
+use Rattle.std.specs.Prelude.{OnOk, IfErr, is_some, option_and_then, ◌==◌}
+use Rattle.std.specs.Result.{result_ok}
+use Rattle.std.proofs.lemmas.Bool.{cases_Bool, eqb-true}
+use Rattle.std.proofs.lemmas.Bool.Decides.{nat_tests}
+use Rattle.std.proofs.lemmas.List.{append-nil}
+use Rattle.dbsurvey.specs.Moves.{Moves}
+use Rattle.dbsurvey.specs.Story.{Errand}
+use Rattle.dbformat.specs.Address.{start_of, then_step, overflow_step, schema_start}
+use Rattle.dbformat.specs.Cell.{Cell, cell}
+use Rattle.dbformat.specs.Errands.{cell_errands}
+use Rattle.dbformat.specs.Head.{View, is_interior}
+use Rattle.dbformat.specs.Header.{encoding}
+use Rattle.dbformat.specs.Reference.{Way, Reference}
+use Rattle.dbformat.specs.Schema.{SchemaCell, payload, schema_cell}
+use Rattle.dbformat.specs.SchemaRow.{SchemaRow, schema_row}
+use Rattle.dbformat.specs.Story.{Event, at_key}
+use Rattle.dbformat.specs.declared.Encoding.{Encoding}
+use Rattle.dbformat.specs.declared.TreeKind.{TreeKind}
+use Rattle.dbbytes.specs.declared.sieve.RowSieve.{RowSieve}
+use Rattle.dbsource.specs.declared.error.RunError.{RunError}
+use Rattle.dbsource.specs.declared.error.RunError.TheVariants.{OutOfMemory}
+use Rattle.dbtrace.specs.Finding.{Finding, told_below, visited_below}
+use Rattle.dbtrace.specs.Item.{Item, found, given}
+use Rattle.dbtrace.specs.Item as items
+use Rattle.dbtrace.specs.Progress.{rows_of}
+use Rattle.dbtrace.specs.Walk.{Walk, bare, advance}
+use Rattle.dbtrace.proofs.Asides.{are_aside}
+use Rattle.dbtrace.proofs.Stepping.{has_steps}
+use Rattle.dbwalk.specs.Done.{IsDone}
+use Rattle.dbwalk.specs.LeafCells.{overflow_errands, late_faults, top_after}
+use Rattle.dbwalk.specs.Marking.{AreMarksOf}
+use Rattle.dbwalk.specs.Outcomes.{IsReadOrWrite}
+use Rattle.dbwalk.specs.RootRoom.{HasRoom}
+use Rattle.dbwalk.specs.RowTold.{place_of, TellsRow}
+use Rattle.dbwalk.specs.Running.{AreBefore}
+use Rattle.dbwalk.specs.Sieving.{HasFed, HoldsCell, FeedsPayload}
+use Rattle.dbwalk.specs.Telling.{findings}
+use Rattle.dbwalk.specs.Underway.{IsAt, HasDone, done_below}
+use Rattle.dbwalk.specs.Watching.{watches, fails, StopsAt, Handed}
+use Rattle.dbwalk.specs.declared.mark.Mark.{Mark}
+use Rattle.dbwalk.specs.declared.schema_row.RowPlace.{RowPlace}
+use Rattle.dbwalk.specs.declared.state.Tree.{Tree}
+use Rattle.dbwalk.specs.declared.taker.Taken.{Taken}
+use Rattle.dbwalk.proofs.Leaves.LeafErrands.{own_errands, read_overflow, errands_split, quiet_overflow}
+use Rattle.dbwalk.proofs.Telling.Belows.{told_none}
+use Rattle.dbwalk.proofs.Underway.CellSteps.{row_items, order_faults_of, cell_items, greatest_behind, no_row_elsewhere}
+use Rattle.dbwalk.proofs.Underway.Dones.{bare_visits, done_then, done_stops}
+use Rattle.dbwalk.proofs.Underway.Handing.{found_handed, handed_after, stop_first}
+use Rattle.dbwalk.proofs.Underway.RowsTaken.{row_handed}
+
+-- items without rows are findings
+pub no_rows : (L : List Item) → items.given_rows L ≡ [] → L ≡ map found (items.findings L)
+no_rows [] e = refl
+no_rows (found f ∷ L) e = ap (λ l. found f ∷ l) (no_rows L e)
+no_rows (given row ∷ L) e = cc
+
+-- no error of reading or writing is one of memory
+pub quiet_of : (r : Result (Unit {0}) RunError) → IfErr r IsReadOrWrite → r ≡ Err OutOfMemory → ⊥
+quiet_of (Ok a) h e = cc
+quiet_of (Err e) (inl h) g = cc
+quiet_of (Err e) (inr h) g = cc
+
+-- the row of a readable cell of the schema's tree, by these visits
+abbrev pub rows_behind : List ℕ → List Reference → Reference → View → ℕ → Option Cell → List SchemaCell
+rows_behind file U c v i None = []
+rows_behind file U c v i (Some x) = rows_of file U c v (i, x)
+
+module _ (file : List ℕ) (from : Walk) (c : Reference) (kind : TreeKind) (v : View) (leaf : is_interior v.kind ≡ false) (i : ℕ)
+    (overflow : Option (ℕ × ℕ)) (overflow_is : overflow ≡ read_overflow (result_ok (cell v i))) (key : Option ℤ) (key_is : key ≡ option_and_then (λ c. c.key) (result_ok (cell v i))) where
+  abbrev chain : List (Errand Way Event)
+  chain = overflow_errands c i overflow
+
+  abbrev own : List (Errand Way Event)
+  own = own_errands c v i (result_ok (cell v i))
+
+  -- the walk behind the chain, and that behind the cell
+  abbrev m : Walk
+  m = done_below file from chain
+
+  abbrev rows : List SchemaCell
+  rows = rows_behind file m.visits c v i (result_ok (cell v i))
+
+  abbrev key_items : List Item
+  key_items = map found (findings (late_faults from.state.greatest c.page i key))
+
+  -- the chain leaves the progress, and gives no row
+  chained : (m.state ≡ from.state) × (m.items ≡ map found (told_below file from.visits chain))
+  chained = by_chain overflow
+    where
+      by_chain : (o : Option (ℕ × ℕ)) → ((done_below file from (overflow_errands c i o)).state ≡ from.state) × ((done_below file from (overflow_errands c i o)).items ≡ map found (told_below file from.visits (overflow_errands c i o)))
+      by_chain None = let none = (has_steps file).none (bare from) in (ap (λ w. w.state) none, ap (λ w. w.items) none ∙ ap (map found) (sym (told_none file from.visits)))
+      by_chain (Some o) =
+          let aside = are_aside file (bare from) _ refl in
+          (aside.state, no_rows (done_below file from (overflow_errands c i (Some o))).items aside.rows ∙ ap (map found) aside.findings_are)
+
+  visited : m.visits ≡ from.visits ++ visited_below file from.visits chain
+  visited = (has_steps file).visits (bare from) chain (quiet_overflow c i overflow)
+
+  -- and then the row and the key
+  record IsBehind (o : Option Cell) (w : Walk) : Type 0 where
+    visits : w.visits ≡ m.visits
+    greatest_is : w.state.greatest ≡ top_after from.state.greatest key
+    leaf_is : w.state.leaf ≡ from.state.leaf
+    items : w.items ≡ row_items from.state.roots (rows_behind file m.visits c v i o) ++ key_items
+
+  same_faults : (top o : Option ℤ) → order_faults_of true top c.page i o ≡ late_faults top c.page i o
+  same_faults top None = refl
+  same_faults top (Some value) = refl
+
+  behind : IsBehind (result_ok (cell v i)) (done_below file m own)
+  behind = by_cell (result_ok (cell v i)) key_is
+    where
+      by_cell : (o : Option Cell) → key ≡ option_and_then (λ c. c.key) o → IsBehind o (done_below file m (own_errands c v i o))
+      by_cell None e = subst (IsBehind None) (sym ((has_steps file).none (bare m))) (record {
+        visits = refl;
+        greatest_is = ap (λ p. p.greatest) chained.0 ∙ sym (ap (top_after from.state.greatest) e);
+        leaf_is = ap (λ p. p.leaf) chained.0;
+        items = sym (ap (λ k. map found (findings (late_faults from.state.greatest c.page i k))) e);
+      })
+      by_cell (Some x) e =
+          let U = m.visits ++ [] in
+          let here : rows_of file U c v (i, x) ≡ rows_of file m.visits c v (i, x) = ap (λ U. rows_of file U c v (i, x)) (append-nil m.visits) in
+          subst (IsBehind (Some x)) (sym ((has_steps file).event (bare m) _ [] refl ∙ (has_steps file).none (advance file (bare m) (at_key c v (i, x))))) (record {
+            visits = append-nil m.visits;
+            greatest_is = greatest_behind file c v i x (bare m) ∙ ap (λ p. top_after p.greatest x.key) chained.0 ∙ ap (top_after from.state.greatest) (sym e);
+            leaf_is = ap (λ p. p.leaf) chained.0;
+            items = cell_items file c v i x U m.state (rows_of file m.visits c v (i, x)) here
+                ∙ ap (λ p. row_items p.roots (rows_of file m.visits c v (i, x)) ++ map found (findings (order_faults_of (not (is_interior v.kind)) p.greatest c.page i x.key))) chained.0
+                ∙ ap (λ b. row_items from.state.roots (rows_of file m.visits c v (i, x)) ++ map found (findings (order_faults_of (not b) from.state.greatest c.page i x.key))) leaf
+                ∙ ap (λ fs. row_items from.state.roots (rows_of file m.visits c v (i, x)) ++ map found (findings fs)) (same_faults from.state.greatest x.key ∙ ap (late_faults from.state.greatest c.page i) (sym e));
+          })
+
+  split : cell_errands c kind v i ≡ chain ++ own
+  split = errands_split c kind v i overflow leaf overflow_is
+
+  -- the visits behind the cell are those of its chain
+  pub cell_visits : (done_below file from (cell_errands c kind v i)).visits ≡ from.visits ++ visited_below file from.visits chain
+  cell_visits = ap (λ es. (done_below file from es).visits) split ∙ ap (λ w. w.visits) ((has_steps file).join (bare from) chain own (quiet_overflow c i overflow)) ∙ bare_visits file m own ∙ behind.visits ∙ visited
+
+  module _ {S T : Type 0} (takes drops : S → Finding → S → Type 0) (keeps : T → SchemaRow → Taken → T → Type 0) (refuses : T → SchemaRow → T → Type 0) where
+    abbrev Does : Walk → Result (Unit {0}) RunError → List Mark × Tree → (S × T) → (S × T) → Type 0
+    Does done r now w x = HasDone (watches takes keeps) (fails drops refuses) file done r now w x
+
+    abbrev pub Whole : Result (Unit {0}) RunError → List Mark × Tree → (S × T) → (S × T) → Type 0
+    Whole r now w x = Does (done_below file from (cell_errands c kind v i)) r now w x
+
+    -- what the chain's call has done
+    chain_done : (r : Result (Unit {0}) RunError) (marks : List Mark) (tree : Tree) (s s' : S) (t : T) → IfErr r IsReadOrWrite → tree.greatest ≡ from.state.greatest → tree.leaf ≡ from.state.leaf
+        → IsDone takes drops file from.visits chain r marks s s' → Does m r (marks, tree) (s, t) (s', t)
+    chain_done r marks tree s s' t only top depth done = record {
+      at = by_ok r done.marked;
+      handed = subst (λ l. Handed (watches takes keeps) (fails drops refuses) r (s, t) l (s', t)) (sym chained.1) (found_handed takes drops keeps refuses r (told_below file from.visits chain) s s' t (quiet_of r only) done.told);
+    }
+      where
+        by_ok : (r : Result (Unit {0}) RunError) → OnOk r (AreMarksOf file (from.visits ++ visited_below file from.visits chain) marks) → OnOk r (IsAt file m marks tree)
+        by_ok (Ok a) h = (subst (λ U. AreMarksOf file U marks) (sym visited) h, top ∙ ap (λ p. p.greatest) (sym chained.0), depth ∙ ap (λ p. p.leaf) (sym chained.0))
+        by_ok (Err e) h = tt
+
+    -- it could not be walked to its end
+    pub chain_stops : (e : RunError) (marks : List Mark) (now : List Mark × Tree) (s s' : S) (t : T) → IsReadOrWrite e → (tree : Tree) → tree.greatest ≡ from.state.greatest → tree.leaf ≡ from.state.leaf
+        → IsDone {A = Unit {0}} takes drops file from.visits chain (Err e) marks s s' → Whole (Err e) now (s, t) (s', t)
+    chain_stops e marks now s s' t only tree top depth done = subst (λ es. Does (done_below file from es) (Err e) now (s, t) (s', t)) (sym split)
+        (done_stops (watches takes keeps) (fails drops refuses) file from e chain own (marks, tree) now (s, t) (s', t) (quiet_overflow c i overflow) (chain_done (Err e) marks tree s s' t only top depth done))
+
+    -- it was, and then row and key were handed out, or not
+    pub own_done : (r : Result (Unit {0}) RunError) (marks : List Mark) (old new : Tree) (s s' : S) (t : T) (x : S × T) → old.greatest ≡ from.state.greatest → old.leaf ≡ from.state.leaf → IsDone {A = Unit {0}} takes drops file from.visits chain (Ok tt) marks s s'
+        → Handed (watches takes keeps) (fails drops refuses) r (s', t) (row_items from.state.roots rows ++ key_items) x
+        → OnOk r ((new.greatest ≡ top_after old.greatest key) × (new.leaf ≡ old.leaf)) → Whole r (marks, new) (s, t) x
+    own_done r marks old new s s' t x top depth done handed tree_is = subst (λ es. Does (done_below file from es) r (marks, new) (s, t) x) (sym split)
+        (done_then (watches takes keeps) (fails drops refuses) file from tt r chain own (marks, old) (marks, new) (s, t) (s', t) x (quiet_overflow c i overflow) (chain_done (Ok tt) marks old s s' t tt top depth done) (record {
+          at = by_ok r tree_is;
+          handed = subst (λ l. Handed (watches takes keeps) (fails drops refuses) r (s', t) l x) (sym behind.items) handed;
+        }))
+      where
+        by_ok : (r : Result (Unit {0}) RunError) → OnOk r ((new.greatest ≡ top_after old.greatest key) × (new.leaf ≡ old.leaf)) → OnOk r (IsAt file (done_below file m own) marks new)
+        by_ok (Ok a) h = (subst (λ U. AreMarksOf file U marks) (sym (behind.visits ∙ visited)) done.marked, h.0 ∙ ap (λ top. top_after top key) top ∙ sym behind.greatest_is, h.1 ∙ depth ∙ sym behind.leaf_is)
+        by_ok (Err e) h = tt
+
+    -- the row: by the sieve that took the payload
+    module _ (held : T → ℕ) (t t' : T) (place : RowPlace) (p : ℕ) (place_is : place ≡ place_of p i key) (page : c.page ≡ p) (e : Encoding) (coded : e ≡ encoding file) (r : Result (Unit {0}) RunError) (s s' : S) (new : Option RowSieve)
+        (quiet : new ≡ None → (r ≡ Ok tt) × (s' ≡ s) × (t' ≡ t)) where
+      abbrev Rows : List SchemaCell → Type 0
+      Rows cells = Handed (watches takes keeps) (fails drops refuses) r (s, t) (row_items from.state.roots cells) (s', t')
+
+      none_handed : new ≡ None → Rows []
+      none_handed none = let q = quiet none in subst (λ r. Handed (watches takes keeps) (fails drops refuses) r (s, t) [] (s', t')) (sym q.0) (subst (λ s'. ◌≡◌ {A = S × T} (s, t) (s', t')) (sym q.1) (subst (λ t'. ◌≡◌ {A = S × T} (s, t) (s, t')) (sym q.2) refl))
+
+      -- in other trees there is none
+      no_row_handed : (start_of c.address == schema_start) ≡ false → new ≡ None → Rows rows
+      no_row_handed other none = subst Rows (sym (by_cell (result_ok (cell v i)))) (none_handed none)
+        where
+          by_cell : (o : Option Cell) → rows_behind file m.visits c v i o ≡ []
+          by_cell None = refl
+          by_cell (Some x) = no_row_elsewhere file m.visits c v (i, x) other
+
+      cell_row_handed : (start_of c.address == schema_start) ≡ true → HasRoom keeps held from.state.roots t → (old : Option RowSieve) → HoldsCell old e (result_ok (cell v i)) → AreBefore from.visits (then_step c.address (overflow_step i)) → FeedsPayload file from.visits c i overflow old new
+          → is_some new ≡ is_some old → ((size : ℕ) (e : Encoding) (bytes : List ℕ) → HasFed new size e bytes → TellsRow takes drops keeps refuses place (schema_row bytes size e) r s s' t t') → Rows rows
+      cell_row_handed schema room old holds before fed kept told = by_cell (result_ok (cell v i)) key_is holds
+        where
+          gone : (o : Option RowSieve) → is_some o ≡ false → o ≡ None
+          gone None e = refl
+          gone (Some s) e = cc
+
+          by_cell : (o : Option Cell) → key ≡ option_and_then (λ c. c.key) o → HoldsCell old e o → Rows (rows_behind file m.visits c v i o)
+          by_cell None key_is h = none_handed (gone new (kept ∙ ap is_some h))
+          by_cell (Some x) key_is h =
+              let bytes : payload file (from.visits ++ visited_below file from.visits chain) c.address i x ≡ payload file m.visits c.address i x = ap (λ U. payload file U c.address i x) (sym visited) in
+              let one : rows_of file m.visits c v (i, x) ≡ schema_cell file m.visits c (i, x) ∷ [] = rw (schema, leaf) refl in
+              let here : place ≡ place_of c.page i x.key = place_is ∙ ap (λ q. place_of q i key) (sym page) ∙ ap (place_of c.page i) key_is in
+              subst Rows (sym one) (row_handed takes drops keeps refuses held from.state.roots (schema_cell file m.visits c (i, x)) s s' t t' room r
+              (subst (λ q. TellsRow takes drops keeps refuses q (schema_row (payload file m.visits c.address i x) x.size (encoding file)) r s s' t t') here
+              (subst (λ e. TellsRow takes drops keeps refuses place (schema_row (payload file m.visits c.address i x) x.size e) r s s' t t') coded
+              (subst (λ b. TellsRow takes drops keeps refuses place (schema_row b x.size e) r s s' t t') bytes (told x.size e _ (fed.fed x e before h))))))
+
+      -- by the start of the tree
+      pub row_told : (k : ℕ) → start_of c.address ≡ k → (k ≡ schema_start → HasRoom keeps held from.state.roots t) → (old : Option RowSieve) → (k ≡ schema_start → HoldsCell old e (result_ok (cell v i))) → (1 ≤ k → old ≡ None)
+          → AreBefore from.visits (then_step c.address (overflow_step i)) → FeedsPayload file from.visits c i overflow old new → is_some new ≡ is_some old
+          → ((size : ℕ) (e : Encoding) (bytes : List ℕ) → HasFed new size e bytes → TellsRow takes drops keeps refuses place (schema_row bytes size e) r s s' t t') → Rows rows
+      row_told k start room old holds other before fed kept told = elim (cases_Bool (start_of c.address == schema_start)) [
+        | inl f ↦ (let z : k ≡ schema_start = sym start ∙ eqb-true (start_of c.address) schema_start f in cell_row_handed f (room z) old (holds z) before fed kept told)
+        | inr f ↦ no_row_handed f (gone new (kept ∙ ap is_some (other (later start f))))
+      ]
+        where
+          gone : (o : Option RowSieve) → is_some o ≡ false → o ≡ None
+          gone None e = refl
+          gone (Some s) e = cc
+
+          later : start_of c.address ≡ k → (start_of c.address == schema_start) ≡ false → 1 ≤ k
+          later e f = grind (arith, nat_tests)
+
+    -- the row could not be taken, or not all was told of it
+    pub row_stops : (e : RunError) (marks : List Mark) (old new : Tree) (s s' : S) (t : T) (x : S × T) → old.greatest ≡ from.state.greatest → old.leaf ≡ from.state.leaf → IsDone {A = Unit {0}} takes drops file from.visits chain (Ok tt) marks s s'
+        → StopsAt (watches takes keeps) (fails drops refuses) e (s', t) (row_items from.state.roots rows) x → Whole (Err e) (marks, new) (s, t) x
+    row_stops e marks old new s s' t x top depth done stops = own_done (Err e) marks old new s s' t x top depth done (stop_first (watches takes keeps) (fails drops refuses) e (s', t) x (row_items from.state.roots rows) key_items stops) tt
+
+    -- the key's fault was told, or not told whole
+    pub key_done : (r : Result (Unit {0}) RunError) (marks : List Mark) (old new : Tree) (s s' s'' : S) (t t' : T) (x : S × T) → old.greatest ≡ from.state.greatest → old.leaf ≡ from.state.leaf → IsDone {A = Unit {0}} takes drops file from.visits chain (Ok tt) marks s s'
+        → Moves (watches takes keeps) (s', t) (row_items from.state.roots rows) (s'', t') → Handed (watches takes keeps) (fails drops refuses) r (s'', t') key_items x
+        → OnOk r ((new.greatest ≡ top_after old.greatest key) × (new.leaf ≡ old.leaf)) → Whole r (marks, new) (s, t) x
+    key_done r marks old new s s' s'' t t' x top depth done moved handed tree_is = own_done r marks old new s s' t x top depth done (handed_after (watches takes keeps) (fails drops refuses) r (s', t) (s'', t') x (row_items from.state.roots rows) key_items moved handed) tree_is

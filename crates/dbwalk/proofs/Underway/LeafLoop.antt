@@ -1,0 +1,184 @@
+-- The loop over the cells of a leaf: it passes over some cells at once, and a call does one.
+use Rattle.std.proofs.Common.{◌≡◌, ℕ, ℤ, zero, suc, ◌+◌, ◌-◌, ◌<◌, ◌≤◌, false, inl, inr, List, [], ◌∷◌, ◌++◌, Option, Some, None, Result, Ok, Err, refl, sym, ap, subst, arith, ◌∙◌, append_assoc}
+use Rattle.std.specs.Prelude.{flat_map, option_and_then, ◌==◌, ◌⊎◌}
+use Rattle.std.specs.List.{range_with_len}
+use Rattle.std.specs.Result.{result_ok}
+use Rattle.std.proofs.lemmas.Bool.{cases_Bool, eqb-true}
+use Rattle.std.proofs.lemmas.Bool.Decides.{nat_tests}
+use Rattle.std.proofs.lemmas.Grind.{flat_map-append}
+use Rattle.dbsurvey.specs.Address.{IsIn, IsBefore}
+use Rattle.dbsurvey.specs.InOrder.{AreQuiet}
+use Rattle.dbsurvey.proofs.Order.{IsIn-cases, IsBefore-trans}
+use Rattle.dbformat.specs.Address.{start_of, then_step, overflow_step, schema_start}
+use Rattle.dbformat.specs.Cell.{cell, count}
+use Rattle.dbformat.specs.Errands.{cell_errands, errands_before}
+use Rattle.dbformat.specs.Head.{View, is_interior}
+use Rattle.dbformat.specs.Reference.{Reference}
+use Rattle.dbformat.specs.SchemaRow.{SchemaRow}
+use Rattle.dbformat.specs.Story.{own_visit}
+use Rattle.dbformat.specs.declared.TreeKind.{TreeKind}
+use Rattle.dbformat.proofs.Looping.{all_quiet, one_cell_more}
+use Rattle.dbsource.specs.declared.error.RunError.{RunError}
+use Rattle.dbtrace.specs.Finding.{Finding, visited_below}
+use Rattle.dbtrace.specs.Walk.{Walk, bare}
+use Rattle.dbtrace.proofs.Stepping.{has_steps}
+use Rattle.dbwalk.specs.KeySpans.{AreRisingFrom, ArePassedAt}
+use Rattle.dbwalk.specs.LeafCells.{overflow_errands}
+use Rattle.dbwalk.specs.RootRoom.{HasRoom}
+use Rattle.dbwalk.specs.Running.{AreBefore}
+use Rattle.dbwalk.specs.Underway.{IsAt, HasDone, done_below}
+use Rattle.dbwalk.specs.Walking.{IsLeafAt}
+use Rattle.dbwalk.specs.Watching.{watches, fails}
+use Rattle.dbwalk.specs.declared.mark.Mark.{Mark}
+use Rattle.dbwalk.specs.declared.state.Tree.{Tree}
+use Rattle.dbwalk.specs.declared.taker.Taken.{Taken}
+use Rattle.dbwalk.proofs.Leaves.LeafErrands.{read_overflow}
+use Rattle.dbwalk.proofs.Running.Places.{before_next, before_later}
+use Rattle.dbwalk.proofs.Telling.Belows.{visited_none, below_begins}
+use Rattle.dbwalk.proofs.Underway.Dones.{bare_visits, done_none, done_then, done_stops}
+use Rattle.dbwalk.proofs.Underway.LeafCellRuns.{cell_visits}
+use Rattle.dbwalk.proofs.Underway.PassedCells.{with_greatest, passed}
+use Rattle.dbwalk.proofs.Underway.RootRooms.{room_on}
+
+split_le : (s t : ℕ) → s ≤ t → (s ≡ t) ⊎ (s < t)
+split_le s t l = elim (cases_Bool (s == t)) [ inl e ↦ inl (eqb-true s t e) | inr e ↦ inr (grind (arith, nat_tests)) ]
+
+-- the part of the walk that is the first cells of a leaf
+abbrev pub cells_done : List ℕ → Walk → Reference → TreeKind → View → ℕ → Walk
+cells_done file from c kind v i = done_below file from (errands_before c kind v i)
+
+-- the visit of the leaf, where what a program has is the same
+pub leaf_as : (file : List ℕ) (kind kind' : TreeKind) (k k' : ℕ) (children children' : List ℕ) (levels levels' : List (List ℕ)) (p : ℕ) (c : Reference) → kind' ≡ kind → k' ≡ k → children' ≡ children → levels' ≡ levels → IsLeafAt file kind k children c levels p → IsLeafAt file kind' k' children' c levels' p
+leaf_as file kind kind' k k' children children' levels levels' p c a b d e at =
+    subst (λ kind. IsLeafAt file kind k' children' c levels' p) (sym a) (subst (λ k. IsLeafAt file kind k children' c levels' p) (sym b) (subst (λ children. IsLeafAt file kind k children c levels' p) (sym d) (subst (λ levels. IsLeafAt file kind k children c levels p) (sym e) at)))
+
+-- what is passed over, by the same bytes
+pub passed_same : (usable' usable : ℕ) (kind' kind : TreeKind) (levels' levels : List (List ℕ)) (level' level page from end : ℕ) (greatest after : Option ℤ) → usable' ≡ usable → kind' ≡ kind → levels' ≡ levels → level' ≡ level
+    → ArePassedAt usable' kind' levels' level' page from end greatest after → ArePassedAt usable kind levels level page from end greatest after
+passed_same usable' usable kind' kind levels' levels level' level page from end greatest after a b c d passed =
+    subst (λ u. ArePassedAt u kind levels level page from end greatest after) a (subst (λ k. ArePassedAt usable' k levels level page from end greatest after) b
+    (subst (λ ls. ArePassedAt usable' kind' ls level page from end greatest after) c (subst (λ l. ArePassedAt usable' kind' levels' l page from end greatest after) d passed)))
+
+-- cells from one on, behind those before it
+range_parts : (a n m : ℕ) → range_with_len a (n + m) ≡ range_with_len a n ++ range_with_len (a + n) m
+range_parts a zero m = let e : 0 + m ≡ m = omega arith in let f : a ≡ a + 0 = omega arith in ap (range_with_len a) e ∙ ap (λ b. range_with_len b m) f
+range_parts a (suc n) m = let e : suc n + m ≡ suc (n + m) = omega arith in let f : a + 1 + n ≡ a + suc n = omega arith in
+    ap (range_with_len a) e ∙ ap (λ l. a ∷ l) (range_parts (a + 1) n m ∙ ap (λ b. range_with_len (a + 1) n ++ range_with_len b m) f)
+
+pub cells_after : (c : Reference) (kind : TreeKind) (v : View) (i n : ℕ) → errands_before c kind v (i + n) ≡ errands_before c kind v i ++ flat_map (cell_errands c kind v) (range_with_len i n)
+cells_after c kind v i n = let e : 0 + i ≡ i = omega arith in
+    ap (flat_map (cell_errands c kind v)) (range_parts 0 i n ∙ ap (λ a. range_with_len 0 i ++ range_with_len a n) e) ∙ flat_map-append (cell_errands c kind v) (range_with_len 0 i) (range_with_len i n)
+
+module _ (file : List ℕ) (from : Walk) (c : Reference) (kind : TreeKind) (v : View) (leaf : is_interior v.kind ≡ false) where
+  abbrev D : ℕ → Walk
+  D i = cells_done file from c kind v i
+
+  quiet_before : (i : ℕ) → AreQuiet own_visit (errands_before c kind v i)
+  quiet_before i = all_quiet.1 c kind v i
+
+  -- all visits so far stand before the next cell
+  chain_before : (i : ℕ) (U : List Reference) (o : Option (ℕ × ℕ)) → AreBefore U (then_step c.address (overflow_step i)) → AreBefore (U ++ visited_below file U (overflow_errands c i o)) (then_step c.address (overflow_step (i + 1)))
+  chain_before i U o before u m = elim (IsIn-cases u U (visited_below file U (overflow_errands c i o)) m) [
+    | inl j ↦ before_later U (then_step c.address (overflow_step i)) (then_step c.address (overflow_step (i + 1))) (before_next c.address (overflow_step i) (overflow_step (i + 1)) [] (omega arith)) before u j
+    | inr j ↦ by_chain o j
+  ]
+    where
+      by_chain : (o : Option (ℕ × ℕ)) → IsIn u (visited_below file U (overflow_errands c i o)) → IsBefore u.address (then_step c.address (overflow_step (i + 1)))
+      by_chain None j = absurd (subst (λ L. IsIn u L) (visited_none file U) j)
+      by_chain (Some o) j =
+          let b = below_begins file U _ u j in
+          subst (λ a. IsBefore a (then_step c.address (overflow_step (i + 1)))) (sym (b.1 ∙ append_assoc c.address (overflow_step i ∷ []) b.0)) (before_next c.address (overflow_step i) (overflow_step (i + 1)) b.0 (omega arith))
+
+  pub next_before : (i : ℕ) → AreBefore (D i).visits (then_step c.address (overflow_step i)) → AreBefore (D (i + 1)).visits (then_step c.address (overflow_step (i + 1)))
+  next_before i before =
+      let o = read_overflow (result_ok (cell v i)) in
+      let more = ap (λ es. (done_below file from es).visits) (one_cell_more c kind v i) ∙ ap (λ w. w.visits) ((has_steps file).join (bare from) (errands_before c kind v i) (cell_errands c kind v i) (quiet_before i)) ∙ bare_visits file (D i) (cell_errands c kind v i)
+      ∙ cell_visits file (D i) c kind v leaf i o refl (option_and_then (λ c. c.key) (result_ok (cell v i))) refl in
+      subst (λ V. AreBefore V (then_step c.address (overflow_step (i + 1)))) (sym more) (chain_before i (D i).visits o before)
+
+  -- cells that are passed over
+  pub pass_is : (start_of c.address == schema_start) ≡ false → (i n : ℕ) → i + n ≤ count v → (after : Option ℤ) → AreRisingFrom v i n (D i).state.greatest after → D (i + n) ≡ with_greatest (D i) after
+  pass_is other i n l after rising = ap (done_below file from) (cells_after c kind v i n)
+      ∙ (has_steps file).join (bare from) (errands_before c kind v i) (flat_map (cell_errands c kind v) (range_with_len i n)) (quiet_before i) ∙ passed file c kind v leaf other n i (D i) after l rising
+
+  module _ {S T : Type 0} (takes drops : S → Finding → S → Type 0) (keeps : T → SchemaRow → Taken → T → Type 0) (refuses : T → SchemaRow → T → Type 0) (w : S × T) where
+    abbrev Does : Walk → Result (Unit {0}) RunError → List Mark × Tree → (S × T) → (S × T) → Type 0
+    Does done r now x y = HasDone (watches takes keeps) (fails drops refuses) file done r now x y
+
+    -- at the first cell
+    pub cells_start : (now : List Mark × Tree) → IsAt file from now.0 now.1 → Does (D 0) (Ok tt) now w w
+    cells_start now at = done_none (watches takes keeps) (fails drops refuses) file from tt now w at
+
+    -- a cell more
+    pub cells_more : (r : Result (Unit {0}) RunError) (i : ℕ) (mid now : List Mark × Tree) (x y : S × T) → Does (D i) (Ok tt) mid w x → Does (done_below file (D i) (cell_errands c kind v i)) r now x y → Does (D (i + 1)) r now w y
+    cells_more r i mid now x y h k = subst (λ es. Does (done_below file from es) r now w y) (sym (one_cell_more c kind v i))
+        (done_then (watches takes keeps) (fails drops refuses) file from tt r (errands_before c kind v i) (cell_errands c kind v i) mid now w x y (quiet_before i) h k)
+
+    -- an error in the first cells
+    pub cells_stop : (e : RunError) (i : ℕ) (mid now : List Mark × Tree) (x : S × T) → i ≤ count v → Does (D i) (Err e) mid w x → Does (D (count v)) (Err e) now w x
+    cells_stop e i mid now x l h =
+        let n : i + (count v - i) ≡ count v = omega arith in
+        subst (λ es. Does (done_below file from es) (Err e) now w x) (sym (cells_after c kind v i (count v - i)) ∙ ap (errands_before c kind v) n)
+        (done_stops (watches takes keeps) (fails drops refuses) file from e (errands_before c kind v i) (flat_map (cell_errands c kind v) (range_with_len i (count v - i))) mid now w x (quiet_before i) h)
+
+    -- the taker's room
+    pub room_more : (held : T → ℕ) (i : ℕ) (mid now : List Mark × Tree) (x y : S × T) → HasRoom keeps held (D i).state.roots x.1 → Does (done_below file (D i) (cell_errands c kind v i)) (Ok tt) now x y → HasRoom keeps held (D (i + 1)).state.roots y.1
+    room_more held i mid now x y room k =
+        let roots = ap (λ es. (done_below file from es).state.roots) (one_cell_more c kind v i) ∙ ap (λ w. w.state.roots) ((has_steps file).join (bare from) (errands_before c kind v i) (cell_errands c kind v i) (quiet_before i)) ∙ (has_steps file).roots (D i) (cell_errands c kind v i) in
+        room_on takes drops keeps refuses held (done_below file (D i) (cell_errands c kind v i)).items x y (D i).state.roots (D (i + 1)).state.roots roots room k.handed
+
+    -- The first cells are done, all visits stand before the next, and the taker of the schema's tree has its room.
+    module _ (held : T → ℕ) (k : ℕ) where
+      abbrev OnCells : ℕ → List Mark × Tree → (S × T) → Type 0
+      OnCells i now x = Does (D i) (Ok tt) now w x × AreBefore (D i).visits (then_step c.address (overflow_step i)) × (k ≡ schema_start → HasRoom keeps held (D i).state.roots x.1) × (i ≤ count v)
+
+      pub on_start : (now : List Mark × Tree) → IsAt file from now.0 now.1 → AreBefore from.visits (then_step c.address 0) → (k ≡ schema_start → HasRoom keeps held from.state.roots w.1) → OnCells 0 now w
+      on_start now at before room =
+          let none = (has_steps file).none (bare from) in (
+            cells_start now at,
+            subst (λ m. AreBefore m.visits (then_step c.address 0)) (sym none) before,
+            λ e. subst (λ m. HasRoom keeps held m.state.roots w.1) (sym none) (room e),
+            omega arith,
+          )
+
+      pub on_more : (i : ℕ) (mid now : List Mark × Tree) (x y : S × T) → i < count v → OnCells i mid x → Does (done_below file (D i) (cell_errands c kind v i)) (Ok tt) now x y → OnCells (i + 1) now y
+      on_more i mid now x y l on k = (
+        cells_more (Ok tt) i mid now x y on.0 k,
+        next_before i on.1,
+        λ e. room_more held i mid now x y (on.2 e) k,
+        omega arith,
+      )
+
+      pub on_stop : (e : RunError) (i : ℕ) (mid now : List Mark × Tree) (x y : S × T) → i < count v → OnCells i mid x → Does (done_below file (D i) (cell_errands c kind v i)) (Err e) now x y → Does (D (count v)) (Err e) now w y
+      on_stop e i mid now x y l on k = cells_stop e (i + 1) now now y (omega arith) (cells_more (Err e) i mid now x y on.0 k)
+
+      -- cells that are passed over
+      pub on_pass : (i end : ℕ) (marks : List Mark) (old new : Tree) (x : S × T) → i ≤ end → end ≤ count v → (i < end → (start_of c.address == schema_start) ≡ false) → AreRisingFrom v i (end - i) old.greatest new.greatest → new.leaf ≡ old.leaf
+          → OnCells i (marks, old) x → OnCells end (marks, new) x
+      on_pass i end marks old new x ahead within other rising deep on = by_gap (end - i) refl rising
+        where
+          same : (j : ℕ) → j ≡ i → new.greatest ≡ old.greatest → OnCells j (marks, new) x
+          same j e g = subst (λ j. OnCells j (marks, new) x) (sym e) (record { at = (on.0.at.0, g ∙ on.0.at.1, deep ∙ on.0.at.2); handed = on.0.handed }, on.1, on.2, on.3)
+
+          moved : (start_of c.address == schema_start) ≡ false → AreRisingFrom v i (end - i) old.greatest new.greatest → OnCells end (marks, new) x
+          moved f rising =
+              let n : i + (end - i) ≡ end = omega arith in
+              let all : D end ≡ with_greatest (D i) new.greatest = ap D (sym n) ∙ pass_is f i (end - i) (omega arith) new.greatest (subst (λ top. AreRisingFrom v i (end - i) top new.greatest) on.0.at.1 rising) in (
+                subst (λ m. Does m (Ok tt) (marks, new) w x) (sym all) (record { at = (on.0.at.0, refl, deep ∙ on.0.at.2); handed = on.0.handed }),
+                subst (λ m. AreBefore m.visits (then_step c.address (overflow_step end))) (sym all) (λ u j. by_end (overflow_step i) (overflow_step end) (omega arith) u (on.1 u j)),
+                λ e. subst (λ m. HasRoom keeps held m.state.roots x.1) (sym all) (on.2 e),
+                within,
+              )
+            where
+              by_end : (s t : ℕ) → s ≤ t → (u : Reference) → IsBefore u.address (then_step c.address s) → IsBefore u.address (then_step c.address t)
+              by_end s t l u h = elim (split_le s t l) [
+                | inl e ↦ subst (λ n. IsBefore u.address (then_step c.address n)) e h
+                | inr m ↦ IsBefore-trans u.address (then_step c.address s) (then_step c.address t) h (before_next c.address s t [] m)
+              ]
+
+          by_gap : (n : ℕ) → end - i ≡ n → AreRisingFrom v i (end - i) old.greatest new.greatest → OnCells end (marks, new) x
+          by_gap zero e rising = same end (omega arith) (subst (λ n. AreRisingFrom v i n old.greatest new.greatest) e rising)
+          by_gap (suc n) e rising = moved (other (omega arith)) rising
+
+      pub on_end : (now : List Mark × Tree) (x : S × T) (i : ℕ) → i ≡ count v → OnCells i now x → Does (D (count v)) (Ok tt) now w x
+      on_end now x i e on = subst (λ n. Does (D n) (Ok tt) now w x) e on.0

@@ -1,0 +1,233 @@
+-- One turn of the loop over the interior pages of a tree, by what the last frame's page has at its step.
+use Rattle.std.proofs.Common.{◌≡◌, ℕ, suc, ◌+◌, ◌-◌, ◌*◌, ◌/◌, ◌<◌, ◌≤◌, false, true, List, [], ◌∷◌, ◌++◌, map, length, Some, Ok, Err, Result, ℤ, refl, sym, ap, subst, arith, ◌∙◌}
+use Rattle.std.specs.Prelude.{slice_get, unwrap_or, OnOk, IfErr}
+use Rattle.std.specs.Option.{option_map_or}
+use Rattle.std.proofs.lemmas.List.{length-append}
+use Rattle.dbsurvey.specs.Moves.{Moves}
+use Rattle.dbsurvey.specs.Story.{Go}
+use Rattle.dbformat.specs.Address.{then_step, overflow_step, child_step, cell_of_step}
+use Rattle.dbformat.specs.Cell.{count, overflow_size, child_number}
+use Rattle.dbformat.specs.Errands.{tell_cell}
+use Rattle.dbformat.specs.File.{page_bytes}
+use Rattle.dbformat.specs.Head.{View, undamaged}
+use Rattle.dbformat.specs.Header.{usable_size}
+use Rattle.dbformat.specs.Reference.{first_overflow, Reference, role_of, tree_kind, tree_view}
+use Rattle.dbsource.specs.declared.error.RunError.{RunError}
+use Rattle.dbtrace.specs.Item.{Item, found}
+use Rattle.dbtrace.specs.Walk.{Walk}
+use Rattle.dbwalk.specs.Chains.{IsChainOf}
+use Rattle.dbwalk.specs.Entered.{IsNext}
+use Rattle.dbwalk.specs.LeafCells.{order_faults, top_after}
+use Rattle.dbwalk.specs.Running.{greater_key}
+use Rattle.dbwalk.specs.Stack.{errands_from, child_at, top_visit}
+use Rattle.dbwalk.specs.Steps.{IsChainAt, IsChildAt, IsKeyAt, IsEmptyAt, no_chain, no_child, unreadable, without_key, IsNextStep, HasNext}
+use Rattle.dbwalk.specs.Telling.{findings}
+use Rattle.dbwalk.specs.Underway.{IsAt, HasDone, IsInterior, done_below, entered}
+use Rattle.dbwalk.specs.Walking.{IsCandidate, IsLeafAt, path_of}
+use Rattle.dbwalk.specs.WalkingOn.{IsWalkingOn, tree_walk}
+use Rattle.dbwalk.specs.Watching.{StopsAt}
+use Rattle.dbwalk.specs.declared.chain.Chain.{Chain}
+use Rattle.dbwalk.specs.declared.frame.Frame.{Frame}
+use Rattle.dbwalk.specs.declared.mark.Mark.{Mark}
+use Rattle.dbwalk.specs.declared.state.Tree.{Tree}
+use Rattle.dbwalk.specs.declared.steps.Next.{Next}
+use Rattle.dbwalk.specs.declared.steps.Next.TheVariants.{Behind, Nothing}
+use Rattle.dbwalk.specs.declared.steps.Next.TheVariants as step
+use Rattle.dbwalk.proofs.Chaining.ChainStarts.{chain_start}
+use Rattle.dbwalk.proofs.Pages.PageTold.{view_is}
+use Rattle.dbwalk.proofs.Pages.PageVisits.{kind_is}
+use Rattle.dbwalk.proofs.Trees.Frames.{path_length}
+use Rattle.dbwalk.proofs.Trees.Stacking.{top_kind, step_no_chain, step_no_child, step_key, step_no_key, step_chain, step_child, step_end}
+use Rattle.dbwalk.proofs.Trees.TreeWays.{IsOnWay, child_candidate, top_candidate}
+use Rattle.dbwalk.proofs.Trees.Turns.{read_last, step_within}
+use Rattle.dbwalk.proofs.Underway.CellSteps.{order_faults_of}
+use Rattle.dbwalk.proofs.Underway.TreeSteps as steps
+
+module _ {P : Type 0} (moves : P → Item → P → Type 0) (file : List ℕ) (W : List Reference) (c : Reference) (before : P) (levels : List (List ℕ)) (fs : List Frame) (f : Frame) (marks : List Mark) (tree : Tree) (w : P)
+    (on : IsWalkingOn moves file W c before (fs ++ (f ∷ []), levels) (marks, tree) w) (candidate : IsCandidate tree.kind tree.start [] c.page 0 tree.start c) where
+  abbrev pub top : Reference
+  top = top_visit file tree.kind c fs
+
+  abbrev pub v : View
+  v = (steps.frames moves file W c before levels fs f marks tree w on).1.view
+
+  viewed : tree_view file top ≡ Some v
+  viewed = (steps.frames moves file W c before levels fs f marks tree w on).1.viewed
+
+  on_page : f.page ≡ top.page
+  on_page = (steps.frames moves file W c before levels fs f marks tree w on).1.page
+
+  role : tree_kind (role_of top) ≡ Some tree.kind
+  role = top_kind file tree.kind c fs (kind_is file tree.kind tree.start [] c.page 0 tree.start c candidate)
+
+  -- what the page is known to have at the step
+  pub next_here : (usable : ℕ) → usable ≡ usable_size file → (next : Next) → HasNext usable tree.kind levels (length fs) f.page f.next next → IsNextStep v f.next next
+  next_here usable usables next has = has.stands (page_bytes file f.page) v
+      (ap (slice_get levels) (let e : length fs ≡ 0 + length fs = omega arith in e) ∙ read_last file levels 0 fs f on.read)
+      (ap (λ u. undamaged tree.kind f.page u (page_bytes file f.page)) usables ∙ ap (λ p. undamaged tree.kind p (usable_size file) (page_bytes file p)) on_page
+      ∙ sym (view_is file top tree.kind role) ∙ viewed)
+
+  -- a frame that is left
+  pub turned_behind : child_step (count v) < f.next → IsWalkingOn moves file W c before (fs, levels) (marks, tree) w
+  turned_behind past = steps.on_end moves file W c before levels fs f marks tree w on (step_end file top tree.kind v role viewed f.next past)
+
+  way : IsOnWay file tree.kind tree.start [] fs c
+  way = top_candidate file tree.kind tree.start fs f [] c.page 0 tree.start c candidate on.calls
+
+  -- the visit of the frame, as that of a leaf
+  top_at : IsLeafAt file tree.kind tree.start (path_of fs) top levels f.page
+  top_at = record {
+    page = sym on_page;
+    kind_is = role;
+    start = way.candidate.start;
+    depth = way.candidate.depth;
+    path = way.candidate.path;
+    chain = way.candidate.chain;
+    bytes = ap (slice_get levels) (path_length fs ∙ (let e : length fs ≡ 0 + length fs = omega arith in e)) ∙ read_last file levels 0 fs f on.read;
+  }
+
+  module _ (g : Frame) (page : g.page ≡ f.page) (next : g.next ≡ suc f.next) where
+    -- a step at which nothing is
+    pub turned_empty : IsEmptyAt v f.next → IsWalkingOn moves file W c before (fs ++ (g ∷ []), levels) (marks, tree) w
+    turned_empty h = by_case h
+      where
+        within : suc f.next ≤ 3 * count v + 2
+        within = step_within v f.next Nothing (λ e. other e) h
+          where
+            other : Nothing ≡ Behind → ⊥
+            other e = cc
+
+        by_case : IsEmptyAt v f.next → IsWalkingOn moves file W c before (fs ++ (g ∷ []), levels) (marks, tree) w
+        by_case (no_chain n step l none) = steps.on_skip moves file W c before levels fs f marks tree w on g page next within
+            (subst (λ s. errands_from file top s ≡ errands_from file top (suc s)) (sym step) (step_no_chain file top tree.kind v role viewed n none))
+        by_case (no_child n step l none) = steps.on_skip moves file W c before levels fs f marks tree w on g page next within
+            (subst (λ s. errands_from file top s ≡ errands_from file top (suc s)) (sym step) (step_no_child file top tree.kind v role viewed n l none))
+        by_case (unreadable n b step l bad) = steps.on_skip moves file W c before levels fs f marks tree w on g page next within
+            (subst (λ s. errands_from file top s ≡ errands_from file top (suc s)) (sym step) (step_no_key file top tree.kind v role viewed n b bad))
+        by_case (without_key n x step l read none) = steps.on_cell moves file W c before levels fs f marks tree w on g page next within n x w
+            (subst (λ s. errands_from file top s ≡ tell_cell top v n x ∷ errands_from file top (suc s)) (sym step) (step_key file top tree.kind v role viewed n x l read))
+            tree refl (ap (λ o. top_after tree.greatest o) (sym none)) refl
+            (subst (λ o. Moves moves w (map found (findings (order_faults_of false tree.greatest top.page n o))) w) (sym none) refl)
+
+    -- a key
+    module _ (value : ℤ) (h : IsKeyAt v f.next value) (x : P) where
+      within_key : suc f.next ≤ 3 * count v + 2
+      within_key = step_within v f.next (step.Key value) (λ e. other e) h
+        where
+          other : step.Key value ≡ Behind → ⊥
+          other e = cc
+
+      key_errand : errands_from file top f.next ≡ tell_cell top v h.n h.x ∷ errands_from file top (suc f.next)
+      key_errand = subst (λ s. errands_from file top s ≡ tell_cell top v h.n h.x ∷ errands_from file top (suc s)) (sym h.step) (step_key file top tree.kind v role viewed h.n h.x h.low h.read)
+
+      told_key : order_faults false tree.greatest f.page (f.next / 3) value ≡ order_faults_of false tree.greatest top.page h.n h.x.key
+      told_key = ap (λ p. order_faults false tree.greatest p (f.next / 3) value) on_page ∙ ap (λ i. order_faults false tree.greatest top.page i value) (ap (λ s. s / 3) h.step ∙ item h.n)
+          ∙ ap (order_faults_of false tree.greatest top.page h.n) (sym h.key)
+        where
+          item : (n : ℕ) → (3 * n + 2) / 3 ≡ n
+          item n = omega arith
+
+      pub turned_key : (tree' : Tree) → tree'.kind ≡ tree.kind → tree'.greatest ≡ greater_key tree.greatest value → tree'.leaf ≡ tree.leaf → Moves moves w (map found (findings (order_faults false tree.greatest f.page (f.next / 3) value))) x
+          → IsWalkingOn moves file W c before (fs ++ (g ∷ []), levels) (marks, tree') x
+      turned_key tree' kinds tops leafs m = steps.on_cell moves file W c before levels fs f marks tree w on g page next within_key h.n h.x x key_errand tree' kinds (tops ∙ ap (top_after tree.greatest) (sym h.key)) leafs
+          (subst (λ l. Moves moves w (map found (findings l)) x) told_key m)
+
+      -- its fault could not be told
+      pub stopped_key : (stops : RunError → P → Item → P → Type 0) (e : RunError) → StopsAt moves stops e w (map found (findings (order_faults false tree.greatest f.page (f.next / 3) value))) x
+          → StopsAt moves stops e before (tree_walk file W c).items x
+      stopped_key stops e k = steps.cell_stopped moves file W c before levels fs f marks tree w on g page next within_key h.n h.x x key_errand stops e
+          (subst (λ l. StopsAt moves stops e w (map found (findings l)) x) told_key k)
+
+    -- an overflow chain
+    module _ (first left : ℕ) (h : IsChainAt v f.next first left) where
+      abbrev pub chained : Reference
+      chained = record { address = then_step top.address (overflow_step h.n); page = first; role = record { role = first_overflow left; from = top.page; item = h.n } }
+
+      chain_errand : errands_from file top f.next ≡ Go chained ∷ errands_from file top (suc f.next)
+      chain_errand = subst (λ l. errands_from file top f.next ≡ Go (record { address = then_step top.address (overflow_step h.n); page = first; role = record { role = first_overflow l; from = top.page; item = h.n } }) ∷ errands_from file top (suc f.next)) (sym h.rest)
+          (subst (λ s. errands_from file top s ≡ Go (record { address = then_step top.address (overflow_step h.n); page = first; role = record { role = first_overflow (overflow_size h.x); from = top.page; item = h.n } }) ∷ errands_from file top (suc s)) (sym h.step)
+          (step_chain file top tree.kind v role viewed h.n h.x first h.low h.read h.page))
+
+      within_chain : suc f.next ≤ 3 * count v + 2
+      within_chain = step_within v f.next (step.Chain first left) (λ e. other e) h
+        where
+          other : step.Chain first left ≡ Behind → ⊥
+          other e = cc
+
+      -- it is the one that a call is given, and all visits so far stand before it
+      pub chain_is : (chain : Chain) → chain.start ≡ tree.start → chain.path.now ≡ path_of fs → chain.page ≡ f.page → chain.cell ≡ f.next / 3 → chain.first ≡ first → chain.left ≡ left → IsChainOf chain chained
+      chain_is chain starts ways pages items ones rests = chain_start chain file tree.kind tree.start (path_of fs) top levels f.page h.n first left top_at starts ways pages (items ∙ ap (λ s. s / 3) h.step ∙ third h.n) ones rests
+        where
+          third : (n : ℕ) → (3 * n) / 3 ≡ n
+          third n = omega arith
+
+      pub chain_next : IsNext on.now.visits chained
+      chain_next = steps.next_is moves file W c before levels fs f marks tree w on g page next within_chain chained chain_errand
+
+      module _ (stops : RunError → P → Item → P → Type 0) (marks' : List Mark) (x : P) where
+        turned_chain : {A : Type 0} (a : A) → HasDone moves stops file (done_below file on.now (Go chained ∷ [])) (Ok a) (marks', tree) w x → IsWalkingOn moves file W c before (fs ++ (g ∷ []), levels) (marks', tree) x
+        turned_chain a done = steps.on_call moves file W c before levels fs f marks tree w on g page next within_chain chained chain_errand stops marks' tree x a refl done
+
+        stopped_chain : {A : Type 0} (e : RunError) → HasDone {A = A} moves stops file (done_below file on.now (Go chained ∷ [])) (Err e) (marks', tree) w x → StopsAt moves stops e before (tree_walk file W c).items x
+        stopped_chain e done = steps.call_stopped moves file W c before levels fs f marks tree w on g page next within_chain chained chain_errand stops marks' tree x e done
+
+        -- the walk goes on behind it, or not all of it could be done
+        pub past_chain : {A : Type 0} (r : Result A RunError) → HasDone moves stops file (done_below file on.now (Go chained ∷ [])) r (marks', tree) w x
+            → OnOk r (IsWalkingOn moves file W c before (fs ++ (g ∷ []), levels) (marks', tree) x) × IfErr r (λ e. StopsAt moves stops e before (tree_walk file W c).items x)
+        past_chain (Ok a) done = (turned_chain a done, tt)
+        past_chain (Err e) done = (tt, stopped_chain e done)
+
+    -- a child
+    module _ (number : ℕ) (h : IsChildAt v f.next number) where
+      abbrev pub d : Reference
+      d = child_at file tree.kind top f.next
+
+      child_errand : errands_from file top f.next ≡ Go d ∷ errands_from file top (suc f.next)
+      child_errand = subst (λ s. errands_from file top s ≡ Go (child_at file tree.kind top s) ∷ errands_from file top (suc s)) (sym h.step) (step_child file top tree.kind v role viewed h.n number h.low h.number)
+
+      number_is : d.page ≡ number
+      number_is = ap (λ o. option_map_or (λ v. unwrap_or (child_number v (cell_of_step f.next)) 0) o 0) viewed
+          ∙ ap (λ i. unwrap_or (child_number v i) 0) (ap (λ s. s / 3) h.step ∙ third h.n) ∙ ap (λ o. unwrap_or o 0) h.number
+        where
+          third : (n : ℕ) → (3 * n + 1) / 3 ≡ n
+          third n = omega arith
+
+      within_child : suc f.next ≤ 3 * count v + 2
+      within_child = step_within v f.next (step.Child number) (λ e. other e) h
+        where
+          other : step.Child number ≡ Behind → ⊥
+          other e = cc
+
+      child_is : IsCandidate tree.kind tree.start (path_of fs ++ (cell_of_step f.next ∷ [])) d.page top.page (cell_of_step f.next) d
+      child_is = child_candidate file tree.kind tree.start (path_of fs) way.p way.from way.item top way.candidate f.next h.n h.step
+
+      -- what is promised of it
+      pub child_asked : (children : List ℕ) → children ≡ path_of fs ++ (cell_of_step f.next ∷ []) → (X : Walk → Reference → Type 0)
+          → ((at : Walk) (e : Reference) → IsCandidate tree.kind tree.start children number f.page (f.next / 3) e → IsNext at.visits e → IsAt file at marks tree → X at e) → X on.now d
+      child_asked children ways X promised = promised on.now d
+          (subst (λ l. IsCandidate tree.kind tree.start l number f.page (f.next / 3) d) (sym ways)
+          (subst (λ p. IsCandidate tree.kind tree.start (path_of fs ++ (cell_of_step f.next ∷ [])) number p (f.next / 3) d) (sym on_page)
+          (subst (λ q. IsCandidate tree.kind tree.start (path_of fs ++ (cell_of_step f.next ∷ [])) q top.page (f.next / 3) d) number_is child_is)))
+          (steps.next_is moves file W c before levels fs f marks tree w on g page next within_child d child_errand) on.under.at
+
+      module _ (stops : RunError → P → Item → P → Type 0) (marks' : List Mark) (tree' : Tree) (x : P) (kinds : tree'.kind ≡ tree.kind) where
+        -- it is refused, damaged, or a leaf
+        pub child_passed : HasDone moves stops file (done_below file on.now (Go d ∷ [])) (Ok false) (marks', tree') w x → IsWalkingOn moves file W c before (fs ++ (g ∷ []), levels) (marks', tree') x
+        child_passed done = steps.on_call moves file W c before levels fs f marks tree w on g page next within_child d child_errand stops marks' tree' x false kinds done
+
+        -- not all of it could be read and told
+        pub child_stopped : {A : Type 0} (e : RunError) → HasDone {A = A} moves stops file (done_below file on.now (Go d ∷ [])) (Err e) (marks', tree') w x → StopsAt moves stops e before (tree_walk file W c).items x
+        child_stopped e done = steps.call_stopped moves file W c before levels fs f marks tree w on g page next within_child d child_errand stops marks' tree' x e done
+
+        -- it is an undamaged interior page
+        pub child_entered : (levels' : List (List ℕ)) (frame : Frame) → frame.page ≡ number → frame.next ≡ 0 → ((n : ℕ) → n < length (fs ++ (g ∷ [])) → slice_get levels' n ≡ slice_get levels n)
+            → HasDone moves stops file (entered file on.now d (Ok true)) (Ok true) (marks', tree') w x → IsInterior file on.now d levels'
+            → IsWalkingOn moves file W c before ((fs ++ (g ∷ [])) ++ (frame ∷ []), levels') (marks', tree') x
+        child_entered levels' frame pages start kept done inside = steps.on_enter moves file W c before levels fs f marks tree w on g page next within_child d child_errand stops marks' tree' x h.n frame levels' kinds h.step refl
+            (pages ∙ sym number_is) start
+            (let e = child_is.depth in let q = path_length fs in let m = length-append (path_of fs) (cell_of_step f.next ∷ []) in let n = length-append fs (g ∷ []) in
+            let o : length d.address - 1 ≡ length (fs ++ (g ∷ [])) = omega arith in o) kept done inside
+
+-- what a turn leaves where it failed
+pub turn_failed : {A E : Type 0} (Q : Type 0) (R : E → Type 0) (r : Result A E) (e : E) → r ≡ Err e → R e → OnOk r Q × IfErr r R
+turn_failed Q R r e q h = subst (λ r. OnOk r Q × IfErr r R) (sym q) (tt, h)

@@ -1,0 +1,114 @@
+-- A reference that is looked at: refused, or visited, where what its page leads to is done next.
+use Rattle.std.proofs.Common.{◌≡◌, ℕ, inl, Bool, true, false, List, [], ◌∷◌, ◌++◌, map, Option, Result, Ok, Err, refl, sym, ap, subst, ◌∙◌}
+use Rattle.std.specs.Prelude.{OnOk}
+use Rattle.std.proofs.lemmas.List.{append-nil}
+use Rattle.dbsurvey.specs.Moves.{Moves, Stops}
+use Rattle.dbsurvey.specs.Story.{Go, errands_of}
+use Rattle.dbsurvey.specs.Traverse.{is_followed}
+use Rattle.dbsurvey.proofs.Moving.{some_none}
+use Rattle.dbsurvey.proofs.Order.{IsBefore-beginning}
+use Rattle.dbformat.specs.Address.{then_step}
+use Rattle.dbformat.specs.Reference.{Reference}
+use Rattle.dbformat.specs.SchemaRow.{SchemaRow}
+use Rattle.dbformat.specs.Story.{at_page, at_refused, story_of}
+use Rattle.dbformat.specs.Survey.{rules_of}
+use Rattle.dbsource.specs.declared.error.RunError.{RunError}
+use Rattle.dbsource.specs.declared.error.RunError.TheVariants.{ReadFailed, WriteFailed, OutOfMemory}
+use Rattle.dbtrace.specs.Finding.{Finding, told_at}
+use Rattle.dbtrace.specs.Item.{Item, found}
+use Rattle.dbtrace.specs.Progress.{leaf_after}
+use Rattle.dbtrace.specs.Walk.{Walk, bare, advance, run_below}
+use Rattle.dbtrace.proofs.Stepping.{has_steps}
+use Rattle.dbwalk.specs.Entered.{IsNext}
+use Rattle.dbwalk.specs.Marking.{AreMarksOf}
+use Rattle.dbwalk.specs.Outcomes.{Tells}
+use Rattle.dbwalk.specs.PageRows.{page_findings}
+use Rattle.dbwalk.specs.Running.{AreBefore}
+use Rattle.dbwalk.specs.Underway.{IsAt, HasDone, done_below, entered, IsEntered}
+use Rattle.dbwalk.specs.Watching.{watches, fails, StopsAt, Handed}
+use Rattle.dbwalk.specs.declared.mark.Mark.{Mark}
+use Rattle.dbwalk.specs.declared.state.Tree.{Tree}
+use Rattle.dbwalk.specs.declared.taker.Taken.{Taken}
+use Rattle.dbwalk.proofs.Running.Places.{before_more}
+use Rattle.dbwalk.proofs.Underway.Dones.{done_none, done_on, stops_on}
+use Rattle.dbwalk.proofs.Underway.Handing.{found_moves, found_stops, found_handed}
+
+-- the walk behind the event of a refused reference, or of a visited page, with its items alone
+abbrev pub refused : List ℕ → Walk → Reference → Walk
+refused file from c = advance file (bare from) (at_refused c)
+
+abbrev pub visited : List ℕ → Walk → Reference → Walk
+visited file from c = advance file (bare from) (at_page c)
+
+module _ {P : Type 0} (moves : P → Item → P → Type 0) (stops : RunError → P → Item → P → Type 0) (file : List ℕ) (from : Walk) (c : Reference) where
+  -- a reference that is refused leaves marks and state
+  pub done_refused : {A : Type 0} (r : Result A RunError) (now : List Mark × Tree) (w x : P) → is_followed (rules_of file) from.visits c ≡ false → IsAt file from now.0 now.1
+      → Handed moves stops r w (refused file from c).items x → HasDone moves stops file (done_below file from (Go c ∷ [])) r now w x
+  done_refused {A = A} r now w x f at h = subst (λ m. HasDone moves stops file m r now w x) (sym whole) (record { at = on_ok r; handed = h })
+    where
+      whole : done_below file from (Go c ∷ []) ≡ refused file from c
+      whole = (has_steps file).refused (bare from) c [] f ∙ (has_steps file).none (refused file from c)
+
+      on_ok : (r : Result A RunError) → OnOk r (IsAt file (refused file from c) now.0 now.1)
+      on_ok (Ok a) = (subst (λ V. AreMarksOf file V now.0) (sym (append-nil from.visits)) at.0, at.1, at.2)
+      on_ok (Err e) = tt
+
+  module _ (followed : is_followed (rules_of file) from.visits c ≡ true) where
+    whole : done_below file from (Go c ∷ []) ≡ run_below file (visited file from c) (errands_of (story_of file) c)
+    whole = (has_steps file).visit (bare from) c [] followed ∙ ap (run_below file (visited file from c)) (append-nil (errands_of (story_of file) c))
+
+    -- the items of the page were handed out, and then what it leads to was done
+    pub visit_then : {A : Type 0} (r : Result A RunError) (now : List Mark × Tree) (w x y : P) → Moves moves w (visited file from c).items x
+        → HasDone moves stops file (done_below file (visited file from c) (errands_of (story_of file) c)) r now x y → HasDone moves stops file (done_below file from (Go c ∷ [])) r now w y
+    visit_then r now w x y h k = subst (λ m. HasDone moves stops file m r now w y) (sym whole) (done_on moves stops file (visited file from c) (errands_of (story_of file) c) r now w x y h k)
+
+    -- a page that leads to nothing
+    pub visit_alone : {A : Type 0} (a : A) (now : List Mark × Tree) (w x : P) → errands_of (story_of file) c ≡ [] → IsAt file (visited file from c) now.0 now.1 → Moves moves w (visited file from c).items x
+        → HasDone moves stops file (done_below file from (Go c ∷ [])) (Ok a) now w x
+    visit_alone a now w x none at h = visit_then (Ok a) now w x x h
+        (subst (λ es. HasDone moves stops file (done_below file (visited file from c) es) (Ok a) now x x) (sym none) (done_none moves stops file (visited file from c) a now x at))
+
+    -- an error among the items of the page
+    pub visit_stops : {A : Type 0} (e : RunError) (now : List Mark × Tree) (w x : P) → StopsAt moves stops e w (visited file from c).items x → HasDone {A = A} moves stops file (done_below file from (Go c ∷ [])) (Err e) now w x
+    visit_stops {A = A} e now w x h = subst (λ m. HasDone {A = A} moves stops file m (Err e) now w x) (sym whole) (stops_on moves stops file (visited file from c) (errands_of (story_of file) c) e now w x h)
+
+module _ {P : Type 0} (moves : P → Item → P → Type 0) (stops : RunError → P → Item → P → Type 0) (file : List ℕ) (from : Walk) (c : Reference) (levels : List (List ℕ)) where
+  -- what a function that looks at a reference answers, where all below it is done
+  pub entered_past : {A : Type 0} (a : A) (now : List Mark × Tree) (w x : P) → HasDone moves stops file (done_below file from (Go c ∷ [])) (Ok a) now w x
+      → HasDone moves stops file (entered file from c (Ok false)) (Ok false) now w x × IsEntered file from c (Ok false) levels
+  entered_past a now w x h = (record { at = h.at; handed = h.handed }, λ yes. cc)
+
+  -- and after an error
+  pub entered_err : {A : Type 0} (r : Result Bool RunError) (e : RunError) (now : List Mark × Tree) (w x : P) → r ≡ Err e → HasDone {A = A} moves stops file (done_below file from (Go c ∷ [])) (Err e) now w x
+      → HasDone moves stops file (entered file from c r) r now w x × IsEntered file from c r levels
+  entered_err r e now w x q h = subst (λ r. HasDone moves stops file (entered file from c r) r now w x × IsEntered file from c r levels) (sym q) (record { at = tt; handed = h.handed }, tt)
+
+-- a page that could not be read
+pub unread : {P A : Type 0} (moves : P → Item → P → Type 0) (stops : RunError → P → Item → P → Type 0) (file : List ℕ) (done : Walk) (now : List Mark × Tree) (w : P) → HasDone {A = A} moves stops file done (Err ReadFailed) now w w
+unread moves stops file done now w = record { at = tt; handed = some_none moves w done.items }
+
+-- the reason against a reference, as the items of its refusal
+pub refused_handed : {S T A : Type 0} (takes drops : S → Finding → S → Type 0) (keeps : T → SchemaRow → Taken → T → Type 0) (refuses : T → SchemaRow → T → Type 0) (file : List ℕ) (from : Walk) (c : Reference)
+    (r : Result A RunError) (s s' : S) (t : T) → (r ≡ Err OutOfMemory → ⊥) → Tells takes drops r s (told_at file from.visits (at_refused c)) s' → Handed (watches takes keeps) (fails drops refuses) r (s, t) (refused file from c).items (s', t)
+refused_handed takes drops keeps refuses file from c r s s' t quiet h = subst (λ items. Handed (watches takes keeps) (fails drops refuses) r (s, t) items (s', t)) (sym are)
+    (found_handed takes drops keeps refuses r (told_at file from.visits (at_refused c)) s s' t quiet h)
+  where
+    are : (refused file from c).items ≡ map found (told_at file from.visits (at_refused c))
+    are = ap (λ U. map found (told_at file U (at_refused c))) (append-nil from.visits)
+
+-- what stood before a page stands before what it leads to, and so does the page
+pub visited_before : (file : List ℕ) (from : Walk) (c : Reference) → IsNext from.visits c → AreBefore (visited file from c).visits (then_step c.address 0)
+visited_before file from c next = before_more from.visits c (then_step c.address 0) (IsBefore-beginning c.address 0 []) (λ u i. next u (Go c) i (inl refl))
+
+module _ {S T : Type 0} (takes drops : S → Finding → S → Type 0) (keeps : T → SchemaRow → Taken → T → Type 0) (refuses : T → SchemaRow → T → Type 0) (file : List ℕ) (from : Walk) (c : Reference)
+    (leaf : Option ℕ) (leaf_is : leaf ≡ from.state.leaf) (s s' : S) (t : T) where
+  -- the findings of a page are its items
+  pub page_moves : Moves takes s (page_findings file leaf c) s' → Moves (watches takes keeps) (s, t) (visited file from c).items (s', t)
+  page_moves h = found_moves takes drops keeps refuses (page_findings file from.state.leaf c) s s' t (subst (λ l. Moves takes s (page_findings file l c) s') leaf_is h)
+
+  pub page_stops : Stops takes drops s (page_findings file leaf c) s' → Stops (watches takes keeps) (fails drops refuses WriteFailed) (s, t) (visited file from c).items (s', t)
+  page_stops h = found_stops takes drops keeps refuses (page_findings file from.state.leaf c) s s' t (subst (λ l. Stops takes drops s (page_findings file l c) s') leaf_is h)
+
+  -- and this is where the walk stands behind it
+  pub visited_at : (marks : List Mark) (tree : Tree) → AreMarksOf file (from.visits ++ (c ∷ [])) marks → tree.greatest ≡ from.state.greatest → tree.leaf ≡ leaf_after file leaf c → IsAt file (visited file from c) marks tree
+  visited_at marks tree m top first = (m, top, first ∙ ap (λ l. leaf_after file l c) leaf_is)

@@ -1,0 +1,105 @@
+-- The walk over a whole tree: how it starts and ends, and what it has done by the definitions.
+use Rattle.std.proofs.Common.{◌≡◌, ℕ, ◌-◌, cond, true, false, List, [], ◌∷◌, ◌++◌, map, length, Some, None, Result, Ok, Err, refl, sym, ap, subst, arith, ◌∙◌}
+use Rattle.std.specs.Prelude.{OnOk, IfErr, slice_get}
+use Rattle.std.proofs.lemmas.Bool.{eq-eqb}
+use Rattle.std.proofs.lemmas.List.{append-nil}
+use Rattle.dbsurvey.specs.Story.{Go, errands_of}
+use Rattle.dbsurvey.specs.Traverse.{is_followed}
+use Rattle.dbsurvey.proofs.Moving.{some_none}
+use Rattle.dbformat.specs.Address.{start_of, schema_start}
+use Rattle.dbformat.specs.File.{geometry, page_bytes}
+use Rattle.dbformat.specs.Reference.{Reference, role_of, tree_kind}
+use Rattle.dbformat.specs.SchemaRow.{SchemaRow}
+use Rattle.dbformat.specs.Story.{at_page, at_refused, story_of}
+use Rattle.dbformat.specs.Survey.{rules_of}
+use Rattle.dbsource.specs.declared.error.RunError.{RunError}
+use Rattle.dbsource.specs.declared.error.RunError.TheVariants.{ReadFailed}
+use Rattle.dbtrace.specs.Finding.{Finding, told_at, visited_below}
+use Rattle.dbtrace.specs.Item.{Item, found}
+use Rattle.dbtrace.specs.Starts.{AreOfEarlierStarts}
+use Rattle.dbtrace.specs.Walk.{begin, advance}
+use Rattle.dbtrace.proofs.Folding.{is_fold}
+use Rattle.dbtrace.proofs.Stepping.{has_steps}
+use Rattle.dbwalk.specs.Entered.{IsNext}
+use Rattle.dbwalk.specs.Marking.{AreMarksOf, marks_of}
+use Rattle.dbwalk.specs.Outcomes.{Tells, IsReadOrWrite}
+use Rattle.dbwalk.specs.Stack.{left_over}
+use Rattle.dbwalk.specs.Taking.{Gives, readable_rows}
+use Rattle.dbwalk.specs.Underway.{IsAt, HasDone, IsUnderway, IsInterior, entered}
+use Rattle.dbwalk.specs.Done.{IsTreeDone}
+use Rattle.dbwalk.specs.WalkingOn.{IsWalkingOn, tree_walk}
+use Rattle.dbwalk.specs.Watching.{watches, fails, Handed}
+use Rattle.dbwalk.specs.declared.frame.Frame.{Frame}
+use Rattle.dbwalk.specs.declared.mark.Mark.{Mark}
+use Rattle.dbwalk.specs.declared.state.Tree.{Tree}
+use Rattle.dbwalk.specs.declared.taker.Taken.{Taken}
+use Rattle.dbwalk.proofs.Trees.Stacking.{from_first}
+use Rattle.dbwalk.proofs.Underway.AsideCalls.{no_memory}
+use Rattle.dbwalk.proofs.Underway.Handing.{found_handed, handed_both}
+use Rattle.dbwalk.proofs.Underway.TreeSteps.{roots_on}
+use Rattle.dbwalk.proofs.Underway.Underways.{under_visit, under_end}
+
+module _ {S T : Type 0} (takes drops : S → Finding → S → Type 0) (keeps : T → SchemaRow → Taken → T → Type 0) (refuses : T → SchemaRow → T → Type 0) (file : List ℕ) (k : ℕ) (W : List Reference) (c : Reference)
+    (at : c.address ≡ k ∷ []) (early : AreOfEarlierStarts k W) where
+  -- by the marks, and what was handed out
+  pub tree_handed : (r : Result (Unit {0}) RunError) (marks : List Mark) (before after : S × T) → OnOk r (AreMarksOf file (tree_walk file W c).visits marks)
+      → Handed (watches takes keeps) (fails drops refuses) r before (tree_walk file W c).items after → IsTreeDone takes drops keeps refuses file W c r marks before.0 after.0 before.1 after.1
+  tree_handed r marks before after marked h =
+      let both = handed_both takes drops keeps refuses r (tree_walk file W c).items before after h in record {
+        done = record {
+          marked = subst (λ U. OnOk r (AreMarksOf file U marks)) ((is_fold file).visits_are k W c at early) marked;
+          told = subst (λ L. Tells takes drops r before.0 L after.0) ((is_fold file).findings_are k W c at early) both.0;
+        };
+        given = λ e. subst (λ rows. Gives keeps refuses r before.1 rows after.1)
+            ((is_fold file).rows_are k W c at early ∙ ap (λ b. cond b (readable_rows file (W ++ visited_below file W (Go c ∷ []))) []) (eq-eqb k schema_start (sym (ap start_of at) ∙ e))) both.1;
+      }
+
+  pub tree_done : (r : Result (Unit {0}) RunError) (marks : List Mark) (tree : Tree) (before after : S × T) → HasDone (watches takes keeps) (fails drops refuses) file (tree_walk file W c) r (marks, tree) before after
+      → IsTreeDone takes drops keeps refuses file W c r marks before.0 after.0 before.1 after.1
+  tree_done r marks tree before after h = tree_handed r marks before after (marked r h.at) h.handed
+    where
+      marked : (r : Result (Unit {0}) RunError) → OnOk r (IsAt file (tree_walk file W c) marks tree) → OnOk r (AreMarksOf file (tree_walk file W c).visits marks)
+      marked (Ok u) h = h.0
+      marked (Err e) h = tt
+
+  -- the root is refused, and that was told, or not told whole
+  pub tree_refused : (r : Result (Unit {0}) RunError) (marks : List Mark) (s s' : S) (t : T) → IfErr r IsReadOrWrite → is_followed (rules_of file) W c ≡ false → AreMarksOf file W marks
+      → Tells takes drops r s (told_at file W (at_refused c)) s' → IsTreeDone takes drops keeps refuses file W c r marks s s' t t
+  tree_refused r marks s s' t only refused m told =
+      let whole : tree_walk file W c ≡ advance file (begin W) (at_refused c) = (has_steps file).refused (begin W) c [] refused ∙ (has_steps file).none (advance file (begin W) (at_refused c)) in
+      tree_handed r marks (s, t) (s', t) (on_ok r (sym (ap (λ m. m.visits) whole ∙ append-nil W)))
+      (subst (λ items. Handed (watches takes keeps) (fails drops refuses) r (s, t) items (s', t)) (ap (λ U. map found (told_at file U (at_refused c))) (sym (append-nil W)) ∙ sym (ap (λ m. m.items) whole))
+      (found_handed takes drops keeps refuses r (told_at file W (at_refused c)) s s' t (no_memory r only) told))
+    where
+      on_ok : (r : Result (Unit {0}) RunError) → W ≡ (tree_walk file W c).visits → OnOk r (AreMarksOf file (tree_walk file W c).visits marks)
+      on_ok (Ok u) e = subst (λ U. AreMarksOf file U marks) e m
+      on_ok (Err e) k = tt
+
+  -- the root could not be read
+  pub tree_unread : (marks : List Mark) (s : S) (t : T) → IsTreeDone takes drops keeps refuses file W c (Err ReadFailed) marks s s t t
+  tree_unread marks s t = tree_handed (Err ReadFailed) marks (s, t) (s, t) tt (some_none (watches takes keeps) (s, t) (tree_walk file W c).items)
+
+module _ {P : Type 0} (moves : P → Item → P → Type 0) (stops : RunError → P → Item → P → Type 0) (file : List ℕ) (W : List Reference) (c : Reference) (w : P) where
+  -- the root is an undamaged interior page: the first frame
+  pub tree_started : (levels : List (List ℕ)) (marks : List Mark) (tree : Tree) (f : Frame) (x : P) → f.page ≡ c.page → f.next ≡ 0 → IsNext W c → tree_kind (role_of c) ≡ Some tree.kind → length c.address ≡ 1
+      → HasDone moves stops file (entered file (begin W) c (Ok true)) (Ok true) (marks, tree) w x → IsInterior file (begin W) c levels → IsWalkingOn moves file W c w (f ∷ [], levels) (marks, tree) x
+  tree_started levels marks tree f x page start next role one done inside =
+      let none : Tree = record tree { greatest = None; leaf = None } in
+      let all : errands_of (story_of file) c ++ [] ≡ left_over file tree.kind c (f ∷ []) = append-nil (errands_of (story_of file) c)
+      ∙ sym (from_first file c tree.kind inside.frame.view role inside.frame.viewed) ∙ ap (λ n. left_over file tree.kind c (record f { next = n } ∷ [])) (sym start) in
+      record {
+        now = advance file (begin W) (at_page c);
+        under = subst (λ es. IsUnderway moves file (tree_walk file W c) w (advance file (begin W) (at_page c)) es (marks, tree) x) all
+            (under_visit moves file (tree_walk file W c) w (begin W) (marks_of (geometry file) W, none) (marks, tree) w x c []
+            (record { rest = refl; at = (refl, refl, refl); past = next; apart = ((λ e i. absurd i), tt); handed = refl }) inside.followed done.at done.handed);
+        roots = roots_on file (begin W) (at_page c) refl;
+        frames_are = (record { page = page; view = inside.frame.view; viewed = inside.frame.viewed; interior = inside.frame.interior; within = omega arith }, tt);
+        calls = tt;
+        read = (ap (slice_get levels) (let e : 0 ≡ length c.address - 1 = omega arith in e) ∙ inside.bytes ∙ ap (λ q. Some (page_bytes file q)) (sym page), tt);
+      }
+
+  -- no frame is left
+  pub tree_ended : (levels : List (List ℕ)) (marks : List Mark) (tree : Tree) (frames : List Frame) (x : P) → frames ≡ [] → IsWalkingOn moves file W c w (frames, levels) (marks, tree) x
+      → HasDone {A = Unit {0}} moves stops file (tree_walk file W c) (Ok tt) (marks, tree) w x
+  tree_ended levels marks tree frames x empty on = under_end moves stops file (tree_walk file W c) w tt on.now (marks, tree) x
+      (subst (λ l. IsUnderway moves file (tree_walk file W c) w on.now (left_over file tree.kind c l) (marks, tree) x) empty on.under)

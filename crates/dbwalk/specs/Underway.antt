@@ -1,0 +1,56 @@
+-- A walk under way, for a loop and for the calls that it makes.
+use Rattle.std.specs.Prelude.{◌≡◌, ℕ, ◌-◌, List, [], ◌∷◌, length, Bool, true, false, Some, Result, Ok, Err, OnOk, IfOk, IsTrue, slice_get}
+use Rattle.dbsurvey.specs.InOrder.{IsPast}
+use Rattle.dbsurvey.specs.Moves.{Moves}
+use Rattle.dbsurvey.specs.Story.{Errand, Go, AreErrandsApart}
+use Rattle.dbsurvey.specs.Traverse.{is_followed}
+use Rattle.dbformat.specs.File.{page_bytes}
+use Rattle.dbformat.specs.Reference.{Way, Reference}
+use Rattle.dbformat.specs.Story.{Event, at_page}
+use Rattle.dbformat.specs.Survey.{rules_of}
+use Rattle.dbsource.specs.declared.error.RunError.{RunError}
+use Rattle.dbtrace.specs.Item.{Item}
+use Rattle.dbtrace.specs.Walk.{Walk, bare, advance, run_below}
+use Rattle.dbwalk.specs.Marking.{AreMarksOf}
+use Rattle.dbwalk.specs.Stack.{IsOpenFrame}
+use Rattle.dbwalk.specs.Watching.{Handed}
+use Rattle.dbwalk.specs.declared.mark.Mark.{Mark}
+use Rattle.dbwalk.specs.declared.state.Tree.{Tree}
+
+-- marks and a tree's state are those of a walk that has come so far
+abbrev pub IsAt : List ℕ → Walk → List Mark → Tree → Type 0
+IsAt file now marks tree = AreMarksOf file now.visits marks × (tree.greatest ≡ now.state.greatest) × (tree.leaf ≡ now.state.leaf)
+
+-- the walk on from a point by all that is below some errands, with the items of this part alone
+abbrev pub done_below : List ℕ → Walk → List (Errand Way Event) → Walk
+done_below file from errands = run_below file (bare from) errands
+
+-- What a call has done, where `done` is the part of the walk that is its own: at Ok marks and state are those behind it, and
+-- all its items were handed out; after an error, a beginning of them.
+pub record HasDone {P A : Type 0} (moves : P → Item → P → Type 0) (stops : RunError → P → Item → P → Type 0) (file : List ℕ) (done : Walk) (r : Result A RunError) (now : List Mark × Tree) (before after : P) : Type 0 where
+  pub at : OnOk r (IsAt file done now.0 now.1)
+  pub handed : Handed moves stops r before done.items after
+
+-- the part of the walk that is done once a reference was looked at: the page alone, or all that is below the reference
+abbrev pub entered : List ℕ → Walk → Reference → Result Bool RunError → Walk
+entered file from c (Ok true) = advance file (bare from) (at_page c)
+entered file from c (Ok false) = done_below file from (Go c ∷ [])
+entered file from c (Err e) = done_below file from (Go c ∷ [])
+
+-- where the answer is true, it was followed to an undamaged interior page, which stands at its level
+pub record IsInterior (file : List ℕ) (from : Walk) (c : Reference) (levels : List (List ℕ)) : Type 0 where
+  pub followed : is_followed (rules_of file) from.visits c ≡ true
+  pub frame : IsOpenFrame file c (record { page = c.page; next = 0 })
+  pub bytes : slice_get levels (length c.address - 1) ≡ Some (page_bytes file c.page)
+
+abbrev pub IsEntered : List ℕ → Walk → Reference → Result Bool RunError → List (List ℕ) → Type 0
+IsEntered file from c r levels = IfOk r (λ yes. IsTrue yes → IsInterior file from c levels)
+
+-- A walk has come to a point, where what is left, gone on with, makes it whole: marks and state are those of the point, and the
+-- items so far were handed out.
+pub record IsUnderway {P : Type 0} (moves : P → Item → P → Type 0) (file : List ℕ) (whole : Walk) (before : P) (now : Walk) (left : List (Errand Way Event)) (state : List Mark × Tree) (w : P) : Type 0 where
+  pub rest : run_below file now left ≡ whole
+  pub at : IsAt file now state.0 state.1
+  pub past : IsPast now.visits left
+  pub apart : AreErrandsApart left
+  pub handed : Moves moves before now.items w
