@@ -1,7 +1,6 @@
 -- What is told of an Out that was flushed beside others' puts.
 use Rattle.std.proofs.Common.{List, [], ℕ, Bool, true, false, Option, refl, sym, subst}
 use Rattle.std.specs.Io.KnownBytes.{Appends, Keeps}
-use Rattle.dbsource.proofs.Beginnings.{begins_after}
 use Rattle.dbsource.proofs.Puts.{appends_append, appends_kept, appends_nothing, keeps_same}
 use Rattle.dbsource.specs.Outs.{Begins, OutState}
 use Rattle.dbreport.specs.StatSink.{IsFlushedIf}
@@ -16,9 +15,6 @@ keeps_begins o n a k = record { part = []; rest = a; whole = refl; added = nothi
 -- what was appended behind what stayed
 pub kept_appends : (o m n : Option (List ℕ)) (a : List ℕ) → Keeps o m → Appends m n a → Appends o n a
 kept_appends o m n a k h = appends_append o m n [] a (nothing_put o m k) h
-
-pub kept_begins : (o m n : Option (List ℕ)) (a : List ℕ) → Keeps o m → Begins m n a → Begins o n a
-kept_begins o m n a k h = begins_after o m n [] a a refl (nothing_put o m k) h
 
 -- flushed or not, what it told stays
 pub kept_if : (b : Bool) (old new : OutState) → IsFlushedIf b old new → Keeps old.bytes new.bytes

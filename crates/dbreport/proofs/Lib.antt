@@ -24,11 +24,12 @@ pub mod StatPieces
 pub mod StatReports
 pub mod StatSinks
 pub mod StatStarts
-pub mod StatSteps
 pub mod StatTexts
 pub mod StatTrees
 pub mod StatWhole
 pub mod StatWrites
 pub mod SumLemmas
 pub mod ToldFaults
+pub mod ToldStarts
+pub mod TreeWalks
 pub mod Watched

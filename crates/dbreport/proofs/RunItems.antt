@@ -1,5 +1,5 @@
 -- What a run comes by in the walks from all starts: the survey, and its faults.
-use Rattle.std.proofs.Common.{◌≡◌, ℕ, List, [], ◌∷◌, ◌++◌, map, Bool, Result, Ok, Err, refl, sym, ap, subst, ◌∙◌}
+use Rattle.std.proofs.Common.{◌≡◌, ℕ, List, [], ◌∷◌, ◌++◌, map, refl, sym, ap, subst, ◌∙◌}
 use Rattle.dbsurvey.specs.Address.{IsIn}
 use Rattle.dbsurvey.specs.From.{under}
 use Rattle.dbsurvey.specs.Story.{Go, Follow, errands_at, goes, AreErrandsApart}
@@ -7,7 +7,6 @@ use Rattle.dbsurvey.specs.Survey.{Link, named_at}
 use Rattle.dbsurvey.specs.Traverse.{part_of}
 use Rattle.dbsurvey.proofs.Tellings.{errands_at-apart}
 use Rattle.dbformat.specs.Address.{schema_start}
-use Rattle.dbformat.specs.EndFaults.{has_rows}
 use Rattle.dbformat.specs.File.{geometry}
 use Rattle.dbformat.specs.Laws.{schema_part}
 use Rattle.dbformat.specs.Reference.{Way, Reference}
@@ -18,17 +17,13 @@ use Rattle.dbformat.proofs.LookBack.{by_starts}
 use Rattle.dbformat.proofs.Rising.{starts_rise, follows_pairs}
 use Rattle.dbformat.proofs.SchemaStart.{schema_below}
 use Rattle.dbformat.proofs.Visited.{has_address}
-use Rattle.dbsource.specs.declared.error.RunError.{RunError}
-use Rattle.dbwalk.specs.Done.{IsDone}
-use Rattle.dbwalk.specs.Left.{IsLeft}
+use Rattle.dbtrace.specs.Finding.{visited_below}
 use Rattle.dbwalk.specs.Marking.{AreMarksOf}
-use Rattle.dbwalk.specs.Outcomes.{Tells}
 use Rattle.dbwalk.specs.declared.mark.Mark.{Mark}
-use Rattle.dbwalk.proofs.Telling.Lefts.{left_start, left_call, left_stop}
-use Rattle.dbreport.proofs.Starts.{quiet_go}
-use Rattle.dbtrace.specs.Finding.{Finding, told_below, visited_below}
-use Rattle.dbwalk.proofs.Telling.Belows.{visited_join, told_join}
-use Rattle.dbreport.specs.Starts.{AreBelowStarts, AreWalked, schema_reference, later_errands}
+use Rattle.dbwalk.proofs.Telling.Belows.{visited_join}
+use Rattle.dbwalk.proofs.Telling.Lefts.{left_start}
+use Rattle.dbreport.specs.Starts.{AreBelowStarts, schema_reference, later_errands}
+use Rattle.dbreport.specs.Walks.{Any, IsAt}
 
 -- starts rest on the schema alone
 later_same : (file : List ℕ) (U V : List Reference) → schema file U ≡ schema file V → later_starts file U ≡ later_starts file V
@@ -59,27 +54,8 @@ all_visited file V s =
 pub survey_below_starts : (file : List ℕ) (V : List Reference) → Survey file V → AreBelowStarts ([] ++ visited_below file [] (start_errands file V))
 survey_below_starts file V s u i = has_address file V s u (subst (λ W. IsIn u W) (all_visited file V s) i)
 
-module _ {S : Type 0} (takes drops : S → Finding → S → Type 0) (file : List ℕ) (V : List Reference) (s : Survey file V) (before : S) where
-  module _ (marks : List Mark) (fresh : AreMarksOf file [] marks) where
-    -- at the start all is left
-    pub starts_left : IsLeft takes file [] (start_errands file V) before [] ((Go schema_reference ∷ []) ++ later_errands file V) marks before
-    starts_left = subst (λ es. IsLeft takes file [] (start_errands file V) before [] es marks before) (starts_are file V s)
-        (left_start takes file [] (start_errands file V) before marks fresh (λ u e i. absurd i) (starts_apart file V))
-
-    module _ (marks' : List Mark) (t : S) where
-      -- an error in the schema's tree
-      pub schema_stopped : (e : RunError) → IsDone {A = Unit {0}} takes drops file [] (Go schema_reference ∷ []) (Err e) marks' before t → Tells {A = Unit {0}} takes drops (Err e) before (told_below file [] (start_errands file V)) t
-      schema_stopped e d = (left_stop takes file [] (start_errands file V) before [] marks before {A = Unit {0}} drops t marks' e ((Go schema_reference ∷ []) ++ later_errands file V) (told_below file [] (Go schema_reference ∷ []))
-          (told_below file ([] ++ visited_below file [] (Go schema_reference ∷ [])) (later_errands file V)) starts_left
-          (sym (told_join file [] (Go schema_reference ∷ []) (later_errands file V) (quiet_go schema_reference))) d.told).told
-
-      -- the schema's tree is done, and the later starts are left
-      pub schema_walked : {A : Type 0} (a : A) → IsDone takes drops file [] (Go schema_reference ∷ []) (Ok a) marks' before t
-          → IsLeft takes file [] (start_errands file V) before ([] ++ visited_below file [] (Go schema_reference ∷ [])) (later_errands file V) marks' t
-      schema_walked a d = left_call takes file [] (start_errands file V) before [] marks before drops t marks' a (Go schema_reference ∷ []) (later_errands file V) starts_left (quiet_go schema_reference) d
-
-  -- the later starts are done, or an error stopped them
-  pub later_walked : (marks' : List Mark) (t : S) (r : Result (Unit {0}) RunError) (any : Bool) → any ≡ has_rows file V → IsDone takes drops file [] (start_errands file V) r marks' before t
-      → AreWalked takes drops file V r marks' any before t
-  later_walked marks' t (Ok u) any e d = record { marked = subst (λ W. AreMarksOf file W marks') (all_visited file V s) d.marked; told = d.told; has_rows = e }
-  later_walked marks' t (Err x) any e d = record { marked = tt; told = d.told; has_rows = tt }
+-- at the start all is left
+pub starts_left : (file : List ℕ) (V : List Reference) → Survey file V → (marks : List Mark) → AreMarksOf file [] marks
+    → IsAt file V [] ((Go schema_reference ∷ []) ++ later_errands file V) marks
+starts_left file V s marks fresh = subst (λ es. IsAt file V [] es marks) (starts_are file V s)
+    (left_start Any file [] (start_errands file V) tt marks fresh (λ u e i. absurd i) (starts_apart file V))

@@ -1,6 +1,5 @@
 -- What a run asks for: the header, and then pages.
-use Rattle.std.proofs.Common.{◌≡◌, ℕ, arith, false, List, [], ◌∷◌, length, Option, Some, None, refl, sym, subst, inl, inr, Ok, Err, Result}
-use Rattle.std.specs.Prelude.{IfSome}
+use Rattle.std.proofs.Common.{◌≡◌, ℕ, arith, false, List, [], ◌∷◌, length, None, refl, sym, subst, inl, inr, Ok, Err, Result}
 use Rattle.dbformat.specs.File.{geometry, refusal_of}
 use Rattle.dbformat.specs.FixedPages.{geometry_of, IsInRange}
 use Rattle.dbformat.specs.Log.{header_range, IsPageLog, IsRunLog, IsSomeRunLog}

@@ -1,150 +1,264 @@
--- What the sink of the statistics has written and counted by the findings that it was told.
-use Rattle.std.proofs.Common.{◌≡◌, ℕ, suc, ◌+◌, Bool, true, false, inl, inr, not, List, [], ◌∷◌, ◌++◌, length, refl, sym, ap, ◌∙◌, subst, arith, append_assoc, append-nil}
-use Rattle.std.specs.Prelude.{flat_map}
-use Rattle.std.specs.Io.KnownBytes.{Appends, Keeps}
+-- What the sink of the statistics writes of what it is told, notice after notice.
+use Rattle.std.proofs.Common.{◌≡◌, ℕ, ◌+◌, ◌⊎◌, inl, inr, Bool, true, false, not, List, [], ◌∷◌, ◌++◌, Result, Ok, Err, refl, sym, ap, ◌∙◌, subst, arith, append-nil}
+use Rattle.std.specs.Prelude.{codes, OnOk}
+use Rattle.std.specs.Io.KnownBytes.{Appends}
+use Rattle.std.specs.Option.{option_map_or}
 use Rattle.dbsurvey.specs.Moves.{Moves, Stops, MovesBySome}
-use Rattle.dbformat.specs.Lines.{counted, fault_line, page_line}
+use Rattle.dbformat.specs.Lines.{counted, fault_line}
 use Rattle.dbformat.specs.Rows.{StatRow}
+use Rattle.dbformat.specs.Text.{shown_name}
+use Rattle.dbformat.specs.declared.Encoding.{Encoding}
 use Rattle.dbformat.specs.declared.Fault.{Fault}
 use Rattle.dbsource.specs.Outs.{Begins, OutState}
 use Rattle.dbsource.specs.declared.error.RunError.{RunError}
 use Rattle.dbsource.specs.declared.error.RunError.TheVariants.{ReadFailed, WriteFailed, OutOfMemory, Refused}
-use Rattle.dbsource.proofs.Puts.{appends_append, appends_nothing}
-use Rattle.dbtrace.specs.Finding.{Finding, told_row, told_fault}
-use Rattle.dbwalk.specs.Outcomes.{StopsBy}
+use Rattle.dbsource.proofs.Beginnings.{begins_more}
+use Rattle.dbsource.proofs.Puts.{appends_nothing}
+use Rattle.dbtrace.specs.Finding.{told_row, told_fault}
+use Rattle.dbwalk.specs.Outcomes.{Tells}
+use Rattle.dbwalk.specs.Telling.{findings}
 use Rattle.dbreport.specs.Findings.{faults_in}
-use Rattle.dbreport.specs.TreeNames.{label_text}
-use Rattle.dbreport.specs.StatLines.{rows_told}
-use Rattle.dbreport.specs.StatSink.{pages_text, text_of, IsSameSink, TakesRow, CutsRow, TakesFault, CutsFault, Counts, Breaks, HasBegun}
+use Rattle.dbreport.specs.Notices.{Notice, begun, found, ended, Hears}
+use Rattle.dbreport.specs.Roots.{short_name}
+use Rattle.dbreport.specs.StatSink.{end_text, pages_text, BeginsTree, Breaks, Counts, CutsEnd, CutsFault, EndsTree, HasBegun, HasWritten, IsSameSink, TakesFault, WritesBoth}
 use Rattle.dbreport.specs.Sums.{sums_of}
+use Rattle.dbreport.specs.TreeNames.{label_text}
 use Rattle.dbreport.specs.declared.stat_sink.StatSink.{StatSink}
-use Rattle.dbsource.proofs.Beginnings.{begins_nothing, begins_more, begins_after}
-use Rattle.dbreport.proofs.Flushed.{keeps_begins, kept_appends, kept_begins, kept_if}
-
-pub pages_none : (aggregate : Bool) (name : List ℕ) (size : ℕ) → pages_text aggregate name size [] ≡ []
-pages_none true name size = refl
-pages_none false name size = refl
-
--- the rows of what is told, one after another
-pages_more : (aggregate : Bool) (name : List ℕ) (size : ℕ) (r : StatRow) (rows : List StatRow)
-    → pages_text aggregate name size (r ∷ []) ++ pages_text aggregate name size rows ≡ pages_text aggregate name size (r ∷ rows)
-pages_more true name size r rows = refl
-pages_more false name size r rows = ap (λ l. l ++ flat_map (page_line name size) rows) (append-nil (page_line name size r))
+use Rattle.dbreport.specs.declared.tree_name.Label.{Label}
+use Rattle.dbreport.proofs.Flushed.{keeps_begins, kept_appends, kept_if}
+use Rattle.dbreport.proofs.StatWrites.{begun_first, begun_none, begun_then, written_none, written_then}
+use Rattle.dbreport.proofs.ToldStarts.{findings_in}
 
 counted_more : (n : ℕ) → counted (counted n + 1) ≡ counted (n + 1)
 counted_more n = omega arith
 
-one_and : (n k : ℕ) → (n + 1) + k ≡ n + suc k
-one_and n k = omega arith
-
 nothing_more : (n : ℕ) → n ≡ n + 0
 nothing_more n = omega arith
 
+-- it stopped, by an error or at one
+abbrev Cut : {S I : Type 0} → (S → I → S → Type 0) → (S → I → S → Type 0) → S → List I → S → Type 0
+Cut move fail s items t = MovesBySome move s items t ⊎ Stops move fail s items t
+
+cut_of : {S I : Type 0} (move fail : S → I → S → Type 0) (e : RunError) (s : S) (items : List I) (t : S) → Tells {A = Unit {0}} move fail (Err e) s items t → Cut move fail s items t
+cut_of move fail (Refused r) s items t h = inl h
+cut_of move fail ReadFailed s items t h = inl h
+cut_of move fail OutOfMemory s items t h = inl h
+cut_of move fail WriteFailed s items t h = inr h
+
+cut_none : {S I : Type 0} (move fail : S → I → S → Type 0) (s t : S) → Cut move fail s [] t → s ≡ t
+cut_none move fail s t (inl e) = e
+cut_none move fail s t (inr h) = absurd h
+
+-- before the first item, in it, or behind it
+cut_first : {S I : Type 0} (move fail : S → I → S → Type 0) (s : S) (i : I) (L : List I) (t : S) → Cut move fail s (i ∷ L) t → (s ≡ t) ⊎ fail s i t ⊎ ((m : S) × move s i m × Cut move fail m L t)
+cut_first move fail s i L t (inl (inl e)) = inl e
+cut_first move fail s i L t (inl (inr h)) = inr (inr (h.0, h.1, inl h.2))
+cut_first move fail s i L t (inr (inl h)) = inr (inl h)
+cut_first move fail s i L t (inr (inr h)) = inr (inr (h.0, h.1, inr h.2))
+
+-- how lines are written between two notices: in which form, with which encoding and size of a page, of which name, and behind
+-- which rows of the same tree
+pub record Sheet : Type 0 where
+  pub form : Bool
+  pub encoding : Encoding
+  pub size : ℕ
+  pub name : List ℕ
+  pub rows : List StatRow
+
+-- the bytes that are put to the first Out at a notice
+abbrev pub lines : Sheet → Notice → List ℕ
+lines p (begun name) = []
+lines p (found (told_row r)) = pages_text p.form p.name p.size (r ∷ [])
+lines p (found (told_fault f)) = []
+lines p ended = end_text p.form p.name p.size p.rows
+
+-- and how they are written behind it
+abbrev pub next : Sheet → Notice → Sheet
+next p (begun name) = record p { name = option_map_or (shown_name p.encoding) (short_name name) (codes "?") }
+next p (found (told_row r)) = record p { rows = p.rows ++ r ∷ [] }
+next p (found (told_fault f)) = p
+next p ended = record p { rows = [] }
+
+abbrev pub all_lines : Sheet → List Notice → List ℕ
+all_lines p [] = []
+all_lines p (n ∷ ns) = lines p n ++ all_lines (next p n) ns
+
+abbrev faults_of : List Notice → List Fault
+faults_of ns = faults_in (findings_in ns)
+
+one_more : (n : Notice) (ns : List Notice) → faults_of (n ∷ []) ++ faults_of ns ≡ faults_of (n ∷ ns)
+one_more (begun name) ns = refl
+one_more (found (told_row r)) ns = refl
+one_more (found (told_fault f)) ns = refl
+one_more ended ns = refl
+
 module _ {O E : Type 0} (held : O → OutState) (held' : E → OutState) where
-  -- the sink is the same, and has counted and written just these
-  pub record HasCounted (s : StatSink O E) (items : List Finding) (t : StatSink O E) : Type 0 where
-    pub same : IsSameSink s t
-    pub sums : (rows : List StatRow) → s.sums ≡ sums_of rows → t.sums ≡ sums_of (rows ++ rows_told items)
-    pub found : (n : ℕ) → s.found ≡ counted n → t.found ≡ counted (n + length (faults_in items))
-    pub out : Appends (held s.out.now).bytes (held t.out.now).bytes (text_of s (rows_told items))
-    pub err : Appends (held' s.err.now).bytes (held' t.err.now).bytes (flat_map fault_line (faults_in items))
+  abbrev whole : StatSink O E → Notice → StatSink O E → Type 0
+  whole = Hears (Counts held held') (Breaks held held') BeginsTree (EndsTree held held') (CutsEnd held held') true
 
-  same_text : (s t : StatSink O E) → IsSameSink s t → (rows : List StatRow) → text_of t rows ≡ text_of s rows
-  same_text s t same rows = rw (same.aggregate, same.label) refl
+  abbrev part : StatSink O E → Notice → StatSink O E → Type 0
+  part = Hears (Counts held held') (Breaks held held') BeginsTree (EndsTree held held') (CutsEnd held held') false
 
-  counted_none : (s : StatSink O E) → HasCounted s [] s
-  counted_none s = record {
-    same = record { out = refl; err = refl; label = refl; aggregate = refl };
-    sums = λ rows e. e ∙ ap sums_of (sym (append-nil rows));
-    found = λ n e. e ∙ ap counted (nothing_more n);
-    out = subst (λ l. Appends (held s.out.now).bytes (held s.out.now).bytes l) (sym (pages_none s.aggregate (label_text s.label.now) s.label.now.page_size)) (appends_nothing (held s.out.now).bytes);
-    err = appends_nothing (held' s.err.now).bytes;
+  -- it writes so
+  pub record IsOn (p : Sheet) (s : StatSink O E) : Type 0 where
+    pub form : s.aggregate ≡ p.form
+    pub encoding : s.label.now.encoding ≡ p.encoding
+    pub size : s.label.now.page_size ≡ p.size
+    pub name : label_text s.label.now ≡ p.name
+    pub summed : s.sums ≡ sums_of p.rows
+
+  -- ---- one fault, and faults alone
+
+  fault_written : (s m : StatSink O E) (f : Fault) → TakesFault held held' s f m → HasWritten held held' s m [] (f ∷ [])
+  fault_written s m f a = record {
+    aggregate = a.same.aggregate;
+    encoding = ap (λ l. l.encoding) a.same.label;
+    page_size = ap (λ l. l.page_size) a.same.label;
+    found = λ n e. a.found ∙ ap (λ k. counted (k + 1)) e ∙ counted_more n;
+    out = kept_appends (held s.out.now).bytes (held m.out.now).bytes (held m.out.now).bytes [] a.out.kept (appends_nothing (held m.out.now).bytes);
+    err = subst (λ l. Appends (held' s.err.now).bytes (held' m.err.now).bytes l) (sym (append-nil (fault_line f))) a.puts.held;
   }
 
-  same_then : (s m t : StatSink O E) → IsSameSink s m → IsSameSink m t → IsSameSink s t
-  same_then s m t a b = record { out = b.out ∙ a.out; err = b.err ∙ a.err; label = b.label ∙ a.label; aggregate = b.aggregate ∙ a.aggregate }
-
-  row_kept : (s m : StatSink O E) (r : StatRow) → TakesRow held held' s r m → Keeps (held' s.err.now).bytes (held' m.err.now).bytes
-  row_kept s m r a = kept_if (not s.aggregate) (held' s.err.now) (held' m.err.now) a.err
-
-  counted_row : (s m t : StatSink O E) (r : StatRow) (items : List Finding) → TakesRow held held' s r m → HasCounted m items t → HasCounted s (told_row r ∷ items) t
-  counted_row s m t r items a b = record {
-    same = same_then s m t a.same b.same;
-    sums = λ rows e. b.sums (rows ++ (r ∷ [])) (a.sums rows e) ∙ ap sums_of (append_assoc rows (r ∷ []) (rows_told items));
-    found = λ n e. b.found n (a.found ∙ e);
-    out = subst (λ l. Appends (held s.out.now).bytes (held t.out.now).bytes l) (pages_more s.aggregate (label_text s.label.now) s.label.now.page_size r (rows_told items))
-        (appends_append (held s.out.now).bytes (held m.out.now).bytes (held t.out.now).bytes (text_of s (r ∷ [])) (text_of s (rows_told items)) a.puts.held
-        (subst (λ l. Appends (held m.out.now).bytes (held t.out.now).bytes l) (same_text s m a.same (rows_told items)) b.out));
-    err = kept_appends (held' s.err.now).bytes (held' m.err.now).bytes (held' t.err.now).bytes (flat_map fault_line (faults_in items)) (row_kept s m r a) b.err;
+  fault_begun : (s t : StatSink O E) (f : Fault) → CutsFault held held' s f t → HasBegun held held' s t [] (f ∷ [])
+  fault_begun s t f a = record {
+    out = keeps_begins (held s.out.now).bytes (held t.out.now).bytes [] a.out;
+    err = begins_more (held' s.err.now).bytes (held' t.err.now).bytes (fault_line f) [] (fault_line f ++ []) refl a.err;
   }
 
-  counted_fault : (s m t : StatSink O E) (f : Fault) (items : List Finding) → TakesFault held held' s f m → HasCounted m items t → HasCounted s (told_fault f ∷ items) t
-  counted_fault s m t f items a b = record {
-    same = same_then s m t a.same b.same;
-    sums = λ rows e. b.sums rows (a.sums ∙ e);
-    found = λ n e. b.found (n + 1) (a.found ∙ ap (λ k. counted (k + 1)) e ∙ counted_more n) ∙ ap counted (one_and n (length (faults_in items)));
-    out = kept_appends (held s.out.now).bytes (held m.out.now).bytes (held t.out.now).bytes (text_of s (rows_told items)) a.out.kept
-        (subst (λ l. Appends (held m.out.now).bytes (held t.out.now).bytes l) (same_text s m a.same (rows_told items)) b.out);
-    err = appends_append (held' s.err.now).bytes (held' m.err.now).bytes (held' t.err.now).bytes (fault_line f) (flat_map fault_line (faults_in items)) a.puts.held b.err;
-  }
+  all_faults_written : (fs : List Fault) (s t : StatSink O E) → Moves (Counts held held') s (findings fs) t → HasWritten held held' s t [] fs
+  all_faults_written [] s t h = subst (λ u. HasWritten held held' s u [] []) h (written_none held held' s)
+  all_faults_written (f ∷ fs) s t h = written_then held held' s h.0 t [] [] (f ∷ []) fs (fault_written s h.0 f h.1) (all_faults_written fs h.0 t h.2)
 
-  pub has_counted : (items : List Finding) (s t : StatSink O E) → Moves (Counts held held') s items t → HasCounted s items t
-  has_counted [] s t h = subst (λ u. HasCounted s [] u) h (counted_none s)
-  has_counted (told_row r ∷ items) s t h = counted_row s h.0 t r items h.1 (has_counted items h.0 t h.2)
-  has_counted (told_fault f ∷ items) s t h = counted_fault s h.0 t f items h.1 (has_counted items h.0 t h.2)
+  some_faults_written : (fs : List Fault) (s t : StatSink O E) → Cut (Counts held held') (Breaks held held') s (findings fs) t → HasBegun held held' s t [] fs
+  some_faults_written [] s t h = begun_none held held' s t [] [] (cut_none (Counts held held') (Breaks held held') s t h)
+  some_faults_written (f ∷ fs) s t h = elim (cut_first (Counts held held') (Breaks held held') s (told_fault f) (findings fs) t h) [
+    | inl e ↦ begun_none held held' s t [] (f ∷ fs) e
+    | inr (inl c) ↦ begun_first held held' s t [] [] (f ∷ []) fs (fault_begun s t f c)
+    | inr (inr k) ↦ begun_then held held' s k.0 t [] [] (f ∷ []) fs (fault_written s k.0 f k.1) (some_faults_written fs k.0 t k.2)
+  ]
 
-  -- ---- where not all was told
+  -- faults alone: no row was written
+  pub faults_written : {A : Type 0} (r : Result A RunError) (fs : List Fault) (s t : StatSink O E) → Tells (Counts held held') (Breaks held held') r s (findings fs) t
+      → WritesBoth held held' r s t [] fs
+  faults_written (Ok a) fs s t h = all_faults_written fs s t h
+  faults_written (Err e) fs s t h = some_faults_written fs s t (cut_of (Counts held held') (Breaks held held') e s (findings fs) t h)
 
-  abbrev HasPart : StatSink O E → List Finding → StatSink O E → Type 0
-  HasPart s items t = HasBegun held held' s t (text_of s (rows_told items)) (faults_in items)
+  same_after : (fs : List Fault) (s t : StatSink O E) → Moves (Counts held held') s (findings fs) t → IsSameSink s t × (t.sums ≡ s.sums)
+  same_after [] s t h = subst (λ u. IsSameSink s u × (u.sums ≡ s.sums)) h (record { out = refl; err = refl; label = refl; aggregate = refl }, refl)
+  same_after (f ∷ fs) s t h =
+      let a = h.1.same in
+      let b = same_after fs h.0 t h.2 in
+      (record { out = b.0.out ∙ a.out; err = b.0.err ∙ a.err; label = b.0.label ∙ a.label; aggregate = b.0.aggregate ∙ a.aggregate }, b.1 ∙ h.1.sums)
 
-  part_none : (s t : StatSink O E) (items : List Finding) → s ≡ t → HasPart s items t
-  part_none s t items e = subst (λ u. HasPart s items u) e
-      (record { out = begins_nothing (held s.out.now).bytes (text_of s (rows_told items)); err = begins_nothing (held' s.err.now).bytes (flat_map fault_line (faults_in items)) })
+  pub faults_kept : {A : Type 0} (r : Result A RunError) (fs : List Fault) (s t : StatSink O E) → Tells (Counts held held') (Breaks held held') r s (findings fs) t
+      → OnOk r (IsSameSink s t × (s.sums ≡ sums_of [] → t.sums ≡ sums_of []))
+  faults_kept (Ok a) fs s t h = let k = same_after fs s t h in (k.0, λ e. k.1 ∙ e)
+  faults_kept (Err e) fs s t h = tt
 
-  part_row : (s m t : StatSink O E) (r : StatRow) (items : List Finding) → TakesRow held held' s r m → HasPart m items t → HasPart s (told_row r ∷ items) t
-  part_row s m t r items a b = record {
-    out = begins_after (held s.out.now).bytes (held m.out.now).bytes (held t.out.now).bytes (text_of s (r ∷ [])) (text_of s (rows_told items)) (text_of s (r ∷ rows_told items))
-        (pages_more s.aggregate (label_text s.label.now) s.label.now.page_size r (rows_told items)) a.puts.held
-        (subst (λ l. Begins (held m.out.now).bytes (held t.out.now).bytes l) (same_text s m a.same (rows_told items)) b.out);
-    err = kept_begins (held' s.err.now).bytes (held' m.err.now).bytes (held' t.err.now).bytes (flat_map fault_line (faults_in items)) (row_kept s m r a) b.err;
-  }
+  -- ---- one notice
 
-  part_fault : (s m t : StatSink O E) (f : Fault) (items : List Finding) → TakesFault held held' s f m → HasPart m items t → HasPart s (told_fault f ∷ items) t
-  part_fault s m t f items a b = record {
-    out = kept_begins (held s.out.now).bytes (held m.out.now).bytes (held t.out.now).bytes (text_of s (rows_told items)) a.out.kept
-        (subst (λ l. Begins (held m.out.now).bytes (held t.out.now).bytes l) (same_text s m a.same (rows_told items)) b.out);
-    err = begins_after (held' s.err.now).bytes (held' m.err.now).bytes (held' t.err.now).bytes (fault_line f) (flat_map fault_line (faults_in items)) (flat_map fault_line (f ∷ faults_in items)) refl a.puts.held b.err;
-  }
+  module _ (p : Sheet) (s : StatSink O E) (on : IsOn p s) where
+    by_sheet : (P : List ℕ → Type 0) (f : Bool → List ℕ → ℕ → List ℕ) → P (f s.aggregate (label_text s.label.now) s.label.now.page_size) → P (f p.form p.name p.size)
+    by_sheet P f h =
+        subst (λ a. P (f a p.name p.size)) on.form (subst (λ n. P (f s.aggregate n p.size)) on.name (subst (λ z. P (f s.aggregate (label_text s.label.now) z)) on.size h))
 
-  cut_row : (s t : StatSink O E) (r : StatRow) (items : List Finding) → CutsRow held held' s r t → HasPart s (told_row r ∷ items) t
-  cut_row s t r items a = record {
-    out = begins_more (held s.out.now).bytes (held t.out.now).bytes (text_of s (r ∷ [])) (text_of s (rows_told items)) (text_of s (r ∷ rows_told items))
-        (pages_more s.aggregate (label_text s.label.now) s.label.now.page_size r (rows_told items)) a.out;
-    err = keeps_begins (held' s.err.now).bytes (held' t.err.now).bytes (flat_map fault_line (faults_in items)) a.err;
-  }
+    one_written : (n : Notice) (m : StatSink O E) → whole s n m → HasWritten held held' s m (lines p n) (faults_of (n ∷ [])) × IsOn (next p n) m
+    one_written (begun name) m b = (
+      record {
+        aggregate = b.aggregate;
+        encoding = b.encoding;
+        page_size = b.page_size;
+        found = λ n e. b.found ∙ e ∙ ap counted (nothing_more n);
+        out = subst (λ o. Appends (held s.out.now).bytes (held o).bytes []) (sym b.out) (appends_nothing (held s.out.now).bytes);
+        err = subst (λ o. Appends (held' s.err.now).bytes (held' o).bytes []) (sym b.err) (appends_nothing (held' s.err.now).bytes);
+      },
+      record {
+        form = b.aggregate ∙ on.form;
+        encoding = b.encoding ∙ on.encoding;
+        size = b.page_size ∙ on.size;
+        name = b.named ∙ ap (λ e. option_map_or (shown_name e) (short_name name) (codes "?")) on.encoding;
+        summed = b.sums ∙ on.summed;
+      },
+    )
+    one_written (found (told_row r)) m a = (
+      record {
+        aggregate = a.same.aggregate;
+        encoding = ap (λ l. l.encoding) a.same.label;
+        page_size = ap (λ l. l.page_size) a.same.label;
+        found = λ n e. a.found ∙ e ∙ ap counted (nothing_more n);
+        out = by_sheet (Appends (held s.out.now).bytes (held m.out.now).bytes) (λ form name size. pages_text form name size (r ∷ [])) a.puts.held;
+        err = kept_appends (held' s.err.now).bytes (held' m.err.now).bytes (held' m.err.now).bytes [] (kept_if (not s.aggregate) (held' s.err.now) (held' m.err.now) a.err) (appends_nothing (held' m.err.now).bytes);
+      },
+      record {
+        form = a.same.aggregate ∙ on.form;
+        encoding = ap (λ (l : Label). l.encoding) a.same.label ∙ on.encoding;
+        size = ap (λ (l : Label). l.page_size) a.same.label ∙ on.size;
+        name = ap label_text a.same.label ∙ on.name;
+        summed = a.sums p.rows on.summed;
+      },
+    )
+    one_written (found (told_fault f)) m a = (
+      fault_written s m f a,
+      record {
+        form = a.same.aggregate ∙ on.form;
+        encoding = ap (λ (l : Label). l.encoding) a.same.label ∙ on.encoding;
+        size = ap (λ (l : Label). l.page_size) a.same.label ∙ on.size;
+        name = ap label_text a.same.label ∙ on.name;
+        summed = a.sums ∙ on.summed;
+      },
+    )
+    one_written ended m a = (
+      record {
+        aggregate = a.aggregate;
+        encoding = ap (λ l. l.encoding) a.label;
+        page_size = ap (λ l. l.page_size) a.label;
+        found = λ n e. a.found ∙ e ∙ ap counted (nothing_more n);
+        out = by_sheet (Appends (held s.out.now).bytes (held m.out.now).bytes) (λ form name size. end_text form name size p.rows) (a.writes p.rows on.summed);
+        err = kept_appends (held' s.err.now).bytes (held' m.err.now).bytes (held' m.err.now).bytes [] (kept_if s.aggregate (held' s.err.now) (held' m.err.now) a.err) (appends_nothing (held' m.err.now).bytes);
+      },
+      record {
+        form = a.aggregate ∙ on.form;
+        encoding = ap (λ (l : Label). l.encoding) a.label ∙ on.encoding;
+        size = ap (λ (l : Label). l.page_size) a.label ∙ on.size;
+        name = ap label_text a.label ∙ on.name;
+        summed = a.sums;
+      },
+    )
 
-  cut_fault : (s t : StatSink O E) (f : Fault) (items : List Finding) → CutsFault held held' s f t → HasPart s (told_fault f ∷ items) t
-  cut_fault s t f items a = record {
-    out = keeps_begins (held s.out.now).bytes (held t.out.now).bytes (text_of s (rows_told items)) a.out;
-    err = begins_more (held' s.err.now).bytes (held' t.err.now).bytes (fault_line f) (flat_map fault_line (faults_in items)) (flat_map fault_line (f ∷ faults_in items)) refl a.err;
-  }
+    one_begun : (n : Notice) (t : StatSink O E) → part s n t → HasBegun held held' s t (lines p n) (faults_of (n ∷ []))
+    one_begun (begun name) t b = absurd b
+    one_begun (found (told_row r)) t a = record {
+      out = by_sheet (Begins (held s.out.now).bytes (held t.out.now).bytes) (λ form name size. pages_text form name size (r ∷ [])) a.out;
+      err = keeps_begins (held' s.err.now).bytes (held' t.err.now).bytes [] a.err;
+    }
+    one_begun (found (told_fault f)) t a = fault_begun s t f a
+    one_begun ended t a = record {
+      out = by_sheet (Begins (held s.out.now).bytes (held t.out.now).bytes) (λ form name size. end_text form name size p.rows) (a.writes p.rows on.summed);
+      err = keeps_begins (held' s.err.now).bytes (held' t.err.now).bytes [] a.kept;
+    }
 
-  part_some : (items : List Finding) (s t : StatSink O E) → MovesBySome (Counts held held') s items t → HasPart s items t
-  part_some [] s t h = part_none s t [] h
-  part_some (i ∷ items) s t (inl h) = part_none s t (i ∷ items) h
-  part_some (told_row r ∷ items) s t (inr h) = part_row s h.0 t r items h.1 (part_some items h.0 t h.2)
-  part_some (told_fault f ∷ items) s t (inr h) = part_fault s h.0 t f items h.1 (part_some items h.0 t h.2)
+  -- ---- notice after notice
 
-  part_stop : (items : List Finding) (s t : StatSink O E) → Stops (Counts held held') (Breaks held held') s items t → HasPart s items t
-  part_stop [] s t h = absurd h
-  part_stop (told_row r ∷ items) s t (inl h) = cut_row s t r items h
-  part_stop (told_fault f ∷ items) s t (inl h) = cut_fault s t f items h
-  part_stop (told_row r ∷ items) s t (inr h) = part_row s h.0 t r items h.1 (part_stop items h.0 t h.2)
-  part_stop (told_fault f ∷ items) s t (inr h) = part_fault s h.0 t f items h.1 (part_stop items h.0 t h.2)
+  all_written : (p : Sheet) (ns : List Notice) (s t : StatSink O E) → IsOn p s → Moves whole s ns t → HasWritten held held' s t (all_lines p ns) (faults_of ns)
+  all_written p [] s t on h = subst (λ u. HasWritten held held' s u [] []) h (written_none held held' s)
+  all_written p (n ∷ ns) s t on h =
+      let one = one_written p s on n h.0 h.1 in
+      subst (λ fs. HasWritten held held' s t (all_lines p (n ∷ ns)) fs) (one_more n ns)
+      (written_then held held' s h.0 t (lines p n) (all_lines (next p n) ns) (faults_of (n ∷ [])) (faults_of ns) one.0 (all_written (next p n) ns h.0 t one.1 h.2))
 
-  pub has_begun : (e : RunError) (items : List Finding) (s t : StatSink O E) → StopsBy (Counts held held') (Breaks held held') e s items t → HasBegun held held' s t (text_of s (rows_told items)) (faults_in items)
-  has_begun WriteFailed items s t h = part_stop items s t h
-  has_begun ReadFailed items s t h = part_some items s t h
-  has_begun OutOfMemory items s t h = part_some items s t h
-  has_begun (Refused r) items s t h = part_some items s t h
+  some_written : (p : Sheet) (ns : List Notice) (s t : StatSink O E) → IsOn p s → Cut whole part s ns t → HasBegun held held' s t (all_lines p ns) (faults_of ns)
+  some_written p [] s t on h = begun_none held held' s t [] [] (cut_none whole part s t h)
+  some_written p (n ∷ ns) s t on h =
+      subst (λ fs. HasBegun held held' s t (all_lines p (n ∷ ns)) fs) (one_more n ns)
+      (elim (cut_first whole part s n ns t h) [
+        | inl e ↦ begun_none held held' s t (all_lines p (n ∷ ns)) (faults_of (n ∷ []) ++ faults_of ns) e
+        | inr (inl c) ↦ begun_first held held' s t (lines p n) (all_lines (next p n) ns) (faults_of (n ∷ [])) (faults_of ns) (one_begun p s on n t c)
+        | inr (inr k) ↦ (
+            let one = one_written p s on n k.0 k.1 in
+            begun_then held held' s k.0 t (lines p n) (all_lines (next p n) ns) (faults_of (n ∷ [])) (faults_of ns) one.0 (some_written (next p n) ns k.0 t one.1 k.2))
+      ])
+
+  pub notices_written : {A : Type 0} (r : Result A RunError) (p : Sheet) (ns : List Notice) (s t : StatSink O E) → IsOn p s → Tells whole part r s ns t
+      → WritesBoth held held' r s t (all_lines p ns) (faults_of ns)
+  notices_written (Ok a) p ns s t on h = all_written p ns s t on h
+  notices_written (Err e) p ns s t on h = some_written p ns s t on (cut_of whole part e s ns t h)

@@ -1,164 +1,153 @@
--- The statistics of the starts of a file, one after another.
-use Rattle.std.proofs.Common.{◌≡◌, ℕ, List, [], ◌∷◌, ◌++◌, Result, Ok, Err, refl, sym, ap, ap₂, ◌∙◌, subst, append_assoc, append-nil}
-use Rattle.std.specs.Prelude.{OnOk, flat_map}
-use Rattle.std.specs.Io.KnownBytes.{Appends}
-use Rattle.dbsurvey.specs.Moves.{Moves}
-use Rattle.dbsurvey.specs.Story.{Errand, Go}
-use Rattle.dbformat.specs.Address.{start_of}
-use Rattle.dbformat.specs.Header.{page_size}
-use Rattle.dbformat.specs.Lines.{fault_line, tree_name}
-use Rattle.dbformat.specs.Reference.{Way, Reference}
+-- What the statistics write of the starts of a file, by what is told of them.
+use Rattle.std.proofs.Common.{◌≡◌, ℕ, suc, ◌+◌, Bool, true, false, cond, List, [], ◌∷◌, ◌++◌, map, take, Some, Result, refl, sym, ap, ◌∙◌, subst, arith, append_assoc, append-nil}
+use Rattle.std.specs.Prelude.{flat_map, slice_get, codes, ◌==◌}
+use Rattle.std.specs.List.{enumerate_from}
+use Rattle.std.specs.Option.{option_map_or}
+use Rattle.dbsurvey.specs.Story.{Errand, Go, Follow, errands_at}
+use Rattle.dbformat.specs.Address.{freelist_start, last_root_start}
+use Rattle.dbformat.specs.Header.{encoding as encoding_of, first_trunk, page_size}
+use Rattle.dbformat.specs.Lines.{page_line, tree_name}
+use Rattle.dbformat.specs.Reference.{trunk, Way, Reference}
 use Rattle.dbformat.specs.Rows.{StatRow}
+use Rattle.dbformat.specs.Schema.{schema, rooted_rows, start}
+use Rattle.dbformat.specs.SchemaRow.{SchemaRow}
 use Rattle.dbformat.specs.Story.{Event, start_errands}
-use Rattle.dbformat.specs.declared.Fault.{Fault}
-use Rattle.dbsource.specs.Outs.{OutState, Writes}
+use Rattle.dbformat.specs.Survey.{Survey}
+use Rattle.dbformat.specs.Text.{shown_name}
+use Rattle.dbsource.specs.Outs.{OutState}
 use Rattle.dbsource.specs.declared.error.RunError.{RunError}
-use Rattle.dbwalk.specs.Done.{IsDone}
-use Rattle.dbtrace.specs.Finding.{Finding, told_below, visited_below}
-use Rattle.dbwalk.specs.Marking.{AreMarksOf}
+use Rattle.dbtrace.specs.Finding.{Finding, told_row, told_fault, told_below, visited_below}
+use Rattle.dbwalk.specs.Trunks.{freelist_reference}
 use Rattle.dbwalk.specs.declared.mark.Mark.{Mark}
-use Rattle.dbwalk.proofs.Telling.Lefts.{left_call}
+use Rattle.dbwalk.proofs.Telling.Belows.{told_none}
 use Rattle.dbreport.specs.Findings.{faults_in}
-use Rattle.dbreport.specs.TreeNames.{label_text}
+use Rattle.dbreport.specs.Notices.{Notice, found, ended, Hears, errands_left, root_reference, tree_notices, later_notices, start_notices}
+use Rattle.dbreport.specs.Roots.{short_name}
+use Rattle.dbreport.specs.Starts.{schema_reference}
 use Rattle.dbreport.specs.StatLines.{tree_text, starts_text, rows_told}
-use Rattle.dbreport.specs.StatSink.{end_text, text_of, Counts, Breaks, HasBegun, WritesBoth, EndsTree}
-use Rattle.dbreport.specs.StatStarts.{faults_told, Any, IsAt, IsTreeWritten, IsWriting, StopsWriting}
-use Rattle.dbreport.specs.Sums.{sums_of}
+use Rattle.dbreport.specs.StatSink.{end_text, pages_text, BeginsTree, Breaks, Counts, CutsEnd, EndsTree, WritesBoth}
+use Rattle.dbreport.specs.StatStarts.{AreWritten, IsForSchema}
+use Rattle.dbreport.specs.Walks.{AreWalked}
 use Rattle.dbreport.specs.declared.stat_sink.StatSink.{StatSink}
-use Rattle.dbreport.specs.declared.tree_name.Label.{Label}
-use Rattle.dbsource.proofs.Puts.{appends_append, appends_kept}
-use Rattle.dbsource.proofs.Beginnings.{begins_after, all_begun}
+use Rattle.dbreport.proofs.ListedNames.{listed_name}
+use Rattle.dbreport.proofs.StatSinks.{Sheet, all_lines, notices_written}
+use Rattle.dbreport.proofs.StatTexts.{rows_below}
+use Rattle.dbreport.proofs.StatTrees.{freelist_rows}
 use Rattle.dbreport.proofs.Starts.{quiet_go}
-use Rattle.dbreport.proofs.StatSinks.{HasCounted, has_counted}
-use Rattle.dbreport.proofs.StatTexts.{faults_joined}
-use Rattle.dbreport.proofs.StatWrites.{text_whole, told_written, written_then, begun_then, begun_first}
+use Rattle.dbreport.proofs.ToldStarts.{of_starts, start_errands_listed}
 
-any_moves : (items : List Finding) → Moves Any tt items tt
-any_moves [] = refl
-any_moves (i ∷ items) = (tt, tt, any_moves items)
+schema_name : (file : List ℕ) (V : List Reference) → codes "sqlite_schema" ≡ tree_name file V 0
+unfolding tree_name
+schema_name file V = refl
 
--- one start is done: the next ones are left
-at_next : (file : List ℕ) (V U : List Reference) (c : Reference) (es : List (Errand Way Event)) (marks marks' : List Mark) → IsAt file V U (Go c ∷ es) marks
-    → AreMarksOf file (U ++ visited_below file U (Go c ∷ [])) marks' → IsAt file V (U ++ visited_below file U (Go c ∷ [])) es marks'
-at_next file V U c es marks marks' h m = left_call Any file [] (start_errands file V) tt U marks tt {A = Unit {0}} Any tt marks' tt (Go c ∷ []) es h (quiet_go c)
-    (record { marked = m; told = any_moves (told_below file U (Go c ∷ [])) })
+no_pages : (form : Bool) (name : List ℕ) (size : ℕ) → pages_text form name size [] ≡ []
+no_pages true name size = refl
+no_pages false name size = refl
 
-module _ {O E : Type 0} (held : O → OutState) (held' : E → OutState) where
-  module _ (file : List ℕ) (V : List Reference) (before : StatSink O E) (U : List Reference) (c : Reference) (es : List (Errand Way Event)) (marks marks' : List Mark) (s t : StatSink O E) (h : IsWriting held held' file V before U (Go c ∷ es) marks s) where
-    abbrev its_text : List ℕ
-    its_text = tree_text before.aggregate (tree_name file V (start_of c.address)) (page_size file) (rows_told (told_below file U (Go c ∷ [])))
+no_tree : (form : Bool) (name : List ℕ) (size : ℕ) → tree_text form name size [] ≡ []
+no_tree true name size = refl
+no_tree false name size = refl
 
-    abbrev its_faults : List Fault
-    its_faults = faults_told file U (Go c ∷ [])
+-- the rows of a tree as they come, and then its own
+pages_more : (form : Bool) (name : List ℕ) (size : ℕ) (r : StatRow) (rows : List StatRow)
+    → pages_text form name size (r ∷ []) ++ pages_text form name size rows ≡ pages_text form name size (r ∷ rows)
+pages_more true name size r rows = refl
+pages_more false name size r rows = ap (λ l. l ++ flat_map (page_line name size) rows) (append-nil (page_line name size r))
 
-    abbrev then_text : List ℕ
-    then_text = starts_text before.aggregate file V (U ++ visited_below file U (Go c ∷ [])) es
+pages_ended : (form : Bool) (name : List ℕ) (size : ℕ) (rows : List StatRow) → pages_text form name size rows ++ end_text form name size rows ≡ tree_text form name size rows
+pages_ended true name size [] = refl
+pages_ended true name size (r ∷ rows) = refl
+pages_ended false name size rows = append-nil (pages_text false name size rows)
 
-    abbrev then_faults : List Fault
-    then_faults = faults_told file (U ++ visited_below file U (Go c ∷ [])) es
+-- ---- the lines of what is told
 
-    all_text : (h.text ++ its_text) ++ then_text ≡ starts_text before.aggregate file V [] (start_errands file V)
-    all_text = append_assoc h.text its_text then_text ∙ h.rest
+found_lines : (p : Sheet) (items : List Finding) (rest : List Notice)
+    → all_lines p (map found items ++ rest) ≡ pages_text p.form p.name p.size (rows_told items) ++ all_lines (record p { rows = p.rows ++ rows_told items }) rest
+found_lines p [] rest =
+    ap (λ rows. all_lines (record p { rows = rows }) rest) (sym (append-nil p.rows))
+    ∙ ap (λ l. l ++ all_lines (record p { rows = p.rows ++ [] }) rest) (sym (no_pages p.form p.name p.size))
+found_lines p (told_row r ∷ items) rest =
+    let q : Sheet = record p { rows = p.rows ++ r ∷ [] } in
+    let others = pages_text p.form p.name p.size (rows_told items) in
+    ap (λ l. pages_text p.form p.name p.size (r ∷ []) ++ l) (found_lines q items rest ∙ ap (λ rows. others ++ all_lines (record p { rows = rows }) rest) (append_assoc p.rows (r ∷ []) (rows_told items)))
+    ∙ sym (append_assoc (pages_text p.form p.name p.size (r ∷ [])) others _)
+    ∙ ap (λ l. l ++ all_lines (record p { rows = p.rows ++ (r ∷ rows_told items) }) rest) (pages_more p.form p.name p.size r (rows_told items))
+found_lines p (told_fault f ∷ items) rest = found_lines p items rest
 
-    all_faults : (h.faults ++ its_faults) ++ then_faults ≡ faults_told file [] (start_errands file V)
-    all_faults = append_assoc h.faults its_faults then_faults ∙ ap (λ l. h.faults ++ l) (sym (faults_joined file U (Go c) es (quiet_go c))) ∙ h.rest_faults
+module _ (file : List ℕ) (V : List Reference) (form : Bool) where
+  -- between two trees
+  abbrev sheet : List ℕ → Sheet
+  sheet name = record { form = form; encoding = encoding_of file; size = page_size file; name = name; rows = [] }
 
-    -- a start has been walked from, and all of it was written, or a beginning
-    pub start_written : {A : Type 0} (r : Result A RunError) → OnOk r (AreMarksOf file (U ++ visited_below file U (Go c ∷ [])) marks')
-        → WritesBoth held held' r s t its_text its_faults → OnOk r (t.sums ≡ sums_of []) → StopsWriting held held' file V before es r marks' t
-    start_written (Ok u) m w n = (
-      U ++ visited_below file U (Go c ∷ []),
-      record {
-        at = at_next file V U c es marks marks' h.at m;
-        text = h.text ++ its_text;
-        faults = h.faults ++ its_faults;
-        written = written_then held held' before s t h.text its_text h.faults its_faults h.written w;
-        rest = all_text;
-        rest_faults = all_faults;
-        encoding = w.encoding ∙ h.encoding;
-        page_size = w.page_size ∙ h.page_size;
-        summed = n;
-      },
-    )
-    start_written (Err e) m w n =
-        let b = begun_first held held' before t (h.text ++ its_text) then_text (h.faults ++ its_faults) then_faults
-        (begun_then held held' before s t h.text its_text h.faults its_faults h.written w) in
-        subst (λ x. HasBegun held held' before t x (faults_told file [] (start_errands file V))) all_text
-        (subst (λ x. HasBegun held held' before t ((h.text ++ its_text) ++ then_text) x) all_faults b)
+  tree_lines : (W : List Reference) (c : Reference) (name : List ℕ) (rest : List Notice)
+      → all_lines (sheet name) (tree_notices file W c ++ rest) ≡ tree_text form name (page_size file) (rows_told (told_below file W (Go c ∷ []))) ++ all_lines (sheet name) rest
+  tree_lines W c name rest =
+      let items = told_below file W (Go c ∷ []) in
+      let rows = rows_told items in
+      ap (all_lines (sheet name)) (append_assoc (map found items) (ended ∷ []) rest)
+      ∙ found_lines (sheet name) items (ended ∷ rest)
+      ∙ sym (append_assoc (pages_text form name (page_size file) rows) (end_text form name (page_size file) rows) (all_lines (sheet name) rest))
+      ∙ ap (λ l. l ++ all_lines (sheet name) rest) (pages_ended form name (page_size file) rows)
 
-    -- the tree of a root, by a sink with its name
-    pub tree_written : {A : Type 0} (r : Result A RunError) → label_text s.label.now ≡ tree_name file V (start_of c.address)
-        → IsTreeWritten held held' file U c r marks' s t → StopsWriting held held' file V before es r marks' t
-    tree_written r name d = start_written r d.marked (subst (λ x. WritesBoth held held' r s t x its_faults) same d.writes) d.summed
-      where
-        same : tree_text s.aggregate (label_text s.label.now) s.label.now.page_size (rows_told (told_below file U (Go c ∷ []))) ≡ its_text
-        same = rw (h.written.aggregate, name, h.page_size) refl
+  -- of the freelist there is no row
+  abbrev if_none : Bool → List (Errand Way Event)
+  if_none b = errands_at [] (map Follow (cond b [] (start freelist_start trunk (first_trunk file) ∷ [])))
 
-  -- ---- the walk over one tree, and the row that ends it
+  freelist_lines : (W : List Reference) (name : List ℕ) → all_lines (sheet name) (later_notices file W []) ≡ starts_text form file V W (errands_left file [])
+  freelist_lines W name =
+      let items = told_below file W (errands_left file []) in
+      ap (all_lines (sheet name)) (sym (append-nil (map found items))) ∙ found_lines (sheet name) items [] ∙ append-nil _ ∙ by_case (first_trunk file == 0)
+    where
+      d : Reference
+      d = freelist_reference (first_trunk file)
 
-  module _ (file : List ℕ) (U : List Reference) (c : Reference) (marks : List Mark) (s t : StatSink O E) where
-    abbrev items : List Finding
-    items = told_below file U (Go c ∷ [])
+      none : rows_told (told_below file W (Go d ∷ [])) ≡ []
+      none = rows_below file W (Go d ∷ []) (quiet_go d) ∙ freelist_rows file W (start freelist_start trunk (first_trunk file)) refl
 
-    abbrev rows : List StatRow
-    rows = rows_told items
+      by_case : (b : Bool) → pages_text form name (page_size file) (rows_told (told_below file W (if_none b))) ≡ starts_text form file V W (if_none b)
+      by_case true = ap (λ l. pages_text form name (page_size file) (rows_told l)) (told_none file W) ∙ no_pages form name (page_size file)
+      by_case false =
+          ap (pages_text form name (page_size file)) none ∙ no_pages form name (page_size file)
+          ∙ sym (append-nil _ ∙ ap (tree_text form (tree_name file V freelist_start) (page_size file)) none ∙ no_tree form (tree_name file V freelist_start) (page_size file))
 
-    abbrev tree : List ℕ
-    tree = tree_text s.aggregate (label_text s.label.now) s.label.now.page_size rows
+  -- the names of the rows are those of the trees from start k on
+  abbrev AreNamed : ℕ → List SchemaRow → Type 0
+  AreNamed k rows = (j : ℕ) (r : SchemaRow) → slice_get rows j ≡ Some r → option_map_or (shown_name (encoding_of file)) (short_name r.name) (codes "?") ≡ tree_name file V (k + j)
 
-    whole : text_of s rows ++ end_text s.aggregate (label_text s.label.now) s.label.now.page_size rows ≡ tree
-    whole = text_whole s.aggregate (label_text s.label.now) s.label.now.page_size rows
+  later_lines : (k : ℕ) (rows : List SchemaRow) (W : List Reference) (name : List ℕ) → AreNamed k rows
+      → all_lines (sheet name) (later_notices file W (enumerate_from k rows)) ≡ starts_text form file V W (errands_left file (enumerate_from k rows))
+  later_lines k [] W name named = freelist_lines W name
+  later_lines k (row ∷ rows) W name named =
+      let c = root_reference file k row in
+      let U = W ++ visited_below file W (Go c ∷ []) in
+      let rest = later_notices file U (enumerate_from (k + 1) rows) in
+      let zero_more : k + 0 ≡ k = omega arith in
+      ap (λ name. all_lines (sheet name) (tree_notices file W c ++ rest)) (named 0 row refl ∙ ap (tree_name file V) zero_more)
+      ∙ tree_lines W c (tree_name file V k) rest
+      ∙ ap (λ l. tree_text form (tree_name file V k) (page_size file) (rows_told (told_below file W (Go c ∷ []))) ++ l) (later_lines (k + 1) rows U (tree_name file V k) (λ j r e.
+      let n : k + suc j ≡ (k + 1) + j = omega arith in named (suc j) r e ∙ ap (tree_name file V) n))
 
-    -- an error stopped the walk
-    pub tree_stopped : {A B : Type 0} (e : RunError) → IsDone {A = B} (Counts held held') (Breaks held held') file U (Go c ∷ []) (Err e) marks s t
-        → IsTreeWritten {A = A} held held' file U c (Err e) marks s t
-    tree_stopped {B = B} e d = record {
-      marked = tt;
-      writes = subst (λ x. HasBegun held held' s t x (faults_in items)) whole
-          (subst (λ f. HasBegun held held' s t (text_of s rows ++ end_text s.aggregate (label_text s.label.now) s.label.now.page_size rows) f) (append-nil (faults_in items))
-          (begun_first held held' s t (text_of s rows) (end_text s.aggregate (label_text s.label.now) s.label.now.page_size rows) (faults_in items) [] (told_written held held' {A = B} (Err e) items s t d.told)));
-      summed = tt;
+  start_lines : Survey file V → all_lines (sheet (tree_name file V 0)) (start_notices file V) ≡ starts_text form file V [] (start_errands file V)
+  start_lines survey =
+      let c = schema_reference in
+      let U = [] ++ visited_below file [] (Go c ∷ []) in
+      let rows = take last_root_start (rooted_rows (schema file V)) in
+      tree_lines [] c (tree_name file V 0) (later_notices file U (enumerate_from 1 rows))
+      ∙ ap (λ l. tree_text form (tree_name file V 0) (page_size file) (rows_told (told_below file [] (Go c ∷ []))) ++ l) (later_lines 1 rows U (tree_name file V 0) (λ j r e.
+      let n : suc j ≡ 1 + j = omega arith in listed_name file V rows j r refl e ∙ ap (tree_name file V) n))
+      ∙ ap (starts_text form file V []) (sym (start_errands_listed file V survey))
+
+-- All starts have been walked from, and it is written what was told.
+pub walked_written : {O E : Type 0} (held : O → OutState) (held' : E → OutState) (file : List ℕ) (V : List Reference) → Survey file V → (s t : StatSink O E) → IsForSchema file s
+    → (r : Result (Unit {0}) RunError) (marks : List Mark) (any : Bool)
+    → AreWalked (Hears (Counts held held') (Breaks held held') BeginsTree (EndsTree held held') (CutsEnd held held')) file V r marks any s t
+    → AreWritten held held' file V r marks any s t
+walked_written held held' file V survey s t is r marks any h =
+    let p = sheet file V s.aggregate (tree_name file V 0) in record {
+      marked = h.all.marked;
+      writes = subst (λ x. WritesBoth held held' r s t x (faults_in (told_below file [] (start_errands file V)))) (start_lines file V s.aggregate survey)
+          (subst (λ items. WritesBoth held held' r s t (all_lines p (start_notices file V)) (faults_in items)) (of_starts file V survey)
+          (notices_written held held' r p (start_notices file V) s t
+          (record { form = refl; encoding = is.encoding; size = is.page_size; name = is.name ∙ schema_name file V; summed = is.summed }) h.all.told));
+      has_rows = h.has_rows;
     }
-
-    -- all was told, and then the tree ended
-    module _ {B : Type 0} (b : B) (none : s.sums ≡ sums_of []) (d : IsDone (Counts held held') (Breaks held held') file U (Go c ∷ []) (Ok b) marks s t) (u : StatSink O E) where
-      abbrev its_end : List ℕ
-      its_end = end_text s.aggregate (label_text s.label.now) s.label.now.page_size rows
-
-      counted : HasCounted held held' s items t
-      counted = has_counted held held' items s t d.told
-
-      put : {A X : Type 0} (r : Result A X) → EndsTree held held' r t u → Writes r (held t.out.now).bytes (held u.out.now).bytes its_end
-      put r ends = subst (λ l. Writes r (held t.out.now).bytes (held u.out.now).bytes l) (ap₂ (λ a (l : Label). end_text a (label_text l) l.page_size rows) counted.same.aggregate counted.same.label) (ends.writes rows (counted.sums [] none))
-
-      pub tree_ended : {A X : Type 0} (a : A) → EndsTree {A = A} {X = X} held held' (Ok a) t u → {C : Type 0} (k : C) → IsTreeWritten {A = C} held held' file U c (Ok k) marks s u
-      tree_ended {X = X} a ends k =
-          let w = told_written held held' {A = B} (Ok b) items s t d.told in
-          let p = put {X = X} (Ok a) ends in
-          record {
-            marked = d.marked;
-            writes = record {
-              aggregate = ends.aggregate ∙ w.aggregate;
-              encoding = ap (λ l. l.encoding) ends.label ∙ w.encoding;
-              page_size = ap (λ l. l.page_size) ends.label ∙ w.page_size;
-              found = λ n e. ends.found ∙ w.found n e;
-              out = subst (λ l. Appends (held s.out.now).bytes (held u.out.now).bytes l) whole
-                  (appends_append (held s.out.now).bytes (held t.out.now).bytes (held u.out.now).bytes (text_of s rows) its_end w.out p);
-              err = appends_kept (held' s.err.now).bytes (held' t.err.now).bytes (held' u.err.now).bytes (flat_map fault_line (faults_in items)) w.err ends.kept;
-            };
-            summed = ends.sums;
-          }
-
-      pub tree_not_ended : {A X : Type 0} (x : X) → EndsTree {A = A} {X = X} held held' (Err x) t u → {C : Type 0} (e : RunError) → IsTreeWritten {A = C} held held' file U c (Err e) marks s u
-      tree_not_ended {A = A} x ends e =
-          let w = told_written held held' {A = B} (Ok b) items s t d.told in
-          let p = put {A = A} (Err x) ends in
-          record {
-            marked = tt;
-            writes = record {
-              out = begins_after (held s.out.now).bytes (held t.out.now).bytes (held u.out.now).bytes (text_of s rows) its_end tree whole w.out p;
-              err = all_begun (held' s.err.now).bytes (held' u.err.now).bytes (flat_map fault_line (faults_in items))
-                  (appends_kept (held' s.err.now).bytes (held' t.err.now).bytes (held' u.err.now).bytes (flat_map fault_line (faults_in items)) w.err ends.kept);
-            };
-            summed = tt;
-          }

@@ -30,8 +30,7 @@ use Rattle.dbformat.specs.declared.Fault.{Fault}
 use Rattle.dbformat.proofs.Rising.{starts_rise}
 use Rattle.dbformat.proofs.Theory.{are_rules, is_story, shows_visits}
 use Rattle.dbtrace.specs.Finding.{told_row, told_fault, told_at, told_below, visited_below}
-use Rattle.dbwalk.proofs.Telling.Belows.{visited_none, told_join}
-use Rattle.dbreport.specs.Findings.{fault_in, faults_in}
+use Rattle.dbwalk.proofs.Telling.Belows.{visited_none}
 use Rattle.dbreport.specs.StatLines.{row_told, rows_told, tree_text, starts_text}
 use Rattle.dbreport.proofs.RunItems.{all_visited, goes_named}
 use Rattle.dbreport.proofs.Starts.{quiet_go}
@@ -78,13 +77,6 @@ pub rows_below : (file : List ℕ) (W : List Reference) (es : List (Errand Way E
 rows_below file W es quiet =
     in_list file W (telling_of (rules_of file) (story_of file) (geometry file).pages W es)
     ∙ ap (stat_rows file) (visits_of (rules_of file) (story_of file) (geometry file).pages (are_rules file) (is_story file) own_visit (shows_visits file) W es quiet)
-
--- the faults come errand by errand
-pub faults_joined : (file : List ℕ) (W : List Reference) (e : Errand Way Event) (es : List (Errand Way Event)) → AreQuiet own_visit (e ∷ [])
-    → faults_in (told_below file W (e ∷ es)) ≡ faults_in (told_below file W (e ∷ [])) ++ faults_in (told_below file (W ++ visited_below file W (e ∷ [])) es)
-faults_joined file W e es quiet =
-    ap faults_in (told_join file W (e ∷ []) es quiet)
-    ∙ filter_map-append fault_in (told_below file W (e ∷ [])) (told_below file (W ++ visited_below file W (e ∷ [])) es)
 
 -- ---- what is written
 

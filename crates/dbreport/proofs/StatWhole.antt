@@ -1,12 +1,10 @@
--- The statistics of all starts: from the schema's on, and when none is left.
-use Rattle.std.proofs.Common.{◌≡◌, ℕ, Bool, List, [], ◌∷◌, ◌++◌, length, Result, Ok, Err, refl, sym, ap, subst, ◌∙◌, append-nil}
-use Rattle.std.specs.Prelude.{OnOk, codes, false, true, flat_map, if◌then◌else◌}
+-- The statistics behind the starts: the rows of the other pages, and the faults at the end.
+use Rattle.std.proofs.Common.{◌≡◌, ℕ, Bool, List, [], length, Result, Ok, Err, refl, sym, ap, subst, ◌∙◌, append-nil}
+use Rattle.std.specs.Prelude.{false, true, flat_map, if◌then◌else◌}
 use Rattle.std.specs.Io.KnownBytes.{Appends}
-use Rattle.dbsurvey.specs.Story.{Go}
-use Rattle.dbformat.specs.Address.{start_of}
-use Rattle.dbformat.specs.EndFaults.{end_faults, has_rows}
+use Rattle.dbformat.specs.EndFaults.{end_faults}
 use Rattle.dbformat.specs.File.{geometry}
-use Rattle.dbformat.specs.Lines.{fault_line, form_line, tree_name}
+use Rattle.dbformat.specs.Lines.{fault_line, form_line}
 use Rattle.dbformat.specs.Reference.{Reference}
 use Rattle.dbformat.specs.Rows.{other_rows}
 use Rattle.dbformat.specs.Story.{start_errands}
@@ -15,72 +13,21 @@ use Rattle.dbformat.specs.declared.Fault.{Fault}
 use Rattle.dbformat.specs.declared.Geometry.{Geometry}
 use Rattle.dbsource.specs.Outs.{Begins, OutState}
 use Rattle.dbsource.specs.declared.error.RunError.{RunError}
-use Rattle.dbwalk.specs.Marking.{AreMarksOf}
 use Rattle.dbwalk.specs.Outcomes.{Tells}
 use Rattle.dbwalk.specs.Telling.{findings}
 use Rattle.dbwalk.specs.declared.mark.Mark.{Mark}
-use Rattle.dbwalk.proofs.Telling.Belows.{told_none}
-use Rattle.dbwalk.proofs.Telling.Lefts.{left_none}
-use Rattle.dbreport.specs.Findings.{faults_in}
 use Rattle.dbreport.specs.OtherMarks.{marked_lines}
 use Rattle.dbreport.specs.StatLines.{starts_text}
 use Rattle.dbreport.specs.StatSink.{Counts, Breaks, HasWritten, HasBegun, PutsOthers, WritesBoth}
-use Rattle.dbreport.specs.StatStarts.{Any, ArePagesWritten, AreWritten, IsForSchema, IsTreeWritten, IsWriting, StopsWriting, faults_told, rows_text, walk_faults_told}
-use Rattle.dbreport.specs.Starts.{later_errands, schema_reference}
+use Rattle.dbreport.specs.StatStarts.{ArePagesWritten, AreWritten, faults_told, rows_text, walk_faults_told}
 use Rattle.dbreport.specs.declared.stat_sink.StatSink.{StatSink}
 use Rattle.dbsource.proofs.Puts.{appends_append, appends_kept}
 use Rattle.dbsource.proofs.Beginnings.{all_begun, begins_after}
 use Rattle.dbreport.proofs.OtherRows.{others_text}
-use Rattle.dbreport.proofs.RunItems.{all_visited, starts_are, starts_left}
-use Rattle.dbreport.proofs.StatStarts.{tree_written}
-use Rattle.dbreport.proofs.StatWrites.{begun_first, both_then, faults_written, written_none}
-
-schema_name : (file : List ℕ) (V : List Reference) → codes "sqlite_schema" ≡ tree_name file V (start_of schema_reference.address)
-unfolding tree_name
-schema_name file V = refl
+use Rattle.dbreport.proofs.StatWrites.{begun_first, both_then}
+use Rattle.dbreport.proofs.StatSinks.{faults_written}
 
 module _ {O E : Type 0} (held : O → OutState) (held' : E → OutState) (file : List ℕ) (V : List Reference) (survey : Survey file V) (before : StatSink O E) where
-  starting : (marks : List Mark) → AreMarksOf file [] marks → IsForSchema file before → IsWriting held held' file V before [] (Go schema_reference ∷ later_errands file V) marks before
-  starting marks fresh is = record {
-    at = starts_left Any Any file V survey tt marks fresh;
-    text = [];
-    faults = [];
-    written = written_none held held' before;
-    rest = ap (starts_text before.aggregate file V []) (sym (starts_are file V survey));
-    rest_faults = ap (faults_told file []) (sym (starts_are file V survey));
-    encoding = is.encoding;
-    page_size = is.page_size;
-    summed = is.summed;
-  }
-
-  -- the schema's tree is the first
-  pub schema_written : {A : Type 0} (r : Result A RunError) (marks marks' : List Mark) (t : StatSink O E) → AreMarksOf file [] marks → IsForSchema file before
-      → IsTreeWritten held held' file [] schema_reference r marks' before t → StopsWriting held held' file V before (later_errands file V) r marks' t
-  schema_written r marks marks' t fresh is d =
-      tree_written held held' file V before [] schema_reference (later_errands file V) marks marks' before t (starting marks fresh is) r (is.name ∙ schema_name file V) d
-
-  -- none is left
-  pub all_written : {A : Type 0} (r : Result A RunError) (marks : List Mark) (any : Bool) (t : StatSink O E) → OnOk r (any ≡ has_rows file V)
-      → StopsWriting held held' file V before [] r marks t → AreWritten held held' file V r marks any before t
-  all_written (Ok a) marks any t rows h =
-      let w = h.1 in
-      let done = left_none Any file [] (start_errands file V) tt h.0 marks tt {A = Unit {0}} Any tt w.at in
-      let text : w.text ≡ starts_text before.aggregate file V [] (start_errands file V) = sym (append-nil w.text) ∙ w.rest in
-      let faults : w.faults ≡ faults_told file [] (start_errands file V) =
-      sym (append-nil w.faults) ∙ ap (λ l. w.faults ++ faults_in l) (sym (told_none file h.0)) ∙ w.rest_faults in
-      record {
-        marked = subst (λ W. AreMarksOf file W marks) (all_visited file V survey) done.marked;
-        writes = subst (λ x. HasWritten held held' before t x (faults_told file [] (start_errands file V))) text
-            (subst (λ x. HasWritten held held' before t w.text x) faults w.written);
-        has_rows = rows;
-      }
-  all_written (Err e) marks any t rows h = record { marked = tt; writes = h; has_rows = tt }
-
-  -- an error in the schema's tree
-  pub stopped_in_schema : {A : Type 0} (marks marks' : List Mark) (any : Bool) (t : StatSink O E) (e : RunError) → AreMarksOf file [] marks → IsForSchema file before
-      → IsTreeWritten {A = A} held held' file [] schema_reference (Err e) marks' before t → AreWritten {A = A} held held' file V (Err e) marks' any before t
-  stopped_in_schema {A} marks marks' any t e fresh is d = record { marked = tt; writes = schema_written {A = A} (Err e) marks marks' t fresh is d; has_rows = tt }
-
   -- ---- the rows of the other pages, and the faults at the end
 
   abbrev others : Bool → List ℕ
@@ -154,8 +101,3 @@ module _ {O E : Type 0} (held : O → OutState) (held' : E → OutState) (file :
   walks_ended a all marks any t u r h k =
       subst (λ x. WritesBoth held held' r before u x (walk_faults_told file V)) (append-nil (rows_text before.aggregate all file V))
       (both_then held held' before t u (rows_text before.aggregate all file V) [] in_walks (end_faults file V) h.writes r (faults_written held held' r (end_faults file V) t u k))
-
--- what holds anyway holds at Ok
-pub on_ok : {A X P : Type 0} (r : Result A X) → P → OnOk r P
-on_ok (Ok a) h = h
-on_ok (Err e) h = tt

@@ -1,33 +1,15 @@
--- What the sink of the statistics has written, call after call.
-use Rattle.std.proofs.Common.{◌≡◌, ℕ, ◌+◌, true, false, Bool, List, [], ◌∷◌, ◌++◌, length, Result, Ok, Err, refl, sym, ap, ◌∙◌, subst, arith, append-nil, length-append}
-use Rattle.std.specs.Prelude.{flat_map, OnOk}
+-- What the sink of the statistics has written, one part after another.
+use Rattle.std.proofs.Common.{◌≡◌, ℕ, ◌+◌, List, [], ◌++◌, length, Result, Ok, Err, refl, sym, ap, ◌∙◌, subst, arith, length-append}
+use Rattle.std.specs.Prelude.{flat_map}
 use Rattle.std.specs.Io.KnownBytes.{Appends}
 use Rattle.std.proofs.lemmas.Grind.{flat_map-append}
 use Rattle.dbformat.specs.Lines.{counted, fault_line}
-use Rattle.dbformat.specs.Rows.{StatRow}
 use Rattle.dbformat.specs.declared.Fault.{Fault}
 use Rattle.dbsource.specs.Outs.{OutState}
-use Rattle.dbsource.specs.declared.error.RunError.{RunError}
 use Rattle.dbsource.proofs.Puts.{appends_append, appends_nothing}
-use Rattle.dbtrace.specs.Finding.{Finding}
-use Rattle.dbwalk.specs.Outcomes.{Tells}
-use Rattle.dbwalk.specs.Telling.{findings}
-use Rattle.dbreport.specs.Findings.{faults_in}
-use Rattle.dbreport.specs.TreeNames.{label_text}
-use Rattle.dbreport.specs.StatLines.{tree_text, rows_told}
-use Rattle.dbreport.specs.StatSink.{IsSameSink, text_of, pages_text, end_text, Counts, Breaks, HasWritten, HasBegun, WritesBoth}
-use Rattle.dbreport.specs.Sums.{sums_of}
+use Rattle.dbsource.proofs.Beginnings.{begins_nothing, begins_more, begins_after}
+use Rattle.dbreport.specs.StatSink.{HasWritten, HasBegun, WritesBoth}
 use Rattle.dbreport.specs.declared.stat_sink.StatSink.{StatSink}
-use Rattle.dbsource.proofs.Beginnings.{begins_more, begins_after}
-use Rattle.dbreport.proofs.RunTold.{all_faults}
-use Rattle.dbreport.proofs.StatSinks.{has_counted, has_begun, pages_none}
-
--- the rows of a tree as they come, and then its own
-pub text_whole : (aggregate : Bool) (name : List ℕ) (size : ℕ) (rows : List StatRow)
-    → pages_text aggregate name size rows ++ end_text aggregate name size rows ≡ tree_text aggregate name size rows
-text_whole true name size [] = refl
-text_whole true name size (r ∷ rows) = refl
-text_whole false name size rows = append-nil (pages_text false name size rows)
 
 lines_more : (xs ys : List Fault) → flat_map fault_line xs ++ flat_map fault_line ys ≡ flat_map fault_line (xs ++ ys)
 lines_more xs ys = sym (flat_map-append fault_line xs ys)
@@ -37,10 +19,6 @@ count_more n xs ys = let e = length-append xs ys in omega arith
 
 count_none : (n : ℕ) → n ≡ n + 0
 count_none n = omega arith
-
-no_rows : (fs : List Fault) → rows_told (findings fs) ≡ []
-no_rows [] = refl
-no_rows (f ∷ fs) = no_rows fs
 
 module _ {O E : Type 0} (held : O → OutState) (held' : E → OutState) where
   pub written_none : (s : StatSink O E) → HasWritten held held' s s [] []
@@ -82,25 +60,7 @@ module _ {O E : Type 0} (held : O → OutState) (held' : E → OutState) where
     err = begins_more (held' s.err.now).bytes (held' t.err.now).bytes (flat_map fault_line xs) (flat_map fault_line ys) (flat_map fault_line (xs ++ ys)) (lines_more xs ys) h.err;
   }
 
-  -- ---- what it was told
-
-  pub told_written : {A : Type 0} (r : Result A RunError) (items : List Finding) (s t : StatSink O E) → Tells (Counts held held') (Breaks held held') r s items t
-      → WritesBoth held held' r s t (text_of s (rows_told items)) (faults_in items)
-  told_written (Ok a) items s t h =
-      let k = has_counted held held' items s t h in
-      record { aggregate = k.same.aggregate; encoding = ap (λ l. l.encoding) k.same.label; page_size = ap (λ l. l.page_size) k.same.label; found = k.found; out = k.out; err = k.err }
-  told_written (Err e) items s t h = has_begun held held' e items s t h
-
-  -- faults alone: no row was written
-  pub faults_written : {A : Type 0} (r : Result A RunError) (fs : List Fault) (s t : StatSink O E) → Tells (Counts held held') (Breaks held held') r s (findings fs) t
-      → WritesBoth held held' r s t [] fs
-  faults_written r fs s t h =
-      subst (λ x. WritesBoth held held' r s t x fs) (ap (text_of s) (no_rows fs) ∙ pages_none s.aggregate (label_text s.label.now) s.label.now.page_size)
-      (subst (λ x. WritesBoth held held' r s t (text_of s (rows_told (findings fs))) x) (all_faults fs) (told_written r (findings fs) s t h))
-
-  pub faults_kept : {A : Type 0} (r : Result A RunError) (fs : List Fault) (s t : StatSink O E) → Tells (Counts held held') (Breaks held held') r s (findings fs) t
-      → OnOk r (IsSameSink s t × (s.sums ≡ sums_of [] → t.sums ≡ sums_of []))
-  faults_kept (Ok a) fs s t h =
-      let k = has_counted held held' (findings fs) s t h in
-      (k.same, λ e. k.sums [] e ∙ ap sums_of (no_rows fs))
-  faults_kept (Err e) fs s t h = tt
+  -- nothing is a beginning
+  pub begun_none : (s t : StatSink O E) (text : List ℕ) (faults : List Fault) → s ≡ t → HasBegun held held' s t text faults
+  begun_none s t text faults e = subst (λ u. HasBegun held held' s u text faults) e
+      (record { out = begins_nothing (held s.out.now).bytes text; err = begins_nothing (held' s.err.now).bytes (flat_map fault_line faults) })

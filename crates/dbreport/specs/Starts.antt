@@ -1,25 +1,18 @@
 -- The starts behind the schema's, as a run comes by them: the roots of a list, and the first trunk.
-use Rattle.std.specs.Prelude.{◌≡◌, ◌≢◌, ℕ, Bool, List, [], ◌∷◌, map, take, ◌++◌, Result, OnOk}
+use Rattle.std.specs.Prelude.{◌≡◌, ◌≢◌, ℕ, Bool, List, [], ◌∷◌, map, take, ◌++◌}
 use Rattle.std.specs.List.{enumerate_from}
 use Rattle.dbsurvey.specs.Address.{IsIn}
-use Rattle.dbsurvey.specs.Story.{Errand, Go, Follow, errands_at}
+use Rattle.dbsurvey.specs.Story.{Errand, Follow, errands_at}
 use Rattle.dbsurvey.specs.Survey.{Link}
 use Rattle.dbformat.specs.Address.{schema_start, last_root_start}
 use Rattle.dbformat.specs.EndFaults.{has_rows}
 use Rattle.dbformat.specs.Reference.{Way, Reference}
 use Rattle.dbformat.specs.Schema.{schema, schema_link, root_start, rooted_rows, freelist_starts, later_starts}
 use Rattle.dbformat.specs.SchemaRow.{SchemaRow}
-use Rattle.dbformat.specs.Story.{Event, start_errands}
-use Rattle.dbformat.specs.Survey.{Survey}
+use Rattle.dbformat.specs.Story.{Event}
 use Rattle.dbformat.specs.declared.Encoding.{Encoding}
 use Rattle.dbformat.specs.declared.RowKind.{RowKind}
 use Rattle.dbformat.specs.declared.RowKind.TheVariants as row
-use Rattle.dbsource.specs.declared.error.RunError.{RunError}
-use Rattle.dbwalk.specs.Done.{IsDone}
-use Rattle.dbtrace.specs.Finding.{Finding, told_below}
-use Rattle.dbwalk.specs.Marking.{AreMarksOf}
-use Rattle.dbwalk.specs.Outcomes.{Tells}
-use Rattle.dbwalk.specs.declared.mark.Mark.{Mark}
 use Rattle.dbwalk.specs.declared.root.Root.{Root}
 use Rattle.dbwalk.specs.declared.root.RootKind.{RootKind}
 use Rattle.dbwalk.specs.declared.root.RootKind.TheVariants as root
@@ -64,19 +57,6 @@ pub record IsSchemaOf (file : List ℕ) (V : List Reference) (rows : List Schema
   pub listed : AreListed file V rows
   pub left : errands_from file 1 rows ≡ later_errands file V
 
--- The walk over the schema's tree: what is below page 1 is marked and told, or a beginning of it told; and what it has come
--- by, of every survey.
-pub record IsSchemaWalked {S : Type 0} (takes drops : S → Finding → S → Type 0) (file : List ℕ) (r : Result (Unit {0}) RunError) (marks : List Mark) (rows : List SchemaRow) (any : Bool) (before after : S) : Type 0 where
-  pub done : IsDone takes drops file [] (Go schema_reference ∷ []) r marks before after
-  pub schema : (V : List Reference) → Survey file V → OnOk r (IsSchemaOf file V rows any)
-
 -- visits that all stand below starts
 abbrev pub AreBelowStarts : List Reference → Type 0
 AreBelowStarts V = (u : Reference) → IsIn u V → u.address ≢ []
-
--- The walks from all starts: the survey is marked, what there is to tell of it was told, and it is known whether the schema
--- has a row; or after an error a beginning was told.
-pub record AreWalked {S : Type 0} (takes drops : S → Finding → S → Type 0) (file : List ℕ) (V : List Reference) (r : Result (Unit {0}) RunError) (marks : List Mark) (any : Bool) (before after : S) : Type 0 where
-  pub marked : OnOk r (AreMarksOf file V marks)
-  pub told : Tells takes drops r before (told_below file [] (start_errands file V)) after
-  pub has_rows : OnOk r (any ≡ has_rows file V)

@@ -133,17 +133,21 @@ pub record BeginsTree {O E : Type 0} (s : StatSink O E) (name : Option (List ℕ
   pub page_size : t.label.now.page_size ≡ s.label.now.page_size
   pub named : label_text t.label.now ≡ option_map_or (shown_name s.label.now.encoding) (short_name name) (codes "?")
 
--- A tree has ended: its own row was written, where its rows are added up, behind the faults that came before it; or a
--- beginning of it.
-pub record EndsTree {O E A X : Type 0} (held : O → OutState) (held' : E → OutState) (r : Result A X) (s t : StatSink O E) : Type 0 where
+-- A tree has ended: its own row was written, where its rows are added up, behind the faults that came before it.
+pub record EndsTree {O E : Type 0} (held : O → OutState) (held' : E → OutState) (s t : StatSink O E) : Type 0 where
   pub aggregate : t.aggregate ≡ s.aggregate
   pub label : t.label.now ≡ s.label.now
   pub found : t.found ≡ s.found
-  pub sums : OnOk r (t.sums ≡ sums_of [])
-  pub kept : Keeps (held' s.err.now).bytes (held' t.err.now).bytes
-  pub err : OnOk r (IsFlushedIf s.aggregate (held' s.err.now) (held' t.err.now))
+  pub sums : t.sums ≡ sums_of []
+  pub err : IsFlushedIf s.aggregate (held' s.err.now) (held' t.err.now)
   pub writes : (rows : List StatRow) → s.sums ≡ sums_of rows
-      → Writes r (held s.out.now).bytes (held t.out.now).bytes (end_text s.aggregate (label_text s.label.now) s.label.now.page_size rows)
+      → Appends (held s.out.now).bytes (held t.out.now).bytes (end_text s.aggregate (label_text s.label.now) s.label.now.page_size rows)
+
+-- it was not written whole, or the faults before it were not handed on
+pub record CutsEnd {O E : Type 0} (held : O → OutState) (held' : E → OutState) (s t : StatSink O E) : Type 0 where
+  pub kept : Keeps (held' s.err.now).bytes (held' t.err.now).bytes
+  pub writes : (rows : List StatRow) → s.sums ≡ sums_of rows
+      → Begins (held s.out.now).bytes (held t.out.now).bytes (end_text s.aggregate (label_text s.label.now) s.label.now.page_size rows)
 
 -- The rows of the other pages were written, as the marks tell them, behind the faults that came before them; or a beginning
 -- of them.

@@ -5,6 +5,7 @@ ghost use Rattle.dbsource.specs.Outs.{Puts};
 ghost use Rattle.dbreport.specs.CheckSink.{end_text, verdict_of};
 
 use crate::lines::{put_fault, put_more, put_ok};
+use crate::tree_sink::TreeSink;
 use dbformat::Verdict;
 use dbsource::{Out, WriteFailed};
 use dbwalk::{Fault, Row, Sink};
@@ -71,6 +72,23 @@ impl<O: Out> Sink for CheckSink<'_, O> {
     }
 
     fn row(&mut self, _row: &Row<'_>) -> Result<(), WriteFailed> {
+        Ok(())
+    }
+}
+
+// Where trees begin and end is nothing to a check.
+impl<O: Out> TreeSink for CheckSink<'_, O> {
+    ghost use Rattle.std.specs.Prelude.{◌≡◌};
+
+    ghost begins = { λ s name t. t ≡ s };
+
+    ghost ends = { λ s t. t ≡ s };
+
+    ghost cuts = { λ s t. ⊥ };
+
+    fn begin_tree(&mut self, _name: Option<&[u8]>) {}
+
+    fn end_tree(&mut self) -> Result<(), WriteFailed> {
         Ok(())
     }
 }

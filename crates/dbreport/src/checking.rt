@@ -20,8 +20,10 @@ ghost use Rattle.dbreport.specs.RunItems.{walk_items};
 
 use crate::RootList;
 use crate::check_sink::CheckSink;
+use crate::end_pass::tell_end;
 use crate::schema_watch::SchemaWatch;
-use crate::telling::{tell_header, tell_walks};
+use crate::telling::tell_header;
+use crate::walks::walk_starts;
 use dbformat::Verdict;
 use dbsource::{Bench, Header, Out, RunError, Source};
 use dbwalk::Marks;
@@ -60,7 +62,15 @@ fn tell_check<A: Allocator, S: Source, O: Out>(
     ensures refusals { roots.new.refusals ≡ failures_after is_out_of_memory result roots.old.refusals }
     ensures only { IfErr result IsReadWriteOrMemory }
 {
-    tell_walks(header, source, bench, marks, roots, watch)
+    walk_starts(header, source, bench, marks, roots, watch)?;
+    tell_end(
+        header,
+        source,
+        bench,
+        marks,
+        watch.has_rows,
+        &mut watch.sink,
+    )
 }
 
 /// Writes the first faults of a file, so many at most, and how many more there are, or that there is none; and answers

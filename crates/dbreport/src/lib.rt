@@ -26,12 +26,12 @@ mod runs;
 mod schema_watch;
 mod stat_lines;
 mod stat_sink;
-mod stat_walks;
 mod statistics;
 mod sums;
 mod tell;
 mod telling;
 mod tree_name;
+mod tree_sink;
 mod walks;
 
 pub use dbformat::{Command, RowKind, Verdict};

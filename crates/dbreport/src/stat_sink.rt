@@ -1,11 +1,10 @@
 // What the statistics write of what they are told.
 ghost use Rattle.std.specs.Prelude.{◌≡◌, [], List, true};
-ghost use Rattle.std.specs.Option.{option_copied};
 ghost use Rattle.dbformat.specs.FixedPages.{IsInRange};
 ghost use Rattle.dbformat.specs.Rows.{StatRow};
 ghost use Rattle.dbsource.specs.Failures.{CountsAfter, failures_after, is_any};
 ghost use Rattle.dbsource.specs.Outs.{Puts};
-ghost use Rattle.dbreport.specs.StatSink.{BeginsTree, EndsTree, PutsOthers, end_text, failures_of_each, found_verdict};
+ghost use Rattle.dbreport.specs.StatSink.{PutsOthers, end_text, failures_of_each, found_verdict};
 ghost use Rattle.dbreport.specs.Sums.{sums_of};
 ghost use Rattle.dbreport.specs.TreeNames.{label_text};
 
@@ -14,6 +13,7 @@ use crate::other_pages::put_others;
 use crate::stat_lines::{put_page_row, put_tree_row};
 use crate::sums::Sums;
 use crate::tree_name::Label;
+use crate::tree_sink::TreeSink;
 use dbformat::Verdict;
 use dbsource::{Geometry, Out, WriteFailed};
 use dbwalk::{Fault, Marks, Row, Sink};
@@ -57,31 +57,6 @@ impl<'a, O: Out, E: Out> StatSink<'a, O, E> {
             sums: Sums::new(),
             found: 0,
         }
-    }
-
-    // The next rows are those of a tree of this name.
-    pub(crate) fn begin_tree(&mut self, name: Option<&[u8]>)
-        ensures same_out { self.new.out.ghost_name ≡ self.old.out.ghost_name }
-        ensures same_err { self.new.err.ghost_name ≡ self.old.err.ghost_name }
-        ensures begins { BeginsTree self.old (option_copied name.entry) self.new }
-    {
-        self.label.rename(name);
-    }
-
-    // All rows of a tree have come.
-    pub(crate) fn end_tree(&mut self) -> Result<(), WriteFailed>
-        ensures same_out { self.new.out.ghost_name ≡ self.old.out.ghost_name }
-        ensures same_err { self.new.err.ghost_name ≡ self.old.err.ghost_name }
-        ensures ends { EndsTree O.held E.held result self.old self.new }
-        ensures count { CountsAfter is_any result (failures_of_each (O.held self.old.out.now) (E.held self.old.err.now))
-            (failures_of_each (O.held self.new.out.now) (E.held self.new.err.now)) }
-    {
-        if self.aggregate {
-            self.err.flush()?;
-            put_sums(self.out, self.label, &self.sums)?;
-        }
-        self.sums = Sums::new();
-        Ok(())
     }
 
     // Writes the rows of the pages that are in no tree and in no overflow chain, as the marks tell them.
@@ -136,6 +111,29 @@ impl<O: Out, E: Out> Sink for StatSink<'_, O, E> {
             put_page_row(self.out, self.label, row)?;
         }
         self.sums.add(row);
+        Ok(())
+    }
+}
+
+impl<O: Out, E: Out> TreeSink for StatSink<'_, O, E> {
+    ghost use Rattle.dbreport.specs.StatSink.{BeginsTree, CutsEnd, EndsTree};
+
+    ghost begins = { BeginsTree };
+
+    ghost ends = { EndsTree O.held E.held };
+
+    ghost cuts = { CutsEnd O.held E.held };
+
+    fn begin_tree(&mut self, name: Option<&[u8]>) {
+        self.label.rename(name);
+    }
+
+    fn end_tree(&mut self) -> Result<(), WriteFailed> {
+        if self.aggregate {
+            self.err.flush()?;
+            put_sums(self.out, self.label, &self.sums)?;
+        }
+        self.sums = Sums::new();
         Ok(())
     }
 }

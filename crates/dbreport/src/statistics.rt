@@ -19,7 +19,7 @@ ghost use Rattle.dbwalk.specs.Marking.{AreMarksFor, AreMarksOf, marks_of};
 ghost use Rattle.dbwalk.specs.Outcomes.{IsReadWriteOrMemory};
 ghost use Rattle.dbwalk.specs.Reads.{Reads};
 ghost use Rattle.dbreport.specs.Statistics.{form_of};
-ghost use Rattle.dbreport.specs.StatSink.{Fails, IsSameSink, WritesBoth, failures_of_each, found_verdict};
+ghost use Rattle.dbreport.specs.StatSink.{Fails, IsSameSink, WritesBoth, failures_of_each};
 ghost use Rattle.dbreport.specs.StatStarts.{ArePagesWritten, IsForSchema, rows_text, walk_faults_told};
 ghost use Rattle.dbreport.specs.Sums.{sums_of};
 ghost use Rattle.dbreport.specs.TreeNames.{label_text};
@@ -28,9 +28,9 @@ use crate::RootList;
 use crate::end_pass::tell_end;
 use crate::schema_watch::SchemaWatch;
 use crate::stat_sink::StatSink;
-use crate::stat_walks::stat_starts;
 use crate::telling::tell_header;
 use crate::tree_name::Label;
+use crate::walks::walk_starts;
 use dbformat::Verdict;
 use dbsource::{Bench, Header, Out, RunError, Source};
 use dbwalk::Marks;
@@ -82,7 +82,7 @@ fn stat_pages<A: Allocator, S: Source, O: Out, E: Out>(
     ensures refusals { roots.new.refusals ≡ failures_after is_out_of_memory result roots.old.refusals }
     ensures only { IfErr result IsReadWriteOrMemory }
 {
-    stat_starts(header, source, bench, marks, roots, watch)?;
+    walk_starts(header, source, bench, marks, roots, watch)?;
     if !all {
         return Ok(());
     }
@@ -123,36 +123,6 @@ fn stat_walks<A: Allocator, S: Source, O: Out, E: Out>(
         watch.has_rows,
         &mut watch.sink,
     )
-}
-
-// Writes that, and answers what was found.
-fn stat_rest<A: Allocator, S: Source, O: Out, E: Out>(
-    header: &Header,
-    source: &mut S,
-    bench: &mut Bench<A>,
-    marks: &mut Marks<A>,
-    roots: &mut RootList<A>,
-    all: bool,
-    watch: &mut SchemaWatch<StatSink<'_, O, E>>,
-) -> Result<Verdict, RunError>
-    requires empty { roots.old.rows ≡ [] }
-    requires unseen { watch.old.has_rows ≡ false }
-    requires fresh { marks.old ≡ marks_of bench.old.geometry [] }
-    ensures same_out { watch.new.sink.out.ghost_name ≡ watch.old.sink.out.ghost_name }
-    ensures same_err { watch.new.sink.err.ghost_name ≡ watch.old.sink.err.ghost_name }
-    ensures shape { bench.new.geometry ≡ bench.old.geometry }
-    ensures marks { AreMarksFor bench.old.geometry marks.new }
-    ensures asks { Asks S.step (IsPageLog bench.old.geometry) (λ file. IsHeaderOf header.now file → bench.old.geometry ≡ geometry file
-        → IsForSchema file watch.old.sink → (V : List Reference) → Survey file V
-        → WritesBoth O.held E.held result watch.old.sink watch.new.sink (rows_text watch.old.sink.aggregate all file V) (walk_faults_told file V))
-        is_read_failed result (S.held source.old) (S.held source.new) }
-    ensures writes { Fails O.held E.held result watch.old.sink watch.new.sink }
-    ensures refusals { roots.new.refusals ≡ failures_after is_out_of_memory result roots.old.refusals }
-    ensures only { IfErr result IsReadWriteOrMemory }
-    ensures found { IfOk result (λ v. v ≡ found_verdict watch.new.sink.found) }
-{
-    stat_walks(header, source, bench, marks, roots, all, watch)?;
-    Ok(watch.sink.verdict())
 }
 
 // The label of the schema's tree.
@@ -198,5 +168,6 @@ pub(crate) fn stat<A: Allocator, S: Source, O: Out, E: Out>(
     let mut sink = StatSink::new(out, err, &mut label, form.aggregate);
     stat_header(header, &mut sink)?;
     let mut watch = SchemaWatch::new(sink);
-    stat_rest(header, source, bench, marks, roots, form.all, &mut watch)
+    stat_walks(header, source, bench, marks, roots, form.all, &mut watch)?;
+    Ok(watch.sink.verdict())
 }

@@ -1,32 +1,33 @@
 // The walks of a run, start after start.
-ghost use Rattle.std.specs.Prelude.{◌≡◌, ◌≤◌, ◌+◌, false, ◌-◌, ◌++◌, List, [], length, option_map, slice_get, Some, IfErr};
-ghost use Rattle.dbsurvey.specs.Story.{Errand};
-ghost use Rattle.dbwalk.specs.Rows.{schema_row_of};
+ghost use Rattle.std.specs.Prelude.{◌≡◌, ◌↔◌, ◌≤◌, ◌+◌, ◌-◌, false, List, [], length, IfErr};
+ghost use Rattle.std.specs.List.{enumerate_from};
+ghost use Rattle.dbformat.specs.Address.{schema_start};
 ghost use Rattle.dbformat.specs.File.{geometry as shape_of};
 ghost use Rattle.dbformat.specs.Header.{encoding as encoding_of};
-ghost use Rattle.dbformat.specs.Reference.{Way, Reference};
-ghost use Rattle.dbformat.specs.Story.{Event};
+ghost use Rattle.dbformat.specs.Reference.{Reference};
 ghost use Rattle.dbformat.specs.Survey.{Survey};
 ghost use Rattle.dbsource.specs.Errors.{is_out_of_memory, is_read_failed, is_write_failed};
 ghost use Rattle.dbsource.specs.Failures.{failures_after};
 ghost use Rattle.dbsource.specs.Headers.{IsHeaderOf};
 ghost use Rattle.dbsource.specs.Sources.{Asks};
-ghost use Rattle.dbwalk.specs.Done.{IsDone};
-ghost use Rattle.dbtrace.specs.Finding.{visited_below};
-ghost use Rattle.dbwalk.specs.FreeLeaves.{Leaves};
-ghost use Rattle.dbwalk.specs.Left.{IsLeft};
 ghost use Rattle.dbwalk.specs.Marking.{AreMarksOf};
 ghost use Rattle.dbwalk.specs.Outcomes.{IsReadOrWrite, IsReadWriteOrMemory};
 ghost use Rattle.dbwalk.specs.Reads.{Reads};
-ghost use Rattle.dbreport.specs.Starts.{AreBelowStarts, AreWalked, IsSchemaWalked, errands_from, kind_by, root_of, schema_root};
+ghost use Rattle.dbwalk.specs.Roots.{IsRootAfter};
+ghost use Rattle.dbwalk.specs.Rows.{schema_row_of};
 ghost use Rattle.dbwalk.specs.Sinks.{SinkAfter};
+ghost use Rattle.dbwalk.specs.declared.root.RootKind.TheVariants as root_kind;
+ghost use Rattle.dbreport.specs.Notices.{Hears};
+ghost use Rattle.dbreport.specs.Starts.{kind_by, root_of, schema_root};
+ghost use Rattle.dbreport.specs.Walks.{AreTold, AreWalked, BeginsAt, IsSchemaWalked, IsTelling, IsTreeWalked, StopsTelling};
 
 use crate::RootList;
 use crate::schema_watch::SchemaWatch;
+use crate::tree_sink::TreeSink;
 use dbbytes::SchemaRow;
 use dbformat::{Encoding, RowKind};
 use dbsource::{Bench, Header, RunError, Source};
-use dbwalk::{Marks, Root, RootKind, Sink, walk_freelist, walk_tree};
+use dbwalk::{Marks, Root, RootKind, walk_freelist, walk_tree};
 use std::alloc::Allocator;
 
 // The root of the schema.
@@ -42,7 +43,7 @@ fn schema_root(encoding: Encoding) -> Root
 }
 
 // Walks over the schema's tree. The list takes its rows, and the watch notes whether there are any.
-pub(crate) fn walk_schema<A: Allocator, S: Source, K: Sink + Drop>(
+fn walk_schema<A: Allocator, S: Source, K: TreeSink + Drop>(
     header: &Header,
     source: &mut S,
     bench: &mut Bench<A>,
@@ -55,14 +56,16 @@ pub(crate) fn walk_schema<A: Allocator, S: Source, K: Sink + Drop>(
     ensures shape { bench.new.geometry ≡ bench.old.geometry }
     ensures asks { Asks S.step (Reads bench.old.geometry.page_size marks.old marks.new)
         (λ file. IsHeaderOf header.now file → bench.old.geometry ≡ shape_of file → AreMarksOf file [] marks.old
-        → IsSchemaWalked K.takes K.drops file result marks.new roots.new.rows watch.new.has_rows watch.old.sink watch.new.sink)
+        → IsSchemaWalked (Hears K.takes K.drops K.begins K.ends K.cuts) file result marks.new roots.new.rows watch.new.has_rows
+        watch.old.sink watch.new.sink)
         is_read_failed result (S.held source.old) (S.held source.new) }
     ensures writes { SinkAfter is_write_failed result (K.held watch.old.sink) (K.held watch.new.sink) }
     ensures refusals { roots.new.refusals ≡ failures_after is_out_of_memory result roots.old.refusals }
     ensures only { IfErr result IsReadWriteOrMemory }
 {
     let root = schema_root(header.encoding());
-    walk_tree(source, bench, marks, root, roots, watch)
+    walk_tree(source, bench, marks, root, roots, watch)?;
+    Ok(watch.sink.end_tree()?)
 }
 
 // How a row names the kind of its tree.
@@ -76,7 +79,7 @@ fn kind_by(kind: RowKind) -> RootKind
 }
 
 // The root that a row of the list names.
-pub(crate) fn root_of(row: &SchemaRow<'_>, start: u32, encoding: Encoding) -> Root
+fn root_of(row: &SchemaRow<'_>, start: u32, encoding: Encoding) -> Root
     ensures { result ≡ root_of encoding start (schema_row_of row.now) }
 {
     Root {
@@ -87,19 +90,51 @@ pub(crate) fn root_of(row: &SchemaRow<'_>, start: u32, encoding: Encoding) -> Ro
     }
 }
 
-// The root of a start of the list, from 1 on.
-fn root_at<A: Allocator>(roots: &RootList<A>, start: u32, encoding: Encoding) -> Root
+// The root of a start of the list, from 1 on, whose tree begins.
+fn begin_at<A: Allocator, K: TreeSink>(
+    roots: &RootList<A>,
+    start: u32,
+    encoding: Encoding,
+    sink: &mut K,
+) -> Root
     requires { (1 ≤ start) × (start ≤ length roots.now.rows) }
-    ensures { option_map (root_of encoding start) (slice_get roots.now.rows (start - 1)) ≡ Some result }
+    ensures begins { BeginsAt K.begins roots.now.rows encoding start result sink.old sink.new }
+    ensures same { K.held sink.new ≡ K.held sink.old }
 {
     let Some(row) = roots.get(start) else {
         unreachable!()
     };
+    sink.begin_tree(row.name);
     root_of(&row, start, encoding)
 }
 
+// Walks over the tree of a root behind the schema's, to its end.
+fn walk_root<A: Allocator, S: Source, K: TreeSink>(
+    source: &mut S,
+    bench: &mut Bench<A>,
+    marks: &mut Marks<A>,
+    root: Root,
+    roots: &mut RootList<A>,
+    sink: &mut K,
+) -> Result<(), RunError>
+    requires schema { (root.kind ≡ root_kind.Schema) ↔ (root.start ≡ schema_start) }
+    requires later { 1 ≤ root.start }
+    ensures shape { bench.new.geometry ≡ bench.old.geometry }
+    ensures roots { roots.new ≡ roots.old }
+    ensures asks { Asks S.step (Reads bench.old.geometry.page_size marks.old marks.new)
+        (λ file. bench.old.geometry ≡ shape_of file → root.encoding ≡ encoding_of file
+        → (W : List Reference) (c : Reference) → IsRootAfter file root W c marks.old
+        → IsTreeWalked (Hears K.takes K.drops K.begins K.ends K.cuts) file W c result marks.new sink.old sink.new)
+        is_read_failed result (S.held source.old) (S.held source.new) }
+    ensures writes { SinkAfter is_write_failed result (K.held sink.old) (K.held sink.new) }
+    ensures only { IfErr result IsReadOrWrite }
+{
+    walk_tree(source, bench, marks, root, roots, sink)?;
+    Ok(sink.end_tree()?)
+}
+
 // Walks over the trees of the list, one after another.
-fn walk_roots<A: Allocator, S: Source, K: Sink>(
+fn walk_roots<A: Allocator, S: Source, K: TreeSink>(
     source: &mut S,
     bench: &mut Bench<A>,
     marks: &mut Marks<A>,
@@ -111,26 +146,22 @@ fn walk_roots<A: Allocator, S: Source, K: Sink>(
     ensures roots { roots.new ≡ roots.old }
     ensures asks { Asks S.step (Reads bench.old.geometry.page_size marks.old marks.new)
         (λ file. bench.old.geometry ≡ shape_of file → encoding ≡ encoding_of file
-        → (W : List Reference) (errands : List (Errand Way Event)) (before : K) (U : List Reference) → AreBelowStarts (W ++ visited_below file W errands)
-        → IsLeft K.takes file W errands before U (errands_from file 1 roots.old.rows) marks.old sink.old
-        → Leaves K.takes K.drops file W errands before (errands_from file (length roots.old.rows + 1) []) result marks.new sink.new)
+        → (V : List Reference) → Survey file V → (before : K)
+        → IsTelling (Hears K.takes K.drops K.begins K.ends K.cuts) file V before (enumerate_from 1 roots.old.rows) marks.old sink.old
+        → StopsTelling (Hears K.takes K.drops K.begins K.ends K.cuts) file V before [] result marks.new sink.new)
         is_read_failed result (S.held source.old) (S.held source.new) }
     ensures writes { SinkAfter is_write_failed result (K.held sink.old) (K.held sink.new) }
     ensures only { IfErr result IsReadOrWrite }
 {
     for index in 0..roots.len() {
-        let root = root_at(roots, index + 1, encoding);
-        walk_tree(source, bench, marks, root, roots, sink)?;
+        let root = begin_at(roots, index + 1, encoding, sink);
+        walk_root(source, bench, marks, root, roots, sink)?;
     }
     Ok(())
 }
 
-/// Walks over the trees of the list, one after another, and then along the freelist.
-///
-/// # Errors
-///
-/// [`RunError::ReadFailed`] exactly where the source failed, [`RunError::WriteFailed`] exactly where the sink failed.
-pub(crate) fn walk_later<A: Allocator, S: Source, K: Sink>(
+// Walks over the trees of the list, one after another, and then along the freelist.
+fn walk_later<A: Allocator, S: Source, K: TreeSink>(
     header: &Header,
     source: &mut S,
     bench: &mut Bench<A>,
@@ -140,10 +171,11 @@ pub(crate) fn walk_later<A: Allocator, S: Source, K: Sink>(
 ) -> Result<(), RunError>
     ensures shape { bench.new.geometry ≡ bench.old.geometry }
     ensures roots { roots.new ≡ roots.old }
-    ensures asks { Asks S.step (Reads bench.old.geometry.page_size marks.old marks.new) (λ file. IsHeaderOf header.now file → bench.old.geometry ≡ shape_of file
-        → (W : List Reference) (errands : List (Errand Way Event)) (before : K) (U : List Reference) → AreBelowStarts (W ++ visited_below file W errands)
-        → IsLeft K.takes file W errands before U (errands_from file 1 roots.old.rows) marks.old sink.old
-        → IsDone K.takes K.drops file W errands result marks.new before sink.new)
+    ensures asks { Asks S.step (Reads bench.old.geometry.page_size marks.old marks.new)
+        (λ file. IsHeaderOf header.now file → bench.old.geometry ≡ shape_of file
+        → (V : List Reference) → Survey file V → (before : K)
+        → IsTelling (Hears K.takes K.drops K.begins K.ends K.cuts) file V before (enumerate_from 1 roots.old.rows) marks.old sink.old
+        → AreTold (Hears K.takes K.drops K.begins K.ends K.cuts) file V result marks.new before sink.new)
         is_read_failed result (S.held source.old) (S.held source.new) }
     ensures writes { SinkAfter is_write_failed result (K.held sink.old) (K.held sink.new) }
     ensures only { IfErr result IsReadOrWrite }
@@ -157,13 +189,14 @@ pub(crate) fn walk_later<A: Allocator, S: Source, K: Sink>(
 }
 
 /// Walks from all starts: over the schema's tree and the trees that it names, and along the freelist. The list takes the
-/// rows of the schema, and the watch notes whether there are any.
+/// rows of the schema, and the watch notes whether there are any. The sink is told of each tree, before the next page is
+/// read, that it has ended.
 ///
 /// # Errors
 ///
 /// [`RunError::ReadFailed`] exactly where the source failed, [`RunError::WriteFailed`] exactly where the sink failed, and
 /// [`RunError::OutOfMemory`] exactly where the list was refused memory.
-pub(crate) fn walk_starts<A: Allocator, S: Source, K: Sink + Drop>(
+pub(crate) fn walk_starts<A: Allocator, S: Source, K: TreeSink + Drop>(
     header: &Header,
     source: &mut S,
     bench: &mut Bench<A>,
@@ -177,7 +210,8 @@ pub(crate) fn walk_starts<A: Allocator, S: Source, K: Sink + Drop>(
     ensures asks { Asks S.step (Reads bench.old.geometry.page_size marks.old marks.new)
         (λ file. IsHeaderOf header.now file → bench.old.geometry ≡ shape_of file → AreMarksOf file [] marks.old
         → (V : List Reference) → Survey file V
-        → AreWalked K.takes K.drops file V result marks.new watch.new.has_rows watch.old.sink watch.new.sink)
+        → AreWalked (Hears K.takes K.drops K.begins K.ends K.cuts) file V result marks.new watch.new.has_rows
+        watch.old.sink watch.new.sink)
         is_read_failed result (S.held source.old) (S.held source.new) }
     ensures writes { SinkAfter is_write_failed result (K.held watch.old.sink) (K.held watch.new.sink) }
     ensures refusals { roots.new.refusals ≡ failures_after is_out_of_memory result roots.old.refusals }

@@ -1,4 +1,4 @@
-use Rattle.std.proofs.Common.{rules, [], Err, refl, ◌∙◌, ap, subst}
+use Rattle.std.proofs.Common.{rules, [], Ok, Err, refl, ◌∙◌, ap, subst}
 use Rattle.std.specs.Prelude.{flat_map}
 use Rattle.std.proofs.lemmas.Result.{err_from_is_err_and}
 use Rattle.dbformat.specs.Lines.{fault_line, form_line}
@@ -6,6 +6,7 @@ use Rattle.dbformat.specs.Report.{faults}
 use Rattle.dbformat.specs.Rows.{form_rows}
 use Rattle.dbformat.specs.declared.Verdict.{Verdict}
 use Rattle.dbsource.specs.Outs.{Writes}
+use Rattle.dbsource.specs.declared.error.RunError.{RunError}
 use Rattle.dbsource.proofs.Logs.{asks_weaker}
 use Rattle.dbreport.specs.Statistics.{form_of}
 use Rattle.dbreport.specs.declared.stat_sink.StatSink.{StatSink}
@@ -33,21 +34,40 @@ returns-in_err-stat_header-clause-asks g c =
       tt,
     ))))
 
-pub returns-clause-asks : goal.returns-clause-asks
-returns-clause-asks g c =
+pub returns-in_err-stat_walks-clause-asks : goal.returns-in_err-stat_walks-clause-asks
+returns-in_err-stat_walks-clause-asks g c =
+    let q = err_from_is_err_and c.from_residual-in_err-stat_walks.result c.from_residual-in_err-stat_walks.ensures.1 in
     let out_name =
-    c.stat_rest.ensures.same_out ∙ ap (λ (s : StatSink g.row.O.Denot g.row.E.Denot). s.out.ghost_name) c.new-watch.ensures.sink ∙ c.in_ok-stat_header.ensures.same_out ∙ c.new-sink.ensures.same_out in
+    c.in_err-stat_walks.ensures.same_out ∙ ap (λ (s : StatSink g.row.O.Denot g.row.E.Denot). s.out.ghost_name) c.new-watch.ensures.sink ∙ c.in_ok-stat_header.ensures.same_out ∙ c.new-sink.ensures.same_out in
     let err_name =
-    c.stat_rest.ensures.same_err ∙ ap (λ (s : StatSink g.row.O.Denot g.row.E.Denot). s.err.ghost_name) c.new-watch.ensures.sink ∙ c.in_ok-stat_header.ensures.same_err ∙ c.new-sink.ensures.same_err in
-    asks_weaker _ _ c.stat_rest.result (λ n. refl) c.stat_rest.ensures.asks (λ log r. r) (λ file done is e V s.
+    c.in_err-stat_walks.ensures.same_err ∙ ap (λ (s : StatSink g.row.O.Denot g.row.E.Denot). s.err.ghost_name) c.new-watch.ensures.sink ∙ c.in_ok-stat_header.ensures.same_err ∙ c.new-sink.ensures.same_err in
+    rw q.1 (rw q.2 (asks_weaker _ _ (Err c.in_err-stat_walks.field-0.0) (λ n. refl) c.in_err-stat_walks.ensures.asks (λ log r. r) (λ file done is e V s.
     let new = c.new-sink.ensures in
     let label = c.schema_label-label.ensures in
     let walked = done is e (for_schema file c.args.header.now c.args.bench.now.geometry c.schema_label-label.result c.new-sink.result c.stat_header.new.sink c.new-watch.result.sink is e
     label.text label.encoding label.page_size new.label new.sums c.in_ok-stat_header.ensures.kept c.new-watch.ensures.sink) V s in
     let parts = all_parts g.O.Out.held g.E.Out.held file V s c.args.header.now is c.args.form c.args.out.now c.args.err.now c.new-sink.result new.out new.err new.aggregate
-    c.stat_header.new.sink c.new-watch.result.sink c.in_ok-stat_header.ensures.done c.new-watch.ensures.sink c.stat_rest.new.watch.sink c.stat_rest.result walked in (
-      subst (λ x. Writes c.stat_rest.result (g.O.Out.held c.args.out.now).bytes (g.O.Out.held x).bytes (flat_map (form_line file V) (form_rows (form_of c.args.form) file V))) (search rules) parts.first,
-      subst (λ x. Writes c.stat_rest.result (g.E.Out.held c.args.err.now).bytes (g.E.Out.held x).bytes (flat_map fault_line (faults file V))) (search rules) parts.second,
+    c.stat_header.new.sink c.new-watch.result.sink c.in_ok-stat_header.ensures.done c.new-watch.ensures.sink c.stat_walks.new.watch.sink {A = Verdict} (Err c.in_err-stat_walks.field-0.0) walked in (
+      subst (λ x. Writes {A = Verdict} (Err c.in_err-stat_walks.field-0.0) (g.O.Out.held c.args.out.now).bytes (g.O.Out.held x).bytes (flat_map (form_line file V) (form_rows (form_of c.args.form) file V))) (search rules) parts.first,
+      subst (λ x. Writes {A = Verdict} (Err c.in_err-stat_walks.field-0.0) (g.E.Out.held c.args.err.now).bytes (g.E.Out.held x).bytes (flat_map fault_line (faults file V))) (search rules) parts.second,
+      tt,
+    ))))
+
+pub returns-clause-asks : goal.returns-clause-asks
+returns-clause-asks g c =
+    let out_name =
+    c.in_ok-stat_walks.ensures.same_out ∙ ap (λ (s : StatSink g.row.O.Denot g.row.E.Denot). s.out.ghost_name) c.new-watch.ensures.sink ∙ c.in_ok-stat_header.ensures.same_out ∙ c.new-sink.ensures.same_out in
+    let err_name =
+    c.in_ok-stat_walks.ensures.same_err ∙ ap (λ (s : StatSink g.row.O.Denot g.row.E.Denot). s.err.ghost_name) c.new-watch.ensures.sink ∙ c.in_ok-stat_header.ensures.same_err ∙ c.new-sink.ensures.same_err in
+    asks_weaker _ _ (Ok c.verdict.result) (λ n. refl) c.in_ok-stat_walks.ensures.asks (λ log r. r) (λ file done is e V s.
+    let new = c.new-sink.ensures in
+    let label = c.schema_label-label.ensures in
+    let walked = done is e (for_schema file c.args.header.now c.args.bench.now.geometry c.schema_label-label.result c.new-sink.result c.stat_header.new.sink c.new-watch.result.sink is e
+    label.text label.encoding label.page_size new.label new.sums c.in_ok-stat_header.ensures.kept c.new-watch.ensures.sink) V s in
+    let parts = all_parts g.O.Out.held g.E.Out.held file V s c.args.header.now is c.args.form c.args.out.now c.args.err.now c.new-sink.result new.out new.err new.aggregate
+    c.stat_header.new.sink c.new-watch.result.sink c.in_ok-stat_header.ensures.done c.new-watch.ensures.sink c.stat_walks.new.watch.sink {A = Verdict} (Ok c.verdict.result) walked in (
+      subst (λ x. Writes {E = RunError} (Ok c.verdict.result) (g.O.Out.held c.args.out.now).bytes (g.O.Out.held x).bytes (flat_map (form_line file V) (form_rows (form_of c.args.form) file V))) (search rules) parts.first,
+      subst (λ x. Writes {E = RunError} (Ok c.verdict.result) (g.E.Out.held c.args.err.now).bytes (g.E.Out.held x).bytes (flat_map fault_line (faults file V))) (search rules) parts.second,
       verdict_found g.O.Out.held g.E.Out.held file V s c.args.header.now is c.args.form c.args.out.now c.args.err.now c.new-sink.result new.out new.err new.aggregate
-          c.stat_header.new.sink c.new-watch.result.sink c.in_ok-stat_header.ensures.done c.new-watch.ensures.sink c.stat_rest.new.watch.sink c.stat_rest.result new.found walked c.stat_rest.ensures.found,
+          c.stat_header.new.sink c.new-watch.result.sink c.in_ok-stat_header.ensures.done c.new-watch.ensures.sink c.stat_walks.new.watch.sink (Ok c.verdict.result) new.found walked c.verdict.ensures,
     ))

@@ -1,5 +1,5 @@
 use Rattle.dbformat.specs.HeaderFaults.{header_faults}
-use Rattle.dbreport.proofs.StatWrites.{faults_kept, faults_written}
+use Rattle.dbreport.proofs.StatSinks.{faults_kept, faults_written}
 use Rattle.dbreport.proofs.statistics.stat_header.Goals as goal
 
 pub returns-clause-kept : goal.returns-clause-kept

@@ -1,4 +1,4 @@
-use Rattle.std.proofs.Common.{Err, [], map, refl, sym, ap, ◌∙◌, subst}
+use Rattle.std.proofs.Common.{Err, Ok, [], map, refl, sym, ap, ◌∙◌, subst}
 use Rattle.std.proofs.lemmas.Result.{err_from_is_err_and}
 use Rattle.dbformat.specs.EndFaults.{end_faults}
 use Rattle.dbformat.specs.Story.{start_errands}
@@ -10,12 +10,14 @@ use Rattle.dbwalk.specs.Reads.{Reads}
 use Rattle.dbwalk.specs.Telling.{findings}
 use Rattle.dbwalk.proofs.Marking.Unfixed.{read_once}
 use Rattle.dbwalk.proofs.Telling.Tellings.{stops_by_first}
+use Rattle.dbreport.specs.CheckSink.{Cuts, Shows}
 use Rattle.dbreport.specs.MapReads.{MapReads}
 use Rattle.dbreport.proofs.EndItems.{tells_then}
 use Rattle.dbreport.proofs.MapLogs.{walk_then_map_log}
 use Rattle.dbreport.proofs.RunAnswers.{memory_kept}
 use Rattle.dbreport.proofs.RunMarks.{first_marks}
-use Rattle.dbreport.proofs.telling.tell_walks.Goals as goal
+use Rattle.dbreport.proofs.ToldStarts.{starts_told}
+use Rattle.dbreport.proofs.checking.tell_check.Goals as goal
 
 pub returns-in_err-walk_starts-clause-marks : goal.returns-in_err-walk_starts-clause-marks
 returns-in_err-walk_starts-clause-marks g c =
@@ -31,7 +33,8 @@ returns-in_err-walk_starts-clause-asks g c =
     (λ log r. (read_once geo).pages c.args.marks.now c.walk_starts.new.marks log (subst (AreMarksFor geo) (sym c.requires.fresh) (first_marks geo)) r)
     (λ file walked is e V s.
     let w = walked is e (c.requires.fresh ∙ ap (λ g. marks_of g []) e) V s in
-    stops_by_first g.K.Sink.takes g.K.Sink.drops c.in_err-walk_starts.field-0.0 c.args.watch.now.sink c.walk_starts.new.watch.sink (told_below file [] (start_errands file V)) (findings (end_faults file V)) w.told)))
+    stops_by_first (Shows g.O.Out.held) (Cuts g.O.Out.held) c.in_err-walk_starts.field-0.0 c.args.watch.now.sink c.walk_starts.new.watch.sink (told_below file [] (start_errands file V)) (findings (end_faults file V))
+    (starts_told (Shows g.O.Out.held) (Cuts g.O.Out.held) {A = Unit {0}} file V s (Err c.in_err-walk_starts.field-0.0) c.args.watch.now.sink c.walk_starts.new.watch.sink w.all.told))))
 
 pub returns-clause-marks : goal.returns-clause-marks
 returns-clause-marks g c =
@@ -48,8 +51,9 @@ returns-clause-asks g c =
     (λ l m r k. walk_then_map_log geo c.args.marks.now c.walk_starts.new.marks l m (subst (AreMarksFor geo) (sym c.requires.fresh) (first_marks geo)) r (subst (λ g. MapReads g m) shape k))
     (λ file walked ended is e V s.
     let w = walked is e (c.requires.fresh ∙ ap (λ g. marks_of g []) e) V s in
-    tells_then g.K.Sink.takes g.K.Sink.drops c.tell_end.result c.args.watch.now.sink c.walk_starts.new.watch.sink c.tell_end.new.sink (told_below file [] (start_errands file V)) (findings (end_faults file V)) w.told
-    (ended is (shape ∙ e) V s w.marked w.has_rows))
+    tells_then (Shows g.O.Out.held) (Cuts g.O.Out.held) c.tell_end.result c.args.watch.now.sink c.walk_starts.new.watch.sink c.tell_end.new.sink (told_below file [] (start_errands file V)) (findings (end_faults file V))
+    (starts_told (Shows g.O.Out.held) (Cuts g.O.Out.held) {A = Unit {0}} file V s (Ok tt) c.args.watch.now.sink c.walk_starts.new.watch.sink w.all.told)
+    (ended is (shape ∙ e) V s w.all.marked w.has_rows))
 
 pub returns-clause-refusals : goal.returns-clause-refusals
 returns-clause-refusals g c = c.in_ok-walk_starts.ensures.refusals ∙ memory_kept c.tell_end.result c.args.roots.now.refusals c.tell_end.ensures.only
