@@ -1,5 +1,7 @@
 // The faults of one page of a tree, apart from other pages (Database File Format, 1.6).
 ghost use Rattle.std.specs.Prelude.{◌≡◌, ℕ, ◌≤◌, ◌<◌, ◌==◌, length, None, Some, [], ◌∷◌, Bool, IsOk, IfOk, MatchResult};
+ghost use Rattle.std.specs.List.{flat_map};
+ghost use Rattle.std.specs.Option.{option_to_list};
 ghost use Rattle.dbformat.specs.Cell.{cell, count};
 ghost use Rattle.dbformat.specs.Coverage.{coverage};
 ghost use Rattle.dbformat.specs.Head.{tree_of, is_same_tree, undamaged};
@@ -85,17 +87,13 @@ pub(crate) fn tell_inner<K: Sink>(
     requires room { view.now.usable ≤ length uses.old }
     ensures { IsTold K.takes K.drops K.held result sink.old (findings (inner_faults view.now is_child)) sink.new }
 {
-    tell_fragments(view, number, sink)?;
+    tell_found(fragment_fault(view, number), sink)?;
     let are_cells_good = tell_cells(view, number, sink)?;
-    let are_freeblocks_good = tell_freeblock(view, number, sink)?;
-    tell_coverage(
-        view,
-        number,
-        are_cells_good & are_freeblocks_good,
-        uses,
-        sink,
-    )?;
-    tell_empty(view, number, is_child, sink)
+    let freeblock = freeblock_fault(view, number);
+    let is_good = are_cells_good & freeblock.is_none();
+    let coverage = coverage_fault(view, number, is_good, uses);
+    let empty = empty_fault(view, number, is_child);
+    tell_each(&[freeblock, coverage, empty], sink)
 }
 
 /// Tells the faults within an undamaged page whose cells are all readable, and so have none, and of which nothing holds a byte
@@ -116,26 +114,45 @@ pub(crate) fn tell_readable<K: Sink>(
     requires unheld { coverage view.now ≡ Coverage.Unheld unheld }
     ensures { IsTold K.takes K.drops K.held result sink.old (findings (inner_faults view.now is_child)) sink.new }
 {
-    tell_fragments(view, number, sink)?;
-    let are_freeblocks_good = tell_freeblock(view, number, sink)?;
-    tell_unheld(view, number, are_freeblocks_good, unheld, sink)?;
-    tell_empty(view, number, is_child, sink)
+    let freeblock = freeblock_fault(view, number);
+    let coverage = unheld_fault(view, number, freeblock.is_none(), unheld);
+    let empty = empty_fault(view, number, is_child);
+    tell_each(
+        &[fragment_fault(view, number), freeblock, coverage, empty],
+        sink,
+    )
 }
 
-// Tells that there are more than 60 fragmented bytes, where there are.
-fn tell_fragments<K: Sink>(
-    view: &PageView<'_>,
-    number: u32,
-    sink: &mut K,
-) -> Result<(), WriteFailed>
+// Tells the faults that are there.
+fn tell_each<K: Sink>(faults: &[Option<Fault>], sink: &mut K) -> Result<(), WriteFailed>
+    ensures { IsTold K.takes K.drops K.held result sink.old (findings (flat_map option_to_list faults.now)) sink.new }
+{
+    for found in faults {
+        tell_found(*found, sink)?;
+    }
+    Ok(())
+}
+
+// Tells a fault, where there is one.
+fn tell_found<K: Sink>(found: Option<Fault>, sink: &mut K) -> Result<(), WriteFailed>
+    ensures { IsTold K.takes K.drops K.held result sink.old (findings (option_to_list found)) sink.new }
+{
+    match found {
+        Some(fault) => sink.fault(&fault),
+        None => Ok(()),
+    }
+}
+
+// That there are more than 60 fragmented bytes, where there are.
+fn fragment_fault(view: &PageView<'_>, number: u32) -> Option<Fault>
     requires { number ≡ view.now.number }
-    ensures { IsTold K.takes K.drops K.held result sink.old (findings (fragment_fault view.now)) sink.new }
+    ensures { option_to_list result ≡ fragment_fault view.now }
 {
     let fragments = view.fragments();
     if fragments <= 60 {
-        return Ok(());
+        return None;
     }
-    sink.fault(&Fault::new(FaultCode::P04, number, 0, u32::from(fragments)))
+    Some(Fault::new(FaultCode::P04, number, 0, u32::from(fragments)))
 }
 
 // Tells of each cell that is not readable; true where none is.
@@ -172,79 +189,51 @@ fn tell_cell<K: Sink>(
     Ok(false)
 }
 
-// Tells of the first freeblock that is not good; true where there is none.
-fn tell_freeblock<K: Sink>(
-    view: &PageView<'_>,
-    number: u32,
-    sink: &mut K,
-) -> Result<bool, WriteFailed>
+// The first freeblock that is not good.
+fn freeblock_fault(view: &PageView<'_>, number: u32) -> Option<Fault>
     requires { number ≡ view.now.number }
-    ensures told { IsTold K.takes K.drops K.held result sink.old (findings (freeblock_fault view.now)) sink.new }
-    ensures good { IfOk result (λ good. good ≡ (length (freeblock_fault view.now) == 0)) }
+    ensures { option_to_list result ≡ freeblock_fault view.now }
 {
-    match view.freeblocks().bad() {
-        Some((item, offset)) => {
-            sink.fault(&Fault::new(FaultCode::P07, number, item, offset))?;
-            Ok(false)
-        }
-        None => Ok(true),
-    }
+    let (item, offset) = view.freeblocks().bad()?;
+    Some(Fault::new(FaultCode::P07, number, item, offset))
 }
 
-// Tells of the first item that shares a byte with one before it, or that the free bytes of a good page are not as many
-// as it says.
-fn tell_coverage<K: Sink>(
-    view: &PageView<'_>,
-    number: u32,
-    is_good: bool,
-    uses: &mut [u8],
-    sink: &mut K,
-) -> Result<(), WriteFailed>
+// The first item that shares a byte with one before it, or that the free bytes of a good page are not as many as it says.
+fn coverage_fault(view: &PageView<'_>, number: u32, is_good: bool, uses: &mut [u8]) -> Option<Fault>
     requires number { number ≡ view.now.number }
     requires room { view.now.usable ≤ length uses.old }
-    ensures { IsTold K.takes K.drops K.held result sink.old (findings (coverage_fault view.now is_good)) sink.new }
+    ensures { option_to_list result ≡ coverage_fault view.now is_good }
 {
     match uncounted_coverage(view, uses) {
-        Coverage::Overlap(item) => sink.fault(&Fault::new(
+        Coverage::Overlap(item) => Some(Fault::new(
             FaultCode::P08,
             number,
             item,
             view.item_offset(item),
         )),
-        Coverage::Unheld(unheld) => tell_unheld(view, number, is_good, unheld, sink),
+        Coverage::Unheld(unheld) => unheld_fault(view, number, is_good, unheld),
     }
 }
 
-// Tells that the bytes of a good page that nothing holds are not as many as it says, where they are not.
-fn tell_unheld<K: Sink>(
-    view: &PageView<'_>,
-    number: u32,
-    is_good: bool,
-    unheld: u32,
-    sink: &mut K,
-) -> Result<(), WriteFailed>
+// That the bytes that nothing holds are not as many as a good page says.
+fn unheld_fault(view: &PageView<'_>, number: u32, is_good: bool, unheld: u32) -> Option<Fault>
     requires number { number ≡ view.now.number }
     requires unheld { coverage view.now ≡ Coverage.Unheld unheld }
-    ensures { IsTold K.takes K.drops K.held result sink.old (findings (coverage_fault view.now is_good)) sink.new }
+    ensures { option_to_list result ≡ coverage_fault view.now is_good }
 {
     if !is_good || unheld == u32::from(view.fragments()) {
-        return Ok(());
+        return None;
     }
-    sink.fault(&Fault::new(FaultCode::P09, number, 0, unheld))
+    Some(Fault::new(FaultCode::P09, number, 0, unheld))
 }
 
-// Tells that a child has no cells, where it has none.
-fn tell_empty<K: Sink>(
-    view: &PageView<'_>,
-    number: u32,
-    is_child: bool,
-    sink: &mut K,
-) -> Result<(), WriteFailed>
+// That a child has no cells, where it has none.
+fn empty_fault(view: &PageView<'_>, number: u32, is_child: bool) -> Option<Fault>
     requires { number ≡ view.now.number }
-    ensures { IsTold K.takes K.drops K.held result sink.old (findings (empty_fault view.now is_child)) sink.new }
+    ensures { option_to_list result ≡ empty_fault view.now is_child }
 {
     if !is_child || view.cells() > 0 {
-        return Ok(());
+        return None;
     }
-    sink.fault(&Fault::new(FaultCode::P10, number, 0, 0))
+    Some(Fault::new(FaultCode::P10, number, 0, 0))
 }
