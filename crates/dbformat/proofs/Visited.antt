@@ -10,14 +10,23 @@ use Rattle.dbsurvey.specs.Whole.{HasEachPageOnce}
 use Rattle.dbsurvey.proofs.Composing.{survey_is_part, named_at-step}
 use Rattle.dbsurvey.proofs.Deciding.{each_page_once}
 use Rattle.dbformat.specs.FixedPages.{is_page, is_fixed}
-use Rattle.dbformat.specs.File.{geometry}
-use Rattle.dbformat.specs.Reference.{Reference, role_of, is_root}
+use Rattle.dbformat.specs.File.{geometry, page_bytes}
+use Rattle.dbformat.specs.Head.{View, undamaged}
+use Rattle.dbformat.specs.Header.{usable_size}
+use Rattle.dbformat.specs.declared.TreeKind.{TreeKind}
+use Rattle.dbformat.specs.Reference.{Reference, role_of, is_root, tree_kind, tree_view}
 use Rattle.dbformat.specs.Schema.{starts}
 use Rattle.dbformat.specs.Survey.{Survey, rules_of, is_too_deep}
 use Rattle.dbformat.specs.EndFaults.{visit_of, page_numbers}
 use Rattle.dbsurvey.proofs.Lists.{find-none, find-some}
 use Rattle.dbsurvey.proofs.Elements.{IsIn-range, one_by}
+use Rattle.dbformat.proofs.CellParts.{then_some}
 use Rattle.dbformat.proofs.Roles.{child_leads}
+
+-- a visited page with a view is one of a tree
+pub kind_of_view : (file : List ℕ) (r : Reference) (v : View) → tree_view file r ≡ Some v → (kind : TreeKind) × (tree_kind (role_of r) ≡ Some kind)
+unfolding tree_view
+kind_of_view file r v e = let h = then_some (tree_kind (role_of r)) (λ kind. undamaged kind r.page (usable_size file) (page_bytes file r.page)) v e in (h.0, h.1)
 
 bounds : (p n : ℕ) → (nat_le 1 p && nat_le p n) ≡ true → (1 ≤ p) × (p < 1 + n)
 bounds p n e = grind (arith, nat_tests)

@@ -8,6 +8,7 @@ use Rattle.std.proofs.lemmas.List.{append-nil, map-append}
 use Rattle.dbsurvey.specs.Moves.{Moves}
 use Rattle.dbsurvey.proofs.Lists.{flat_map-same, map-flat_map}
 use Rattle.dbsurvey.proofs.Moving.{Moves-append}
+use Rattle.dbformat.proofs.Looping.{range-parts}
 use Rattle.dbformat.specs.EndFaults.{visit_of, end_faults, sum_faults, page_end_faults, page_numbers, has_rows}
 use Rattle.dbformat.specs.Faults.{fault}
 use Rattle.dbformat.specs.File.{geometry, map_entry, MapEntry}
@@ -85,19 +86,12 @@ items_one_more file V least n =
     let f : ℕ → List Finding = λ p. page_items file least p (mark_of (geometry file) V p) in
     ap (flat_map f) (numbers_more n) ∙ flat_map-append f (range_with_len 1 n) ((n + 1) ∷ []) ∙ ap (λ l. flat_map f (range_with_len 1 n) ++ l) (append-nil (f (n + 1)))
 
-range_parts : (a n m : ℕ) → range_with_len a (n + m) ≡ range_with_len a n ++ range_with_len (a + n) m
-range_parts a zero m = let e : 0 + m ≡ m = omega arith in let z : a + 0 ≡ a = omega arith in ap (range_with_len a) e ∙ ap (λ x. range_with_len x m) (sym z)
-range_parts a (suc n) m =
-    let e : suc n + m ≡ suc (n + m) = omega arith in
-    let z : a + 1 + n ≡ a + suc n = omega arith in
-    ap (range_with_len a) e ∙ ap (λ l. a ∷ l) (range_parts (a + 1) n m) ∙ ap (λ x. a ∷ (range_with_len (a + 1) n ++ range_with_len x m)) z
-
 -- what is told of them is the first of what is told of all
 pub items_begin : (file : List ℕ) (V : List Reference) (least : Option ℕ) (n m : ℕ) → n ≤ m → (rest : List Finding) × (pages_items file V least n ++ rest ≡ pages_items file V least m)
 items_begin file V least n m l =
     let f : ℕ → List Finding = λ p. page_items file least p (mark_of (geometry file) V p) in
     let e : n + (m - n) ≡ m = omega arith in
-    (flat_map f (range_with_len (1 + n) (m - n)), sym (ap (λ x. flat_map f (range_with_len 1 x)) (sym e) ∙ ap (flat_map f) (range_parts 1 n (m - n)) ∙ flat_map-append f (range_with_len 1 n) (range_with_len (1 + n) (m - n))))
+    (flat_map f (range_with_len (1 + n) (m - n)), sym (ap (λ x. flat_map f (range_with_len 1 x)) (sym e) ∙ ap (flat_map f) (range-parts 1 n (m - n)) ∙ flat_map-append f (range_with_len 1 n) (range_with_len (1 + n) (m - n))))
 
 -- ---- all of it, by the visits
 

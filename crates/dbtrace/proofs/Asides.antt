@@ -10,6 +10,7 @@ use Rattle.dbsurvey.specs.Survey.{children}
 use Rattle.dbsurvey.proofs.Advancing.{run_reads}
 use Rattle.dbsurvey.proofs.Composing.{named_at-step}
 use Rattle.dbsurvey.proofs.Order.{IsIn-right}
+use Rattle.dbformat.proofs.Visited.{kind_of_view}
 use Rattle.dbformat.specs.Tests.{told_if}
 use Rattle.dbformat.specs.Faults.{fault}
 use Rattle.dbformat.specs.Address.{start_of, depth}
@@ -30,7 +31,7 @@ use Rattle.dbtrace.specs.Walk.{Walk, machine, advance}
 use Rattle.dbtrace.proofs.Depths.{page_parts, no_leaf}
 use Rattle.dbtrace.proofs.Folding.{findings_at, given_are}
 use Rattle.dbtrace.proofs.RowsTold.{rows_told}
-use Rattle.dbtrace.proofs.SchemaOrder.{parent_inside, view_kind}
+use Rattle.dbtrace.proofs.SchemaOrder.{parent_inside}
 use Rattle.dbtrace.proofs.Told.{visited, trace, part, tells, IsOf, told_as}
 
 module _ (file : List ℕ) where
@@ -97,7 +98,7 @@ module _ (file : List ℕ) (W : List Reference) (c : Reference) (none : tree_kin
         where
           by_kind : (p : Reference) → IsIn r (children (rules_of file) p) → (o : Option TreeKind) → tree_kind (role_of r) ≡ o → tree_kind (role_of p) ≡ None → tree_kind (role_of r) ≡ None
           by_kind p h None e f = e
-          by_kind p h (Some kind) e f = let v = parent_inside file p r kind h e in let k = view_kind file p v.0 v.1 in let g = sym f ∙ k.1 in cc
+          by_kind p h (Some kind) e f = let v = parent_inside file p r kind h e in let k = kind_of_view file p v.0 v.1 in let g = sym f ∙ k.1 in cc
 
   off : (t : Told Event) → IsIn t (trace file W c) → IsOff file t.event
   off t i = by_event t.key t.event (told_as file W c t (((tells file W c).exact t).0 i))

@@ -10,6 +10,7 @@ use Rattle.dbsurvey.proofs.Composing.{named_at-from}
 use Rattle.dbsurvey.proofs.Elements.{each_list, each_map, each_weaker, each_within}
 use Rattle.dbsurvey.proofs.Order.{IsIn-cases, IsLeftOf-before, IsLeftOf-longer, IsLeftOf-steps}
 use Rattle.dbsurvey.proofs.Ordering.{IsIn-from_map, IsIn-from_flat_map, one_at_key}
+use Rattle.dbformat.proofs.Visited.{kind_of_view}
 use Rattle.dbformat.specs.Header.{usable_size}
 use Rattle.dbformat.specs.File.{page_bytes}
 use Rattle.dbformat.specs.Payload.{overflow_next}
@@ -120,14 +121,6 @@ parent_inside file u w kind i e =
     by_role trunk f l h t = absurd (no_trunk_tree u.page (usable_size file) (page_bytes file u.page) l h t)
     by_role free_leaf f l h t = absurd h
 
-pub view_kind : (file : List ℕ) (r : Reference) (v : View) → tree_view file r ≡ Some v → (kind : TreeKind) × (tree_kind (role_of r) ≡ Some kind)
-unfolding tree_view
-view_kind file r v e = by_kind (tree_kind (role_of r)) refl
-  where
-    by_kind : (o : Option TreeKind) → tree_kind (role_of r) ≡ o → (kind : TreeKind) × (tree_kind (role_of r) ≡ Some kind)
-    by_kind None f = let g : tree_view file r ≡ None = rw f refl in cc
-    by_kind (Some kind) f = (kind, f)
-
 -- addresses
 
 -- what is before another is left of it, or a beginning of it
@@ -181,7 +174,7 @@ module _ (file : List ℕ) (k : ℕ) (W : List Reference) (c : Reference) (at : 
               elim (step_back u.address p.address d s m.0.step (sym f ∙ g)) [
                 | inl h ↦ (let same : p ≡ u = one_at_key (λ t. t.address) V (part file W c).ascending p u q i h in
                     let y : x.0 ≡ v = one_view (sym x.1 ∙ ap (tree_view file) same ∙ is_view) in both_ways (is_interior v.kind) leaf (subst (λ v. is_interior v.kind ≡ true) y x.2))
-                | inr h ↦ (let kind' = view_kind file p x.0 x.1 in go_on p kind'.0 q kind'.1 s h.0 h.1 (let z = ap length g ∙ length-append p.address (m.0.step ∷ []) in omega arith))
+                | inr h ↦ (let kind' = kind_of_view file p x.0 x.1 in go_on p kind'.0 q kind'.1 s h.0 h.1 (let z = ap length g ∙ length-append p.address (m.0.step ∷ []) in omega arith))
               ]
             where
               one_view : {x y : View} → Some x ≡ Some y → x ≡ y
@@ -210,7 +203,7 @@ module _ (file : List ℕ) (k : ℕ) (W : List Reference) (c : Reference) (at : 
 
       across : (q r : Reference) → IsIn q V → IsIn r V → IsBefore q.address r.address → (d e : SchemaCell) → IsRowOf file V q d → IsRowOf file V r e → IsBefore d.place e.place
       across q r i j l d e a b = elim (before_cases q.address r.address l) [
-        | inr m ↦ (let kind = view_kind file r b.view b.is_view in absurd (leaf_alone q a.view i a.is_view a.leaf r kind.0 j kind.1 m.0 m.1 m.2))
+        | inr m ↦ (let kind = kind_of_view file r b.view b.is_view in absurd (leaf_alone q a.view i a.is_view a.leaf r kind.0 j kind.1 m.0 m.1 m.2))
         | inl m ↦ subst (λ p. IsBefore p e.place) (sym (ap (λ d. d.place) a.is_row)) (subst (λ p. IsBefore (then_step q.address (key_step a.cell.0)) p) (sym (ap (λ d. d.place) b.is_row))
             (IsLeftOf-before (then_step q.address (key_step a.cell.0)) (then_step r.address (key_step b.cell.0)) (IsLeftOf-longer q.address r.address (key_step a.cell.0 ∷ []) (key_step b.cell.0 ∷ []) m)))
       ]

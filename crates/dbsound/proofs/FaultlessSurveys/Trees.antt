@@ -28,10 +28,9 @@ use Rattle.dbsound.proofs.FaultlessSurveys.Followed.{by_its_links, child_visited
 use Rattle.dbsound.proofs.FaultlessSurveys.TreePages.{tree_page}
 use Rattle.dbsurvey.proofs.Lists.{find-none, find-some}
 use Rattle.dbsound.proofs.FaultlessSurveys.Keys.{low-none}
-use Rattle.dbformat.proofs.Visited.{has_address, root_is_start}
+use Rattle.dbformat.proofs.Visited.{has_address, root_is_start, kind_of_view}
 use Rattle.dbsound.proofs.FaultlessSurveys.Leaves.{AreLow, AreHigh, HasTree, leaf_at}
 use Rattle.dbsound.proofs.FaultlessSurveys.Interiors.{interior_at}
-use Rattle.dbformat.proofs.CellParts.{then_some}
 use Rattle.dbformat.proofs.Places.{same_start}
 use Rattle.dbformat.specs.Schema.{starts}
 
@@ -42,10 +41,6 @@ tree_role (first_overflow left) kind e = cc
 tree_role (later_overflow left) kind e = cc
 tree_role trunk kind e = cc
 tree_role free_leaf kind e = cc
-
-tree_kind-from : (file : List ℕ) (r : Reference) (v : View) → tree_view file r ≡ Some v → (kind : TreeKind) × (tree_kind (role_of r) ≡ Some kind)
-unfolding tree_view
-tree_kind-from file r v e = let h = then_some (tree_kind (role_of r)) (λ kind. undamaged kind r.page (usable_size file) (page_bytes file r.page)) v e in (h.0, h.1)
 
 module _ (file : List ℕ) (V : List Reference) (s : Survey file V) (faultless : walk_faults file V ≡ []) where
   -- a visited page of a tree is not too deep
@@ -96,7 +91,7 @@ module _ (file : List ℕ) (V : List Reference) (s : Survey file V) (faultless :
       by_case (Some t) e =
           let f = find-some (is_leaf_of file k) V t e in
           let v = in_tree t (tree_view file t) refl (and_parts (start_of t.address == k) (option_map_or (λ v. not (is_interior v.kind)) (tree_view file t) false) f.1).1 in
-          let kind = tree_kind-from file t v.0 v.1 in
+          let kind = kind_of_view file t v.0 v.1 in
           not_deep t kind.0 f.0 kind.1
 
   -- where all leaves of start k have depth D, its pages are trees
@@ -122,7 +117,7 @@ module _ (file : List ℕ) (V : List Reference) (s : Survey file V) (faultless :
   leaves_of : (k : ℕ) (t : Reference) (v : View) → IsIn t V → start_of t.address ≡ k → tree_view file t ≡ Some v → is_interior v.kind ≡ false
       → depth t.address ≡ leaf_depth file V k 0
   leaves_of k t v i e view_is is_leaf =
-      let kind = tree_kind-from file t v view_is in
+      let kind = kind_of_view file t v view_is in
       let role = tree_role (role_of t) kind.0 kind.1 in
       let page = tree_page file V s faultless t kind.0 role.0 i role.1 in
       deep_as_first t i (leaf_deep t v i view_is is_leaf) page.1.depth_is ∙ ap (λ k. leaf_depth file V k 0) e

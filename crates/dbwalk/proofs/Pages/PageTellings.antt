@@ -6,6 +6,7 @@ use Rattle.std.proofs.lemmas.List.{append-nil, map-append}
 use Rattle.std.proofs.lemmas.Grind.{flat_map-append}
 use Rattle.std.proofs.lemmas.Bool.Decides.{nat_tests}
 use Rattle.dbsurvey.proofs.Moving.{Moves-append, stops_first, stops_after}
+use Rattle.dbformat.proofs.Looping.{range-one-more}
 use Rattle.dbformat.specs.declared.Fault.{Fault}
 use Rattle.dbwalk.specs.Sinks.{HasFailed, SinkState}
 use Rattle.dbtrace.specs.Finding.{Finding, told_fault}
@@ -35,16 +36,7 @@ faults_then {takes = takes} {drops = drops} {held = held} r0 r {s} {m} {t} L M e
 pub faults_stop : {S A B E F : Type 0} {takes drops : S → Finding → S → Type 0} {held : S → SinkState} {e : E} {f : F} (r0 : Result A E) (r : Result B F) {s t : S} (L rest fs : List Fault) → L ++ rest ≡ fs → r0 ≡ Err e → r ≡ Err f → IsTold takes drops held r0 s (findings L) t → IsTold takes drops held r s (findings fs) t
 faults_stop {takes = takes} {drops = drops} {held = held} r0 r {s} {t} L rest fs whole e f h = subst (λ l. IsTold takes drops held r s l t) (sym (map-append told_fault L rest) ∙ ap findings whole) (told_stop r0 r (findings L) (findings rest) e f h)
 
--- one element more of a range
-range-more : (a n : ℕ) → range_with_len a (suc n) ≡ range_with_len a n ++ (a + n) ∷ []
-range-more a zero = let e : a ≡ a + 0 = omega arith in ap (λ k. k ∷ []) e
-range-more a (suc n) = let e : a + 1 + n ≡ a + suc n = omega arith in
-    ap (λ ks. a ∷ ks) (range-more (a + 1) n ∙ ap (λ k. range_with_len (a + 1) n ++ k ∷ []) e)
-
-pub range-one-more : (n : ℕ) → range_with_len 0 (n + 1) ≡ range_with_len 0 n ++ n ∷ []
-range-one-more n = let e : n + 1 ≡ suc n = omega arith in let d : 0 + n ≡ n = omega arith in
-    ap (λ k. range_with_len 0 k) e ∙ range-more 0 n ∙ ap (λ k. range_with_len 0 n ++ k ∷ []) d
-
+-- the faults of one element more of a range
 pub faults_more : (f : ℕ → List Fault) (n : ℕ) → flat_map f (range_with_len 0 (n + 1)) ≡ flat_map f (range_with_len 0 n) ++ f n
 faults_more f n = ap (flat_map f) (range-one-more n) ∙ flat_map-append f (range_with_len 0 n) (n ∷ []) ∙ ap (λ l. flat_map f (range_with_len 0 n) ++ l) (append-nil (f n))
 

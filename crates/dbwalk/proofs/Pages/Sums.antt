@@ -13,7 +13,7 @@ use Rattle.dbformat.specs.Head.{View}
 use Rattle.dbformat.specs.Cell.{Cell, cell, cells, count}
 use Rattle.dbformat.specs.declared.CellFault.{CellFault}
 use Rattle.dbpage.specs.Packed.{first_cells, payload_of, greatest_of}
-use Rattle.dbwalk.proofs.Pages.PageTellings.{range-one-more}
+use Rattle.dbformat.proofs.Looping.{range-one-more}
 
 pub cells_all : (v : View) → cells v ≡ first_cells v (count v)
 unfolding cells

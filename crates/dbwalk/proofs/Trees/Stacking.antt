@@ -20,6 +20,8 @@ use Rattle.dbformat.specs.Story.{Event, at_key, cell_items, page_items, role_ite
 use Rattle.dbformat.specs.Errands.{go, tell_cell}
 use Rattle.dbformat.specs.declared.TreeKind.{TreeKind}
 use Rattle.dbformat.specs.declared.CellFault.{CellFault}
+use Rattle.dbformat.proofs.LookBack.{listed as is_listed}
+use Rattle.dbformat.proofs.Looping.{tree_items}
 use Rattle.dbformat.proofs.Theory.{is_story}
 use Rattle.dbwalk.proofs.Running.ReadableCells.{cells_in, cells_from}
 use Rattle.dbwalk.specs.Stack.{errands_from, child_page, child_at, top_visit, left_over}
@@ -75,22 +77,6 @@ module _ {R E : Type 0} where
       ∙ from_item s items x rise.1 m e
       ∙ ap (λ l. x ∷ l) (sym (ap (λ b. cond b (i ∷ from (suc s) items) (from (suc s) items)) (le_no (suc s) (step_of i) (omega arith))))
 
--- the items of a tree page, by its view
-tree_items : (file : List ℕ) (r : Reference) (kind : TreeKind) (o : Option View) → tree_kind (role_of r) ≡ Some kind → tree_view file r ≡ o → (story_of file).items r ≡ page_items r kind o
-unfolding story_of tree_view
-tree_items file r kind o e f = by_role (role_of r) e f
-  where
-    same : (x y : TreeKind) → Some x ≡ Some y → x ≡ y
-    same x y e = cc
-
-    by_role : (role : Role) → tree_kind role ≡ Some kind → option_and_then (λ kind. undamaged kind r.page (usable_size file) (page_bytes file r.page)) (tree_kind role) ≡ o → role_items role r (usable_size file) (page_bytes file r.page) ≡ page_items r kind o
-    by_role (root k) e f = ap (λ o. page_items r k o) f ∙ ap (λ k. page_items r k o) (same k kind e)
-    by_role (child k) e f = ap (λ o. page_items r k o) f ∙ ap (λ k. page_items r k o) (same k kind e)
-    by_role (first_overflow left) e f = cc
-    by_role (later_overflow left) e f = cc
-    by_role trunk e f = cc
-    by_role free_leaf e f = cc
-
 -- An undamaged page of a tree, step by step.
 module _ (file : List ℕ) (r : Reference) (kind : TreeKind) (v : View) (role : tree_kind (role_of r) ≡ Some kind) (viewed : tree_view file r ≡ Some v) where
   items_are : (story_of file).items r ≡ page_items r kind (Some v)
@@ -128,9 +114,6 @@ module _ (file : List ℕ) (r : Reference) (kind : TreeKind) (v : View) (role : 
         | inr j ↦ (elim j [ inl e ↦ of_key n x read.1 read.0 e | inr z ↦ absurd z ])
       ]
 
-  one_listed : {X : Type 0} (o : Option X) (x : X) → o ≡ Some x → IsIn x (option_to_list o)
-  one_listed o x e = subst (λ o. IsIn x (option_to_list o)) (sym e) (inl refl)
-
   in_cell : (n : ℕ) (x : Cell) (i : Item Way Event) → n < count v → cell v n ≡ Ok x → IsIn i (cell_items r kind v (n, x)) → IsIn i (page_items r kind (Some v))
   in_cell n x i l e h = IsIn-left i (flat_map (cell_items r kind v) (cells v)) (map Follow (right_links r.page kind v)) (IsIn-flat_map (cell_items r kind v) (cells v) (n, x) i (cells_in v n x l e) h)
 
@@ -156,7 +139,7 @@ module _ (file : List ℕ) (r : Reference) (kind : TreeKind) (v : View) (role : 
       let k = link r.page (overflow_step n) n (first_overflow (overflow_size x)) p in
       next_item (overflow_step n) (Follow k)
       (in_cell n x (Follow k) l e (IsIn-left (Follow k) (map Follow (cell_links r.page kind (n, x))) _ (IsIn-map Follow (cell_links r.page kind (n, x)) k
-      (IsIn-left k (option_to_list (option_map (link r.page (overflow_step n) n (first_overflow (overflow_size x))) x.overflow)) _ (one_listed (option_map (link r.page (overflow_step n) n (first_overflow (overflow_size x))) x.overflow) k (ap (option_map (link r.page (overflow_step n) n (first_overflow (overflow_size x)))) f)))))) refl
+      (IsIn-left k (option_to_list (option_map (link r.page (overflow_step n) n (first_overflow (overflow_size x))) x.overflow)) _ (is_listed (option_map (link r.page (overflow_step n) n (first_overflow (overflow_size x))) x.overflow) k (ap (option_map (link r.page (overflow_step n) n (first_overflow (overflow_size x)))) f)))))) refl
       ∙ ap (λ es. go r k ∷ es) (behind (suc (overflow_step n)))
 
   -- the place of a cell's key
@@ -173,7 +156,7 @@ module _ (file : List ℕ) (r : Reference) (kind : TreeKind) (v : View) (role : 
       let k = link r.page (child_step n) n (child kind) p in
       next_item (child_step n) (Follow k)
       (in_cell n x (Follow k) l e (IsIn-left (Follow k) (map Follow (cell_links r.page kind (n, x))) _ (IsIn-map Follow (cell_links r.page kind (n, x)) k
-      (IsIn-right k (option_to_list (option_map (link r.page (overflow_step n) n (first_overflow (overflow_size x))) x.overflow)) _ (one_listed (option_map (link r.page (child_step n) n (child kind)) x.left) k (ap (option_map (link r.page (child_step n) n (child kind))) f)))))) refl
+      (IsIn-right k (option_to_list (option_map (link r.page (overflow_step n) n (first_overflow (overflow_size x))) x.overflow)) _ (is_listed (option_map (link r.page (child_step n) n (child kind)) x.left) k (ap (option_map (link r.page (child_step n) n (child kind))) f)))))) refl
       ∙ ap (λ es. go r k ∷ es) (behind (suc (child_step n)))
 
   -- the right child
@@ -183,7 +166,7 @@ module _ (file : List ℕ) (r : Reference) (kind : TreeKind) (v : View) (role : 
       let k = link r.page (child_step (count v)) (count v) (child kind) p in
       next_item (child_step (count v)) (Follow k)
       (IsIn-right (Follow k) (flat_map (cell_items r kind v) (cells v)) (map Follow (right_links r.page kind v)) (IsIn-map Follow (right_links r.page kind v) k
-      (one_listed (option_map (link r.page (child_step (count v)) (count v) (child kind)) (right_child v)) k (ap (option_map (link r.page (child_step (count v)) (count v) (child kind))) f)))) refl
+      (is_listed (option_map (link r.page (child_step (count v)) (count v) (child kind)) (right_child v)) k (ap (option_map (link r.page (child_step (count v)) (count v) (child kind))) f)))) refl
       ∙ ap (λ es. go r k ∷ es) (behind (suc (child_step (count v))))
 
   -- behind the right child is nothing

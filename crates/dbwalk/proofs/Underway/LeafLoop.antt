@@ -17,7 +17,7 @@ use Rattle.dbformat.specs.Reference.{Reference}
 use Rattle.dbformat.specs.SchemaRow.{SchemaRow}
 use Rattle.dbformat.specs.Story.{own_visit}
 use Rattle.dbformat.specs.declared.TreeKind.{TreeKind}
-use Rattle.dbformat.proofs.Looping.{all_quiet, one_cell_more}
+use Rattle.dbformat.proofs.Looping.{all_quiet, one_cell_more, range-parts}
 use Rattle.dbsource.specs.declared.error.RunError.{RunError}
 use Rattle.dbtrace.specs.Finding.{Finding, visited_below}
 use Rattle.dbtrace.specs.Walk.{Walk, bare}
@@ -60,14 +60,9 @@ passed_same usable' usable kind' kind levels' levels level' level page from end 
     (subst (λ ls. ArePassedAt usable' kind' ls level page from end greatest after) c (subst (λ l. ArePassedAt usable' kind' levels' l page from end greatest after) d passed)))
 
 -- cells from one on, behind those before it
-range_parts : (a n m : ℕ) → range_with_len a (n + m) ≡ range_with_len a n ++ range_with_len (a + n) m
-range_parts a zero m = let e : 0 + m ≡ m = omega arith in let f : a ≡ a + 0 = omega arith in ap (range_with_len a) e ∙ ap (λ b. range_with_len b m) f
-range_parts a (suc n) m = let e : suc n + m ≡ suc (n + m) = omega arith in let f : a + 1 + n ≡ a + suc n = omega arith in
-    ap (range_with_len a) e ∙ ap (λ l. a ∷ l) (range_parts (a + 1) n m ∙ ap (λ b. range_with_len (a + 1) n ++ range_with_len b m) f)
-
 pub cells_after : (c : Reference) (kind : TreeKind) (v : View) (i n : ℕ) → errands_before c kind v (i + n) ≡ errands_before c kind v i ++ flat_map (cell_errands c kind v) (range_with_len i n)
 cells_after c kind v i n = let e : 0 + i ≡ i = omega arith in
-    ap (flat_map (cell_errands c kind v)) (range_parts 0 i n ∙ ap (λ a. range_with_len 0 i ++ range_with_len a n) e) ∙ flat_map-append (cell_errands c kind v) (range_with_len 0 i) (range_with_len i n)
+    ap (flat_map (cell_errands c kind v)) (range-parts 0 i n ∙ ap (λ a. range_with_len 0 i ++ range_with_len a n) e) ∙ flat_map-append (cell_errands c kind v) (range_with_len 0 i) (range_with_len i n)
 
 module _ (file : List ℕ) (from : Walk) (c : Reference) (kind : TreeKind) (v : View) (leaf : is_interior v.kind ≡ false) where
   abbrev D : ℕ → Walk
