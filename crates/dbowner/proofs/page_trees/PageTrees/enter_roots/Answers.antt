@@ -1,0 +1,38 @@
+use Rattle.std.proofs.Common.{◌≡◌, ◌+◌, ◌-◌, ◌≤◌, length, replicate, Some, None, sym, ap, subst, ◌∙◌, arith}
+use Rattle.std.specs.Prelude.{option_map, slice_get}
+use Rattle.std.proofs.lemmas.List.{length-replicate}
+use Rattle.dbowner.specs.Climbs.{known_of}
+use Rattle.dbowner.specs.Steps.{entered}
+use Rattle.dbowner.proofs.Roots.{listed_start, root_known, roots_right, schema_entered, next_entered, all_entered}
+use Rattle.dbowner.proofs.page_trees.PageTrees.enter_roots.Goals as goal
+
+pub loop-index-init : goal.loop-index-init
+loop-index-init g c =
+    let n = length c.args.self.now.known in
+    let long : length c.enter.new.self.known ≡ n = c.enter.ensures.pages ∙ ap length c.forget.ensures.known ∙ length-replicate n None in record {
+      entered = schema_entered c.args.marks.now n c.enter.new.self.known c.args.roots.now.rows
+          (λ p. c.enter.ensures.known p ∙ ap (λ known. entered c.args.marks.now known 1 0 p) c.forget.ensures.known) long;
+      pages = long;
+      passed = c.enter.ensures.passed ∙ c.forget.ensures.passed;
+    }
+
+pub loop-index-preserved : goal.loop-index-preserved
+loop-index-preserved g c =
+    let i = c.loop-index.index in
+    let e : i + 1 - 1 ≡ i = omega arith in record {
+      entered = next_entered c.args.marks.now c.args.roots.now.rows i c.root_page.result c.loop-index.self.known c.enter-in-loop-index.new.self.known
+          (subst (λ i. option_map (λ row. row.root) (slice_get c.args.roots.now.rows i) ≡ Some c.root_page.result) e c.root_page.ensures)
+          c.enter-in-loop-index.ensures.known c.enter-in-loop-index.ensures.pages c.loop-index.invariant.entered;
+      pages = c.enter-in-loop-index.ensures.pages ∙ c.loop-index.invariant.pages;
+      passed = c.enter-in-loop-index.ensures.passed ∙ c.loop-index.invariant.passed;
+    }
+
+pub returns-clause-right : goal.returns-clause-right
+returns-clause-right g c = λ file V s m a l.
+    (let marks = c.args.marks.now in
+    let known = c.loop-index.self.known in
+    let rows = c.args.roots.now.rows in
+    let past : length rows ≤ c.loop-index.index = omega (arith, c.loop-index-test.false, c.len-index-end.ensures.count) in
+    let long = c.loop-index.invariant.pages in
+    roots_right file V s rows a marks known m (omega (arith, l, long))
+    (λ p. all_entered marks known rows c.loop-index.index (length known) p (root_known marks (length known) (listed_start rows p) p) past (c.loop-index.invariant.entered p)))

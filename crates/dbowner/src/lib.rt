@@ -1,0 +1,18 @@
+//! Who owns a page of a database, and what it is: told by the marks of a walk and its list of roots, without a page read anew.
+//!
+//! specs/Owners says it by the survey of a file, of which nothing but the visits is used: the start that a page belongs to
+//! ([`PageTrees::start_of`]), what it is there ([`place_of`]), and that the tree of a root page owns it
+//! ([`visited_pages_are_owned`]).
+//!
+//! [`PageTrees`] keeps four bytes a page. When all starts have been walked from, [`PageTrees::enter_roots`] notes the root
+//! pages, in one pass over the list; each later question climbs by the marks to the first page of which the start is known, and
+//! notes it of those that it passes. So all questions together pass no more pages than there are.
+#![tactic(auto)]
+
+mod owner;
+mod page_trees;
+mod place;
+
+pub use owner::visited_pages_are_owned;
+pub use page_trees::PageTrees;
+pub use place::{Place, place_of};
