@@ -18,7 +18,7 @@ use Rattle.dbwalk.specs.EndMarks.{is_root_mark, is_marked}
 use Rattle.dbwalk.specs.Marking.{role_mark, visit_mark, mark_of, marks_of, page_mark}
 use Rattle.dbwalk.proofs.Marking.Markings.{page_mark-in, page_mark-out}
 use Rattle.dbwalk.proofs.Marking.EndMarking.{found_in, survey_visits}
-use Rattle.dbwalk.proofs.Marking.EndRoots.{visited-mark}
+use Rattle.dbwalk.proofs.Marking.EndRoots.{visited-mark, root_test}
 use Rattle.dbowner.specs.declared.place.Place.{Place}
 use Rattle.dbowner.specs.declared.place.Place.TheVariants as place
 use Rattle.dbowner.specs.Owners.{start_at, place_in, place_of}
@@ -52,14 +52,6 @@ unnamed (first_overflow left) from k e off f = cc
 unnamed (later_overflow left) from k e off f = cc
 unnamed trunk from k e off f = ap Some (sym (f refl))
 unnamed free_leaf from k e off f = ap Some (sym (f refl))
-
-root_role : (role : Role) (from : ℕ) → is_root_mark (role_mark role from) ≡ is_root role
-root_role (root kind) from = refl
-root_role (child kind) from = refl
-root_role (first_overflow left) from = refl
-root_role (later_overflow left) from = refl
-root_role trunk from = refl
-root_role free_leaf from = refl
 
 -- the mark of a page that no visit names
 abbrev unused : Bool → Bool → Option Mark
@@ -150,9 +142,10 @@ module _ (file : List ℕ) (V : List Reference) (s : Survey file V) where
         ])
         | inr w ↦ (let u : Reference = w.0 in
             let same : q ≡ u.page = sym (named (role_of r) (from_of r) q e).0 ∙ child_from file u r w.2 in
-            let step = one_below file V s u r w.1 w.2 in
-            (start_here r i ∙ ap Some step.0 ∙ sym (ap (start_at V) same ∙ start_here u w.1),
-            depth_here r i ∙ step.1 ∙ ap (λ d. d + 1) (sym (ap (depth_at V) same ∙ depth_here u w.1))))
+            let step = one_below file V s u r w.1 w.2 in (
+              start_here r i ∙ ap Some step.0 ∙ sym (ap (start_at V) same ∙ start_here u w.1),
+              depth_here r i ∙ step.1 ∙ ap (λ d. d + 1) (sym (ap (depth_at V) same ∙ depth_here u w.1)),
+            ))
       ]
 
       by_case : (o : Option Reference) → visit_of V p ≡ o → (start_at V p ≡ start_at V q) × (depth_at V p ≡ depth_at V q + 1)
@@ -178,7 +171,7 @@ module _ (file : List ℕ) (V : List Reference) (s : Survey file V) where
 
   -- the pages with a root's mark are those that are visited as roots
   pub root_marked : (r : Reference) → IsIn r V → is_root (role_of r) ≡ true → is_marked is_root_mark (marks_of (geometry file) V) r.page ≡ true
-  root_marked r i h = ap (λ o. option_map_or is_root_mark o false) (mark_here r i) ∙ root_role (role_of r) (from_of r) ∙ h
+  root_marked r i h = ap (λ o. option_map_or is_root_mark o false) (mark_here r i) ∙ root_test.visited (role_of r) (from_of r) ∙ h
 
   pub root_visited : (p : ℕ) → is_marked is_root_mark (marks_of (geometry file) V) p ≡ true → (r : Reference) × IsIn r V × (r.page ≡ p) × (is_root (role_of r) ≡ true)
   root_visited p h = by_case (visit_of V p) refl
@@ -187,4 +180,4 @@ module _ (file : List ℕ) (V : List Reference) (s : Survey file V) where
       by_case None e = absurd (let f : false ≡ true = sym (ap (λ o. option_map_or is_root_mark o false) (no_visit p e) ∙ unused_root (is_fixed (geometry file) p) (is_page (geometry file) p)) ∙ h in cc)
       by_case (Some r) e =
           let k = found_in V p r e in
-          (r, k.0, k.1, sym (root_role (role_of r) (from_of r)) ∙ sym (ap (λ o. option_map_or is_root_mark o false) (mark_here r k.0)) ∙ ap (λ p. is_marked is_root_mark (marks_of (geometry file) V) p) k.1 ∙ h)
+          (r, k.0, k.1, sym (root_test.visited (role_of r) (from_of r)) ∙ sym (ap (λ o. option_map_or is_root_mark o false) (mark_here r k.0)) ∙ ap (λ p. is_marked is_root_mark (marks_of (geometry file) V) p) k.1 ∙ h)

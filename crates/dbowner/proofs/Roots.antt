@@ -75,15 +75,6 @@ entered_is marks known page start m o p = elim (cases_Bool (p == page)) [
       ∙ sym (ap (λ b. cond (b && (is_marked is_root_mark marks p && is_open known p)) (Some (Some start)) (known_of known p)) e))
 ]
 
-pub not_entered : (marks : List Mark) (known : List Known) (page start : ℕ) → (is_marked is_root_mark marks page && is_open known page) ≡ false
-    → (p : ℕ) → known_of known p ≡ entered marks known page start p
-not_entered marks known page start h p = elim (cases_Bool (p == page)) [
-  | inl e ↦ (let f : p ≡ page = eqb-true p page e in
-      sym (ap (λ b. cond (b && (is_marked is_root_mark marks p && is_open known p)) (Some (Some start)) (known_of known p)) e
-      ∙ ap (λ b. cond b (Some (Some start)) (known_of known p)) (ap (λ p. is_marked is_root_mark marks p && is_open known p) f ∙ h)))
-  | inr e ↦ sym (ap (λ b. cond (b && (is_marked is_root_mark marks p && is_open known p)) (Some (Some start)) (known_of known p)) e)
-]
-
 one_row : (same root room : Bool) (k : Known) (start : ℕ) (later : Option ℕ)
     → option_or (cond (same && (root && (room && not (is_some k)))) (Some (Some start)) k) (cond (root && room) (option_map Some later) None)
     ≡ option_or k (cond (root && room) (option_map Some (cond same (Some start) later)) None)
@@ -202,7 +193,6 @@ module _ (file : List ℕ) (V : List Reference) (s : Survey file V) (rows : List
       by_case false f None g =
           let other : (1 == q) ≡ false = ne_eqb 1 q (λ d. both_ways (q == 1) f (eq-eqb q 1 (sym d))) in
           absurd (off (free_first file q k (sym (ap (λ o. option_or o (first_start (freelist_starts file) q)) g) ∙ later other)))
-
 
   -- what is known when all roots were entered is right
   pub roots_right : (marks : List Mark) (known : List Known) → AreMarksOf file V marks → length marks ≤ length known

@@ -24,17 +24,20 @@ Known = Option (Option ℕ)
 pub climbed : (file : List ℕ) (V : List Reference) (marks : List Mark) (page n top : ℕ) (old mid new : List Known) (start : Option ℕ) → Survey file V → AreMarksOf file V marks → AreTrees file V old
     → IsClimb marks page n old top mid → (slot mid top ≡ Some None → parent marks top ≡ None) → start ≡ start_above marks mid top → IsSettled marks page n start mid new
     → (start ≡ start_at V page) × AreTrees file V new
-climbed file V marks page n top old mid new start s m t climb end is settled = (start_is, record {
-  room = (let a = climb.pages in let b = settled.pages in let d = t.room in omega arith);
-  right = λ p. elim (now p) [
-    | inl c ↦ subst (λ o. IfSome o (λ start. start ≡ start_at V p)) (sym c) (t.right p)
-    | inr c ↦ subst (λ o. IfSome o (λ start. start ≡ start_at V p)) (sym c.0) c.1
-  ];
-  roots = λ r i e. elim (now r.page) [
-    | inl c ↦ c ∙ t.roots r i e
-    | inr c ↦ c.0 ∙ ap Some (c.1 ∙ start_here file V s r i)
-  ];
-})
+climbed file V marks page n top old mid new start s m t climb end is settled = (
+  start_is,
+  record {
+    room = (let a = climb.pages in let b = settled.pages in let d = t.room in omega arith);
+    right = λ p. elim (now p) [
+      | inl c ↦ subst (λ o. IfSome o (λ start. start ≡ start_at V p)) (sym c) (t.right p)
+      | inr c ↦ subst (λ o. IfSome o (λ start. start ≡ start_at V p)) (sym c.0) c.1
+    ];
+    roots = λ r i e. elim (now r.page) [
+      | inl c ↦ c ∙ t.roots r i e
+      | inr c ↦ c.0 ∙ ap Some (c.1 ∙ start_here file V s r i)
+    ];
+  },
+)
   where
     up : (p q : ℕ) → parent marks p ≡ Some q → (start_at V p ≡ start_at V q) × (depth_at V p ≡ depth_at V q + 1)
     up p q e = one_up file V s p q (sym (ap (λ marks. parent marks p) m) ∙ e)

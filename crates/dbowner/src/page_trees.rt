@@ -135,11 +135,7 @@ impl<A: Allocator> PageTrees<A> {
 
     /// Forgets what was known, and enters the root pages: each that is marked as a root has the start of the first row that
     /// names it, and page 1 that of the schema.
-    pub fn enter_roots<B: Allocator, C: Allocator>(
-        &mut self,
-        marks: &Marks<B>,
-        roots: &RootList<C>,
-    )
+    pub fn enter_roots<B: Allocator, C: Allocator>(&mut self, marks: &Marks<B>, roots: &RootList<C>)
         // Where the marks are those of a survey's visits, and the list has the rows of the file's schema.
         ensures right { (file : List ℕ) (V : List Reference) → Survey file V → AreMarksOf file V marks.now → AreListed file V roots.now.rows
             → length marks.now ≤ length self.old.known → AreTrees file V self.new.known }
@@ -160,8 +156,10 @@ impl<A: Allocator> PageTrees<A> {
     /// that it passes, so that no page is passed twice, whatever the marks are.
     pub fn start_of<B: Allocator>(&mut self, marks: &Marks<B>, page: u32) -> Option<u32>
         // Where the roots of a survey were entered, and the marks are those of its visits.
-        ensures visit { (file : List ℕ) (V : List Reference) → Survey file V → AreMarksOf file V marks.now → AreTrees file V self.old.known → result ≡ start_at V page }
-        ensures right { (file : List ℕ) (V : List Reference) → Survey file V → AreMarksOf file V marks.now → AreTrees file V self.old.known → AreTrees file V self.new.known }
+        ensures visit { (file : List ℕ) (V : List Reference) → Survey file V → AreMarksOf file V marks.now → AreTrees file V self.old.known
+            → result ≡ start_at V page }
+        ensures right { (file : List ℕ) (V : List Reference) → Survey file V → AreMarksOf file V marks.now → AreTrees file V self.old.known
+            → AreTrees file V self.new.known }
         // A page more is known for each that was passed.
         ensures cost { self.new.passed + known_pages self.old.known ≡ self.old.passed + known_pages self.new.known }
         ensures pages { length self.new.known ≡ length self.old.known }
@@ -271,13 +269,7 @@ impl<A: Allocator> PageTrees<A> {
     }
 
     // Notes the start of each page that a climb has passed.
-    fn settle<B: Allocator>(
-        &mut self,
-        marks: &Marks<B>,
-        page: u32,
-        passed: u32,
-        start: Option<u32>,
-    )
+    fn settle<B: Allocator>(&mut self, marks: &Marks<B>, page: u32, passed: u32, start: Option<u32>)
         requires way { (k : ℕ) → k < passed → known_of self.old.known (above marks.now k page) ≡ Some None }
         requires start { Fits start }
         ensures settled { IsSettled marks.now page passed start self.old.known self.new.known }

@@ -2,6 +2,6 @@
 #![tactic(auto)]
 
 #[cfg(test)]
-mod walked;
-#[cfg(test)]
 mod trees;
+#[cfg(test)]
+mod walked;

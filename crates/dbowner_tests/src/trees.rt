@@ -1,5 +1,5 @@
 // The start that each page belongs to, what it is, and how many pages are passed to know it.
-use crate::walked::{behind_a_map, two_trees, walked};
+use crate::walked::{behind_a_map, two_trees, walk_all};
 use dbformat::Geometry;
 use dbowner::{PageTrees, Place, place_of};
 use linked_list_allocator::LocalHeap;
@@ -35,7 +35,7 @@ const GEOMETRY: Geometry = Geometry {
 #[test]
 fn each_page_is_passed_once(rt: HostRuntime) -> Result<(), Fail> {
     let file = two_trees(rt.alloc())?;
-    let desk = walked(rt.alloc(), file.as_slice())?;
+    let desk = walk_all(rt.alloc(), file.as_slice())?;
     let mut trees = PageTrees::new(rt.alloc(), &GEOMETRY)?;
     for backwards in [false, true] {
         trees.enter_roots(&desk.marks, &desk.roots);
@@ -43,7 +43,10 @@ fn each_page_is_passed_once(rt: HostRuntime) -> Result<(), Fail> {
         for _ in 0..2 {
             for step in 0..14u32 {
                 let page = if backwards { 13 - step } else { step };
-                let (start, place) = OWNED.get(page as usize).copied().unwrap_or((None, Place::Fixed));
+                let (start, place) = OWNED
+                    .get(page as usize)
+                    .copied()
+                    .unwrap_or((None, Place::Fixed));
                 assert!(rt; trees.start_of(&desk.marks, page) == start, "{page}");
                 assert!(rt; place_of(&desk.marks, page) == place, "{page}");
             }
@@ -57,7 +60,7 @@ fn each_page_is_passed_once(rt: HostRuntime) -> Result<(), Fail> {
 #[test]
 fn roots_are_entered_anew(rt: HostRuntime) -> Result<(), Fail> {
     let file = two_trees(rt.alloc())?;
-    let mut desk = walked(rt.alloc(), file.as_slice())?;
+    let mut desk = walk_all(rt.alloc(), file.as_slice())?;
     let mut trees = PageTrees::new(rt.alloc(), &GEOMETRY)?;
     assert!(rt; trees.start_of(&desk.marks, 9).is_none());
     trees.enter_roots(&desk.marks, &desk.roots);
@@ -75,7 +78,7 @@ fn roots_are_entered_anew(rt: HostRuntime) -> Result<(), Fail> {
 #[test]
 fn a_map_page_belongs_to_no_tree(rt: HostRuntime) -> Result<(), Fail> {
     let file = behind_a_map(rt.alloc())?;
-    let desk = walked(rt.alloc(), file.as_slice())?;
+    let desk = walk_all(rt.alloc(), file.as_slice())?;
     let mut trees = PageTrees::new(rt.alloc(), &GEOMETRY)?;
     trees.enter_roots(&desk.marks, &desk.roots);
     for (page, start, place) in [
@@ -94,14 +97,17 @@ fn a_map_page_belongs_to_no_tree(rt: HostRuntime) -> Result<(), Fail> {
 #[test]
 fn the_growth_is_refused(rt: HostRuntime) -> Result<(), Fail> {
     let file = two_trees(rt.alloc())?;
-    let desk = walked(rt.alloc(), file.as_slice())?;
+    let desk = walk_all(rt.alloc(), file.as_slice())?;
     let mut refused: u32 = 0;
     for blocks in 0..16usize {
         let heap = LocalHeap::new(rt.alloc(), blocks.wrapping_mul(16))?;
         match PageTrees::new_in(&heap, &GEOMETRY) {
             Ok(mut trees) => {
                 trees.enter_roots(&desk.marks, &desk.roots);
-                assert!(rt; trees.start_of(&desk.marks, 9) == Some(1), "{blocks} blocks");
+                assert!(rt;
+                    trees.start_of(&desk.marks, 9) == Some(1),
+                    "{blocks} blocks"
+                );
             }
             Err(_) => refused = refused.wrapping_add(1),
         }

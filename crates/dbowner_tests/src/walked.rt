@@ -1,11 +1,21 @@
 // Marks and roots of a walked file, as a run leaves them.
+ghost use Rattle.std.specs.Prelude.{◌≡◌, ◌≤◌, ◌↔◌};
+ghost use Rattle.dbwalk.specs.declared.root.RootKind.TheVariants as root_kind;
+
 use dbfiles::{Sample, TestFile, schema_row};
 use dbformat::Encoding;
-use dbreport::{Header, RootList, RowKind};
+use dbreport::{Header, RootList, RowKind, SchemaRow};
 use dbsource::{Bench, MemSource};
 use dbwalk::{Fault, Marks, Root, RootKind, Row, Sink, WriteFailed, walk_freelist, walk_tree};
 use std::alloc::{AllocError, Global};
 use std::test::Fail;
+
+const SCHEMA: Root = Root {
+    start: 0,
+    page: 1,
+    kind: RootKind::Schema,
+    encoding: Encoding::Utf8,
+};
 
 // Is told of everything.
 #[derive(Drop)]
@@ -66,7 +76,7 @@ pub(crate) struct Walked {
     pub(crate) roots: RootList,
 }
 
-pub(crate) fn walked(alloc: Global, file: &[u8]) -> Result<Walked, Fail> {
+pub(crate) fn walk_all(alloc: Global, file: &[u8]) -> Result<Walked, Fail> {
     let mut source = MemSource::new(file);
     let header = Header::read(&mut source)?;
     let geometry = header.geometry();
@@ -75,29 +85,52 @@ pub(crate) fn walked(alloc: Global, file: &[u8]) -> Result<Walked, Fail> {
     let mut roots = RootList::new(alloc);
     let mut rest = RootList::new(alloc);
     let mut quiet = Quiet { items: 0 };
-    let schema = root_of(0, 1, RootKind::Schema);
-    walk_tree(&mut source, &mut bench, &mut marks, schema, &mut roots, &mut quiet)?;
+    walk_tree(
+        &mut source,
+        &mut bench,
+        &mut marks,
+        SCHEMA,
+        &mut roots,
+        &mut quiet,
+    )?;
     for index in 0..roots.len() {
         let Some(row) = roots.get(index + 1) else {
             continue;
         };
-        let kind = match row.kind {
-            RowKind::Index => RootKind::Index,
-            _ => RootKind::Own,
-        };
-        let root = root_of(index + 1, row.root, kind);
-        walk_tree(&mut source, &mut bench, &mut marks, root, &mut rest, &mut quiet)?;
+        let root = root_of(index + 1, &row);
+        walk_tree(
+            &mut source,
+            &mut bench,
+            &mut marks,
+            root,
+            &mut rest,
+            &mut quiet,
+        )?;
     }
     if header.first_trunk() != 0 {
-        walk_freelist(&mut source, &mut bench, &mut marks, header.first_trunk(), &mut quiet)?;
+        walk_freelist(
+            &mut source,
+            &mut bench,
+            &mut marks,
+            header.first_trunk(),
+            &mut quiet,
+        )?;
     }
     Ok(Walked { marks, roots })
 }
 
-fn root_of(start: u32, page: u32, kind: RootKind) -> Root {
+// The root of a row.
+fn root_of(start: u32, row: &SchemaRow<'_>) -> Root
+    requires { 1 ≤ start }
+    ensures { (result.kind ≡ root_kind.Schema) ↔ (result.start ≡ 0) }
+{
+    let kind = match row.kind {
+        RowKind::Index => RootKind::Index,
+        _ => RootKind::Own,
+    };
     Root {
         start,
-        page,
+        page: row.root,
         kind,
         encoding: Encoding::Utf8,
     }
