@@ -6,3 +6,5 @@ pub mod Owned
 pub mod PageMarks
 pub mod Roots
 pub mod Trees
+pub mod AllFaults
+pub mod Worked

@@ -7,12 +7,16 @@
 //! [`PageTrees`] keeps four bytes a page. When all starts have been walked from, [`PageTrees::enter_roots`] notes the root
 //! pages, in one pass over the list; each later question climbs by the marks to the first page of which the start is known, and
 //! notes it of those that it passes. So all questions together pass no more pages than there are.
+//!
+//! specs/Explained says with these words what `dbck explain` is to write; no code of it stands here yet.
 #![tactic(auto)]
 
+mod explained;
 mod owner;
 mod page_trees;
 mod place;
 
+pub use explained::summary_counts_all_faults;
 pub use owner::visited_pages_are_owned;
 pub use page_trees::PageTrees;
 pub use place::{Place, place_of};
