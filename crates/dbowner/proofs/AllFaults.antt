@@ -1,6 +1,5 @@
 -- The summary counts all faults of the file.
 use Rattle.std.proofs.Common.{◌≡◌, ℕ, List, [], ◌∷◌, ◌++◌, length, map, Option, None, Some, refl, ap, ◌∙◌}
-use Rattle.std.specs.Prelude.{flat_map}
 use Rattle.std.proofs.lemmas.List.{map-append}
 use Rattle.dbsurvey.proofs.Lists.{flat_map-same, map-flat_map}
 use Rattle.dbformat.specs.Address.{start_of}

@@ -1,5 +1,5 @@
 -- A visited page is owned, by what its start is.
-use Rattle.std.proofs.Common.{◌≡◌, ℕ, inl, inr, cond, List, [], ◌∷◌, Option, Some, None, sym, ap, subst, ◌∙◌}
+use Rattle.std.proofs.Common.{◌≡◌, ℕ, inl, inr, cond, List, [], ◌∷◌, Some, sym, ap, subst, ◌∙◌}
 use Rattle.std.specs.Prelude.{find, option_map, ◌==◌}
 use Rattle.std.specs.Option.{option_map_or}
 use Rattle.std.proofs.lemmas.Bool.{cases_Bool, eqb-true, eq-eqb, ne_eqb}
@@ -10,7 +10,7 @@ use Rattle.dbformat.specs.Reference.{Reference}
 use Rattle.dbformat.specs.Schema.{starts}
 use Rattle.dbformat.specs.Survey.{Survey}
 use Rattle.dbformat.proofs.Visited.{allowed, visit_is}
-use Rattle.dbowner.specs.Owners.{Owner, Nobody, Layout, Freelist, Tree, is_start, start_at, owner_at, owner_of, first_start, AreOwned}
+use Rattle.dbowner.specs.Owners.{Owner, Nobody, Layout, Freelist, Tree, is_start, owner_at, owner_of, first_start, AreOwned}
 use Rattle.dbowner.proofs.Starts.{start_is, start_visited, first_is}
 
 abbrev tree_at : List Reference → ℕ → Owner

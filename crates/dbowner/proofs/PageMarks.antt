@@ -1,6 +1,6 @@
 -- What the marks of a survey say of a page: what it is, which page it is of, and of a page that is of no other, its start.
-use Rattle.std.proofs.Common.{◌≡◌, ℕ, ◌+◌, ◌≤◌, ◌⊎◌, inl, inr, Bool, true, false, cond, List, [], ◌∷◌, Option, Some, None, refl, sym, ap, subst, ◌∙◌, arith}
-use Rattle.std.specs.Prelude.{option_map, ◌==◌}
+use Rattle.std.proofs.Common.{◌≡◌, ℕ, ◌+◌, ◌≤◌, inl, inr, Bool, true, false, cond, List, Option, Some, None, refl, sym, ap, subst, ◌∙◌, arith}
+use Rattle.std.specs.Prelude.{option_map}
 use Rattle.std.specs.Option.{option_map_or}
 use Rattle.std.proofs.lemmas.Bool.{cases_Bool}
 use Rattle.std.proofs.lemmas.Bool.Decides.{nat_tests}
@@ -13,7 +13,7 @@ use Rattle.dbformat.specs.Reference.{Role, root, child, first_overflow, later_ov
 use Rattle.dbformat.specs.Survey.{Survey}
 use Rattle.dbformat.proofs.Visited.{allowed, visit_is}
 use Rattle.dbwalk.specs.declared.mark.Mark.{Mark}
-use Rattle.dbwalk.specs.declared.mark.Mark.TheVariants.{Unmarked, Fixed, Root}
+use Rattle.dbwalk.specs.declared.mark.Mark.TheVariants.{Unmarked, Fixed}
 use Rattle.dbwalk.specs.EndMarks.{is_root_mark, is_marked}
 use Rattle.dbwalk.specs.Marking.{role_mark, visit_mark, mark_of, marks_of, page_mark}
 use Rattle.dbwalk.proofs.Marking.Markings.{page_mark-in, page_mark-out}
@@ -24,7 +24,7 @@ use Rattle.dbowner.specs.declared.place.Place.TheVariants as place
 use Rattle.dbowner.specs.Owners.{start_at, place_in, place_of}
 use Rattle.dbowner.specs.Climbs.{place_by, parent_by, parent}
 use Rattle.dbowner.specs.Steps.{start_by}
-use Rattle.dbowner.proofs.Starts.{IsAtStart, start_or_below, one_below, on_freelist}
+use Rattle.dbowner.proofs.Starts.{start_or_below, one_below, on_freelist}
 use Rattle.dbowner.proofs.Ways.{child_from}
 
 -- role by role

@@ -1,8 +1,8 @@
 -- Root pages, by the list of roots.
-use Rattle.std.proofs.Common.{◌≡◌, ℕ, zero, suc, ◌+◌, ◌-◌, ◌<◌, ◌≤◌, Bool, true, false, cond, not, ◌&&◌, List, [], ◌∷◌, ◌++◌, length, map, take, drop, set, replicate, Option, Some, None, refl, sym, ap, subst, ◌∙◌, arith, inl, inr}
+use Rattle.std.proofs.Common.{◌≡◌, ℕ, zero, suc, ◌+◌, ◌-◌, ◌≤◌, Bool, true, false, cond, not, ◌&&◌, List, [], ◌∷◌, ◌++◌, length, map, take, drop, set, replicate, Option, Some, None, refl, sym, ap, subst, ◌∙◌, arith, inl, inr}
 use Rattle.std.specs.Prelude.{find, is_some, nat_le, option_map, option_and_then, slice_get, IfSome, ◌==◌}
 use Rattle.std.specs.List.{enumerate_from}
-use Rattle.std.specs.Option.{option_or, option_map_or}
+use Rattle.std.specs.Option.{option_or}
 use Rattle.std.proofs.lemmas.Bool.{cases_Bool, and_parts, and_from, eqb-true, eq-eqb, ne_eqb, both_ways}
 use Rattle.std.proofs.lemmas.Bool.Decides.{nat_tests}
 use Rattle.std.proofs.lemmas.List.{length-replicate}
@@ -10,7 +10,6 @@ use Rattle.dbsurvey.specs.Address.{IsIn}
 use Rattle.dbsurvey.specs.Survey.{Link}
 use Rattle.dbformat.specs.Address.{start_of, schema_start, last_root_start, freelist_start}
 use Rattle.dbformat.specs.File.{geometry}
-use Rattle.dbformat.specs.FixedPages.{is_page}
 use Rattle.dbformat.specs.Header.{first_trunk}
 use Rattle.dbformat.specs.Reference.{trunk, Way, Reference, role_of, is_root}
 use Rattle.dbformat.specs.Schema.{schema_link, start, root_start, rooted_rows, freelist_starts, later_starts, starts}
@@ -20,11 +19,11 @@ use Rattle.dbformat.proofs.SchemaStart.{schema_below}
 use Rattle.dbformat.proofs.Visited.{allowed}
 use Rattle.dbwalk.specs.declared.mark.Mark.{Mark}
 use Rattle.dbwalk.specs.EndMarks.{is_root_mark, is_marked}
-use Rattle.dbwalk.specs.Marking.{AreMarksOf, marks_of}
+use Rattle.dbwalk.specs.Marking.{AreMarksOf}
 use Rattle.dbwalk.proofs.Marking.Markings.{marks_of-length}
 use Rattle.dbreport.specs.Starts.{AreListed}
 use Rattle.dbowner.specs.Owners.{start_at, first_start}
-use Rattle.dbowner.specs.Climbs.{slot, known_of, AreTrees}
+use Rattle.dbowner.specs.Climbs.{known_of, AreTrees}
 use Rattle.dbowner.specs.Steps.{is_open, entered}
 use Rattle.dbowner.proofs.PageMarks.{start_here, root_marked, root_visited}
 use Rattle.dbowner.proofs.Slots.{has_room, open_is, open_slot, within, put_here, put_there, nothing_known}

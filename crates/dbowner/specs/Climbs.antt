@@ -1,5 +1,5 @@
 -- From page to page by marks, and what is known on the way of the starts that pages belong to.
-use Rattle.std.specs.Prelude.{◌≡◌, ℕ, zero, suc, ◌+◌, ◌-◌, ◌*◌, ◌<◌, ◌≤◌, ◌⊎◌, Bool, true, List, map, length, count_by, is_some, vec_len, slice_get, Option, Some, None, IfSome, unwrap_or, option_and_then, ◌==◌, if◌then◌else◌}
+use Rattle.std.specs.Prelude.{◌≡◌, ℕ, zero, suc, ◌-◌, ◌<◌, ◌≤◌, true, List, map, length, count_by, is_some, vec_len, slice_get, Option, Some, None, IfSome, unwrap_or, option_and_then, ◌==◌, if◌then◌else◌}
 use Rattle.dbsurvey.specs.Address.{IsIn}
 use Rattle.dbformat.specs.Address.{start_of}
 use Rattle.dbformat.specs.File.{geometry}
@@ -7,7 +7,7 @@ use Rattle.dbformat.specs.FixedPages.{most_pages}
 use Rattle.dbformat.specs.Reference.{Reference, role_of, is_root}
 use Rattle.dbwalk.specs.Marking.{page_mark}
 use Rattle.dbwalk.specs.declared.mark.Mark.{Mark}
-use Rattle.dbwalk.specs.declared.mark.Mark.TheVariants.{Unmarked, Fixed, Root, Trunk, FreeLeaf, FirstOverflow, LaterOverflow, Child}
+use Rattle.dbwalk.specs.declared.mark.Mark.TheVariants.{Fixed, Root, Trunk, FreeLeaf, FirstOverflow, LaterOverflow, Child}
 use Rattle.dbowner.specs.Owners.{start_at}
 use Rattle.dbowner.specs.declared.page_trees.PageTrees.TheInside.{Inside}
 use Rattle.dbowner.specs.declared.place.Place.{Place}

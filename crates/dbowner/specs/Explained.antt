@@ -1,6 +1,6 @@
 -- What `dbck explain` writes of a file with survey V (own): what `check` writes, and below each fault the lines that say where
 -- its pages are; and then how many faults there are, by code and by start.
-use Rattle.std.specs.Prelude.{◌≡◌, ℕ, zero, suc, ◌+◌, ◌-◌, ◌*◌, ℤ, pos, Bool, true, false, List, [], ◌∷◌, ◌++◌, length, replicate, take, drop, map, flat_map, count_by, Option, Some, None, Ok, slice_get, codes, decimal, ◌==◌, if◌then◌else◌}
+use Rattle.std.specs.Prelude.{◌≡◌, ℕ, zero, suc, ◌-◌, ◌*◌, ℤ, pos, Bool, true, false, List, [], ◌∷◌, ◌++◌, length, replicate, take, drop, map, flat_map, count_by, Option, Some, None, Ok, slice_get, codes, decimal, ◌==◌, if◌then◌else◌}
 use Rattle.std.specs.Option.{option_map_or}
 use Rattle.std.specs.Str.{bytes_eq}
 use Rattle.dbformat.specs.Address.{start_of, freelist_start}
@@ -18,7 +18,7 @@ use Rattle.dbformat.specs.declared.Fault.{Fault}
 use Rattle.dbformat.specs.declared.FaultCode.{FaultCode}
 use Rattle.dbformat.specs.declared.FaultCode.TheVariants.{H01, H02, H03, H04, H05, H06, H07, H08, H09, H10, P01, P02, P03, P04, P05, P06, P07, P08, P09, P10, R01, R02, R03, T04, T05, T06, O01, L01, S01, S02, S03, S04, N01, M01, M02}
 use Rattle.dbformat.specs.declared.Fixed.{Fixed}
-use Rattle.dbformat.specs.declared.Fixed.TheVariants.{Lock, Map}
+use Rattle.dbformat.specs.declared.Fixed.TheVariants.{Lock}
 use Rattle.dbformat.specs.declared.RowKind.{RowKind}
 use Rattle.dbformat.specs.declared.RowKind.TheVariants as row
 use Rattle.dbowner.specs.Owners.{start_at, place_of}

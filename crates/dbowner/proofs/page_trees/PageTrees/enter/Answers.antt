@@ -1,4 +1,4 @@
-use Rattle.std.proofs.Common.{◌≡◌, ap, sym, ◌∙◌}
+use Rattle.std.proofs.Common.{ap, sym, ◌∙◌}
 use Rattle.dbowner.specs.Climbs.{known_of}
 use Rattle.dbowner.proofs.Roots.{entered_is}
 use Rattle.dbowner.proofs.page_trees.PageTrees.enter.Goals as goal

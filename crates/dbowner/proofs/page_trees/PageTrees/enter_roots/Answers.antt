@@ -1,7 +1,6 @@
-use Rattle.std.proofs.Common.{◌≡◌, ◌+◌, ◌-◌, ◌≤◌, length, replicate, Some, None, sym, ap, subst, ◌∙◌, arith}
+use Rattle.std.proofs.Common.{◌≡◌, ◌+◌, ◌-◌, ◌≤◌, length, Some, None, ap, subst, ◌∙◌, arith}
 use Rattle.std.specs.Prelude.{option_map, slice_get}
 use Rattle.std.proofs.lemmas.List.{length-replicate}
-use Rattle.dbowner.specs.Climbs.{known_of}
 use Rattle.dbowner.specs.Steps.{entered}
 use Rattle.dbowner.proofs.Roots.{listed_start, root_known, roots_right, schema_entered, next_entered, all_entered}
 use Rattle.dbowner.proofs.page_trees.PageTrees.enter_roots.Goals as goal

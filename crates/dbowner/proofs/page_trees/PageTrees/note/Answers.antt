@@ -1,5 +1,4 @@
-use Rattle.std.proofs.Common.{◌≡◌, ◌-◌, ◌≤◌, length, map, set, Some, sym, ap, subst, ◌∙◌, arith}
-use Rattle.dbowner.specs.Climbs.{unpacked, known_pages}
+use Rattle.std.proofs.Common.{◌-◌, ◌≤◌, length, set, Some, sym, ap, subst, ◌∙◌, arith}
 use Rattle.dbowner.proofs.Slots.{stored, stored_more}
 use Rattle.dbowner.proofs.page_trees.PageTrees.note.Goals as goal
 

@@ -1,7 +1,7 @@
-use Rattle.std.proofs.Common.{◌≡◌, ◌+◌, ◌≤◌, length, map, sym, ap, subst, ◌∙◌, arith}
+use Rattle.std.proofs.Common.{sym, ap, subst, arith}
 use Rattle.std.specs.Prelude.{is_some}
 use Rattle.std.proofs.lemmas.List.Sums.{count_by-le-length}
-use Rattle.dbowner.specs.Climbs.{unpacked, known_pages, AreTrees}
+use Rattle.dbowner.specs.Climbs.{known_pages, AreTrees}
 use Rattle.dbowner.proofs.Trees.{climbed}
 use Rattle.dbowner.proofs.page_trees.PageTrees.start_of.Goals as goal
 
