@@ -13,3 +13,4 @@ pub mod AsideCalls
 pub mod TreeSteps
 pub mod TreeTurns
 pub mod WalkedTrees
+pub mod Walks

@@ -28,6 +28,7 @@ pub mod Taking
 pub mod Telling
 pub mod Trunks
 pub mod Underway
+pub mod Walked
 pub mod Walking
 pub mod WalkingOn
 pub mod Watching

@@ -1,13 +1,15 @@
 -- What the loop over the interior pages of a tree keeps.
-use Rattle.std.specs.Prelude.{◌≡◌, ℕ, List, [], ◌∷◌}
+use Rattle.std.specs.Prelude.{◌≡◌, ℕ, List, [], ◌∷◌, Result, OnOk, IfErr}
 use Rattle.dbsurvey.specs.Story.{Go}
 use Rattle.dbformat.specs.Reference.{Reference}
+use Rattle.dbsource.specs.declared.error.RunError.{RunError}
 use Rattle.dbtrace.specs.Item.{Item}
 use Rattle.dbtrace.specs.Steps.{roots_in}
 use Rattle.dbtrace.specs.Walk.{Walk, begin, run_below}
 use Rattle.dbwalk.specs.Stack.{left_over, AreCalls, AreOpenFrames}
 use Rattle.dbwalk.specs.Underway.{IsUnderway}
 use Rattle.dbwalk.specs.Walking.{AreRead}
+use Rattle.dbwalk.specs.Watching.{StopsAt}
 use Rattle.dbwalk.specs.declared.frame.Frame.{Frame}
 use Rattle.dbwalk.specs.declared.mark.Mark.{Mark}
 use Rattle.dbwalk.specs.declared.state.Tree.{Tree}
@@ -25,3 +27,7 @@ pub record IsWalkingOn {P : Type 0} (moves : P → Item → P → Type 0) (file 
   pub frames_are : AreOpenFrames file state.1.kind c stack.0
   pub calls : AreCalls stack.0
   pub read : AreRead file stack.1 0 stack.0
+
+-- What a turn of the loop leaves: the walk is under way still, or an error stopped it.
+abbrev pub HasTurned : {P : Type 0} → (P → Item → P → Type 0) → (RunError → P → Item → P → Type 0) → List ℕ → (List Reference × Reference × P) → Result (Unit {0}) RunError → (List Frame × List (List ℕ)) → (List Mark × Tree) → P → Type 0
+HasTurned moves stops file of r stack state w = OnOk r (IsWalkingOn moves file of.0 of.1 of.2 stack state w) × IfErr r (λ e. StopsAt moves stops e of.2 (tree_walk file of.0 of.1).items w)

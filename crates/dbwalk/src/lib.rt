@@ -53,6 +53,7 @@ mod taker;
 mod told;
 mod tree;
 mod tree_turn;
+mod tree_walk;
 mod visit;
 
 pub use dbbytes::{RowKind, SchemaRow};

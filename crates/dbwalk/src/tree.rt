@@ -1,89 +1,55 @@
 // The walk over one tree (Database File Format, 1.6).
-ghost use Rattle.std.specs.Prelude.{◌≡◌, ℕ, ◌≤◌, ◌++◌, [], ◌∷◌, ◌↔◌, List, None, true, IfErr};
+ghost use Rattle.std.specs.Prelude.{◌≡◌, ℕ, ◌≤◌, [], ◌↔◌, List, None, IfErr};
 ghost use Rattle.dbformat.specs.FixedPages.{IsPageNumber};
-ghost use Rattle.dbsurvey.specs.Traverse.{is_followed};
 ghost use Rattle.dbformat.specs.Address.{schema_start};
-ghost use Rattle.dbformat.specs.File.{geometry as shape_of, page_bytes};
+ghost use Rattle.dbformat.specs.File.{geometry as shape_of};
 ghost use Rattle.dbformat.specs.Header.{encoding as encoding_of};
 ghost use Rattle.dbformat.specs.Reference.{Reference};
-ghost use Rattle.dbformat.specs.Survey.{rules_of};
 ghost use Rattle.dbsource.specs.Errors.{is_out_of_memory, is_read_failed, is_write_failed};
 ghost use Rattle.dbsource.specs.Failures.{failures_after};
-ghost use Rattle.dbsource.specs.Sources.{Asks, HasLog};
-ghost use Rattle.dbwalk.specs.Found.{StandsAt};
-ghost use Rattle.dbwalk.specs.Marking.{AreMarksOf};
+ghost use Rattle.dbsource.specs.Sources.{Asks};
 ghost use Rattle.dbwalk.specs.Outcomes.{IsReadOrWrite, IsReadWriteOrMemory};
 ghost use Rattle.dbwalk.specs.Reads.{Reads};
 ghost use Rattle.dbwalk.specs.RootRoom.{StartsEmpty};
 ghost use Rattle.dbwalk.specs.Roots.{IsRootAfter};
-ghost use Rattle.dbwalk.specs.Entered.{IsNext};
-ghost use Rattle.dbwalk.specs.Underway.{HasDone};
+ghost use Rattle.dbwalk.specs.Standing.{AtRoot};
+ghost use Rattle.dbwalk.specs.Walked.{Does, SaysOfFiles, Walked};
 ghost use Rattle.dbwalk.specs.WalkingOn.{tree_walk};
 ghost use Rattle.dbwalk.specs.Watching.{fails, watches};
 ghost use Rattle.dbwalk.specs.Done.{IsTreeDone};
-ghost use Rattle.dbwalk.specs.Walking.{IsCandidate};
 ghost use Rattle.dbwalk.specs.declared.root.RootKind.TheVariants as root_kind;
 ghost use Rattle.dbwalk.specs.Sinks.{SinkAfter};
 
 use crate::entering::enter;
 use crate::frame::Frame;
-use crate::page_entry::{tree_step, visit_page};
+use crate::page_entry::tree_step;
 use crate::root::{Root, root_kind};
 use crate::state::Tree;
-use crate::tree_turn::turn;
+use crate::tree_walk::TreeWalk;
 use crate::{Marks, Sink, Taker};
 use arrayvec::ArrayVec;
-use dbformat::Encoding;
 use dbsource::{Bench, RunError, Source};
 use std::alloc::Allocator;
 
-// Walks over the pages of a tree of which nothing was visited, and whose root was marked, and read at level 0.
-fn walk_pages<A: Allocator, S: Source, K: Sink, T: Taker>(
-    source: &mut S,
-    bench: &mut Bench<A>,
-    marks: &mut Marks<A>,
-    tree: &mut Tree,
-    page: u32,
-    encoding: Encoding,
-    taker: &mut T,
-    sink: &mut K,
-) -> Result<(), RunError>
-    requires page { IsPageNumber page }
-    requires fresh { (tree.old.greatest ≡ None) × (tree.old.leaf ≡ None) × (tree.old.path.items ≡ []) }
-    ensures shape { bench.new.geometry ≡ bench.old.geometry }
-    ensures reads { (S.held source.new).failures ≡ failures_after is_read_failed result (S.held source.old).failures }
-    ensures writes { SinkAfter is_write_failed result (K.held sink.old) (K.held sink.new) }
-    ensures refusals { T.refusals taker.new ≡ failures_after is_out_of_memory result (T.refusals taker.old) }
-    ensures log { HasLog S.step (Reads bench.old.geometry.page_size marks.old marks.new)
-        (λ file. bench.old.geometry ≡ shape_of file → encoding ≡ encoding_of file
-        → (W : List Reference) (c : Reference) → IsCandidate tree.old.kind tree.old.start [] page 0 tree.old.start c
-        → StandsAt bench.old.levels 0 (page_bytes file page) → is_followed (rules_of file) W c ≡ true → IsNext W c → AreMarksOf file (W ++ (c ∷ [])) marks.old
-        → (held : T → ℕ) → (tree.old.start ≡ schema_start → StartsEmpty T.takes held taker.old)
-        → HasDone (watches K.takes T.takes) (fails K.drops T.refuses) file (tree_walk file W c) result
-        (marks.new, tree.new) (sink.old, taker.old) (sink.new, taker.new))
-        (S.held source.old) (S.held source.new) }
-    ensures only { IfErr result IsReadWriteOrMemory }
-    ensures others { 1 ≤ tree.old.start → (taker.new ≡ taker.old) × IfErr result IsReadOrWrite }
-{
-    if !visit_page(source, bench, marks, tree, page, encoding, taker, sink)? {
-        return Ok(());
+impl<A: Allocator, S: Source, K: Sink, T: Taker> TreeWalk<'_, '_, '_, '_, A, S, K, T> {
+    // Walks over the pages of a tree of which nothing was visited, and whose root was marked, and read at level 0.
+    fn walk_pages(&mut self, bench: &mut Bench<A>, page: u32) -> Result<(), RunError>
+        requires page { IsPageNumber page }
+        requires fresh { (self.old.tree.greatest ≡ None) × (self.old.tree.leaf ≡ None) × (self.old.tree.path.items ≡ []) }
+        ensures walked { Walked S.held K.held T.refusals result bench.old.geometry bench.new.geometry self.old self.new }
+        ensures log { SaysOfFiles S.step S.held bench.old.geometry self.old self.new (λ file. AtRoot T.takes file bench.old.levels page self.old (λ W c.
+            Does (watches K.takes T.takes) (fails K.drops T.refuses) file (tree_walk file W c) result self.old self.new)) }
+    {
+        if !self.visit_page(bench, page)? {
+            return Ok(());
+        }
+        let mut frames: ArrayVec<Frame, 20> = ArrayVec::new();
+        frames.push(Frame { page, next: 0 });
+        while let Some(frame) = frames.pop() {
+            self.turn(bench, &mut frames, frame)?;
+        }
+        Ok(())
     }
-    let mut frames: ArrayVec<Frame, 20> = ArrayVec::new();
-    frames.push(Frame { page, next: 0 });
-    while let Some(frame) = frames.pop() {
-        turn(
-            source,
-            bench,
-            marks,
-            tree,
-            &mut frames,
-            frame,
-            encoding,
-            taker,
-            sink,
-        )?;
-    }
-    Ok(())
 }
 
 /// Walks over the tree of a root, and marks and tells all that is below it. Each page is marked, and then read, once; a
@@ -122,15 +88,14 @@ pub fn walk_tree<A: Allocator, S: Source, K: Sink, T: Taker>(
         return Ok(());
     }
     bench.load(0, source, root.page)?;
-    let mut tree = Tree::new(root.start, root_kind(bench, root));
-    walk_pages(
+    let tree = Tree::new(root.start, root_kind(bench, root));
+    let mut walk = TreeWalk {
         source,
-        bench,
         marks,
-        &mut tree,
-        root.page,
-        root.encoding,
         taker,
         sink,
-    )
+        tree,
+        encoding: root.encoding,
+    };
+    walk.walk_pages(bench, root.page)
 }

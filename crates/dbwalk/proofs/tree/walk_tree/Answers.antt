@@ -1,24 +1,32 @@
 use Rattle.std.proofs.Common.{rules, ◌≡◌, ◌-◌, ◌<◌, ◌≤◌, [], set, Some, Ok, Err, inl, inr, refl, sym, ap, subst, arith, ◌∙◌}
-use Rattle.std.specs.Prelude.{IfErr}
+use Rattle.std.specs.Prelude.{ℕ, List, IfErr}
 use Rattle.std.proofs.lemmas.Result.{err_from_is_err_and}
-use Rattle.dbformat.specs.File.{page_bytes}
+use Rattle.dbformat.specs.File.{geometry, page_bytes}
+use Rattle.dbformat.specs.Header.{encoding}
+use Rattle.dbformat.specs.Reference.{Reference}
 use Rattle.dbsource.specs.Bench.{bytes_at}
 use Rattle.dbsource.specs.Errors.{is_read_failed}
 use Rattle.dbsource.specs.Failures.{failures_after}
+use Rattle.dbsource.specs.Sources.{Asks}
 use Rattle.dbsource.specs.declared.error.RunError.TheVariants.{ReadFailed}
 use Rattle.dbwalk.specs.Entered.{Enters}
 use Rattle.dbwalk.specs.Found.{StandsAt}
 use Rattle.dbwalk.specs.Marking.{page_mark}
 use Rattle.dbwalk.specs.Outcomes.{IsReadOrWrite}
-use Rattle.dbwalk.specs.Roots.{kind_of, kind_in}
+use Rattle.dbwalk.specs.Reads.{Reads}
+use Rattle.dbwalk.specs.RootRoom.{StartsEmpty}
+use Rattle.dbwalk.specs.Roots.{IsRootAfter, kind_of, kind_in}
 use Rattle.dbwalk.specs.Done.{IsTreeDone}
+use Rattle.dbwalk.specs.declared.mark.Mark.{Mark}
 use Rattle.dbwalk.specs.declared.mark.Mark.TheVariants.{Unmarked}
+use Rattle.dbwalk.specs.declared.root.RootKind.TheVariants.{Schema}
 use Rattle.dbwalk.proofs.Chaining.Overflows.{page_read}
 use Rattle.dbwalk.proofs.Marking.Readings.{log_load, log_none, log_page, log_then}
 use Rattle.dbwalk.proofs.Pages.Levels.{geometry_kept, read_there}
 use Rattle.dbwalk.proofs.Trees.Arrivals.{root_address}
 use Rattle.dbwalk.proofs.Trees.TreeLoop.{candidate_as, root_next}
 use Rattle.dbwalk.proofs.Underway.WalkedTrees.{tree_done, tree_refused, tree_unread}
+use Rattle.dbwalk.proofs.Underway.Walks.{with_memory, without_memory}
 use Rattle.dbwalk.proofs.tree.walk_tree.Goals as goal
 
 pub returns-in_err-enter-clause-asks : goal.returns-in_err-enter-clause-asks
@@ -87,7 +95,16 @@ returns-clause-asks g c =
     let low : 0 < 20 = omega arith in
     let read = c.in_ok-load.ensures.level in
     let shape = geometry_kept c.args.bench.now c.load.new.self 0 low read.bytes read.only in
-    record {
+    let says : List Mark → g.row.K.Denot → g.row.T.Denot → g.row.S.Denot → Type 0 = λ m k t s. Asks g.S.Source.step (Reads size c.args.marks.now m) (λ file. c.args.bench.now.geometry ≡ geometry file → c.args.root.encoding ≡ encoding file
+    → (W : List Reference) (d : Reference) → IsRootAfter file c.args.root W d c.args.marks.now → (held : g.row.T.Denot → ℕ) → (c.args.root.kind ≡ Schema → StartsEmpty g.T.Taker.takes held c.args.taker.now)
+    → IsTreeDone g.K.Sink.takes g.K.Sink.drops g.T.Taker.takes g.T.Taker.refuses file W d c.walk_pages.result m c.args.sink.now k c.args.taker.now t) is_read_failed c.walk_pages.result (g.S.Source.held c.args.source.now) (g.S.Source.held s) in
+    let n = c.walk_pages.new.self in
+    let marks : n.marks.now ≡ c.marks-1.given.0 = search rules in
+    let sink : n.sink.now ≡ c.sink-1.given.0 = search rules in
+    let taker : n.taker.now ≡ c.taker-1.given.0 = search rules in
+    let source : n.source.now ≡ c.source-1.given.0 = search rules in
+    subst (λ m. says m c.sink-1.given.0 c.taker-1.given.0 c.source-1.given.0) marks (subst (λ k. says n.marks.now k c.taker-1.given.0 c.source-1.given.0) sink
+    (subst (λ t. says n.marks.now n.sink.now t c.source-1.given.0) taker (subst (λ s. says n.marks.now n.sink.now n.taker.now s) source (record {
       log = log_then _ _ (ap (λ s. s.page_size) shape) (log_page _ size c.args.marks.now c.enter.new.marks c.args.root.page mark k.0 k.1 c.tree_step-step.ensures.used
           (log_load size c.args.root.page read.bytes (Ok tt) c.load.ensures.told read.size read.holds) (λ file h. h)) c.walk_pages.ensures.log (λ file h done e coded W d at held empty.
           let root = c.args.root in
@@ -100,12 +117,24 @@ returns-clause-asks g c =
           let kinds = c.new-tree.ensures.names.1 ∙ c.root_kind.ensures.kind ∙ ap (kind_of root.kind root.page) (there (bytes_at c.load.new.self 0) c.root_kind.ensures.there) in
           let starts = c.new-tree.ensures.names.0 in
           let n = subst (λ b. Enters g.K.Sink.takes g.K.Sink.drops file W d (Ok b) c.enter.new.marks c.args.sink.now c.enter.new.sink) c.if-not-branch.false (c.in_ok-enter.ensures.entered file W d is next at.marked) in
-          subst (λ s. IsTreeDone g.K.Sink.takes g.K.Sink.drops g.T.Taker.takes g.T.Taker.refuses file W d c.walk_pages.result c.walk_pages.new.marks s c.walk_pages.new.sink c.args.taker.now c.walk_pages.new.taker) (sym n.2)
-          (tree_done g.K.Sink.takes g.K.Sink.drops g.T.Taker.takes g.T.Taker.refuses file root.start W d one at.early c.walk_pages.result c.walk_pages.new.marks c.walk_pages.new.tree (c.enter.new.sink, c.args.taker.now) (c.walk_pages.new.sink, c.walk_pages.new.taker)
+          subst (λ s. IsTreeDone g.K.Sink.takes g.K.Sink.drops g.T.Taker.takes g.T.Taker.refuses file W d c.walk_pages.result c.walk_pages.new.self.marks.now s c.walk_pages.new.self.sink.now c.args.taker.now c.walk_pages.new.self.taker.now) (sym n.2)
+          (tree_done g.K.Sink.takes g.K.Sink.drops g.T.Taker.takes g.T.Taker.refuses file root.start W d one at.early c.walk_pages.result c.walk_pages.new.self.marks.now c.walk_pages.new.self.tree (c.enter.new.sink, c.args.taker.now) (c.walk_pages.new.self.sink.now, c.walk_pages.new.self.taker.now)
           (done (shape ∙ e) coded W d (candidate_as (kind_in file root) t.kind root.start t.start [] [] root.page root.page 0 root.start t.start d kinds starts refl refl starts at.candidate)
           there n.0 next n.1 held (λ z. empty (c.requires.schema.1 (sym starts ∙ z))))));
-      count = c.walk_pages.ensures.reads ∙ ap (failures_after is_read_failed c.walk_pages.result) c.in_ok-load.ensures.count;
-    }
+      count = c.walk_pages.ensures.walked.reads ∙ ap (failures_after is_read_failed c.walk_pages.result) c.in_ok-load.ensures.count;
+    }))))
+
+pub returns-clause-shape : goal.returns-clause-shape
+returns-clause-shape g c =
+    let low : 0 < 20 = omega arith in
+    let read = c.in_ok-load.ensures.level in
+    c.walk_pages.ensures.walked.shape ∙ geometry_kept c.args.bench.now c.load.new.self 0 low read.bytes read.only
+
+pub returns-clause-only : goal.returns-clause-only
+returns-clause-only g c = with_memory c.new-tree.result.start c.walk_pages.result c.walk_pages.ensures.walked.only
 
 pub returns-clause-others : goal.returns-clause-others
-returns-clause-others g c = λ l. c.walk_pages.ensures.others (subst (λ k. 1 ≤ k) (sym c.new-tree.ensures.names.0) l)
+returns-clause-others g c = λ l.
+    let m = subst (λ k. 1 ≤ k) (sym c.new-tree.ensures.names.0) l in
+    let same : c.taker-1.given.0 ≡ c.walk_pages.new.self.taker.now = search rules in
+    (same ∙ c.walk_pages.ensures.walked.others m, without_memory c.new-tree.result.start c.walk_pages.result m c.walk_pages.ensures.walked.only)

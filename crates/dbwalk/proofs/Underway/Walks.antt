@@ -1,0 +1,135 @@
+-- What a call of the walk over a tree keeps, call after call.
+use Rattle.std.proofs.Common.{◌≡◌, ℕ, zero, suc, ◌≤◌, inl, inr, Result, Ok, Err, refl, sym, ap, subst, ◌∙◌, arith}
+use Rattle.std.specs.Prelude.{IfErr}
+use Rattle.dbformat.specs.declared.Geometry.{Geometry}
+use Rattle.dbsource.specs.Errors.{is_out_of_memory, is_read_failed, is_write_failed}
+use Rattle.dbsource.specs.Failures.{failures_after}
+use Rattle.dbsource.specs.Sources.{SourceState}
+use Rattle.dbsource.specs.declared.error.RunError.{RunError}
+use Rattle.dbwalk.specs.Outcomes.{IsReadOrWrite, IsReadWriteOrMemory, IsWriteOrMemory}
+use Rattle.dbwalk.specs.Sinks.{SinkAfter, SinkState}
+use Rattle.dbwalk.specs.Walked.{IsTreeError, Walked}
+use Rattle.dbwalk.specs.declared.state.Tree.{Tree}
+use Rattle.dbwalk.specs.declared.tree_walk.TreeWalk.{TreeWalk}
+
+-- what is no error of memory is one of the walk over any tree
+pub tree_error : (start : ℕ) (e : RunError) → IsWriteOrMemory e → (1 ≤ start → ⊥) → IsTreeError start e
+tree_error start e (inl w) none = inl (inr w)
+tree_error zero e (inr m) none = inr (m, refl)
+tree_error (suc n) e (inr m) none = absurd (none (omega arith))
+
+pub none_refused : {A : Type 0} (r : Result A RunError) (n : ℕ) → IfErr r IsReadOrWrite → n ≡ failures_after is_out_of_memory r n
+none_refused (Ok a) n h = refl
+none_refused (Err e) n (inl h) = cc
+none_refused (Err e) n (inr h) = cc
+
+pub read_or_write : {A : Type 0} (start : ℕ) (r : Result A RunError) → IfErr r IsReadOrWrite → IfErr r (IsTreeError start)
+read_or_write start (Ok a) h = tt
+read_or_write start (Err e) h = inl h
+
+pub with_memory : {A : Type 0} (start : ℕ) (r : Result A RunError) → IfErr r (IsTreeError start) → IfErr r IsReadWriteOrMemory
+with_memory start (Ok a) h = tt
+with_memory start (Err e) (inl h) = inl h
+with_memory start (Err e) (inr h) = inr h.0
+
+pub without_memory : {A : Type 0} (start : ℕ) (r : Result A RunError) → 1 ≤ start → IfErr r (IsTreeError start) → IfErr r IsReadOrWrite
+without_memory start (Ok a) l h = tt
+without_memory start (Err e) l (inl h) = h
+without_memory start (Err e) l (inr h) = let z = h.1 in absurd (omega arith)
+
+-- a walk that lends the same, over the same tree
+abbrev pub IsSame : {A S K T : Type 0} → TreeWalk A S K T → TreeWalk A S K T → Type 0
+IsSame old new = (new.source.ghost_name ≡ old.source.ghost_name) × (new.marks.ghost_name ≡ old.marks.ghost_name) × (new.taker.ghost_name ≡ old.taker.ghost_name) × (new.sink.ghost_name ≡ old.sink.ghost_name)
+    × (new.encoding ≡ old.encoding) × (new.tree.start ≡ old.tree.start) × (new.tree.kind ≡ old.tree.kind)
+
+module _ {A S K T : Type 0} (told : S → SourceState) (held : K → SinkState) (refusals : T → ℕ) where
+  -- the same error, of a call that answers something else
+  pub walked_as : {R Q : Type 0} {r : Result Q RunError} {e : RunError} {g g' : Geometry} {old new : TreeWalk A S K T} → r ≡ Err e → Walked {R = R} told held refusals (Err e) g g' old new → Walked told held refusals r g g' old new
+  walked_as {g = g} {g' = g'} {old = old} {new = new} q w = subst (λ r. Walked told held refusals r g g' old new) (sym q) (record {
+    source = w.source;
+    marks = w.marks;
+    taker = w.taker;
+    sink = w.sink;
+    coded = w.coded;
+    shape = w.shape;
+    start = w.start;
+    kind = w.kind;
+    reads = w.reads;
+    writes = w.writes;
+    refused = w.refused;
+    only = w.only;
+    others = w.others;
+  })
+
+  -- and so where there is none
+  pub walked_as_ok : {R Q : Type 0} {a : R} {b : Q} {g g' : Geometry} {old new : TreeWalk A S K T} → Walked told held refusals (Ok a) g g' old new → Walked told held refusals (Ok b) g g' old new
+  walked_as_ok w = record {
+    source = w.source;
+    marks = w.marks;
+    taker = w.taker;
+    sink = w.sink;
+    coded = w.coded;
+    shape = w.shape;
+    start = w.start;
+    kind = w.kind;
+    reads = w.reads;
+    writes = w.writes;
+    refused = w.refused;
+    only = tt;
+    others = w.others;
+  }
+
+  -- a call behind another
+  pub walked_behind : {R Q : Type 0} {a : R} {r : Result Q RunError} {g h k : Geometry} {old mid new : TreeWalk A S K T} → Walked told held refusals r h k mid new → Walked told held refusals (Ok a) g h old mid → Walked told held refusals r g k old new
+  walked_behind {r = r} {new = new} v w = record {
+    source = v.source ∙ w.source;
+    marks = v.marks ∙ w.marks;
+    taker = v.taker ∙ w.taker;
+    sink = v.sink ∙ w.sink;
+    coded = v.coded ∙ w.coded;
+    shape = v.shape ∙ w.shape;
+    start = v.start ∙ w.start;
+    kind = v.kind ∙ w.kind;
+    reads = v.reads ∙ ap (failures_after is_read_failed r) w.reads;
+    writes = subst (λ s. SinkAfter is_write_failed r s (held new.sink.now)) w.writes v.writes;
+    refused = v.refused ∙ ap (failures_after is_out_of_memory r) w.refused;
+    only = subst (λ n. IfErr r (IsTreeError n)) w.start v.only;
+    others = λ l. v.others (subst (λ n. 1 ≤ n) (sym w.start) l) ∙ w.others l;
+  }
+
+  -- the tree's state moves on
+  pub walked_tree : {R : Type 0} {r : Result R RunError} {g h : Geometry} {old new : TreeWalk A S K T} {tree : Tree} → tree.start ≡ new.tree.start → tree.kind ≡ new.tree.kind → Walked told held refusals r g h old new → Walked told held refusals r g h old (record new { tree = tree })
+  walked_tree start kind w = record {
+    source = w.source;
+    marks = w.marks;
+    taker = w.taker;
+    sink = w.sink;
+    coded = w.coded;
+    shape = w.shape;
+    start = start ∙ w.start;
+    kind = kind ∙ w.kind;
+    reads = w.reads;
+    writes = w.writes;
+    refused = w.refused;
+    only = w.only;
+    others = w.others;
+  }
+
+  pub walked_by : {R : Type 0} {r : Result R RunError} {g h : Geometry} {old new : TreeWalk A S K T} → IsSame old new → h ≡ g → (told new.source.now).failures ≡ failures_after is_read_failed r (told old.source.now).failures
+      → SinkAfter is_write_failed r (held old.sink.now) (held new.sink.now) → refusals new.taker.now ≡ failures_after is_out_of_memory r (refusals old.taker.now) → IfErr r (IsTreeError old.tree.start) → (1 ≤ old.tree.start → new.taker.now ≡ old.taker.now)
+      → Walked told held refusals r g h old new
+  walked_by same shape reads writes refused only others = record {
+    source = same.0;
+    marks = same.1;
+    taker = same.2;
+    sink = same.3;
+    coded = same.4;
+    shape = shape;
+    start = same.5;
+    kind = same.6;
+    reads = reads;
+    writes = writes;
+    refused = refused;
+    only = only;
+    others = others;
+  }
