@@ -1,3 +1,2 @@
 -- Trunks and their leaves.
-pub mod FreeLeaves
 pub mod FreeTrunks

@@ -2,7 +2,6 @@ pub mod Marking
 pub mod Telling
 pub mod Chaining
 pub mod Freelists
-pub mod Running
 pub mod Pages
 pub mod Leaves
 pub mod Rows

@@ -1,8 +1,6 @@
 -- Marks, and the pages that are read.
 pub mod Markings
-pub mod Packings
 pub mod Readings
 pub mod Unfixed
 pub mod EndMarking
-pub mod EndRoots
 pub mod LateRoots

@@ -2,4 +2,3 @@
 pub mod Belows
 pub mod Lefts
 pub mod Tellings
-pub mod Entries

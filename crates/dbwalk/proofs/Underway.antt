@@ -1,15 +1,10 @@
 pub mod Handing
-pub mod Dones
 pub mod Underways
 pub mod CellSteps
-pub mod RowsTaken
 pub mod LeafCellRuns
 pub mod PassedCells
-pub mod PassedLeaves
-pub mod RootRooms
 pub mod LeafLoop
 pub mod Visits
-pub mod AsideCalls
 pub mod TreeSteps
 pub mod TreeTurns
 pub mod WalkedTrees

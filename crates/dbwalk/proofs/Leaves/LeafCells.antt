@@ -1,5 +1,5 @@
 -- What is read off the cells of a leaf at a level.
-use Rattle.std.proofs.Common.{◌≡◌, ℕ, ◌+◌, ◌-◌, ◌<◌, ◌≤◌, Bool, true, false, cond, ◌&&◌, List, [], take, drop, Option, Some, None, Ok, Err, ℤ, refl, sym, ap, arith, ◌∙◌}
+use Rattle.std.proofs.Common.{◌≡◌, ℕ, ◌+◌, ◌-◌, ◌<◌, ◌≤◌, Bool, true, false, cond, ◌&&◌, List, [], take, drop, Option, Some, None, Ok, Err, ℤ, refl, sym, ap, arith, ◌∙◌, subst, ◌*◌}
 use Rattle.std.specs.Prelude.{option_map, option_and_then, nat_le, nat_lt, ok_or, slice_get, slice_index_or, IfSome}
 use Rattle.std.specs.Result.{result_ok}
 use Rattle.std.proofs.lemmas.Bool.{and_parts}
@@ -19,6 +19,11 @@ use Rattle.dbformat.specs.declared.CellFault.TheVariants.{Offset, Unreadable}
 use Rattle.dbformat.specs.declared.TreeKind.{TreeKind}
 use Rattle.dbsource.specs.Bench.{Pages, bytes_at}
 use Rattle.dbwalk.specs.LeafCells.{HasCell, HasCells}
+use Rattle.dbformat.specs.declared.Encoding.{Encoding}
+use Rattle.dbbytes.specs.declared.sieve.RowSieve.{RowSieve}
+use Rattle.dbwalk.specs.Sieving.{HasFed, HoldsCell, HasSieve}
+use Rattle.dbwalk.specs.Steps.{IsNextStep, HasNext}
+use Rattle.dbwalk.specs.declared.steps.Next.{Next}
 
 -- a payload is at most 2147483647 bytes long
 
@@ -135,3 +140,39 @@ none_seen v e = cc
 
 pub same_view : (w v : View) → Some w ≡ Some v → w ≡ v
 same_view w v e = cc
+
+-- The sieve of a cell of a leaf.
+
+pub has_sieve : (b : Pages) (kind : TreeKind) (level page : ℕ) (low : level < 20) (usable : ℕ) (usable_is : usable ≡ b.geometry.usable) (bytes : List ℕ) (bytes_are : bytes ≡ bytes_at b level) (o : Option View) (viewed : undamaged kind page usable bytes ≡ o)
+    (i : ℕ) (e : Encoding) (sieve : Option RowSieve) → ((v : View) → o ≡ Some v → i < count v → HoldsCell sieve e (result_ok (cell v i))) → HasSieve b.geometry.usable kind b.levels level page i e sieve
+has_sieve b kind level page low usable usable_is bytes bytes_are o viewed i e sieve h = record {
+  read = λ y v a f l. h v (seen b kind level page low usable usable_is bytes bytes_are o viewed y v a f) l;
+}
+
+module _ (w v : View) (same : Some w ≡ Some v) (i : ℕ) (e : Encoding) where
+  pub holds_cell : (sieve : Option RowSieve) (x : Cell) → cell w i ≡ Ok x → HasFed sieve x.size e x.local → HoldsCell sieve e (result_ok (cell v i))
+  holds_cell sieve x read h = subst (λ r. HoldsCell sieve e (result_ok r)) (sym read ∙ ap (λ w. cell w i) (same_view w v same)) h
+
+  pub holds_none : (sieve : Option RowSieve) (f : CellFault) → cell w i ≡ Err f → sieve ≡ None → HoldsCell sieve e (result_ok (cell v i))
+  holds_none sieve f read h = subst (λ r. HoldsCell sieve e (result_ok r)) (sym read ∙ ap (λ w. cell w i) (same_view w v same)) h
+
+-- What is read off an interior page at a step.
+
+pub no_overflow : (v : View) (n : ℕ) (x : Cell) → cell v n ≡ Ok x → x.overflow ≡ None → (y : Cell) → n < count v → cell v n ≡ Ok y → y.overflow ≡ None
+no_overflow v n x e f y l g = let h : Ok x ≡ Ok y = sym e ∙ g in let i : x ≡ y = cc in ap (λ z. z.overflow) (sym i) ∙ f
+
+pub bad_cell : (v : View) (n : ℕ) (f : CellFault) → cell v n ≡ Err f → (y : Cell) → n < count v → cell v n ≡ Ok y → y.overflow ≡ None
+bad_cell v n f e y l g = let h : Err f ≡ Ok y = sym e ∙ g in cc
+
+pub has_next : (b : Pages) (kind : TreeKind) (level page : ℕ) (low : level < 20) (usable : ℕ) (usable_is : usable ≡ b.geometry.usable) (bytes : List ℕ) (bytes_are : bytes ≡ bytes_at b level) (o : Option View) (viewed : undamaged kind page usable bytes ≡ o)
+    (s : ℕ) (next : Next) → ((v : View) → o ≡ Some v → (count v ≤ 32768) × IsNextStep v s next) → HasNext b.geometry.usable kind b.levels level page s next
+has_next b kind level page low usable usable_is bytes bytes_are o viewed s next h = record {
+  few = λ y v e f. (h v (seen b kind level page low usable usable_is bytes bytes_are o viewed y v e f)).0;
+  stands = λ y v e f. (h v (seen b kind level page low usable usable_is bytes bytes_are o viewed y v e f)).1;
+}
+
+-- a view of a page that is read, at one of its steps
+pub at_step : (w v : View) → Some w ≡ Some v → (usable : ℕ) → usable ≤ 65536 → w.usable ≡ usable → (cells : ℕ) → cells ≡ count w → 2 * cells ≤ w.usable → (s t : ℕ) → t ≡ s → (next : Next) → IsNextStep w t next → (count v ≤ 32768) × IsNextStep v s next
+at_step w v e usable most is cells number few s t same next h =
+    let f : w ≡ v = cc in
+    (subst (λ v. count v ≤ 32768) f (omega arith), subst (λ v. IsNextStep v s next) f (subst (λ s. IsNextStep w s next) same h))

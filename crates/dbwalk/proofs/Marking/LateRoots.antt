@@ -26,8 +26,7 @@ use Rattle.dbformat.proofs.Rising.{starts_rise}
 use Rattle.dbformat.proofs.Visited.{allowed, each_once, has_address, root_is_start}
 use Rattle.dbwalk.specs.EndMarks.{AreVisits, is_root_mark, is_other_mark, is_marked, least_other_marked, late_fault, MarksTellTheEnd}
 use Rattle.dbwalk.specs.Marking.{mark_of, marks_of}
-use Rattle.dbwalk.proofs.Marking.EndMarking.{use_fault-by_mark, free_pages-by_marks, survey_visits}
-use Rattle.dbwalk.proofs.Marking.EndRoots.{root_test, other_test, visited_pages, visit-of_marked, marked-visit_of, visited_is_marked, marked_is_visited, greatest_root-by_marks}
+use Rattle.dbwalk.proofs.Marking.EndMarking.{use_fault-by_mark, free_pages-by_marks, survey_visits, root_test, other_test, visited_pages, visit-of_marked, marked-visit_of, visited_is_marked, marked_is_visited, greatest_root-by_marks}
 
 -- the least page that is no root
 

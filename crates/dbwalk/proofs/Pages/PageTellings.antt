@@ -1,16 +1,96 @@
--- What was told to a sink, call after call.
-use Rattle.std.proofs.Common.{◌≡◌, ℕ, zero, suc, ◌+◌, ◌-◌, ◌<◌, false, ◌&&◌, List, [], ◌∷◌, ◌++◌, length, Result, Ok, Err, refl, sym, ap, subst, arith, ◌∙◌, append_assoc}
-use Rattle.std.specs.Prelude.{flat_map, ◌==◌}
-use Rattle.std.specs.List.{range_with_len}
-use Rattle.std.proofs.lemmas.List.{append-nil, map-append}
-use Rattle.std.proofs.lemmas.Grind.{flat_map-append}
+-- What is told of a page.
+use Rattle.std.proofs.Common.{◌≡◌, ℕ, Bool, true, false, List, [], ◌∷◌, ◌++◌, map, Option, Some, None, refl, ap, ◌∙◌, zero, suc, ◌+◌, ◌-◌, ◌<◌, ◌&&◌, length, Result, Ok, Err, sym, subst, arith, append_assoc, inl, inr, max, fold, sum_by, cond, append-nil, Less, Equal, Greater, ◌≤◌}
+use Rattle.std.specs.Prelude.{option_to_list, option_and_then, flat_map, ◌==◌, filter_map, option_map, IsSomeAnd, IfSome, IsOk}
+use Rattle.std.proofs.lemmas.List.{map-append}
+use Rattle.dbformat.specs.Header.{usable_size}
+use Rattle.dbformat.specs.File.{page_bytes}
+use Rattle.dbformat.specs.Address.{start_of, child_path, chain_place}
+use Rattle.dbformat.specs.Head.{View, undamaged}
+use Rattle.dbformat.specs.Reference.{Role, root, child, first_overflow, later_overflow, trunk, free_leaf, Reference, role_of, tree_kind, tree_view}
+use Rattle.dbformat.specs.PageFaults.{tree_page_faults, depth_fault, role_faults, page_faults, fragment_fault, cell_fault, cell_faults, freeblock_fault, coverage_fault, empty_fault, inner_faults}
+use Rattle.dbformat.specs.Rows.{tree_page_row, row_in}
+use Rattle.dbformat.specs.declared.Fault.{Fault}
+use Rattle.dbformat.specs.declared.TreeKind.{TreeKind}
+use Rattle.dbtrace.specs.Finding.{told_row, told_fault, Finding}
+use Rattle.dbtrace.specs.Progress.{depth_faults}
+use Rattle.dbtrace.proofs.Depths.{no_depth}
+use Rattle.dbwalk.specs.PageRows.{view_row, damaged_row, page_findings}
+use Rattle.dbwalk.specs.Telling.{findings, IsTold}
+use Rattle.std.specs.List.{range_with_len, cons_option}
+use Rattle.std.specs.Option.{is_none}
+use Rattle.std.proofs.lemmas.Grind.{common_steps, flat_map-append}
 use Rattle.std.proofs.lemmas.Bool.Decides.{nat_tests}
 use Rattle.dbsurvey.proofs.Moving.{Moves-append, stops_first, stops_after}
 use Rattle.dbformat.proofs.Looping.{range-one-more}
-use Rattle.dbformat.specs.declared.Fault.{Fault}
 use Rattle.dbwalk.specs.Sinks.{HasFailed, SinkState}
-use Rattle.dbtrace.specs.Finding.{Finding, told_fault}
-use Rattle.dbwalk.specs.Telling.{IsTold, findings}
+use Rattle.std.specs.Result.{result_ok}
+use Rattle.std.proofs.lemmas.Bool.{cases_order}
+use Rattle.std.specs.Ordering.{is_lt, nat_cmp, ord_max}
+use Rattle.std.specs.Cmp.{nat_cmp_is}
+use Rattle.std.proofs.lemmas.List.Elements.{filter_map-append}
+use Rattle.std.proofs.lemmas.List.Sums.{sum_by-append}
+use Rattle.dbformat.specs.Cell.{Cell, cell, cells, count}
+use Rattle.dbformat.specs.declared.CellFault.{CellFault}
+use Rattle.dbpage.specs.Packed.{first_cells, payload_of, greatest_of}
+use Rattle.dbwalk.specs.declared.state.KeySpan.{KeySpan}
+
+-- What is told of a page that is visited: its row, the faults within it, and that its depth is another one.
+
+-- whether a page of a tree is a child
+abbrev pub is_child : Role → Bool
+is_child (child kind) = true
+is_child _ = false
+
+module _ (file : List ℕ) (c : Reference) (kind : TreeKind) (role : tree_kind (role_of c) ≡ Some kind) where
+  faults_are : page_faults file [] c ≡ tree_page_faults kind (is_child (role_of c)) c.page (usable_size file) (page_bytes file c.page)
+  unfolding page_faults
+  faults_are = by_role (role_of c) role
+    where
+      same : (x y : TreeKind) → Some x ≡ Some y → x ≡ y
+      same x y e = cc
+
+      alone : (fs : List Fault) → fs ++ depth_fault file [] c ≡ fs
+      alone fs = ap (λ l. fs ++ l) (no_depth file c) ∙ append-nil fs
+
+      by_role : (r : Role) → tree_kind r ≡ Some kind → role_faults r file [] c ≡ tree_page_faults kind (is_child r) c.page (usable_size file) (page_bytes file c.page)
+      by_role (root k) e = alone (tree_page_faults k false c.page (usable_size file) (page_bytes file c.page)) ∙ ap (λ k. tree_page_faults k false c.page (usable_size file) (page_bytes file c.page)) (same k kind e)
+      by_role (child k) e = alone (tree_page_faults k true c.page (usable_size file) (page_bytes file c.page)) ∙ ap (λ k. tree_page_faults k true c.page (usable_size file) (page_bytes file c.page)) (same k kind e)
+      by_role (first_overflow left) e = cc
+      by_role (later_overflow left) e = cc
+      by_role trunk e = cc
+      by_role free_leaf e = cc
+
+  row_is : (o : Option View) → tree_view file c ≡ o → row_in (role_of c) file c ≡ Some (tree_page_row c o)
+  row_is o f = by_role (role_of c) role
+    where
+      by_role : (r : Role) → tree_kind r ≡ Some kind → row_in r file c ≡ Some (tree_page_row c o)
+      by_role (root k) e = ap (λ o. Some (tree_page_row c o)) f
+      by_role (child k) e = ap (λ o. Some (tree_page_row c o)) f
+      by_role (first_overflow left) e = cc
+      by_role (later_overflow left) e = cc
+      by_role trunk e = cc
+      by_role free_leaf e = cc
+
+  -- the view of the page is that of its bytes
+  pub view_is : tree_view file c ≡ undamaged kind c.page (usable_size file) (page_bytes file c.page)
+  unfolding tree_view
+  view_is = ap (λ o. option_and_then (λ kind. undamaged kind c.page (usable_size file) (page_bytes file c.page)) o) role
+
+  -- its row first, and then its faults: those within it, and that of its depth
+  pub page_told : (leaf : Option ℕ) (o : Option View) → tree_view file c ≡ o
+      → page_findings file leaf c ≡ (told_row (tree_page_row c o) ∷ findings (tree_page_faults kind (is_child (role_of c)) c.page (usable_size file) (page_bytes file c.page))) ++ findings (depth_faults file leaf c)
+  page_told leaf o f = ap (λ r. map told_row (option_to_list r) ++ map told_fault (page_faults file [] c ++ depth_faults file leaf c)) (row_is o f)
+      ∙ ap (λ fs. told_row (tree_page_row c o) ∷ map told_fault (fs ++ depth_faults file leaf c)) faults_are
+      ∙ ap (λ fs. told_row (tree_page_row c o) ∷ fs) (map-append told_fault (tree_page_faults kind (is_child (role_of c)) c.page (usable_size file) (page_bytes file c.page)) (depth_faults file leaf c))
+
+-- the rows, where the address has no chain
+pub row_of_view : (c : Reference) (v : View) (start : ℕ) (path : List ℕ) → start_of c.address ≡ start → child_path c.address ≡ path → chain_place c.address ≡ None → v.number ≡ c.page → view_row start path v ≡ tree_page_row c (Some v)
+row_of_view c v start path a b n p = rw (← a, ← b, n, p) refl
+
+pub row_of_damage : (c : Reference) (page start : ℕ) (path : List ℕ) → start_of c.address ≡ start → child_path c.address ≡ path → chain_place c.address ≡ None → c.page ≡ page → damaged_row start path page ≡ tree_page_row c None
+row_of_damage c page start path a b n p = rw (← a, ← b, n, ← p) refl
+
+-- What was told to a sink, call after call.
 
 -- some items, and then others
 pub told_then : {S I A B E : Type 0} {takes drops : S → I → S → Type 0} {held : S → SinkState} {a : A} (r0 : Result A E) (r : Result B E) {s m t : S} (L M : List I) → r0 ≡ Ok a → IsTold takes drops held r0 s L m → IsTold takes drops held r m M t → IsTold takes drops held r s (L ++ M) t
@@ -36,7 +116,8 @@ faults_then {takes = takes} {drops = drops} {held = held} r0 r {s} {m} {t} L M e
 pub faults_stop : {S A B E F : Type 0} {takes drops : S → Finding → S → Type 0} {held : S → SinkState} {e : E} {f : F} (r0 : Result A E) (r : Result B F) {s t : S} (L rest fs : List Fault) → L ++ rest ≡ fs → r0 ≡ Err e → r ≡ Err f → IsTold takes drops held r0 s (findings L) t → IsTold takes drops held r s (findings fs) t
 faults_stop {takes = takes} {drops = drops} {held = held} r0 r {s} {t} L rest fs whole e f h = subst (λ l. IsTold takes drops held r s l t) (sym (map-append told_fault L rest) ∙ ap findings whole) (told_stop r0 r (findings L) (findings rest) e f h)
 
--- the faults of one element more of a range
+-- one element more of a range
+
 pub faults_more : (f : ℕ → List Fault) (n : ℕ) → flat_map f (range_with_len 0 (n + 1)) ≡ flat_map f (range_with_len 0 n) ++ f n
 faults_more f n = ap (flat_map f) (range-one-more n) ∙ flat_map-append f (range_with_len 0 n) (n ∷ []) ∙ ap (λ l. flat_map f (range_with_len 0 n) ++ l) (append-nil (f n))
 
@@ -59,3 +140,80 @@ none_more (f ∷ fs) gs = some (length (fs ++ gs)) ∙ ap (λ b. b && (length gs
   where
     some : (n : ℕ) → (suc n == 0) ≡ false
     some n = grind (arith, nat_tests)
+
+-- whether a fault was found
+pub none_found : (found : Option Fault) (fs : List Fault) → option_to_list found ≡ fs → is_none found ≡ (length fs == 0)
+none_found None fs e = ap (λ l. length l == 0) e
+none_found (Some f) fs e = let some : false ≡ (1 == 0) = grind (arith, nat_tests) in some ∙ ap (λ l. length l == 0) e
+
+-- What was found of a page whose cells have the faults cs: it is all of them.
+pub inner_found : (v : View) (is_child good : Bool) (fragments freeblock coverage empty : Option Fault) (cs : List Fault) → cell_faults v ≡ cs
+    → option_to_list fragments ≡ fragment_fault v → option_to_list freeblock ≡ freeblock_fault v → option_to_list coverage ≡ coverage_fault v good
+    → option_to_list empty ≡ empty_fault v is_child → good ≡ ((length cs == 0) && is_none freeblock)
+    → option_to_list fragments ++ (cs ++ flat_map option_to_list (freeblock ∷ coverage ∷ empty ∷ [])) ≡ inner_faults v is_child
+inner_found v is_child good fragments freeblock coverage empty cs e f b c m g =
+    by_parts (option_to_list fragments) (option_to_list freeblock) (option_to_list coverage) (option_to_list empty) f b (c ∙ ap (coverage_fault v) all_good) m e
+  where
+    all_good : good ≡ (length (cell_faults v ++ freeblock_fault v) == 0)
+    all_good = g ∙ ap (λ x. (length cs == 0) && x) (none_found freeblock (freeblock_fault v) b) ∙ sym (none_more cs (freeblock_fault v)) ∙ ap (λ l. length (l ++ freeblock_fault v) == 0) (sym e)
+
+    by_parts : (fs bs os ms : List Fault) → fs ≡ fragment_fault v → bs ≡ freeblock_fault v → os ≡ coverage_fault v (length (cell_faults v ++ freeblock_fault v) == 0) → ms ≡ empty_fault v is_child → cell_faults v ≡ cs
+        → fs ++ (cs ++ (bs ++ (os ++ (ms ++ [])))) ≡ inner_faults v is_child
+    by_parts fs bs os ms f b c m e = grind (arith, common_steps)
+
+-- The payload bytes of the cells of a page, added up cell by cell.
+
+pub cells_all : (v : View) → cells v ≡ first_cells v (count v)
+unfolding cells
+cells_all v = refl
+
+pub cells_err : (v : View) (n : ℕ) (f : CellFault) → cell v n ≡ Err f → first_cells v (n + 1) ≡ first_cells v n
+cells_err v n f e = ap (filter_map (λ i. option_map (λ c. (i, c)) (result_ok (cell v i)))) (range-one-more n)
+    ∙ filter_map-append (λ i. option_map (λ c. (i, c)) (result_ok (cell v i))) (range_with_len 0 n) (n ∷ [])
+    ∙ ap (λ c. first_cells v n ++ cons_option (option_map (λ c. (n, c)) (result_ok c)) []) e
+    ∙ append-nil (first_cells v n)
+
+pub local_more : (xs : List (ℕ × Cell)) (n : ℕ) (x : Cell) → payload_of (xs ++ (n, x) ∷ []) ≡ payload_of xs + length x.local
+local_more xs n x = sum_by-append (λ (i, c). length c.local) xs ((n, x) ∷ []) ∙ ap (λ m. sum_by (λ (i, c). length c.local) xs + m) (let e : sum_by (λ (i, c). length c.local) ((n, x) ∷ []) ≡ length x.local = omega arith in e)
+
+pub greatest_more : (xs : List (ℕ × Cell)) (n : ℕ) (x : Cell) → greatest_of (xs ++ (n, x) ∷ []) ≡ max (greatest_of xs) x.size
+greatest_more xs n x = go 0 xs
+  where
+    go : (m : ℕ) (xs : List (ℕ × Cell)) → fold max m (map (λ (i, c). c.size) (xs ++ (n, x) ∷ [])) ≡ max (fold max m (map (λ (i, c). c.size) xs)) x.size
+    go m [] = refl
+    go m (y ∷ xs) = go (max m y.1.size) xs
+
+-- the greater of two numbers, as `max` compares them
+pub ord_max-max : (a b : ℕ) → ord_max nat_cmp a b ≡ max a b
+ord_max-max a b = elim (cases_order a b) [
+  | inl e ↦ ap (λ o. cond (is_lt o) a b) (sym (nat_cmp_is b a Equal (sym e))) ∙ (let m : b ≡ max a b = omega arith in m)
+  | inr d ↦ (elim d [
+    | inl l ↦ ap (λ o. cond (is_lt o) a b) (sym (nat_cmp_is b a Greater l)) ∙ (let m : b ≡ max a b = omega arith in m)
+    | inr l ↦ ap (λ o. cond (is_lt o) a b) (sym (nat_cmp_is b a Less l)) ∙ (let m : a ≡ max a b = omega arith in m)
+  ])
+]
+
+-- A page of which one reading told that its cells are readable and apart.
+
+-- no cell has a fault
+pub no_cell_faults : (v : View) → ((i : ℕ) → i < count v → IsOk (cell v i)) → cell_faults v ≡ []
+no_cell_faults v whole = below (count v) (omega arith)
+  where
+    by_cell : (i : ℕ) (r : Result Cell CellFault) → cell v i ≡ r → IsOk r → cell_fault v i ≡ []
+    by_cell i (Ok x) e h = rw e refl
+    by_cell i (Err f) e h = cc
+
+    one : (i : ℕ) → IsOk (cell v i) → cell_fault v i ≡ []
+    one i h = by_cell i (cell v i) refl h
+
+    below : (n : ℕ) → n ≤ count v → flat_map (cell_fault v) (range_with_len 0 n) ≡ []
+    below zero l = refl
+    below (suc n) l =
+        let e : n + 1 ≡ suc n = omega arith in
+        ap (λ m. flat_map (cell_fault v) (range_with_len 0 m)) (sym e) ∙ faults_more (cell_fault v) n
+        ∙ ap (λ fs. fs ++ cell_fault v n) (below n (omega arith)) ∙ one n (whole n (omega arith))
+
+-- what is known of a span that is there
+pub with_span : (keys : Option KeySpan) (P Q : KeySpan → Type 0) → IsSomeAnd keys P → IfSome keys Q → (span : KeySpan) × P span × Q span
+with_span None P Q p q = absurd p
+with_span (Some span) P Q p q = (span, p, q)

@@ -1,6 +1,6 @@
 -- What is told of a page, by what a program finds of it.
-use Rattle.std.proofs.Common.{◌≡◌, ℕ, ◌+◌, true, false, not, ◌&&◌, cond, List, [], ◌∷◌, ◌++◌, length, Option, Some, None, refl, sym, ap, arith, ◌∙◌}
-use Rattle.std.specs.Prelude.{nat_lt, pos, unwrap_or, ◌==◌}
+use Rattle.std.proofs.Common.{◌≡◌, ℕ, ◌+◌, true, false, not, ◌&&◌, cond, List, [], ◌∷◌, ◌++◌, length, Option, Some, None, refl, sym, ap, arith, ◌∙◌, Bool, Result, Ok, Err, subst, ◌-◌}
+use Rattle.std.specs.Prelude.{nat_lt, pos, unwrap_or, ◌==◌, OnOk, slice_get}
 use Rattle.std.specs.Option.{option_map_or}
 use Rattle.std.proofs.lemmas.List.{append-nil}
 use Rattle.std.proofs.lemmas.Bool.Decides.{nat_tests}
@@ -16,14 +16,20 @@ use Rattle.dbformat.specs.Rows.{tree_page_row}
 use Rattle.dbformat.specs.declared.Fault.{Fault}
 use Rattle.dbformat.specs.declared.FaultCode.TheVariants.{T05}
 use Rattle.dbformat.specs.declared.TreeKind.{TreeKind}
-use Rattle.dbtrace.specs.Finding.{told_row}
+use Rattle.dbtrace.specs.Finding.{told_row, Finding}
 use Rattle.dbtrace.specs.Progress.{leaf_after, depth_faults}
 use Rattle.dbwalk.specs.LeafCells.{first_depth}
+use Rattle.dbwalk.specs.PageRows.{damaged_row, undamaged_findings, page_findings, damaged_findings}
+use Rattle.dbwalk.specs.Telling.{findings, IsTold}
+use Rattle.dbwalk.specs.Walking.{IsCandidate, role_at, IsOpen, IsLeafAt}
+use Rattle.dbwalk.proofs.Pages.PageTellings.{is_child, page_told, view_is, row_of_view, row_of_damage, told_then, told_stop, told_ok}
+use Rattle.dbwalk.specs.Sinks.{SinkState}
+use Rattle.dbsurvey.specs.Traverse.{is_followed}
+use Rattle.dbformat.specs.Survey.{rules_of}
+use Rattle.dbtrace.specs.Walk.{Walk}
+use Rattle.dbwalk.specs.Found.{StandsAt, IsDamagedAt, IsOpenLeaf}
+use Rattle.dbwalk.specs.Underway.{IsInterior}
 use Rattle.dbwalk.specs.LeafCells as depths
-use Rattle.dbwalk.specs.PageRows.{damaged_row, undamaged_findings, page_findings}
-use Rattle.dbwalk.specs.Telling.{findings}
-use Rattle.dbwalk.specs.Walking.{IsCandidate, role_at}
-use Rattle.dbwalk.proofs.Pages.PageTold.{is_child, page_told, view_is, row_of_view, row_of_damage}
 
 -- a page that is no leaf has no fault of its depth, and leaves the depth of the first leaf
 no_leaf : (file : List ℕ) (leaf : Option ℕ) (c : Reference) → is_leaf_of file (start_of c.address) c ≡ false → (depth_faults file leaf c ≡ []) × (leaf_after file leaf c ≡ leaf)
@@ -121,3 +127,134 @@ module _ (file : List ℕ) (kind : TreeKind) (k : ℕ) (path : List ℕ) (p from
 
       pub leaf_after_leaf : is_interior v.kind ≡ false → leaf_after file leaf c ≡ Some (first_depth leaf (length path + 1))
       leaf_after_leaf e = (at_leaf file leaf c (length path + 1) (leaf_is (Some v) viewed ∙ ap not e) candidate.depth).1
+
+-- How the telling of a page ends.
+
+pub on_err : {A E : Type 0} (P : Type 0) {e : E} (r : Result A E) → r ≡ Err e → OnOk r P
+on_err P (Ok a) e = cc
+on_err P (Err x) e = tt
+
+module _ {S : Type 0} (A E : Type 0) (takes drops : S → Finding → S → Type 0) (held : S → SinkState) (file : List ℕ) (kind : TreeKind) (k : ℕ) (path : List ℕ) (p from item : ℕ) (c : Reference) (candidate : IsCandidate kind k path p from item c)
+    (usable : ℕ) (usable_is : usable ≡ usable_size file) (bytes : List ℕ) (bytes_are : bytes ≡ page_bytes file p) (leaf : Option ℕ)
+    (path' : List ℕ) (path_is : path' ≡ path) (depth : ℕ) (depth_is : depth ≡ length path + 1) (s : S) where
+  abbrev Exit : Result A E → S → Option ℕ → Type 0
+  Exit r t new = IsTold takes drops held r s (page_findings file leaf c) t × OnOk r (new ≡ leaf_after file leaf c)
+
+  seen_as : (o : Option View) → undamaged kind p usable bytes ≡ o → undamaged kind p (usable_size file) (page_bytes file p) ≡ o
+  seen_as o e = ap (λ u. undamaged kind p u (page_bytes file p)) (sym usable_is) ∙ ap (λ b. undamaged kind p usable b) (sym bytes_are) ∙ e
+
+  read_faults : (b : Bool) (fs : List Fault) → tree_page_faults kind b p usable bytes ≡ fs → tree_page_faults kind b p (usable_size file) (page_bytes file p) ≡ fs
+  read_faults b fs e = ap (λ u. tree_page_faults kind b p u (page_bytes file p)) (sym usable_is) ∙ ap (λ y. tree_page_faults kind b p usable y) (sym bytes_are) ∙ e
+
+  module _ (f : Fault) (none : undamaged kind p usable bytes ≡ None) (one : (b : Bool) → tree_page_faults kind b p usable bytes ≡ f ∷ []) {B : Type 0} (r0 : Result B E) (t : S)
+      (told : IsTold takes drops held r0 s (damaged_findings k path' p f) t) where
+    all_told : page_findings file leaf c ≡ damaged_findings k path' p f
+    all_told = told_damaged file kind k path p from item c candidate leaf f (seen_as None none) (read_faults (nat_lt 1 (length path + 1)) (f ∷ []) (one (nat_lt 1 (length path + 1))))
+        ∙ ap (λ q. damaged_findings k q p f) (sym path_is)
+
+    pub exit_damaged : (a : A) {b : B} → r0 ≡ Ok b → Exit (Ok a) t leaf
+    exit_damaged a e = (
+      subst (λ L. IsTold {E = E} takes drops held (Ok a) s L t) (sym all_told) (told_ok a r0 e told),
+      sym (leaf_after_damaged file kind k path p from item c candidate leaf (seen_as None none)),
+    )
+
+    pub exit_damaged_stop : (new : Option ℕ) (r : Result A E) {e x : E} → r0 ≡ Err e → r ≡ Err x → Exit r t new
+    exit_damaged_stop new r e f = (subst (λ L. IsTold takes drops held r s L t) (sym all_told) (same r0 r e f told), on_err _ r f)
+      where
+        same : {L : List Finding} {e x : E} (r0 : Result B E) (r : Result A E) → r0 ≡ Err e → r ≡ Err x → IsTold takes drops held r0 s L t → IsTold takes drops held r s L t
+        same (Ok b) r e f h = cc
+        same (Err y) (Ok b) e f h = cc
+        same (Err y) (Err z) e f h = record { items = h.items; count = h.count }
+
+  module _ (v : View) (viewed : undamaged kind p usable bytes ≡ Some v) (number : v.number ≡ p) (within : (b : Bool) → tree_page_faults kind b p usable bytes ≡ inner_faults v b) {B : Type 0} (r0 : Result B E) (t : S)
+      (told : IsTold takes drops held r0 s (undamaged_findings k path' v (nat_lt 1 depth)) t) where
+    abbrev first_told : List Finding
+    first_told = undamaged_findings k path v (nat_lt 1 (length path + 1))
+
+    told_first : IsTold takes drops held r0 s first_told t
+    told_first = subst (λ n. IsTold takes drops held r0 s (undamaged_findings k path v (nat_lt 1 n)) t) depth_is
+        (subst (λ q. IsTold takes drops held r0 s (undamaged_findings k q v (nat_lt 1 depth)) t) path_is told)
+
+    abbrev there : undamaged kind p (usable_size file) (page_bytes file p) ≡ Some v
+    there = seen_as (Some v) viewed
+
+    abbrev inner : tree_page_faults kind (nat_lt 1 (length path + 1)) p (usable_size file) (page_bytes file p) ≡ inner_faults v (nat_lt 1 (length path + 1))
+    inner = read_faults (nat_lt 1 (length path + 1)) (inner_faults v (nat_lt 1 (length path + 1))) (within (nat_lt 1 (length path + 1)))
+
+    pub exit_stop : (new : Option ℕ) (r : Result A E) {e x : E} → r0 ≡ Err e → r ≡ Err x → Exit r t new
+    exit_stop new r e f = (
+      subst (λ L. IsTold takes drops held r s L t) (sym (row_and_faults file kind k path p from item c candidate leaf v there number inner))
+          (told_stop r0 r first_told (findings (depth_faults file leaf c)) e f told_first),
+      on_err _ r f,
+    )
+
+    pub exit_interior : (a : A) {b : B} → r0 ≡ Ok b → is_interior v.kind ≡ true → Exit (Ok a) t leaf
+    exit_interior a e i = (
+      subst (λ L. IsTold {E = E} takes drops held (Ok a) s L t) (sym (told_interior file kind k path p from item c candidate leaf v there number inner i)) (told_ok a r0 e told_first),
+      sym (leaf_after_interior file kind k path p from item c candidate leaf v there number inner i),
+    )
+
+    module _ {b : B} (ok : r0 ≡ Ok b) (is_leaf : is_interior v.kind ≡ false) {C : Type 0} (r1 : Result C E) (t1 : S)
+        (last : IsTold takes drops held r1 t (findings (depths.depth_faults leaf p depth)) t1) where
+      abbrev last_told : List Finding
+      last_told = findings (depths.depth_faults leaf p (length path + 1))
+
+      told_last : IsTold takes drops held r1 t last_told t1
+      told_last = subst (λ n. IsTold takes drops held r1 t (findings (depths.depth_faults leaf p n)) t1) depth_is last
+
+      both_told : IsTold takes drops held r1 s (page_findings file leaf c) t1
+      both_told = subst (λ L. IsTold takes drops held r1 s L t1) (sym (told_leaf file kind k path p from item c candidate leaf v there number inner is_leaf))
+          (told_then r0 r1 first_told last_told ok told_first told_last)
+
+      pub exit_leaf : (a : A) {z : C} (new : Option ℕ) → r1 ≡ Ok z → new ≡ Some (first_depth leaf depth) → Exit (Ok a) t1 new
+      exit_leaf a new e n = (
+        told_ok a r1 e both_told,
+        n ∙ ap (λ n. Some (first_depth leaf n)) depth_is ∙ sym (leaf_after_leaf file kind k path p from item c candidate leaf v there number inner is_leaf),
+      )
+
+      pub exit_leaf_stop : (new : Option ℕ) (r : Result A E) {e x : E} → r1 ≡ Err e → r ≡ Err x → Exit r t1 new
+      exit_leaf_stop new r e f = (same r1 r e f both_told, on_err _ r f)
+        where
+          same : {L : List Finding} {e x : E} (r0 : Result C E) (r : Result A E) → r0 ≡ Err e → r ≡ Err x → IsTold takes drops held r0 s L t1 → IsTold takes drops held r s L t1
+          same (Ok b) r e f h = cc
+          same (Err y) (Ok b) e f h = cc
+          same (Err y) (Err z) e f h = record { items = h.items; count = h.count }
+
+-- A page of a tree that was read, by what it was found to be.
+
+module _ (file : List ℕ) (kind : TreeKind) (k : ℕ) (children : List ℕ) (p from item : ℕ) (c : Reference) (candidate : IsCandidate kind k children p from item c)
+    (levels levels' : List (List ℕ)) (there : StandsAt levels (length children) (page_bytes file p)) (same : levels' ≡ levels) (kind' : TreeKind) (kinds : kind' ≡ kind) (usable : ℕ) (usables : usable ≡ usable_size file) where
+  bytes_are : (bytes : List ℕ) → slice_get levels' (length children) ≡ Some bytes → bytes ≡ page_bytes file p
+  bytes_are bytes e = there bytes (ap (λ ls. slice_get ls (length children)) (sym same) ∙ e)
+
+  view_of : (bytes : List ℕ) (o : Option View) → slice_get levels' (length children) ≡ Some bytes → undamaged kind' p usable bytes ≡ o → tree_view file c ≡ o
+  view_of bytes o e f = viewed_as file kind k children p from item c candidate o (
+      ap (λ q. undamaged q p (usable_size file) (page_bytes file p)) (sym kinds) ∙ ap (λ u. undamaged kind' p u (page_bytes file p)) (sym usables)
+      ∙ ap (λ b. undamaged kind' p usable b) (sym (bytes_are bytes e)) ∙ f)
+
+  pub found_interior : (walk : Walk) → is_followed (rules_of file) walk.visits c ≡ true → IsOpen usable kind' levels' (length children) (record { page = p; next = 0 }) → IsInterior file walk c levels'
+  found_interior walk followed is = record {
+    followed = followed;
+    frame = record { page = refl; view = is.view; viewed = view_of is.bytes (Some is.view) is.there is.viewed; interior = is.interior; within = omega arith };
+    bytes = ap (slice_get levels') (let d = candidate.depth in let e : length c.address - 1 ≡ length children = omega arith in e)
+        ∙ is.there ∙ ap (λ b. Some b) (bytes_are is.bytes is.there) ∙ ap (λ q. Some (page_bytes file q)) (sym candidate.page);
+  }
+
+  pub found_damage : IsDamagedAt usable kind' levels' (length children) p → tree_view file c ≡ None
+  found_damage damaged = view_of damaged.bytes None damaged.there damaged.viewed
+
+  pub found_view : (found : IsOpenLeaf usable kind' levels' (length children) p) → tree_view file c ≡ Some found.view
+  found_view found = view_of found.bytes (Some found.view) found.there found.viewed
+
+  -- a leaf, for the state that has come to its cells
+  module _ (kind'' : TreeKind) (now_is : kind'' ≡ kind) (k' : ℕ) (starts : k' ≡ k) (children' : List ℕ) (ways : children' ≡ children) (found : IsOpenLeaf usable kind' levels' (length children) p) where
+    pub found_leaf : IsLeafAt file kind'' k' children' c levels' p
+    found_leaf = record {
+      page = candidate.page;
+      kind_is = kind_is file kind k children p from item c candidate ∙ ap (λ q. Some q) (sym now_is);
+      start = candidate.start ∙ sym starts;
+      depth = candidate.depth ∙ ap (λ l. length l + 1) (sym ways);
+      path = candidate.path ∙ sym ways;
+      chain = candidate.chain;
+      bytes = ap (λ l. slice_get levels' (length l)) ways ∙ found.there ∙ ap (λ b. Some b) (bytes_are found.bytes found.there);
+    }

@@ -1,14 +1,34 @@
 -- What a taker with room for 65536 roots answers, row after row of the schema.
-use Rattle.std.proofs.Common.{zero, suc, map, take, ◌≡◌, ℕ, ◌+◌, ◌≤◌, Bool, true, false, cond, not, ◌&&◌, inl, inr, List, [], ◌∷◌, ◌++◌, length, refl, sym, ap, ◌∙◌, arith}
-use Rattle.std.specs.Prelude.{nat_lt, nat_le, ◌==◌}
+use Rattle.std.proofs.Common.{zero, suc, map, take, ◌≡◌, ℕ, ◌+◌, ◌≤◌, Bool, true, false, cond, not, ◌&&◌, inl, inr, List, [], ◌∷◌, ◌++◌, length, refl, sym, ap, ◌∙◌, arith, Result, Ok, Err, subst}
+use Rattle.std.specs.Prelude.{nat_lt, nat_le, ◌==◌, filter, is_none, pos}
 use Rattle.std.proofs.lemmas.Bool.{cases_Bool}
 use Rattle.std.proofs.lemmas.Bool.Decides.{nat_tests}
 use Rattle.std.proofs.lemmas.List.{append-nil, length-append, length-map, length-take-le, map-append, take-append-le}
 use Rattle.dbformat.specs.Address.{last_root_start}
 use Rattle.dbformat.specs.SchemaRow.{SchemaRow}
 use Rattle.dbwalk.specs.declared.taker.Taken.{Taken}
+use Rattle.dbwalk.specs.RootRoom.{answer_to, held_after, held_of, is_full, HasRootRoom, roots_after, ListTakes, first_roots, StartsEmpty, HasRoom}
+use Rattle.dbsurvey.specs.Moves.{Moves}
+use Rattle.dbtrace.specs.Finding.{Finding, told_fault}
+use Rattle.dbtrace.specs.Item.{Item, given_rows, found, given}
+use Rattle.dbtrace.specs.Steps.{has_root, roots_in}
+use Rattle.dbwalk.specs.Taking.{gives}
+use Rattle.dbwalk.specs.Watching.{watches, fails, Handed}
+use Rattle.dbwalk.proofs.Underway.Handing.{moves_both, found_moves, found_stops, handed_after}
+use Rattle.dbformat.specs.Faults.{fault}
+use Rattle.dbformat.specs.KeyFaults.{row_faults_if}
+use Rattle.dbformat.specs.Schema.{SchemaCell}
+use Rattle.dbformat.specs.Tests.{told_if}
+use Rattle.dbformat.specs.declared.Fault.{Fault}
+use Rattle.dbformat.specs.declared.FaultCode.TheVariants.{S02, S04}
+use Rattle.dbformat.specs.declared.RowFault.{RowFault}
+use Rattle.dbformat.specs.declared.RowFault.TheVariants.{Malformed, Root}
+use Rattle.dbsource.specs.declared.error.RunError.{RunError}
+use Rattle.dbsource.specs.declared.error.RunError.TheVariants.{OutOfMemory}
+use Rattle.dbwalk.specs.RowTold.{fault_of, taken_faults, TellsOrStops, TellsRow}
+use Rattle.dbwalk.specs.declared.schema_row.RowPlace.{RowPlace}
+use Rattle.dbwalk.proofs.Underway.CellSteps.{row_items}
 use Rattle.dbwalk.specs.declared.taker.Taken.TheVariants as answer
-use Rattle.dbwalk.specs.RootRoom.{answer_to, held_after, held_of, is_full, HasRootRoom, roots_after, ListTakes, first_roots}
 
 -- it has room just where less than 65536 came
 has_room : (roots : ℕ) → nat_lt (held_of roots) last_root_start ≡ not (nat_le last_root_start roots)
@@ -108,3 +128,79 @@ module _ {E : Type 0} (entry : SchemaRow → E) (rows : List SchemaRow) where
       by_root false = ap (λ n. cond (nat_lt n last_root_start) (first_roots entry rows ++ entry row ∷ []) (first_roots entry rows)) first_count
           ∙ ap (λ c. cond c (first_roots entry rows ++ entry row ∷ []) (first_roots entry rows)) (has_room (length rows))
           ∙ by_room (nat_le last_root_start (length rows)) refl
+
+-- A taker with room for roots, where a walk over the schema's tree has come so far: it holds as many as the walk counts, 65536
+-- at most.
+
+module _ {T : Type 0} (keeps : T → SchemaRow → Taken → T → Type 0) (held : T → ℕ) (room : HasRootRoom keeps held) where
+  held_behind : (n : ℕ) (rows : List SchemaRow) (s t : T) → held s ≡ held_of n → Moves (gives keeps) s rows t → held t ≡ held_of (n + length (filter has_root rows))
+  held_behind n [] s t at m = ap held (sym m) ∙ at ∙ (let z : n ≡ n + 0 = omega arith in ap held_of z)
+  held_behind n (row ∷ rows) s t at m =
+      let next = held_next keeps held room s m.0 row m.1.0 m.1.1 n at in
+      held_behind (n + cond (row.root == 0) 0 1) rows m.0 t next m.2 ∙ by_root (row.root == 0)
+    where
+      by_root : (b : Bool) → held_of (n + cond b 0 1 + length (filter has_root rows)) ≡ held_of (n + length (cond (not b) (row ∷ filter has_root rows) (filter has_root rows)))
+      by_root true = let z : n + 0 + length (filter has_root rows) ≡ n + length (filter has_root rows) = omega arith in ap held_of z
+      by_root false = let z : n + 1 + length (filter has_root rows) ≡ n + length (row ∷ filter has_root rows) = omega arith in ap held_of z
+
+-- one that holds none yet
+pub empty_room : {T : Type 0} (keeps : T → SchemaRow → Taken → T → Type 0) (held : T → ℕ) (t : T) → StartsEmpty keeps held t → HasRoom keeps held 0 t
+empty_room keeps held t empty = record { room = empty.room; holds = empty.none }
+
+-- and once it was handed some items
+pub room_on : {S T : Type 0} (takes drops : S → Finding → S → Type 0) (keeps : T → SchemaRow → Taken → T → Type 0) (refuses : T → SchemaRow → T → Type 0) (held : T → ℕ) (items : List Item) (w x : S × T) (roots after : ℕ)
+    → after ≡ roots + roots_in items → HasRoom keeps held roots w.1 → Moves (watches takes keeps) w items x → HasRoom keeps held after x.1
+room_on takes drops keeps refuses held items w x roots after are room m = record {
+  room = room.room;
+  holds = held_behind keeps held room.room roots (given_rows items) w.1 x.1 room.holds (moves_both takes drops keeps refuses items w x m).1 ∙ ap held_of (sym are);
+}
+
+-- all items so far
+pub room_after : {S T : Type 0} (takes drops : S → Finding → S → Type 0) (keeps : T → SchemaRow → Taken → T → Type 0) (refuses : T → SchemaRow → T → Type 0) (held : T → ℕ) (items : List Item) (w x : S × T) (roots : ℕ)
+    → roots ≡ roots_in items → StartsEmpty keeps held w.1 → Moves (watches takes keeps) w items x → HasRoom keeps held roots x.1
+room_after takes drops keeps refuses held items w x roots are empty m = room_on takes drops keeps refuses held items w x 0 roots (are ∙ (let z : roots_in items ≡ 0 + roots_in items = omega arith in z)) (empty_room keeps held w.1 empty) m
+
+-- What telling a row of the schema leaves is what its walk hands out: the row goes to the taker, where it can be read, and then
+-- its faults are told, with S04 where the roots before it are too many.
+
+module _ {S T : Type 0} (takes drops : S → Finding → S → Type 0) (keeps : T → SchemaRow → Taken → T → Type 0) (refuses : T → SchemaRow → T → Type 0) where
+  abbrev Hands : Result (Unit {0}) RunError → (S × T) → List Item → (S × T) → Type 0
+  Hands r w items x = Handed (watches takes keeps) (fails drops refuses) r w items x
+
+  -- findings that were all told, or not told whole
+  tells_handed : (r : Result (Unit {0}) RunError) (fs : List Finding) (s s' : S) (t : T) → TellsOrStops takes drops r s fs s' → Hands r (s, t) (map found fs) (s', t)
+  tells_handed (Ok a) fs s s' t h = found_moves takes drops keeps refuses fs s s' t h
+  tells_handed (Err e) fs s s' t h = subst (λ e. Hands (Err e) (s, t) (map found fs) (s', t)) (sym h.0) (found_stops takes drops keeps refuses fs s s' t h.1)
+
+  module _ (held : T → ℕ) (roots : ℕ) (d : SchemaCell) (s s' : S) (t t' : T) (room : HasRoom keeps held roots t) where
+    abbrev at : RowPlace
+    at = record { page = d.page; item = d.item; rowid = d.rowid }
+
+    abbrev with_row : Result SchemaRow RowFault → SchemaCell
+    with_row row = record { place = d.place; page = d.page; item = d.item; rowid = d.rowid; row = row }
+
+    abbrev faults : Result SchemaRow RowFault → List Fault
+    faults row = row_faults_if (nat_le last_root_start roots) (with_row row)
+
+    -- a row that can't be read has its fault, and one that can those by the taker's answer
+    bad_row : (f : RowFault) → fault_of at f ∷ [] ≡ faults (Err f)
+    bad_row Malformed = refl
+    bad_row (Root value) = refl
+
+    good_row : (row : SchemaRow) (a : Taken) → keeps t row a t' → taken_faults at row a ≡ faults (Ok row)
+    good_row row a taken = ap (λ b. told_if (is_none row.name) (fault S02 d.page d.item d.rowid) ++ told_if b (fault S04 d.page d.item (pos row.root))) (answer_full keeps held room.room t t' row a taken roots room.holds)
+
+    pub row_handed : (r : Result (Unit {0}) RunError) → TellsRow takes drops keeps refuses at d.row r s s' t t' → Hands r (s, t) (row_items roots (d ∷ [])) (s', t')
+    row_handed r = by_row d.row
+      where
+        refused : (row : SchemaRow) (e : RunError) → Err e ≡ r → e ≡ OutOfMemory → refuses t row t' → s' ≡ s → Hands r (s, t) (row_items roots (with_row (Ok row) ∷ [])) (s', t')
+        refused row e is out h same = subst (λ r. Hands r (s, t) (row_items roots (with_row (Ok row) ∷ [])) (s', t')) (ap Err (sym out) ∙ is) (inl (h, sym same))
+
+        by_row : (row : Result SchemaRow RowFault) → TellsRow takes drops keeps refuses at row r s s' t t' → Hands r (s, t) (row_items roots (with_row row ∷ [])) (s', t')
+        by_row (Err f) h =
+            subst (λ fs. Hands r (s, t) (map found (map told_fault fs)) (s', t')) (bad_row f ∙ sym (append-nil (faults (Err f))))
+            (subst (λ t'. Hands r (s, t) (map found (map told_fault (fault_of at f ∷ []))) (s', t')) (sym h.0) (tells_handed r (map told_fault (fault_of at f ∷ [])) s s' t h.1))
+        by_row (Ok row) (inl h) =
+            let told = subst (λ fs. Hands r (s, t') (map found (map told_fault fs)) (s', t')) (good_row row h.0 h.1 ∙ sym (append-nil (faults (Ok row)))) (tells_handed r (map told_fault (taken_faults at row h.0)) s s' t' h.2) in
+            handed_after (watches takes keeps) (fails drops refuses) r (s, t) (s, t') (s', t') (given row ∷ []) (map found (map told_fault (faults (Ok row) ++ []))) ((s, t'), ((h.0, h.1), refl), refl) told
+        by_row (Ok row) (inr h) = refused row OutOfMemory (sym h.0) refl h.1 h.2

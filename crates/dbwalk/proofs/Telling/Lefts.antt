@@ -1,5 +1,5 @@
 -- What is left of a walk, step by step.
-use Rattle.std.proofs.Common.{◌≡◌, ℕ, true, false, inl, inr, List, [], ◌∷◌, ◌++◌, Ok, Err, refl, sym, ap, subst, ◌∙◌, append_assoc}
+use Rattle.std.proofs.Common.{◌≡◌, ℕ, true, false, inl, inr, List, [], ◌∷◌, ◌++◌, Ok, Err, refl, sym, ap, subst, ◌∙◌, append_assoc, ◌-◌, Bool, set, Option, Some, None}
 use Rattle.std.proofs.lemmas.List.{append-nil}
 use Rattle.dbsurvey.specs.Address.{IsIn, IsBefore, IsLeftOf}
 use Rattle.dbsurvey.specs.Traverse.{is_followed}
@@ -11,20 +11,27 @@ use Rattle.dbsurvey.proofs.Moving.{Moves-append}
 use Rattle.dbsurvey.proofs.Past.{past_visit, past_join, errands_apart}
 use Rattle.dbsurvey.proofs.Tellings.{errands_at-step}
 use Rattle.dbformat.specs.File.{geometry}
-use Rattle.dbformat.specs.Reference.{Way, Reference}
-use Rattle.dbformat.specs.Survey.{rules_of}
+use Rattle.dbformat.specs.Reference.{Way, Reference, from_of, item_of}
+use Rattle.dbformat.specs.Survey.{rules_of, refused, is_too_deep}
 use Rattle.dbformat.specs.Story.{Event, at_page, at_refused, own_visit, story_of}
 use Rattle.dbformat.proofs.Theory.{are_rules, is_story}
 use Rattle.dbsource.specs.declared.error.RunError.{RunError}
 use Rattle.dbwalk.specs.declared.mark.Mark.{Mark}
-use Rattle.dbwalk.specs.Marking.{AreMarksOf}
-use Rattle.dbtrace.specs.Finding.{Finding, told_at, told_below, visited_below}
+use Rattle.dbwalk.specs.Marking.{AreMarksOf, visit_mark, page_mark}
+use Rattle.dbtrace.specs.Finding.{Finding, told_at, told_below, visited_below, told_fault}
 use Rattle.dbwalk.specs.Outcomes.{StopsBy}
 use Rattle.dbwalk.specs.Done.{IsDone}
-use Rattle.dbwalk.specs.Entered.{Enters}
+use Rattle.dbwalk.specs.Entered.{Enters, IsNext, IsStepOf}
 use Rattle.dbwalk.specs.Left.{IsLeft}
 use Rattle.dbwalk.proofs.Telling.Tellings.{stops_by_first, stops_by_after}
 use Rattle.dbwalk.proofs.Telling.Belows.{visited_none, visited_refused, visited_visit, visited_join, told_none, told_join, told_refused, told_visit}
+use Rattle.std.specs.Prelude.{pos}
+use Rattle.dbformat.specs.ReferenceFaults.{refusal_fault}
+use Rattle.dbformat.specs.declared.FaultCode.{FaultCode}
+use Rattle.dbwalk.specs.declared.mark.Mark.TheVariants.{Unmarked, Fixed, Root, Trunk, FreeLeaf, FirstOverflow, LaterOverflow, Child}
+use Rattle.dbwalk.specs.declared.entering.Step.{Step}
+use Rattle.dbwalk.specs.Refusal.{refusal_by}
+use Rattle.dbwalk.proofs.Marking.Markings.{refused-by_mark, followed-unrefused, followed-refused, marked-visit}
 
 past_rest : (U : List Reference) (e : Errand Way Event) (es : List (Errand Way Event)) → IsPast U (e ∷ es) → IsPast U es
 past_rest U e es h u f i j = h u f i (inr j)
@@ -117,3 +124,64 @@ module _ {S : Type 0} (takes : S → Finding → S → Type 0) (file : List ℕ)
     pub left_untold : (drops : S → Finding → S → Type 0) (t : S) (marks' : List Mark) (e : RunError) (c : Reference) (es : List (Errand Way Event))
         → IsLeft takes file W errands before U (Go c ∷ es) marks s → Enters takes drops file U c (Err e) marks' s t → IsDone {A = Unit {0}} takes drops file W errands (Err e) marks' before t
     left_untold drops t marks' e c es h n = left_stop drops t marks' e (Go c ∷ es) _ (told_below file U es) h (sym (told_refused file U c es n.0)) n.2
+
+-- How a candidate is entered.
+
+-- only a page without a mark is followed
+pub refusal_none : (o : Option Mark) (deep : Bool) → refusal_by o deep ≡ None → o ≡ Some Unmarked
+refusal_none None deep e = cc
+refusal_none (Some Unmarked) deep e = refl
+refusal_none (Some Fixed) deep e = cc
+refusal_none (Some Root) true e = cc
+refusal_none (Some Root) false e = cc
+refusal_none (Some Trunk) true e = cc
+refusal_none (Some Trunk) false e = cc
+refusal_none (Some FreeLeaf) true e = cc
+refusal_none (Some FreeLeaf) false e = cc
+refusal_none (Some (FirstOverflow from)) true e = cc
+refusal_none (Some (FirstOverflow from)) false e = cc
+refusal_none (Some (LaterOverflow from)) true e = cc
+refusal_none (Some (LaterOverflow from)) false e = cc
+refusal_none (Some (Child from)) true e = cc
+refusal_none (Some (Child from)) false e = cc
+
+-- and only a reference that does not lead too deep
+pub refusal_shallow : (o : Option Mark) (deep : Bool) → refusal_by o deep ≡ None → deep ≡ false
+refusal_shallow o false e = refl
+refusal_shallow None true e = cc
+refusal_shallow (Some Unmarked) true e = cc
+refusal_shallow (Some Fixed) true e = cc
+refusal_shallow (Some Root) true e = cc
+refusal_shallow (Some Trunk) true e = cc
+refusal_shallow (Some FreeLeaf) true e = cc
+refusal_shallow (Some (FirstOverflow from)) true e = cc
+refusal_shallow (Some (LaterOverflow from)) true e = cc
+refusal_shallow (Some (Child from)) true e = cc
+
+module _ (file : List ℕ) (W : List Reference) (c : Reference) (marks : List Mark) (step : Step) (is : IsStepOf step c) (next : IsNext W c) (m : AreMarksOf file W marks) where
+  before : (u : Reference) → IsIn u W → IsBefore u.address c.address
+  before u i = next u (Go c) i (inl refl)
+
+  refused-is : refused file W c ≡ refusal_by (page_mark marks step.page) step.is_too_deep
+  refused-is = refused-by_mark file W c marks before m ∙ ap (λ p. refusal_by (page_mark marks p) (is_too_deep c)) is.page ∙ ap (λ d. refusal_by (page_mark marks step.page) d) is.deep
+
+  pub entered_yes : refusal_by (page_mark marks step.page) step.is_too_deep ≡ None
+      → (is_followed (rules_of file) W c ≡ true) × AreMarksOf file (W ++ (c ∷ [])) (set marks (step.page - 1) step.mark)
+  entered_yes h = (
+    followed-unrefused file W c before (refused-is ∙ h),
+    subst (λ x. AreMarksOf file (W ++ (c ∷ [])) (set marks (step.page - 1) x)) is.mark
+        (subst (λ p. AreMarksOf file (W ++ (c ∷ [])) (set marks (p - 1) (visit_mark c))) is.page
+        (marked-visit file W c marks m (ap (λ p. page_mark marks p) is.page ∙ refusal_none (page_mark marks step.page) step.is_too_deep h))),
+  )
+
+  pub entered_no : (code : FaultCode) → refusal_by (page_mark marks step.page) step.is_too_deep ≡ Some code
+      → (is_followed (rules_of file) W c ≡ false) × (told_at file W (at_refused c) ≡ told_fault (record { code = code; page = step.from; item = step.item; value = pos step.page }) ∷ [])
+  entered_no code h = (
+    followed-refused file W c code before (refused-is ∙ h),
+    told (refused file W c) (refused-is ∙ h) ∙ ap (λ p. told_fault (record { code = code; page = from_of c; item = item_of c; value = pos p }) ∷ []) is.page
+        ∙ ap (λ f. told_fault (record { code = code; page = f; item = item_of c; value = pos step.page }) ∷ []) is.from
+        ∙ ap (λ i. told_fault (record { code = code; page = step.from; item = i; value = pos step.page }) ∷ []) is.item,
+  )
+    where
+      told : (o : Option FaultCode) → refused file W c ≡ Some code → told_at file W (at_refused c) ≡ told_fault (refusal_fault c code) ∷ []
+      told o e = rw e refl

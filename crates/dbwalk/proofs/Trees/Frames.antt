@@ -1,17 +1,78 @@
--- Frames, on any source: what stands at their levels, what they may still take, and the way to the page behind them.
-use Rattle.std.proofs.Common.{◌≡◌, ℕ, suc, ◌+◌, ◌-◌, ◌*◌, ◌<◌, ◌≤◌, List, [], ◌∷◌, ◌++◌, length, Result, Ok, Err, sym, ap, subst, arith, ◌∙◌}
+-- Frames: the pages at their levels, on any source and of a file, what frames may still take, the way to the page behind them, and a step of the last.
+use Rattle.std.proofs.Common.{◌≡◌, ℕ, suc, ◌+◌, ◌<◌, List, [], ◌∷◌, ◌++◌, length, Some, refl, ap, arith, ◌∙◌, ◌-◌, ◌*◌, ◌≤◌, Result, Ok, Err, sym, subst}
+use Rattle.dbformat.specs.Address.{child_step, cell_of_step}
+use Rattle.dbformat.specs.File.{page_bytes}
 use Rattle.std.specs.Prelude.{slice_get, OnOk}
-use Rattle.std.proofs.lemmas.List.{map-append, length-map}
-use Rattle.dbformat.specs.FixedPages.{most_pages}
-use Rattle.dbformat.specs.Address.{cell_of_step}
+use Rattle.dbwalk.specs.Stack.{AreCalls}
+use Rattle.dbwalk.specs.Walking.{AreRead, IsOpen, AreOpen, frames_cost, cost, path_of}
+use Rattle.dbwalk.specs.declared.frame.Frame.{Frame}
+use Rattle.std.proofs.lemmas.List.{map-append, length-map, length-append}
+use Rattle.dbformat.specs.FixedPages.{most_pages, IsPageNumber}
 use Rattle.dbformat.specs.Cell.{count}
-use Rattle.dbformat.specs.Head.{undamaged}
+use Rattle.dbformat.specs.Head.{undamaged, View}
 use Rattle.dbformat.specs.declared.TreeKind.{TreeKind}
 use Rattle.dbwalk.specs.Marking.{unmarked_pages}
 use Rattle.dbwalk.specs.declared.mark.Mark.{Mark}
-use Rattle.dbwalk.specs.Walking.{IsOpen, AreOpen, frames_cost, cost, path_of}
-use Rattle.dbwalk.specs.declared.frame.Frame.{Frame}
-use Rattle.dbwalk.proofs.Trees.Walkings.{last_same}
+use Rattle.dbwalk.specs.Steps.{IsEmptyAt, no_chain, no_child, unreadable, without_key, IsNextStep, HasNext}
+use Rattle.dbwalk.specs.declared.steps.Next.{Next}
+use Rattle.dbwalk.specs.declared.steps.Next.TheVariants.{Behind, Nothing, Key, Chain, Child}
+
+-- Frames and the pages at their levels, as a turn changes them.
+
+-- lists that end alike
+
+no_end : {X : Type 0} (xs : List X) (x : X) → [] ≡ xs ++ (x ∷ []) → ⊥
+no_end [] x e = cc
+no_end (y ∷ xs) x e = cc
+
+pub last_same : {X : Type 0} (xs ys : List X) (x y : X) → xs ++ (x ∷ []) ≡ ys ++ (y ∷ []) → (xs ≡ ys) × (x ≡ y)
+last_same [] [] x y e = (refl, cc)
+last_same [] (z ∷ ys) x y e = absurd (no_end ys y (tail e))
+  where
+    tail : {X : Type 0} {x z : X} {ys : List X} → x ∷ [] ≡ z ∷ ys → [] ≡ ys
+    tail e = cc
+last_same (z ∷ xs) [] x y e = absurd (no_end xs x (tail e))
+  where
+    tail : {X : Type 0} {x z : X} {ys : List X} → z ∷ ys ≡ x ∷ [] → [] ≡ ys
+    tail e = cc
+last_same (z ∷ xs) (w ∷ ys) x y e =
+    let f : z ≡ w = cc in
+    let g : xs ++ (x ∷ []) ≡ ys ++ (y ∷ []) = cc in
+    let m = last_same xs ys x y g in
+    ((let h = m.0 in cc), m.1)
+
+-- pages at their levels
+
+pub read_front : (file : List ℕ) (levels : List (List ℕ)) (level : ℕ) (fs : List Frame) (f : Frame) → AreRead file levels level (fs ++ (f ∷ [])) → AreRead file levels level fs
+read_front file levels level [] f r = tt
+read_front file levels level (g ∷ fs) f r = (r.0, read_front file levels (level + 1) fs f r.1)
+
+pub read_push : (file : List ℕ) (levels : List (List ℕ)) (level : ℕ) (fs : List Frame) (f : Frame) → AreRead file levels level fs → slice_get levels (level + length fs) ≡ Some (page_bytes file f.page) → AreRead file levels level (fs ++ (f ∷ []))
+read_push file levels level [] f r e = (ap (slice_get levels) (let n : level ≡ level + 0 = omega arith in n) ∙ e, tt)
+read_push file levels level (g ∷ fs) f r e = (r.0, read_push file levels (level + 1) fs f r.1 (ap (slice_get levels) (let n : level + 1 + length fs ≡ level + suc (length fs) = omega arith in n) ∙ e))
+
+pub read_kept : (file : List ℕ) (old new : List (List ℕ)) (level : ℕ) (fs : List Frame) → ((n : ℕ) → n < level + length fs → slice_get new n ≡ slice_get old n) → AreRead file old level fs → AreRead file new level fs
+read_kept file old new level [] same r = tt
+read_kept file old new level (f ∷ fs) same r = (same level (omega arith) ∙ r.0, read_kept file old new (level + 1) fs (λ n l. same n (omega arith)) r.1)
+
+-- frames below others are behind the step of a child
+
+pub calls_front : (fs : List Frame) (f : Frame) → AreCalls (fs ++ (f ∷ [])) → AreCalls fs
+calls_front [] f a = tt
+calls_front (g ∷ []) f a = tt
+calls_front (g ∷ h ∷ fs) f a = (a.0, calls_front (h ∷ fs) f a.1)
+
+pub calls_on : (fs : List Frame) (f g : Frame) → AreCalls (fs ++ (f ∷ [])) → AreCalls (fs ++ (g ∷ []))
+calls_on [] f g a = tt
+calls_on (h ∷ []) f g a = (a.0, tt)
+calls_on (h ∷ i ∷ fs) f g a = (a.0, calls_on (i ∷ fs) f g a.1)
+
+pub calls_push : (fs : List Frame) (g h : Frame) (n : ℕ) → g.next ≡ suc (child_step n) → AreCalls (fs ++ (g ∷ [])) → AreCalls ((fs ++ (g ∷ [])) ++ (h ∷ []))
+calls_push [] g h n e a = ((n, e), tt)
+calls_push (i ∷ []) g h n e a = (a.0, ((n, e), tt))
+calls_push (i ∷ j ∷ fs) g h n e a = (a.0, calls_push (j ∷ fs) g h n e a.1)
+
+-- Frames, on any source: what stands at their levels, what they may still take, and the way to the page behind them.
 
 pub on_ok_all : {A E : Type 0} (r : Result A E) {Q : Type 0} → Q → OnOk r Q
 on_ok_all (Ok x) q = q
@@ -86,3 +147,64 @@ path_length fs = length-map fs (λ f. cell_of_step (f.next - 1))
 -- the last frame is no part of it
 pub path_last : (items fs : List Frame) (f : Frame) (path : List ℕ) → items ≡ fs ++ (f ∷ []) → path ≡ path_of fs → (gs : List Frame) (g : Frame) → items ≡ gs ++ (g ∷ []) → path ≡ path_of gs
 path_last items fs f path e p gs g h = p ∙ ap path_of (last_same fs gs f g (sym e ∙ h)).0
+
+-- The step of the last frame.
+
+-- the page at the last frame's level
+pub read_last : (file : List ℕ) (levels : List (List ℕ)) (level : ℕ) (fs : List Frame) (f : Frame) → AreRead file levels level (fs ++ (f ∷ [])) → slice_get levels (level + length fs) ≡ Some (page_bytes file f.page)
+read_last file levels level [] f r = ap (slice_get levels) (let e : level + 0 ≡ level = omega arith in e) ∙ r.0
+read_last file levels level (g ∷ fs) f r = ap (slice_get levels) (let e : level + suc (length fs) ≡ level + 1 + length fs = omega arith in e) ∙ read_last file levels (level + 1) fs f r.1
+
+-- each step of a page but those behind it
+pub step_within : (v : View) (s : ℕ) (next : Next) → (next ≡ Behind → ⊥) → IsNextStep v s next → suc s ≤ 3 * count v + 2
+step_within v s Behind other h = absurd (other refl)
+step_within v s Nothing other h = by_case h
+  where
+    by_case : IsEmptyAt v s → suc s ≤ 3 * count v + 2
+    by_case (no_chain n e l none) = omega arith
+    by_case (no_child n e l none) = omega arith
+    by_case (unreadable n f e l bad) = omega arith
+    by_case (without_key n x e l read none) = omega arith
+step_within v s (Key value) other h = let e = h.step in let l = h.low in omega arith
+step_within v s (Chain first left) other h = let e = h.step in let l = h.low in omega arith
+step_within v s (Child page) other h = let e = h.step in let l = h.low in omega arith
+
+-- The last frame of a turn, on any source.
+
+-- it stands at a step of its page, and this has something there
+pub record IsAtStep (usable : ℕ) (kind : TreeKind) (levels : List (List ℕ)) (fs : List Frame) (f : Frame) (next : Next) : Type 0 where
+  pub low : IsPageNumber f.page
+  pub most : f.next ≤ 98306
+  pub front : AreOpen usable kind levels 0 fs
+  pub last : IsOpen usable kind levels (0 + length fs) f
+  pub stands : IsNextStep last.view f.next next
+
+module _ (usable : ℕ) (kind : TreeKind) (levels : List (List ℕ)) (fs : List Frame) (f : Frame) (next : Next) where
+  pub at_step : AreOpen usable kind levels 0 (fs ++ (f ∷ [])) → HasNext usable kind levels (length fs) f.page f.next next → IsAtStep usable kind levels fs f next
+  at_step a has =
+      let m = open_front usable kind levels 0 fs f a in
+      let there = ap (slice_get levels) (let e : length fs ≡ 0 + length fs = omega arith in e) ∙ m.1.there in
+      record {
+        low = m.1.low;
+        most = (let n = has.few m.1.bytes m.1.view there m.1.viewed in let w = m.1.within in omega arith);
+        front = m.0;
+        last = m.1;
+        stands = has.stands m.1.bytes m.1.view there m.1.viewed;
+      }
+
+  -- the frame a step on
+  pub step_on : (g : Frame) → g.page ≡ f.page → g.next ≡ suc f.next → (next ≡ Behind → ⊥) → IsAtStep usable kind levels fs f next → AreOpen usable kind levels 0 (fs ++ (g ∷ []))
+  step_on g page on other s = open_push usable kind levels 0 fs g s.front (open_on usable kind levels (0 + length fs) f g page on s.last (step_within s.last.view f.next next other s.stands))
+
+-- the way to a child of the last frame's page
+module _ (fs : List Frame) (f g : Frame) (on : g.next ≡ suc f.next) (children : List ℕ) (ways : children ≡ path_of fs ++ (cell_of_step f.next ∷ [])) where
+  pub as_deep : length (fs ++ (g ∷ [])) ≡ length children
+  as_deep =
+      let a = ap length ways in
+      let b = length-append (path_of fs) (cell_of_step f.next ∷ []) in
+      let d = length-append fs (g ∷ []) in
+      let e = path_length fs in
+      omega arith
+
+  pub way_on : children ≡ path_of (fs ++ (g ∷ []))
+  way_on = ways ∙ ap (λ s. path_of fs ++ (cell_of_step s ∷ [])) (let e : f.next ≡ g.next - 1 = omega arith in e) ∙ sym (path_push fs g)

@@ -1,31 +1,71 @@
 -- What is left of a walk with a stack, step by step.
-use Rattle.std.proofs.Common.{◌≡◌, ℕ, suc, ◌-◌, ◌<◌, ◌≤◌, inl, inr, true, false, cond, List, [], ◌∷◌, ◌++◌, map, Option, Some, None, Result, Ok, Err, refl, sym, ap, subst, arith, ◌∙◌, append_assoc}
-use Rattle.std.specs.Prelude.{filter, flat_map, nat_le, option_map, option_to_list, option_and_then, unwrap_or, ◌==◌}
-use Rattle.std.specs.Option.{option_map_or}
+use Rattle.std.proofs.Common.{◌≡◌, ℕ, suc, ◌+◌, ◌<◌, ◌≤◌, inl, inr, List, [], ◌∷◌, Option, Some, None, refl, sym, ap, subst, arith, ◌∙◌, zero, ◌-◌, true, false, cond, ◌++◌, map, Result, Ok, Err, append_assoc}
+use Rattle.std.specs.Prelude.{filter_map, option_map, filter, flat_map, nat_le, option_to_list, option_and_then, unwrap_or, ◌==◌}
+use Rattle.std.specs.List.{range_with_len, cons_option}
 use Rattle.std.specs.Result.{result_ok}
-use Rattle.std.proofs.lemmas.Bool.{cases_Bool, cases_order, eqb-true}
+use Rattle.std.proofs.lemmas.Bool.{cases_order, cases_Bool, eqb-true}
+use Rattle.dbsurvey.specs.Address.{IsIn}
+use Rattle.dbformat.specs.Head.{View}
+use Rattle.dbformat.specs.Cell.{Cell, cell, cells, count, overflow_size, child_number, right_child}
+use Rattle.dbformat.specs.declared.CellFault.{CellFault}
+use Rattle.std.specs.Option.{option_map_or}
 use Rattle.std.proofs.lemmas.Bool.Decides.{nat_tests}
 use Rattle.std.proofs.lemmas.List.{append-nil}
-use Rattle.dbsurvey.specs.Address.{IsIn}
 use Rattle.dbsurvey.specs.Story.{Item, Follow, Place, step_of, Go, AreRising, errands_at, errands_of}
 use Rattle.dbsurvey.proofs.Order.{IsIn-left, IsIn-right, IsIn-cases}
 use Rattle.dbsurvey.proofs.Ordering.{IsIn-map, IsIn-from_map, IsIn-flat_map, IsIn-from_flat_map}
-use Rattle.dbformat.specs.Header.{usable_size}
-use Rattle.dbformat.specs.File.{page_bytes}
 use Rattle.dbformat.specs.Address.{then_step, overflow_step, child_step, key_step, cell_of_step}
-use Rattle.dbformat.specs.Head.{View, undamaged}
-use Rattle.dbformat.specs.Cell.{Cell, cell, cells, count, overflow_size, child_number, right_child}
-use Rattle.dbformat.specs.Reference.{Role, root, child, first_overflow, later_overflow, trunk, free_leaf, Way, Reference, role_of, tree_kind, tree_view, link, cell_links, right_links}
-use Rattle.dbformat.specs.Story.{Event, at_key, cell_items, page_items, role_items, story_of}
+use Rattle.dbformat.specs.Reference.{child, first_overflow, Way, Reference, role_of, tree_kind, tree_view, link, cell_links, right_links}
+use Rattle.dbformat.specs.Story.{Event, at_key, cell_items, page_items, story_of}
 use Rattle.dbformat.specs.Errands.{go, tell_cell}
 use Rattle.dbformat.specs.declared.TreeKind.{TreeKind}
-use Rattle.dbformat.specs.declared.CellFault.{CellFault}
 use Rattle.dbformat.proofs.LookBack.{listed as is_listed}
 use Rattle.dbformat.proofs.Looping.{tree_items}
 use Rattle.dbformat.proofs.Theory.{is_story}
-use Rattle.dbwalk.proofs.Running.ReadableCells.{cells_in, cells_from}
 use Rattle.dbwalk.specs.Stack.{errands_from, child_page, child_at, top_visit, left_over}
 use Rattle.dbwalk.specs.declared.frame.Frame.{Frame}
+
+-- The readable cells of a page.
+
+pub cells_at : (v : View) (is : List ℕ) (x : ℕ × Cell) → IsIn x (filter_map (λ i. option_map (λ c. (i, c)) (result_ok (cell v i))) is) → IsIn x.0 is × (cell v x.0 ≡ Ok x.1)
+cells_at v [] x h = absurd h
+cells_at v (i ∷ is) x h = by_cell (cells_at v is x) (cell v i) refl h
+  where
+    by_cell : (IsIn x (filter_map (λ i. option_map (λ c. (i, c)) (result_ok (cell v i))) is) → IsIn x.0 is × (cell v x.0 ≡ Ok x.1)) → (r : Result Cell CellFault) → cell v i ≡ r → IsIn x (cons_option (option_map (λ c. (i, c)) (result_ok r)) (filter_map (λ i. option_map (λ c. (i, c)) (result_ok (cell v i))) is)) → IsIn x.0 (i ∷ is) × (cell v x.0 ≡ Ok x.1)
+    by_cell go (Ok c) e (inl f) = (inl (ap (λ x. x.0) f), ap (λ x. cell v x.0) f ∙ e ∙ ap (λ x. Ok x.1) (sym f))
+    by_cell go (Ok c) e (inr h) = let m = go h in (inr m.0, m.1)
+    by_cell go (Err f) e h = let m = go h in (inr m.0, m.1)
+
+pub range_below : (a n i : ℕ) → IsIn i (range_with_len a n) → (a ≤ i) × (i < a + n)
+range_below a zero i h = absurd h
+range_below a (suc n) i (inl e) = (omega arith, omega arith)
+range_below a (suc n) i (inr h) = let m = range_below (a + 1) n i h in (omega arith, omega arith)
+
+pub range_has : (a n i : ℕ) → a ≤ i → i < a + n → IsIn i (range_with_len a n)
+range_has a zero i l m = absurd (omega arith)
+range_has a (suc n) i l m = elim (cases_order a i) [
+  | inl e ↦ inl (sym e)
+  | inr d ↦ (elim d [ inl k ↦ inr (range_has (a + 1) n i (omega arith) (omega arith)) | inr k ↦ absurd (omega arith) ])
+]
+
+pub cells_from : (v : View) (x : ℕ × Cell) → IsIn x (cells v) → (cell v x.0 ≡ Ok x.1) × (x.0 < count v)
+unfolding cells
+cells_from v x h = let m = cells_at v (range_with_len 0 (count v)) x h in let l = range_below 0 (count v) x.0 m.0 in (m.1, omega arith)
+
+pub cells_in : (v : View) (i : ℕ) (c : Cell) → i < count v → cell v i ≡ Ok c → IsIn {X = ℕ × Cell} (i, c) (cells v)
+unfolding cells
+cells_in v i c l e = at (range_with_len 0 (count v)) (range_has 0 (count v) i (omega arith) (omega arith))
+  where
+    at : (is : List ℕ) → IsIn i is → IsIn {X = ℕ × Cell} (i, c) (filter_map (λ i. option_map (λ c. (i, c)) (result_ok (cell v i))) is)
+    at [] h = absurd h
+    at (j ∷ is) (inl f) = subst (λ r. IsIn {X = ℕ × Cell} (i, c) (cons_option (option_map (λ c. (j, c)) (result_ok r)) (filter_map (λ i. option_map (λ c. (i, c)) (result_ok (cell v i))) is))) (sym (ap (cell v) (sym f) ∙ e)) (inl (ap (λ j. (j, c)) f))
+    at (j ∷ is) (inr h) = later (result_ok (cell v j)) (at is h)
+      where
+        later : (o : Option Cell) → IsIn {X = ℕ × Cell} (i, c) (filter_map (λ i. option_map (λ c. (i, c)) (result_ok (cell v i))) is) → IsIn {X = ℕ × Cell} (i, c) (cons_option (option_map (λ c. (j, c)) o) (filter_map (λ i. option_map (λ c. (i, c)) (result_ok (cell v i))) is))
+        later None h = h
+        later (Some d) h = inr h
+
+-- What is left of a walk with a stack, step by step.
 
 -- rising items from a step on
 

@@ -20,10 +20,8 @@ use Rattle.dbformat.specs.declared.Encoding.{Encoding}
 use Rattle.dbformat.specs.declared.TreeKind.{TreeKind}
 use Rattle.dbbytes.specs.declared.sieve.RowSieve.{RowSieve}
 use Rattle.dbsource.specs.declared.error.RunError.{RunError}
-use Rattle.dbsource.specs.declared.error.RunError.TheVariants.{OutOfMemory}
 use Rattle.dbtrace.specs.Finding.{Finding, told_below, visited_below}
-use Rattle.dbtrace.specs.Item.{Item, found, given}
-use Rattle.dbtrace.specs.Item as items
+use Rattle.dbtrace.specs.Item.{Item, found}
 use Rattle.dbtrace.specs.Progress.{rows_of}
 use Rattle.dbtrace.specs.Walk.{Walk, bare, advance}
 use Rattle.dbtrace.proofs.Asides.{are_aside}
@@ -46,21 +44,8 @@ use Rattle.dbwalk.specs.declared.taker.Taken.{Taken}
 use Rattle.dbwalk.proofs.Leaves.LeafErrands.{own_errands, read_overflow, errands_split, quiet_overflow}
 use Rattle.dbwalk.proofs.Telling.Belows.{told_none}
 use Rattle.dbwalk.proofs.Underway.CellSteps.{row_items, order_faults_of, cell_items, greatest_behind, no_row_elsewhere}
-use Rattle.dbwalk.proofs.Underway.Dones.{bare_visits, done_then, done_stops}
-use Rattle.dbwalk.proofs.Underway.Handing.{found_handed, handed_after, stop_first}
-use Rattle.dbwalk.proofs.Underway.RowsTaken.{row_handed}
-
--- items without rows are findings
-pub no_rows : (L : List Item) → items.given_rows L ≡ [] → L ≡ map found (items.findings L)
-no_rows [] e = refl
-no_rows (found f ∷ L) e = ap (λ l. found f ∷ l) (no_rows L e)
-no_rows (given row ∷ L) e = cc
-
--- no error of reading or writing is one of memory
-pub quiet_of : (r : Result (Unit {0}) RunError) → IfErr r IsReadOrWrite → r ≡ Err OutOfMemory → ⊥
-quiet_of (Ok a) h e = cc
-quiet_of (Err e) (inl h) g = cc
-quiet_of (Err e) (inr h) g = cc
+use Rattle.dbwalk.proofs.Underway.Handing.{bare_visits, done_then, done_stops, found_handed, no_memory, only_found, handed_after, stop_first}
+use Rattle.dbwalk.proofs.Rows.RootTakings.{row_handed}
 
 -- the row of a readable cell of the schema's tree, by these visits
 abbrev pub rows_behind : List ℕ → List Reference → Reference → View → ℕ → Option Cell → List SchemaCell
@@ -93,7 +78,7 @@ module _ (file : List ℕ) (from : Walk) (c : Reference) (kind : TreeKind) (v : 
       by_chain None = let none = (has_steps file).none (bare from) in (ap (λ w. w.state) none, ap (λ w. w.items) none ∙ ap (map found) (sym (told_none file from.visits)))
       by_chain (Some o) =
           let aside = are_aside file (bare from) _ refl in
-          (aside.state, no_rows (done_below file from (overflow_errands c i (Some o))).items aside.rows ∙ ap (map found) aside.findings_are)
+          (aside.state, only_found (done_below file from (overflow_errands c i (Some o))).items aside.rows ∙ ap (map found) aside.findings_are)
 
   visited : m.visits ≡ from.visits ++ visited_below file from.visits chain
   visited = (has_steps file).visits (bare from) chain (quiet_overflow c i overflow)
@@ -151,7 +136,7 @@ module _ (file : List ℕ) (from : Walk) (c : Reference) (kind : TreeKind) (v : 
         → IsDone takes drops file from.visits chain r marks s s' → Does m r (marks, tree) (s, t) (s', t)
     chain_done r marks tree s s' t only top depth done = record {
       at = by_ok r done.marked;
-      handed = subst (λ l. Handed (watches takes keeps) (fails drops refuses) r (s, t) l (s', t)) (sym chained.1) (found_handed takes drops keeps refuses r (told_below file from.visits chain) s s' t (quiet_of r only) done.told);
+      handed = subst (λ l. Handed (watches takes keeps) (fails drops refuses) r (s, t) l (s', t)) (sym chained.1) (found_handed takes drops keeps refuses r (told_below file from.visits chain) s s' t (no_memory r only) done.told);
     }
       where
         by_ok : (r : Result (Unit {0}) RunError) → OnOk r (AreMarksOf file (from.visits ++ visited_below file from.visits chain) marks) → OnOk r (IsAt file m marks tree)

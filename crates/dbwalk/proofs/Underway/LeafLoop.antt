@@ -1,10 +1,9 @@
 -- The loop over the cells of a leaf: it passes over some cells at once, and a call does one.
 use Rattle.std.proofs.Common.{◌≡◌, ℕ, ℤ, zero, suc, ◌+◌, ◌-◌, ◌<◌, ◌≤◌, false, inl, inr, List, [], ◌∷◌, ◌++◌, Option, Some, None, Result, Ok, Err, refl, sym, ap, subst, arith, ◌∙◌, append_assoc}
-use Rattle.std.specs.Prelude.{flat_map, option_and_then, ◌==◌, ◌⊎◌}
+use Rattle.std.specs.Prelude.{flat_map, option_and_then, ◌==◌}
 use Rattle.std.specs.List.{range_with_len}
 use Rattle.std.specs.Result.{result_ok}
-use Rattle.std.proofs.lemmas.Bool.{cases_Bool, eqb-true}
-use Rattle.std.proofs.lemmas.Bool.Decides.{nat_tests}
+use Rattle.std.proofs.lemmas.Bool.{cases_order}
 use Rattle.std.proofs.lemmas.Grind.{flat_map-append}
 use Rattle.dbsurvey.specs.Address.{IsIn, IsBefore}
 use Rattle.dbsurvey.specs.InOrder.{AreQuiet}
@@ -33,15 +32,12 @@ use Rattle.dbwalk.specs.declared.mark.Mark.{Mark}
 use Rattle.dbwalk.specs.declared.state.Tree.{Tree}
 use Rattle.dbwalk.specs.declared.taker.Taken.{Taken}
 use Rattle.dbwalk.proofs.Leaves.LeafErrands.{read_overflow}
-use Rattle.dbwalk.proofs.Running.Places.{before_next, before_later}
+use Rattle.dbwalk.proofs.Underway.Visits.{before_next, before_later}
 use Rattle.dbwalk.proofs.Telling.Belows.{visited_none, below_begins}
-use Rattle.dbwalk.proofs.Underway.Dones.{bare_visits, done_none, done_then, done_stops}
+use Rattle.dbwalk.proofs.Underway.Handing.{bare_visits, done_none, done_then, done_stops}
 use Rattle.dbwalk.proofs.Underway.LeafCellRuns.{cell_visits}
 use Rattle.dbwalk.proofs.Underway.PassedCells.{with_greatest, passed}
-use Rattle.dbwalk.proofs.Underway.RootRooms.{room_on}
-
-split_le : (s t : ℕ) → s ≤ t → (s ≡ t) ⊎ (s < t)
-split_le s t l = elim (cases_Bool (s == t)) [ inl e ↦ inl (eqb-true s t e) | inr e ↦ inr (grind (arith, nat_tests)) ]
+use Rattle.dbwalk.proofs.Rows.RootTakings.{room_on}
 
 -- the part of the walk that is the first cells of a leaf
 abbrev pub cells_done : List ℕ → Walk → Reference → TreeKind → View → ℕ → Walk
@@ -166,9 +162,9 @@ module _ (file : List ℕ) (from : Walk) (c : Reference) (kind : TreeKind) (v : 
               )
             where
               by_end : (s t : ℕ) → s ≤ t → (u : Reference) → IsBefore u.address (then_step c.address s) → IsBefore u.address (then_step c.address t)
-              by_end s t l u h = elim (split_le s t l) [
+              by_end s t l u h = elim (cases_order s t) [
                 | inl e ↦ subst (λ n. IsBefore u.address (then_step c.address n)) e h
-                | inr m ↦ IsBefore-trans u.address (then_step c.address s) (then_step c.address t) h (before_next c.address s t [] m)
+                | inr k ↦ (elim k [ inl m ↦ IsBefore-trans u.address (then_step c.address s) (then_step c.address t) h (before_next c.address s t [] m) | inr m ↦ absurd (omega arith) ])
               ]
 
           by_gap : (n : ℕ) → end - i ≡ n → AreRisingFrom v i (end - i) old.greatest new.greatest → OnCells end (marks, new) x

@@ -8,27 +8,34 @@ use Rattle.std.specs.Result.{result_ok}
 use Rattle.std.proofs.lemmas.Int.{ints}
 use Rattle.std.proofs.lemmas.List.{append-nil}
 use Rattle.std.proofs.lemmas.Grind.{flat_map-append}
-use Rattle.dbsurvey.specs.Address.{IsIn}
+use Rattle.dbsurvey.specs.Address.{IsIn, Address}
 use Rattle.dbsurvey.specs.InOrder.{AreQuiet}
-use Rattle.dbsurvey.specs.Story.{Tell}
+use Rattle.dbsurvey.specs.Story.{Tell, errands_of}
 use Rattle.dbsurvey.proofs.Ordering.{IsIn-from_flat_map}
 use Rattle.dbformat.specs.Address.{start_of, schema_start}
 use Rattle.dbformat.specs.Cell.{Cell, cell, count}
 use Rattle.dbformat.specs.Errands.{errands_in, cell_errands, tell_cell}
 use Rattle.dbformat.specs.Head.{View, is_interior}
 use Rattle.dbformat.specs.KeyFaults.{key_of}
-use Rattle.dbformat.specs.Reference.{Reference}
-use Rattle.dbformat.specs.Story.{at_key, own_visit}
+use Rattle.dbformat.specs.Reference.{Reference, role_of, tree_kind, tree_view}
+use Rattle.dbformat.specs.Story.{at_key, own_visit, story_of}
 use Rattle.dbformat.specs.declared.CellFault.{CellFault}
 use Rattle.dbformat.specs.declared.TreeKind.{TreeKind}
 use Rattle.dbformat.proofs.Cells.{is_of_kind}
 use Rattle.dbformat.proofs.Looping.{range-more, all_quiet}
 use Rattle.dbpage.specs.Packed.{IsAbove, IsAllLocal, key_at}
 use Rattle.dbtrace.specs.Progress.{rows_of, late_faults, greatest_after}
-use Rattle.dbtrace.specs.Walk.{Walk, advance, run_below}
+use Rattle.dbtrace.specs.Walk.{Walk, advance, run_below, bare}
 use Rattle.dbtrace.proofs.Stepping.{has_steps}
 use Rattle.dbwalk.specs.KeySpans.{AreRisingFrom}
-use Rattle.dbwalk.proofs.Running.ReadableCells.{cells_in}
+use Rattle.dbwalk.proofs.Trees.Stacking.{cells_in}
+use Rattle.std.proofs.lemmas.Bool.Decides.{nat_tests}
+use Rattle.dbsource.specs.declared.error.RunError.{RunError}
+use Rattle.dbtrace.specs.Item.{Item}
+use Rattle.dbwalk.specs.Underway.{IsAt, HasDone, done_below}
+use Rattle.dbwalk.specs.declared.mark.Mark.{Mark}
+use Rattle.dbwalk.specs.declared.state.Tree.{Tree}
+use Rattle.dbwalk.proofs.Leaves.LeafErrands.{leaf_errands_are}
 
 -- the same walk with another greatest key
 abbrev pub with_greatest : Walk → Option ℤ → Walk
@@ -82,3 +89,22 @@ module _ (file : List ℕ) (r : Reference) (kind : TreeKind) (v : View) (leaf : 
       ∙ ap (λ m. run_below file m (cell_errands r kind v (from + n))) (passed n from now h.0 (omega arith) h.1)
       ∙ one (with_greatest now h.0) (from + n) (omega arith) h.2 h.3
       ∙ ap (with_greatest now) (sym h.4)
+
+-- A leaf of which nothing but the keys is left to look at, where they come behind the greatest so far.
+
+-- a start after the first is not the schema's
+pub other_start : (a : Address) (k : ℕ) → start_of a ≡ k → 1 ≤ k → (start_of a == schema_start) ≡ false
+other_start a k e l = apart (start_of a) (omega arith)
+  where
+    apart : (n : ℕ) → 1 ≤ n → (n == 0) ≡ false
+    apart n l = grind (arith, nat_tests)
+
+module _ {P : Type 0} (moves : P → Item → P → Type 0) (stops : RunError → P → Item → P → Type 0) (file : List ℕ) (now : Walk) (c : Reference) (kind : TreeKind) (v : View) where
+  -- its cells hand out nothing, and the last key is the greatest
+  pub leaf_passed : (start_of c.address == schema_start) ≡ false → tree_kind (role_of c) ≡ Some kind → tree_view file c ≡ Some v → is_interior v.kind ≡ false → (after : Option ℤ) → AreRisingFrom v 0 (count v) now.state.greatest after
+      → (marks : List Mark) (tree : Tree) (w : P) → IsAt file (with_greatest now after) marks tree → HasDone {A = Unit {0}} moves stops file (done_below file now (errands_of (story_of file) c)) (Ok tt) (marks, tree) w w
+  leaf_passed other role viewed leaf after rising marks tree w at =
+      let low : 0 + count v ≤ count v = omega arith in
+      let all : done_below file now (errands_of (story_of file) c) ≡ with_greatest (bare now) after =
+      ap (run_below file (bare now)) (leaf_errands_are file c kind v role viewed leaf) ∙ passed file c kind v leaf other (count v) 0 (bare now) after low rising in
+      subst (λ m. HasDone {A = Unit {0}} moves stops file m (Ok tt) (marks, tree) w w) (sym all) (record { at = at; handed = refl })

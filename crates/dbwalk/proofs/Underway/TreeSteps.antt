@@ -1,6 +1,6 @@
 -- One turn of the loop over the interior pages of a tree.
-use Rattle.std.proofs.Common.{◌≡◌, ℕ, suc, ◌+◌, ◌-◌, ◌*◌, ◌<◌, ◌≤◌, true, false, not, inl, inr, List, [], ◌∷◌, ◌++◌, map, length, Some, Ok, Err, refl, sym, ap, subst, arith, ◌∙◌, append_assoc}
-use Rattle.std.specs.Prelude.{slice_get}
+use Rattle.std.proofs.Common.{◌≡◌, ℕ, suc, ◌+◌, ◌-◌, ◌*◌, ◌<◌, ◌≤◌, true, false, not, inl, inr, List, [], ◌∷◌, ◌++◌, map, length, Some, Ok, Err, refl, sym, ap, subst, arith, ◌∙◌, append_assoc, None, Result}
+use Rattle.std.specs.Prelude.{slice_get, OnOk, IfErr}
 use Rattle.std.proofs.lemmas.List.{append-nil}
 use Rattle.dbsurvey.specs.InOrder.{AreQuiet}
 use Rattle.dbsurvey.specs.Moves.{Moves}
@@ -14,25 +14,32 @@ use Rattle.dbformat.specs.Story.{Event, at_page, at_key, own_visit, story_of}
 use Rattle.dbformat.specs.declared.TreeKind.{TreeKind}
 use Rattle.dbsource.specs.declared.error.RunError.{RunError}
 use Rattle.dbtrace.specs.Item.{Item, found}
-use Rattle.dbtrace.specs.Steps.{roots_in}
-use Rattle.dbtrace.specs.Walk.{Walk, advance, run_below}
+use Rattle.dbtrace.specs.Steps.{roots_in, IsAside}
+use Rattle.dbtrace.specs.Walk.{Walk, advance, run_below, bare}
 use Rattle.dbtrace.proofs.Stepping.{has_steps, roots_at, more_roots}
 use Rattle.dbwalk.specs.Entered.{IsNext}
 use Rattle.dbwalk.specs.LeafCells.{top_after}
 use Rattle.dbwalk.specs.Marking.{AreMarksOf}
 use Rattle.dbwalk.specs.Stack.{errands_from, child_at, top_visit, left_over, IsOpenFrame, AreOpenFrames}
 use Rattle.dbwalk.specs.Telling.{findings}
-use Rattle.dbwalk.specs.Underway.{IsUnderway, HasDone, IsInterior, done_below, entered}
+use Rattle.dbwalk.specs.Underway.{IsUnderway, HasDone, IsInterior, done_below, entered, IsAt}
 use Rattle.dbwalk.specs.Walking.{AreRead}
 use Rattle.dbwalk.specs.WalkingOn.{IsWalkingOn, tree_walk}
-use Rattle.dbwalk.specs.Watching.{StopsAt}
+use Rattle.dbwalk.specs.Watching.{StopsAt, watches, fails, Handed}
 use Rattle.dbwalk.specs.declared.frame.Frame.{Frame}
 use Rattle.dbwalk.specs.declared.mark.Mark.{Mark}
 use Rattle.dbwalk.specs.declared.state.Tree.{Tree}
 use Rattle.dbwalk.proofs.Trees.Stacking.{left-push, top-push, from_first}
-use Rattle.dbwalk.proofs.Trees.Walkings.{read_front, read_push, read_kept, calls_front, calls_on, calls_push}
+use Rattle.dbwalk.proofs.Trees.Frames.{read_front, read_push, read_kept, calls_front, calls_on, calls_push}
 use Rattle.dbwalk.proofs.Underway.CellSteps.{order_faults_of, cell_items, no_row_inside, greatest_behind}
 use Rattle.dbwalk.proofs.Underway.Underways.{items_of, under_event, under_visit, under_call, stop_event, stop_call}
+use Rattle.dbformat.specs.SchemaRow.{SchemaRow}
+use Rattle.dbtrace.specs.Finding.{Finding, told_below, visited_below}
+use Rattle.dbtrace.proofs.Asides.{are_aside}
+use Rattle.dbwalk.specs.Done.{IsDone}
+use Rattle.dbwalk.specs.Outcomes.{IsReadOrWrite}
+use Rattle.dbwalk.specs.declared.taker.Taken.{Taken}
+use Rattle.dbwalk.proofs.Underway.Handing.{found_handed, no_memory, only_found}
 
 -- frames
 
@@ -205,3 +212,25 @@ module _ {P : Type 0} (moves : P → Item → P → Type 0) (file : List ℕ) (W
               read = read_push file levels' 0 on_frames h (read_kept file levels levels' 0 on_frames (λ n l. kept n (omega arith)) (read_on file levels f g page 0 fs on.read))
                   (ap (slice_get levels') (let z : 0 + length on_frames ≡ length d.address - 1 = omega arith in z) ∙ inside.bytes ∙ ap (λ p. Some (page_bytes file p)) (sym here));
             }
+
+-- A call that walks over an overflow chain, by what it promises of the visits: it has done its part of a walk.
+
+module _ {S T A : Type 0} (takes drops : S → Finding → S → Type 0) (keeps : T → SchemaRow → Taken → T → Type 0) (refuses : T → SchemaRow → T → Type 0) (file : List ℕ) (from : Walk) (c : Reference) (none : tree_kind (role_of c) ≡ None) where
+  pub aside_done : (r : Result A RunError) (marks marks' : List Mark) (tree : Tree) (s s' : S) (t : T) → IfErr r IsReadOrWrite → IsAt file from marks tree → IsDone takes drops file from.visits (Go c ∷ []) r marks' s s'
+      → HasDone (watches takes keeps) (fails drops refuses) file (done_below file from (Go c ∷ [])) r (marks', tree) (s, t) (s', t)
+  aside_done r marks marks' tree s s' t only at done = record {
+    at = on_ok r done.marked;
+    handed = subst (λ items. Handed (watches takes keeps) (fails drops refuses) r (s, t) items (s', t)) (sym (only_found (done_below file from (Go c ∷ [])).items aside.rows ∙ ap (map found) aside.findings_are))
+        (found_handed takes drops keeps refuses r (told_below file from.visits (Go c ∷ [])) s s' t (no_memory r only) done.told);
+  }
+    where
+      aside : IsAside file (bare from) c
+      aside = are_aside file (bare from) c none
+
+      on_ok : (r : Result A RunError) → OnOk r (AreMarksOf file (from.visits ++ visited_below file from.visits (Go c ∷ [])) marks') → OnOk r (IsAt file (done_below file from (Go c ∷ [])) marks' tree)
+      on_ok (Ok a) h = (
+        subst (λ V. AreMarksOf file V marks') (sym ((has_steps file).visits (bare from) (Go c ∷ []) (quiet_go c))) h,
+        at.1 ∙ ap (λ p. p.greatest) (sym aside.state),
+        at.2 ∙ ap (λ p. p.leaf) (sym aside.state),
+      )
+      on_ok (Err e) h = tt

@@ -33,13 +33,12 @@ use Rattle.dbwalk.specs.declared.state.Tree.{Tree}
 use Rattle.dbwalk.specs.declared.steps.Next.{Next}
 use Rattle.dbwalk.specs.declared.steps.Next.TheVariants.{Behind, Nothing}
 use Rattle.dbwalk.specs.declared.steps.Next.TheVariants as step
-use Rattle.dbwalk.proofs.Chaining.ChainStarts.{chain_start}
-use Rattle.dbwalk.proofs.Pages.PageTold.{view_is}
+use Rattle.dbwalk.proofs.Leaves.LeafErrands.{chain_start}
+use Rattle.dbwalk.proofs.Pages.PageTellings.{view_is}
 use Rattle.dbwalk.proofs.Pages.PageVisits.{kind_is}
-use Rattle.dbwalk.proofs.Trees.Frames.{path_length}
+use Rattle.dbwalk.proofs.Trees.Frames.{path_length, read_last, step_within}
 use Rattle.dbwalk.proofs.Trees.Stacking.{top_kind, step_no_chain, step_no_child, step_key, step_no_key, step_chain, step_child, step_end}
 use Rattle.dbwalk.proofs.Trees.TreeWays.{IsOnWay, child_candidate, top_candidate}
-use Rattle.dbwalk.proofs.Trees.Turns.{read_last, step_within}
 use Rattle.dbwalk.proofs.Underway.CellSteps.{order_faults_of}
 use Rattle.dbwalk.proofs.Underway.TreeSteps as steps
 

@@ -1,14 +1,16 @@
 -- A reference that is looked at: refused, or visited, where what its page leads to is done next.
-use Rattle.std.proofs.Common.{◌≡◌, ℕ, inl, Bool, true, false, List, [], ◌∷◌, ◌++◌, map, Option, Result, Ok, Err, refl, sym, ap, subst, ◌∙◌}
+use Rattle.std.proofs.Common.{ℕ, ◌<◌, inl, inr, List, [], ◌∷◌, ◌++◌, refl, sym, subst, ◌≡◌, Bool, true, false, map, Option, Result, Ok, Err, ap, ◌∙◌}
+use Rattle.dbsurvey.specs.Address.{Address, IsBefore}
+use Rattle.dbsurvey.proofs.Order.{IsIn-cases, IsBefore-trans, IsBefore-beginning}
+use Rattle.dbformat.specs.Reference.{Reference}
+use Rattle.dbwalk.specs.Running.{AreBefore}
 use Rattle.std.specs.Prelude.{OnOk}
 use Rattle.std.proofs.lemmas.List.{append-nil}
 use Rattle.dbsurvey.specs.Moves.{Moves, Stops}
 use Rattle.dbsurvey.specs.Story.{Go, errands_of}
 use Rattle.dbsurvey.specs.Traverse.{is_followed}
 use Rattle.dbsurvey.proofs.Moving.{some_none}
-use Rattle.dbsurvey.proofs.Order.{IsBefore-beginning}
 use Rattle.dbformat.specs.Address.{then_step}
-use Rattle.dbformat.specs.Reference.{Reference}
 use Rattle.dbformat.specs.SchemaRow.{SchemaRow}
 use Rattle.dbformat.specs.Story.{at_page, at_refused, story_of}
 use Rattle.dbformat.specs.Survey.{rules_of}
@@ -23,15 +25,31 @@ use Rattle.dbwalk.specs.Entered.{IsNext}
 use Rattle.dbwalk.specs.Marking.{AreMarksOf}
 use Rattle.dbwalk.specs.Outcomes.{Tells}
 use Rattle.dbwalk.specs.PageRows.{page_findings}
-use Rattle.dbwalk.specs.Running.{AreBefore}
 use Rattle.dbwalk.specs.Underway.{IsAt, HasDone, done_below, entered, IsEntered}
 use Rattle.dbwalk.specs.Watching.{watches, fails, StopsAt, Handed}
 use Rattle.dbwalk.specs.declared.mark.Mark.{Mark}
 use Rattle.dbwalk.specs.declared.state.Tree.{Tree}
 use Rattle.dbwalk.specs.declared.taker.Taken.{Taken}
-use Rattle.dbwalk.proofs.Running.Places.{before_more}
-use Rattle.dbwalk.proofs.Underway.Dones.{done_none, done_on, stops_on}
-use Rattle.dbwalk.proofs.Underway.Handing.{found_moves, found_stops, found_handed}
+use Rattle.dbwalk.proofs.Underway.Handing.{done_none, done_on, stops_on, found_moves, found_stops, found_handed}
+
+-- Places between the steps of a page.
+
+-- places that begin with a step stand before the next one
+pub before_next : (a : Address) (s t : ℕ) (b : Address) → s < t → IsBefore (a ++ (s ∷ b)) (a ++ (t ∷ []))
+before_next [] s t b l = inl l
+before_next (x ∷ a) s t b l = inr (refl, before_next a s t b l)
+
+-- all stay before a later place
+pub before_later : (W : List Reference) (p q : Address) → IsBefore p q → AreBefore W p → AreBefore W q
+before_later W p q l h u i = IsBefore-trans u.address p q (h u i) l
+
+pub before_more : (W : List Reference) (d : Reference) (q : Address) → IsBefore d.address q → AreBefore W d.address → AreBefore (W ++ (d ∷ [])) q
+before_more W d q l h u i = elim (IsIn-cases u W (d ∷ []) i) [
+  | inl j ↦ IsBefore-trans u.address d.address q (h u j) l
+  | inr j ↦ (elim j [ inl f ↦ subst (λ u. IsBefore u.address q) (sym f) l | inr k ↦ absurd k ])
+]
+
+-- A reference that is looked at: refused, or visited, where what its page leads to is done next.
 
 -- the walk behind the event of a refused reference, or of a visited page, with its items alone
 abbrev pub refused : List ℕ → Walk → Reference → Walk

@@ -1,14 +1,19 @@
--- The walk over a whole tree: how it starts and ends, and what it has done by the definitions.
-use Rattle.std.proofs.Common.{◌≡◌, ℕ, ◌-◌, cond, true, false, List, [], ◌∷◌, ◌++◌, map, length, Some, None, Result, Ok, Err, refl, sym, ap, subst, arith, ◌∙◌}
-use Rattle.std.specs.Prelude.{OnOk, IfErr, slice_get}
+-- The walk over a whole tree: its root, and the end of the loop.
+use Rattle.std.proofs.Common.{◌≡◌, ℕ, [], ◌∷◌, length, ap, arith, ◌<◌, true, false, inl, inr, List, Option, Some, None, refl, sym, subst, ◌↔◌, ◌-◌, cond, ◌++◌, map, Result, Ok, Err, ◌∙◌}
+use Rattle.dbsurvey.specs.Address.{Address, IsIn, IsBefore}
+use Rattle.dbformat.specs.Address.{start_of, schema_start}
+use Rattle.std.specs.Prelude.{IsSome, OnOk, IfErr, slice_get}
+use Rattle.dbsurvey.specs.Story.{errand_key, Go, errands_of}
+use Rattle.dbformat.specs.Reference.{Reference, role_of, tree_kind}
+use Rattle.dbformat.specs.declared.TreeKind.{TreeKind}
+use Rattle.dbtrace.specs.Starts.{IsOfEarlierStart, AreOfEarlierStarts}
+use Rattle.dbwalk.specs.Entered.{IsNext}
+use Rattle.dbwalk.specs.Walking.{IsCandidate}
 use Rattle.std.proofs.lemmas.Bool.{eq-eqb}
 use Rattle.std.proofs.lemmas.List.{append-nil}
-use Rattle.dbsurvey.specs.Story.{Go, errands_of}
 use Rattle.dbsurvey.specs.Traverse.{is_followed}
 use Rattle.dbsurvey.proofs.Moving.{some_none}
-use Rattle.dbformat.specs.Address.{start_of, schema_start}
 use Rattle.dbformat.specs.File.{geometry, page_bytes}
-use Rattle.dbformat.specs.Reference.{Reference, role_of, tree_kind}
 use Rattle.dbformat.specs.SchemaRow.{SchemaRow}
 use Rattle.dbformat.specs.Story.{at_page, at_refused, story_of}
 use Rattle.dbformat.specs.Survey.{rules_of}
@@ -16,11 +21,9 @@ use Rattle.dbsource.specs.declared.error.RunError.{RunError}
 use Rattle.dbsource.specs.declared.error.RunError.TheVariants.{ReadFailed}
 use Rattle.dbtrace.specs.Finding.{Finding, told_at, visited_below}
 use Rattle.dbtrace.specs.Item.{Item, found}
-use Rattle.dbtrace.specs.Starts.{AreOfEarlierStarts}
 use Rattle.dbtrace.specs.Walk.{begin, advance}
 use Rattle.dbtrace.proofs.Folding.{is_fold}
 use Rattle.dbtrace.proofs.Stepping.{has_steps}
-use Rattle.dbwalk.specs.Entered.{IsNext}
 use Rattle.dbwalk.specs.Marking.{AreMarksOf, marks_of}
 use Rattle.dbwalk.specs.Outcomes.{Tells, IsReadOrWrite}
 use Rattle.dbwalk.specs.Stack.{left_over}
@@ -34,10 +37,54 @@ use Rattle.dbwalk.specs.declared.mark.Mark.{Mark}
 use Rattle.dbwalk.specs.declared.state.Tree.{Tree}
 use Rattle.dbwalk.specs.declared.taker.Taken.{Taken}
 use Rattle.dbwalk.proofs.Trees.Stacking.{from_first}
-use Rattle.dbwalk.proofs.Underway.AsideCalls.{no_memory}
-use Rattle.dbwalk.proofs.Underway.Handing.{found_handed, handed_both}
+use Rattle.dbwalk.proofs.Underway.Handing.{found_handed, handed_both, no_memory}
 use Rattle.dbwalk.proofs.Underway.TreeSteps.{roots_on}
 use Rattle.dbwalk.proofs.Underway.Underways.{under_visit, under_end}
+
+-- What a page of a tree leads to, and where its root stands.
+
+pub root_address : (a : Address) (k : ℕ) → length a ≡ 1 → start_of a ≡ k → a ≡ k ∷ []
+root_address [] k l s = absurd (none l)
+  where
+    none : ◌≡◌ {A = ℕ} 0 1 → ⊥
+    none e = omega arith
+root_address (x ∷ []) k l s = ap (λ y. y ∷ []) s
+root_address (x ∷ y ∷ a) k l s = absurd (omega arith)
+
+-- The root of a tree, and the end of the loop.
+
+-- a candidate by other names
+pub candidate_as : (kind kind' : TreeKind) (k k' : ℕ) (l l' : List ℕ) (p p' from item item' : ℕ) (c : Reference) → kind' ≡ kind → k' ≡ k → l' ≡ l → p' ≡ p → item' ≡ item → IsCandidate kind k l p from item c → IsCandidate kind' k' l' p' from item' c
+candidate_as kind kind' k k' l l' p p' from item item' c a b d e f is =
+    subst (λ x. IsCandidate x k' l' p' from item' c) (sym a) (subst (λ x. IsCandidate kind x l' p' from item' c) (sym b)
+    (subst (λ x. IsCandidate kind k x p' from item' c) (sym d) (subst (λ x. IsCandidate kind k l x from item' c) (sym e) (subst (λ x. IsCandidate kind k l p from x c) (sym f) is))))
+
+-- the root
+module _ (file : List ℕ) (kind : TreeKind) (k : ℕ) (p from item : ℕ) (W : List Reference) (c : Reference) (candidate : IsCandidate kind k [] p from item c) (early : AreOfEarlierStarts k W) where
+  at_root : c.address ≡ k ∷ []
+  at_root = root_address c.address k (candidate.depth) candidate.start
+
+  all_before : (u : Reference) → IsIn u W → IsBefore u.address c.address
+  all_before u i = subst (λ a. IsBefore u.address a) (sym at_root) (by_address u.address (early u i))
+    where
+      by_address : (a : Address) → IsOfEarlierStart k a → IsBefore a (k ∷ [])
+      by_address [] e = absurd e
+      by_address (x ∷ a) e = inl e
+
+  pub root_next : IsNext W c
+  root_next u e i (inl j) = subst (λ e. IsBefore u.address (errand_key e)) (sym j) (all_before u i)
+  root_next u e i (inr j) = absurd j
+
+-- no frame is left
+pub none_left : {X : Type 0} (xs : List X) (o : Option X) → o ≡ None → (IsSome o ↔ (0 < length xs)) → xs ≡ []
+none_left [] o e h = refl
+none_left {X} (x ∷ xs) o e h = absurd (none o e (h.1 (omega arith)))
+  where
+    none : (o : Option X) → o ≡ None → IsSome o → ⊥
+    none None e s = let f : false ≡ true = s in cc
+    none (Some y) e s = cc
+
+-- The walk over a whole tree: how it starts and ends, and what it has done by the definitions.
 
 module _ {S T : Type 0} (takes drops : S → Finding → S → Type 0) (keeps : T → SchemaRow → Taken → T → Type 0) (refuses : T → SchemaRow → T → Type 0) (file : List ℕ) (k : ℕ) (W : List Reference) (c : Reference)
     (at : c.address ≡ k ∷ []) (early : AreOfEarlierStarts k W) where

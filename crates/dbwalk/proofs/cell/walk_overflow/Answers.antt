@@ -4,9 +4,8 @@ use Rattle.dbsurvey.specs.InOrder.{IsPast}
 use Rattle.dbwalk.specs.Done.{IsDone}
 use Rattle.dbwalk.proofs.Marking.Readings.{log_none}
 use Rattle.dbwalk.specs.LeafCells.{overflow_errands}
-use Rattle.dbwalk.proofs.Chaining.ChainStarts.{chain_start}
-use Rattle.dbwalk.proofs.Leaves.LeafErrands.{none_done}
-use Rattle.dbwalk.proofs.Rows.RowChains.{on_ok, feeds_nothing, feeds_chain}
+use Rattle.dbwalk.proofs.Leaves.LeafErrands.{none_done, chain_start}
+use Rattle.dbwalk.proofs.Chaining.Feedings.{on_ok, feeds_nothing, feeds_chain}
 use Rattle.dbwalk.proofs.cell.walk_overflow.Goals as goal
 
 pub returns-in-None-clause-log : goal.returns-in-None-clause-log

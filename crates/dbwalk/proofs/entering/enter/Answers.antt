@@ -4,7 +4,7 @@ use Rattle.dbsurvey.specs.Moves.{Moves, Stops}
 use Rattle.dbwalk.specs.Marking.{AreMarksOf}
 use Rattle.dbwalk.specs.Entered.{Enters}
 use Rattle.dbtrace.specs.Finding.{told_fault}
-use Rattle.dbwalk.proofs.Telling.Entries.{refusal_shallow, entered_yes, entered_no}
+use Rattle.dbwalk.proofs.Telling.Lefts.{refusal_shallow, entered_yes, entered_no}
 use Rattle.dbwalk.proofs.entering.enter.Goals as goal
 
 pub returns-in-None-clause-entered : goal.returns-in-None-clause-entered

@@ -5,7 +5,7 @@ use Rattle.dbwalk.specs.FreeLeaves.{Leaves, leaves_from}
 use Rattle.dbwalk.specs.Left.{IsLeft}
 use Rattle.dbwalk.specs.Marking.{Keeps, unmarked_pages}
 use Rattle.dbwalk.specs.declared.mark.Mark.TheVariants.{FreeLeaf}
-use Rattle.dbwalk.proofs.Freelists.FreeLeaves.{leaf_of, leaves_more, next_of_left, leaf_entered}
+use Rattle.dbwalk.proofs.Freelists.FreeTrunks.{leaf_of, leaves_more, next_of_left, leaf_entered}
 use Rattle.dbwalk.proofs.Telling.Lefts.{left_untold}
 use Rattle.dbwalk.proofs.Marking.Readings.{keeps_same, keeps_then, keeps_put, put_count}
 use Rattle.dbwalk.proofs.freelist.walk_leaves.Goals as goal

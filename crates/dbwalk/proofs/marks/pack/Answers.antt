@@ -1,6 +1,6 @@
 use Rattle.std.proofs.Common.{sym, ◌∙◌, arith}
 use Rattle.dbwalk.specs.Packing.{unpacked}
-use Rattle.dbwalk.proofs.Marking.Packings.{unpacked_is}
+use Rattle.dbwalk.proofs.Marking.Markings.{unpacked_is}
 use Rattle.dbwalk.proofs.marks.pack.Goals as goal
 
 pub returns-in-Unmarked : goal.returns-in-Unmarked

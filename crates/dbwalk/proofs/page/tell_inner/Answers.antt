@@ -4,8 +4,7 @@ use Rattle.std.proofs.lemmas.Grind.{common_steps}
 use Rattle.std.proofs.lemmas.Result.{err_from_is_err_and}
 use Rattle.dbformat.specs.PageFaults.{cell_faults, freeblock_fault, coverage_fault, empty_fault, inner_faults}
 use Rattle.dbwalk.specs.Telling.{IsTold, findings}
-use Rattle.dbwalk.proofs.Pages.PackedPages.{inner_found}
-use Rattle.dbwalk.proofs.Pages.PageTellings.{faults_then, faults_stop}
+use Rattle.dbwalk.proofs.Pages.PageTellings.{inner_found, faults_then, faults_stop}
 use Rattle.dbwalk.proofs.page.tell_inner.Goals as goal
 
 pub returns-in_err-are_cells_good : goal.returns-in_err-are_cells_good

@@ -1,7 +1,7 @@
 use Rattle.std.proofs.Common.{◌≡◌, [], rules, subst}
 use Rattle.std.specs.Option.{is_none}
 use Rattle.dbwalk.specs.Telling.{IsTold, findings}
-use Rattle.dbwalk.proofs.Pages.PackedPages.{inner_found, no_cell_faults}
+use Rattle.dbwalk.proofs.Pages.PageTellings.{inner_found, no_cell_faults}
 use Rattle.dbwalk.proofs.page.tell_readable.Goals as goal
 
 pub returns : goal.returns

@@ -3,7 +3,7 @@ use Rattle.dbformat.specs.Cell.{Cell, cell, count}
 use Rattle.dbpage.specs.Packed.{first_cells, payload_of, greatest_of}
 use Rattle.dbpage.proofs.CellLemmas.{cell_local}
 use Rattle.dbpage.proofs.PackedLemmas.{first_cells_more}
-use Rattle.dbwalk.proofs.Pages.Sums.{cells_all, cells_err, local_more, greatest_more, ord_max-max}
+use Rattle.dbwalk.proofs.Pages.PageTellings.{cells_all, cells_err, local_more, greatest_more, ord_max-max}
 use Rattle.dbwalk.proofs.payload.cell_sums.Goals as goal
 use Rattle.dbwalk.proofs.payload.cell_sums.Goals.{in-Ok, in_default}
 

@@ -2,8 +2,7 @@ use Rattle.std.proofs.Common.{[], length, Some, None, refl, sym, ap, ◌∙◌, 
 use Rattle.dbformat.specs.Cell.{Cell, count}
 use Rattle.dbbytes.specs.Sieve.{HasTaken}
 use Rattle.dbsource.specs.Bench.{bytes_at}
-use Rattle.dbwalk.proofs.Leaves.LeafCells.{none_seen, same_view}
-use Rattle.dbwalk.proofs.Rows.Sieves.{has_sieve, holds_cell, holds_none}
+use Rattle.dbwalk.proofs.Leaves.LeafCells.{none_seen, same_view, has_sieve, holds_cell, holds_none}
 use Rattle.dbwalk.proofs.sieve.row_sieve.Goals as goal
 
 pub returns-in_default-clause-schema : goal.returns-in_default-clause-schema

@@ -1,7 +1,7 @@
 use Rattle.std.proofs.Common.{◌≡◌, ◌≤◌, refl, sym, arith, ◌∙◌, ap}
 use Rattle.dbformat.specs.Cell.{Cell, count}
 use Rattle.dbwalk.specs.Steps.{no_chain}
-use Rattle.dbwalk.proofs.Trees.StepReads.{no_overflow, bad_cell}
+use Rattle.dbwalk.proofs.Leaves.LeafCells.{no_overflow, bad_cell}
 use Rattle.dbwalk.proofs.steps.chain_at.Goals as goal
 
 pub returns-then-i-cells-2 : goal.returns-then-i-cells-2

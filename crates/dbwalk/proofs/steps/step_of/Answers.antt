@@ -1,8 +1,7 @@
 use Rattle.std.proofs.Common.{◌≡◌, ◌/◌, ◌≤◌, Some, None, ap, arith}
 use Rattle.dbformat.specs.Address.{overflow_step, child_step, key_step}
 use Rattle.dbwalk.specs.declared.steps.Next.TheVariants.{Behind}
-use Rattle.dbwalk.proofs.Leaves.LeafCells.{none_seen}
-use Rattle.dbwalk.proofs.Trees.StepReads.{has_next, at_step}
+use Rattle.dbwalk.proofs.Leaves.LeafCells.{none_seen, has_next, at_step}
 use Rattle.dbwalk.proofs.steps.step_of.Goals as goal
 
 pub returns-in_default : goal.returns-in_default

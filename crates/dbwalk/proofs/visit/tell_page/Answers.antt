@@ -3,7 +3,7 @@ use Rattle.std.proofs.lemmas.Result.{err_from_is_err_and}
 use Rattle.std.specs.Prelude.{slice_get}
 use Rattle.dbformat.specs.Head.{undamaged}
 use Rattle.dbwalk.specs.declared.visit.PageFound.TheVariants.{Damaged, Interior, Leaf}
-use Rattle.dbwalk.proofs.Pages.PageExits.{exit_damaged, exit_damaged_stop, exit_stop, exit_interior, exit_leaf, exit_leaf_stop}
+use Rattle.dbwalk.proofs.Pages.PageVisits.{exit_damaged, exit_damaged_stop, exit_stop, exit_interior, exit_leaf, exit_leaf_stop}
 use Rattle.dbwalk.proofs.visit.tell_page.Goals as goal
 
 pub returns-in_err-keys-in-Ok-clause-told : goal.returns-in_err-keys-in-Ok-clause-told

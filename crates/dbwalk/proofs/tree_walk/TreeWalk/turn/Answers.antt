@@ -1,4 +1,4 @@
-use Rattle.std.proofs.Common.{rules, ◌/◌, ◌<◌, ◌≤◌, ◌++◌, [], ◌∷◌, length, inr, false, Err, refl, sym, ap, subst, arith, ◌∙◌}
+use Rattle.std.proofs.Common.{rules, ◌/◌, ◌<◌, ◌≤◌, ◌++◌, [], ◌∷◌, length, false, Err, refl, sym, ap, subst, arith, ◌∙◌}
 use Rattle.std.specs.Prelude.{slice_get, OnOk, IfErr}
 use Rattle.std.proofs.Common.{w64}
 use Rattle.std.proofs.lemmas.Int.{to_z-of_z}
@@ -14,18 +14,15 @@ use Rattle.dbwalk.proofs.Marking.Readings.{log_none}
 use Rattle.dbwalk.specs.Steps.{HasNext}
 use Rattle.dbwalk.specs.Telling.{findings}
 use Rattle.dbsource.specs.declared.error.RunError.TheVariants.{WriteFailed}
-use Rattle.dbwalk.specs.Outcomes.{IsReadOrWrite}
 use Rattle.dbwalk.specs.Walking.{AreOpen, cost}
 use Rattle.dbwalk.specs.declared.steps.Next.TheVariants.{Behind, Nothing, Key, Chain}
-use Rattle.dbwalk.proofs.Trees.Frames.{open_kept, ends_behind, ends_on, on_ok_all}
+use Rattle.dbwalk.proofs.Trees.Frames.{open_kept, ends_behind, ends_on, on_ok_all, at_step, step_on}
 use Rattle.dbwalk.proofs.Leaves.LeafCells.{cell_size}
 use Rattle.dbwalk.proofs.Pages.Levels.{keeps_fewer}
-use Rattle.dbwalk.proofs.Trees.TurnFrames.{at_step, step_on}
 use Rattle.dbwalk.specs.WalkingOn.{IsWalkingOn, tree_walk}
 use Rattle.dbwalk.specs.Watching.{StopsAt, fails, watches}
-use Rattle.dbwalk.proofs.Underway.AsideCalls.{aside_done}
+use Rattle.dbwalk.proofs.Underway.TreeSteps.{aside_done, by_other}
 use Rattle.dbwalk.proofs.Underway.Handing.{found_moves, found_stops}
-use Rattle.dbwalk.proofs.Underway.TreeSteps.{by_other}
 use Rattle.dbwalk.proofs.Underway.TreeTurns as turns
 use Rattle.dbwalk.proofs.Underway.TreeTurns.{turn_failed}
 use Rattle.std.proofs.lemmas.Grind.{common_steps}

@@ -1,5 +1,5 @@
 use Rattle.std.proofs.Common.{rules, ◌≡◌, ◌+◌, ◌<◌, ◌≤◌, length, Ok, Err, refl, sym, ap, subst, ◌∙◌, arith}
-use Rattle.std.specs.Prelude.{slice_get, IfErr}
+use Rattle.std.specs.Prelude.{slice_get}
 use Rattle.std.proofs.lemmas.Result.{err_from_is_err_and}
 use Rattle.dbsurvey.specs.Story.{errands_of}
 use Rattle.dbformat.specs.Cell.{count}
@@ -8,13 +8,12 @@ use Rattle.dbformat.specs.File.{page_bytes}
 use Rattle.dbformat.specs.Head.{undamaged}
 use Rattle.dbformat.specs.Story.{story_of}
 use Rattle.dbsource.proofs.Logs.{has_weaker}
-use Rattle.dbwalk.specs.Outcomes.{IsReadOrWrite}
 use Rattle.dbwalk.specs.Underway.{HasDone, done_below}
 use Rattle.dbwalk.specs.Watching.{fails, watches}
 use Rattle.dbwalk.proofs.Leaves.LeafErrands.{view_back, leaf_errands_are}
 use Rattle.dbwalk.proofs.Marking.Readings.{log_none, log_then}
 use Rattle.dbwalk.proofs.Underway.LeafLoop.{cells_done, leaf_as, passed_same, on_start, on_more, on_stop, on_pass, on_end}
-use Rattle.dbwalk.proofs.Underway.PassedLeaves.{other_start}
+use Rattle.dbwalk.proofs.Underway.PassedCells.{other_start}
 use Rattle.dbwalk.proofs.Underway.Walks.{walked_as, walked_behind, walked_by, walked_tree}
 use Rattle.dbwalk.proofs.tree_walk.TreeWalk.walk_leaf.Goals as goal
 

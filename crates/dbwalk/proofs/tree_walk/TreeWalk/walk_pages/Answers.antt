@@ -1,9 +1,8 @@
-use Rattle.std.proofs.Common.{rules, ◌≡◌, ◌<◌, ◌≤◌, ◌++◌, [], ◌∷◌, length, Some, Ok, Err, refl, sym, ap, subst, arith, ◌∙◌}
-use Rattle.std.specs.Prelude.{IfErr, option_to_list}
+use Rattle.std.proofs.Common.{rules, ◌≡◌, ◌<◌, ◌++◌, [], ◌∷◌, length, Some, Ok, Err, refl, sym, ap, subst, arith, ◌∙◌}
+use Rattle.std.specs.Prelude.{option_to_list}
 use Rattle.std.proofs.lemmas.Result.{err_from_is_err_and}
 use Rattle.dbformat.specs.File.{page_bytes}
 use Rattle.dbwalk.specs.Found.{StandsAt}
-use Rattle.dbwalk.specs.Outcomes.{IsReadOrWrite}
 use Rattle.dbwalk.specs.Walking.{IsCandidate, IsOpen, AreOpen, path_of, cost}
 use Rattle.dbsource.proofs.Logs.{has_weaker}
 use Rattle.dbwalk.proofs.Marking.Readings.{log_then}
@@ -13,9 +12,8 @@ use Rattle.dbwalk.specs.Underway.{HasDone, IsEntered, entered}
 use Rattle.dbwalk.specs.WalkingOn.{IsWalkingOn, tree_walk}
 use Rattle.dbwalk.specs.Watching.{fails, watches}
 use Rattle.dbwalk.proofs.Pages.PageVisits.{kind_is}
-use Rattle.dbwalk.proofs.Trees.TreeLoop.{candidate_as, none_left}
-use Rattle.dbwalk.proofs.Underway.RootRooms.{empty_room}
-use Rattle.dbwalk.proofs.Underway.WalkedTrees.{tree_started, tree_ended}
+use Rattle.dbwalk.proofs.Underway.WalkedTrees.{candidate_as, none_left, tree_started, tree_ended}
+use Rattle.dbwalk.proofs.Rows.RootTakings.{empty_room}
 use Rattle.dbwalk.proofs.Underway.Walks.{walked_as, walked_as_ok, walked_behind}
 use Rattle.dbwalk.proofs.tree_walk.TreeWalk.walk_pages.Goals as goal
 
