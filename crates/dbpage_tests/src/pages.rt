@@ -57,31 +57,23 @@ fn check(rt: &impl Abort, case: &Case<'_>, page: &[u8], usable: u32) {
         Ok(view) => view,
         Err(fault) => panic!(rt; "{name}: {fault:?}"),
     };
-    assert_eq!(rt; view.cells() as usize, case.cells.len(), "{name}");
+    holds!(rt; view.cells() as usize == case.cells.len(), name);
     for i in 0..view.cells() {
         let want = case.cells.get(i as usize).copied();
-        assert_eq!(rt; Some(shown(view.cell(i))), want, "{name}, cell {i}");
+        holds!(rt; Some(shown(view.cell(i))) == want, (name, i));
     }
     let mut freeblocks = view.freeblocks();
     let mut number = 0;
     for freeblock in freeblocks.by_ref() {
         let want = case.freeblocks.get(number).copied();
-        assert_eq!(rt;
-            Some((freeblock.offset, freeblock.size)),
-            want,
-            "{name}, freeblock {number}"
-        );
+        holds!(rt; Some((freeblock.offset, freeblock.size)) == want, (name, number));
         number = number.wrapping_add(1);
     }
-    assert_eq!(rt; number, case.freeblocks.len(), "{name}");
-    assert_eq!(rt; freeblocks.bad(), case.bad, "{name}");
-    assert_eq!(rt; view.unused(), case.unused, "{name}");
+    holds!(rt; number == case.freeblocks.len(), name);
+    holds!(rt; freeblocks.bad() == case.bad, name);
+    holds!(rt; view.unused() == case.unused, name);
     let mut table = [255u8; 512];
-    assert_eq!(rt;
-        uncounted_coverage(&view, &mut table),
-        case.coverage,
-        "{name}"
-    );
+    holds!(rt; uncounted_coverage(&view, &mut table) == case.coverage, name);
 }
 
 fn packed(rt: &impl Abort, page: &[u8]) -> Option<Packed> {
@@ -141,7 +133,7 @@ fn packed_pages(rt: HostRuntime) {
             p.sums.first.unwrap_or(0),
             p.sums.last.unwrap_or(0),
         ));
-        assert_eq!(rt; numbers, want, "{head:?} {cells:?}");
+        holds!(rt; numbers == want, (head, cells));
     }
 }
 
@@ -163,7 +155,7 @@ fn packed_with_an_overflow_page(rt: HostRuntime) {
         },
         unheld: 0,
     };
-    assert_eq!(rt; packed(&rt, &page), Some(want));
+    holds!(rt; packed(&rt, &page) == Some(want));
 }
 
 #[test]
@@ -224,7 +216,7 @@ fn heads(rt: HostRuntime) {
             Ok(view) => Ok((view.kind(), view.cells())),
             Err(fault) => Err(fault),
         };
-        assert_eq!(rt; read, want, "page {p}, {usable} bytes, {head:?} at {at}");
+        holds!(rt; read == want, (p, usable, head, at));
     }
 }
 
@@ -259,8 +251,8 @@ fn children(rt: HostRuntime) {
         match PageView::new(page, 3, 512) {
             Ok(view) => {
                 assert!(rt; view.cells() == 1);
-                assert_eq!(rt; view.child(0), left, "{head:?}");
-                assert_eq!(rt; view.child(1), right, "{head:?}");
+                holds!(rt; view.child(0) == left, head);
+                holds!(rt; view.child(1) == right, head);
             },
             Err(fault) => panic!(rt; "{fault:?}"),
         }
@@ -279,7 +271,7 @@ fn item_offsets(rt: HostRuntime) {
     match PageView::new(page, 3, 512) {
         Ok(view) => {
             for (item, offset) in [(0, 500), (1, 509), (2, 496), (3, 0), (4294967295, 0)] {
-                assert_eq!(rt; view.item_offset(item), offset, "item {item}");
+                holds!(rt; view.item_offset(item) == offset, item);
             }
         },
         Err(fault) => panic!(rt; "{fault:?}"),
@@ -298,7 +290,7 @@ fn damaged_heads(rt: HostRuntime) {
         let page = page_of(&[(at, head)]);
         let page: &[u8] = &page;
         assert!(rt; page.len() == 512);
-        assert_eq!(rt; type_byte(page, p), type_byte_of_page, "{head:?}");
-        assert_eq!(rt; content_start(page, p), start, "{head:?}");
+        holds!(rt; type_byte(page, p) == type_byte_of_page, head);
+        holds!(rt; content_start(page, p) == start, head);
     }
 }

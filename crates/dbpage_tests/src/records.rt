@@ -17,17 +17,17 @@ fn expect(
 ) {
     let mut whole = RowSieve::new(p, encoding);
     whole.feed(bytes);
-    assert!(rt; whole.finish() == want, "{bytes:?} of {p}, whole");
+    holds!(rt; whole.finish() == want, (bytes, p));
     let mut one_by_one = RowSieve::new(p, encoding);
     for i in 0..bytes.len() {
         one_by_one.feed(&bytes[i..i + 1]);
     }
-    assert!(rt; one_by_one.finish() == want, "{bytes:?} of {p}, one by one");
+    holds!(rt; one_by_one.finish() == want, (bytes, p));
     for cut in 0..bytes.len() {
         let mut halves = RowSieve::new(p, encoding);
         halves.feed(&bytes[..cut]);
         halves.feed(&bytes[cut..]);
-        assert!(rt; halves.finish() == want, "{bytes:?} of {p}, cut at {cut}");
+        holds!(rt; halves.finish() == want, (bytes, p, cut));
     }
 }
 
@@ -62,17 +62,13 @@ fn local_lengths(rt: HostRuntime) {
                 (most + usable - 3, least),
             ] {
                 assert!(rt; p <= 2147483647);
-                assert_eq!(rt; local_len(kind, usable, p), want, "{p} bytes at {usable}");
+                holds!(rt; local_len(kind, usable, p) == want, (p, usable));
             }
         }
     }
     for (p, want) in [(477, 477), (478, 39), (600, 92), (2147483647, 39)] {
         assert!(rt; p <= 2147483647);
-        assert_eq!(rt;
-            local_len(PayloadKind::TableLeaf, 512, p),
-            want,
-            "{p} bytes"
-        );
+        holds!(rt; local_len(PayloadKind::TableLeaf, 512, p) == want, p);
     }
 }
 
@@ -103,7 +99,7 @@ fn varints(rt: HostRuntime) {
             Some((18446744073709551360, 9)),
         ),
     ] {
-        assert_eq!(rt; varint(bytes), want, "at {bytes:?}");
+        holds!(rt; varint(bytes) == want, bytes);
     }
 }
 
@@ -172,6 +168,6 @@ fn lengths_of_serial_types(rt: HostRuntime) {
         (18446744073709551614, Some(9223372036854775801)),
         (18446744073709551615, Some(9223372036854775801)),
     ] {
-        assert_eq!(rt; serial_len(serial_type), want, "at {serial_type}");
+        holds!(rt; serial_len(serial_type) == want, serial_type);
     }
 }

@@ -47,7 +47,7 @@ fn covers_the_last_bytes(rt: HostRuntime) {
     ];
     for (head, bytes, want) in cases {
         let page = page_with(head, bytes);
-        assert_eq!(rt; coverage_of(&rt, &page, 487), want, "{head:?} {bytes:?}");
+        holds!(rt; coverage_of(&rt, &page, 487) == want, (head, bytes));
     }
 }
 
@@ -55,11 +55,7 @@ fn covers_the_last_bytes(rt: HostRuntime) {
 fn covers_pages_of_each_size(rt: HostRuntime) {
     let page = page_with(b"\x0d\x00\x00\x00\x00\x00\x08\x00", b"\0\0\0\0\0\0\0");
     for usable in 480..545 {
-        assert_eq!(rt;
-            coverage_of(&rt, &page, usable),
-            Coverage::Unheld(usable - 8),
-            "{usable}"
-        );
+        holds!(rt; coverage_of(&rt, &page, usable) == Coverage::Unheld(usable - 8), usable);
     }
 }
 
@@ -98,11 +94,8 @@ fn compare(rt: &impl Abort, from: u32, len: u32, one: u32) {
         put(&mut page, 10, &(second as u16).to_be_bytes());
         let mut table = [255u8; 2048];
         match PageView::new(&page, 2, 2048) {
-            Ok(view) => assert_eq!(rt;
-                uncounted_coverage(&view, &mut table),
-                want,
-                "{len} bytes at {first} or {second}"
-            ),
+            Ok(view) =>
+                holds!(rt; uncounted_coverage(&view, &mut table) == want, (len, first, second)),
             Err(fault) => panic!(rt; "{fault:?}"),
         }
     }

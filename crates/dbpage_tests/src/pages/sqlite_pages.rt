@@ -73,43 +73,23 @@ fn check(rt: &impl Abort, made: &Made<'_>, page: &[u8]) {
         Ok(view) => view,
         Err(fault) => panic!(rt; "{name}: {fault:?}"),
     };
-    assert_eq!(rt; view.kind(), made.kind, "{name}");
-    assert_eq!(rt;
-        totals(&view),
-        (made.cells, made.payload as usize, made.largest),
-        "{name}"
-    );
-    assert_eq!(rt; view.unused(), made.unused, "{name}");
+    holds!(rt; view.kind() == made.kind, name);
+    holds!(rt; totals(&view) == (made.cells, made.payload as usize, made.largest), name);
+    holds!(rt; view.unused() == made.unused, name);
     for i in 0..view.cells() {
-        assert_eq!(rt;
-            view.child(i),
-            made.children.get(i as usize).copied(),
-            "{name}, child {i}"
-        );
+        holds!(rt; view.child(i) == made.children.get(i as usize).copied(), (name, i));
     }
-    assert_eq!(rt;
-        view.child(view.cells()),
-        made.children.last().copied(),
-        "{name}"
-    );
+    holds!(rt; view.child(view.cells()) == made.children.last().copied(), name);
     let mut number = 0;
     for freeblock in view.freeblocks() {
         let want = made.freeblocks.get(number).copied();
-        assert_eq!(rt;
-            Some((freeblock.offset, freeblock.size)),
-            want,
-            "{name}, freeblock {number}"
-        );
+        holds!(rt; Some((freeblock.offset, freeblock.size)) == want, (name, number));
         number = number.wrapping_add(1);
     }
-    assert_eq!(rt; number, made.freeblocks.len(), "{name}");
-    assert_eq!(rt; view.freeblocks().bad(), None, "{name}");
+    holds!(rt; number == made.freeblocks.len(), name);
+    holds!(rt; view.freeblocks().bad() == None, name);
     let mut table = [7u8; 512];
-    assert_eq!(rt;
-        uncounted_coverage(&view, &mut table),
-        Coverage::Unheld(made.fragments),
-        "{name}"
-    );
+    holds!(rt; uncounted_coverage(&view, &mut table) == Coverage::Unheld(made.fragments), name);
 }
 
 #[test]
@@ -283,10 +263,10 @@ fn check_large(
     match PageView::new(page, 2, usable) {
         Ok(view) => {
             let read = totals(&view);
-            assert_eq!(rt; (read.0, read.1, view.unused()), want);
+            holds!(rt; (read.0, read.1, view.unused()) == want);
             let first = view.freeblocks().next().map(|f| (f.offset, f.size));
-            assert_eq!(rt; first, freeblock);
-            assert_eq!(rt; uncounted_coverage(&view, table), Coverage::Unheld(0));
+            holds!(rt; first == freeblock);
+            holds!(rt; uncounted_coverage(&view, table) == Coverage::Unheld(0));
         },
         Err(fault) => panic!(rt; "{fault:?}"),
     }

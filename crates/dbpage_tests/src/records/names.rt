@@ -40,7 +40,7 @@ fn shown_names(rt: HostRuntime) -> Result<(), Fail> {
     ] {
         let mut out = MemOut::new(rt.alloc());
         assert!(rt; name_text(name, encoding, &mut out).is_ok());
-        assert_eq!(rt; out.bytes(), want, "of {name:?}");
+        holds!(rt; out.bytes() == want, name);
     }
     Ok(())
 }
@@ -60,12 +60,8 @@ fn names_that_are_cut_short(rt: HostRuntime) {
             let mut bytes = [0; 16];
             assert!(rt; room <= bytes.len());
             let mut out = StreamOut::new(&mut bytes[..room]);
-            assert_eq!(rt;
-                name_text(name, encoding, &mut out),
-                Err(WriteFailed),
-                "with room for {room}"
-            );
-            assert_eq!(rt; &bytes[..room], &want[..room], "with room for {room}");
+            holds!(rt; name_text(name, encoding, &mut out) == Err(WriteFailed), room);
+            holds!(rt; (&bytes[..room]) == &want[..room], room);
         }
     }
 }

@@ -216,19 +216,16 @@ fn asked_again_and_after_more(rt: HostRuntime) {
     let mut sieve = RowSieve::new(14, Encoding::Utf8);
     let bytes = b"\x06\x17\x0f\x0f\x01\x00tablett\x02";
     for i in 0..bytes.len() {
-        assert!(rt;
-            sieve.finish() == Err(RowFault::Malformed),
-            "after {i} bytes"
-        );
+        holds!(rt; sieve.finish() == Err(RowFault::Malformed), i);
         sieve.feed(&bytes[i..i + 1]);
     }
     sieve.feed(b"");
     for _ in 0..2 {
-        assert!(rt; sieve.finish() == row(RowKind::Table, 2, Some(b"t")));
+        holds!(rt; sieve.finish() == row(RowKind::Table, 2, Some(b"t")));
     }
     for _ in 0..2 {
         sieve.feed(b"\x00");
-        assert!(rt; sieve.finish() == Err(RowFault::Malformed));
+        holds!(rt; sieve.finish() == Err(RowFault::Malformed));
     }
     // A fifth column that is malformed stays so, whatever follows.
     let mut fifth = RowSieve::new(14, Encoding::Utf8);
@@ -238,6 +235,6 @@ fn asked_again_and_after_more(rt: HostRuntime) {
         bytes,
     ] {
         fifth.feed(piece);
-        assert!(rt; fifth.finish() == Err(RowFault::Malformed));
+        holds!(rt; fifth.finish() == Err(RowFault::Malformed));
     }
 }
