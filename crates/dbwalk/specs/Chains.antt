@@ -1,23 +1,43 @@
--- Overflow chains as a program walks them.
-use Rattle.std.specs.Prelude.{◌≡◌, ℕ, List, [], ◌∷◌, ◌++◌, Option, Some, None, Result, Ok, Err, IfOk, OnOk}
+-- Overflow chains as a program walks them, and what a sieve is fed on the way.
+use Rattle.std.specs.Prelude.{ℕ, List, [], ◌∷◌, ◌++◌, flat_map, Option, Some, None, ◌≡◌, Result, Ok, Err, IfOk, OnOk}
 use Rattle.dbsurvey.specs.Story.{Go}
+use Rattle.dbformat.specs.Reference.{Reference, first_overflow, later_overflow, bytes_left, role_of, from_of, item_of}
+use Rattle.dbformat.specs.Schema.{held_bytes}
+use Rattle.dbformat.specs.declared.Encoding.{Encoding}
+use Rattle.dbbytes.specs.Sieve.{HasTaken}
+use Rattle.dbbytes.specs.declared.sieve.RowSieve.{RowSieve}
+use Rattle.dbtrace.specs.Finding.{visited_below, Finding, told_at}
 use Rattle.dbformat.specs.Address.{start_of, then_step, child_path, chain_place}
-use Rattle.dbformat.specs.Reference.{first_overflow, later_overflow, Reference, bytes_left, role_of, from_of, item_of}
 use Rattle.dbformat.specs.File.{page_bytes}
 use Rattle.dbformat.specs.Payload.{overflow_next}
-use Rattle.dbformat.specs.Schema.{held_bytes}
 use Rattle.dbformat.specs.Story.{at_page}
-use Rattle.dbbytes.specs.declared.sieve.RowSieve.{RowSieve}
 use Rattle.dbsource.specs.declared.error.RunError.{RunError}
 use Rattle.dbwalk.specs.declared.chain.Chain.{Chain}
 use Rattle.dbwalk.specs.declared.chain.Place.{Place}
 use Rattle.dbwalk.specs.declared.mark.Mark.{Mark}
-use Rattle.dbwalk.specs.Feeding.{Feeds, FeedsPages, FeedsChain}
-use Rattle.dbtrace.specs.Finding.{Finding, told_at}
 use Rattle.dbwalk.specs.Entered.{IsStepOf}
 use Rattle.dbwalk.specs.Left.{IsLeft}
 use Rattle.dbwalk.specs.Done.{IsDone}
 use Rattle.dbwalk.specs.Outcomes.{Tells}
+
+-- What a sieve is fed, where there is one.
+
+-- A sieve that had taken some bytes has taken these behind them. There is one still where there was one.
+abbrev pub Feeds : Option RowSieve → List ℕ → Option RowSieve → Type 0
+Feeds None bytes None = Unit {0}
+Feeds None bytes (Some t) = ⊥
+Feeds (Some s) bytes None = ⊥
+Feeds (Some s) bytes (Some t) = (size : ℕ) (e : Encoding) (taken : List ℕ) → HasTaken s size e taken → HasTaken t size e (taken ++ bytes)
+
+-- it was fed the payload bytes on these overflow pages
+abbrev pub FeedsPages : List ℕ → Option RowSieve → List Reference → Option RowSieve → Type 0
+FeedsPages file old pages new = Feeds old (flat_map (held_bytes file) pages) new
+
+-- it was fed all that is held below a reference to an overflow page
+abbrev pub FeedsChain : List ℕ → List Reference → Reference → Option RowSieve → Option RowSieve → Type 0
+FeedsChain file W c old new = FeedsPages file old (visited_below file W (Go c ∷ [])) new
+
+-- Overflow chains as a program walks them.
 
 -- a reference to the page of this number in a chain, by its address
 pub record IsOnChain (chain : Chain) (number : ℕ) (c : Reference) : Type 0 where

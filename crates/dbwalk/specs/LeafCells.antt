@@ -1,6 +1,8 @@
--- What is read off the leaf at a level.
+-- What is read off the leaf at a level, and the greatest key so far.
+use Rattle.std.specs.Prelude.{Bool, false, List, Option, Some, None, ℤ, int_lt, int_le, if◌then◌else◌, ◌==◌, not, pos, true, [], ◌∷◌, ◌≡◌, ℕ, ◌<◌, ◌≤◌, IfSome, slice_get, option_map, option_and_then}
+use Rattle.dbsurvey.specs.Address.{IsIn, Address, IsBefore}
+use Rattle.dbformat.specs.Reference.{Reference, Way, first_overflow, link}
 use Rattle.std.specs.Option.{option_map_or}
-use Rattle.std.specs.Prelude.{Bool, ◌==◌, not, pos, true, [], ◌∷◌, None, ◌≡◌, ℕ, ◌<◌, ◌≤◌, IfSome, List, Option, Some, ℤ, slice_get, option_map, option_and_then}
 use Rattle.std.specs.Result.{result_ok}
 use Rattle.dbformat.specs.Payload.{most_payload}
 use Rattle.dbformat.specs.Head.{View, undamaged}
@@ -9,13 +11,29 @@ use Rattle.dbsurvey.specs.Story.{Errand}
 use Rattle.dbformat.specs.Address.{overflow_step}
 use Rattle.dbformat.specs.Errands.{go}
 use Rattle.dbformat.specs.Faults.{fault}
-use Rattle.dbformat.specs.Reference.{Way, Reference, first_overflow, link}
 use Rattle.dbformat.specs.Story.{Event}
 use Rattle.dbformat.specs.Tests.{told_if}
 use Rattle.dbformat.specs.declared.Fault.{Fault}
 use Rattle.dbformat.specs.declared.FaultCode.TheVariants.{T05, T06}
-use Rattle.dbwalk.specs.Running.{is_late, greater_key}
 use Rattle.dbformat.specs.declared.TreeKind.{TreeKind}
+
+-- The greatest key of a walk so far, and visits that stand before a place.
+
+-- all visits so far stand before the place
+abbrev pub AreBefore : List Reference → Address → Type 0
+AreBefore W p = (u : Reference) → IsIn u W → IsBefore u.address p
+
+-- whether a key is out of order behind keys of which this is the greatest
+abbrev pub is_late : Bool → Option ℤ → ℤ → Bool
+is_late is_rowid None value = false
+is_late is_rowid (Some top) value = if is_rowid then int_le value top else int_lt value top
+
+-- the greatest key after one more
+abbrev pub greater_key : Option ℤ → ℤ → Option ℤ
+greater_key None value = Some value
+greater_key (Some top) value = if int_lt top value then Some value else Some top
+
+-- What is read off the leaf at a level.
 
 -- the number of its cells
 pub record HasCells (usable : ℕ) (kind : TreeKind) (levels : List (List ℕ)) (level page n : ℕ) : Type 0 where

@@ -1,5 +1,5 @@
 -- The marks of pages: as what each is used, by the visits of a walk and by the file's layout.
-use Rattle.std.specs.Prelude.{◌≡◌, ℕ, ◌-◌, Bool, true, false, List, [], map, slice_get, Option, None, count_by, ◌==◌, if◌then◌else◌}
+use Rattle.std.specs.Prelude.{◌≡◌, ℕ, ◌-◌, Bool, true, false, List, [], map, slice_get, Option, None, count_by, ◌==◌, if◌then◌else◌, ◌/◌, ◌%◌}
 use Rattle.std.specs.Option.{option_map_or}
 use Rattle.dbformat.specs.FixedPages.{is_fixed}
 use Rattle.dbformat.specs.File.{geometry}
@@ -69,3 +69,28 @@ AreMarksFor g marks = map cleared marks ≡ marks_of g []
 pub record Keeps (old new : List Mark) : Type 0 where
   pub marks : (p : ℕ) → is_unmarked old p ≡ false → page_mark new p ≡ page_mark old p
   pub fixed : map cleared new ≡ map cleared old
+
+-- How a mark is stored in four bytes.
+
+-- the mark of a kind, from 0 to 7, and a page
+abbrev pub mark_of_kind : ℕ → ℕ → Mark
+mark_of_kind kind from =
+    if kind == 0 then Unmarked
+    else if kind == 1 then Fixed
+    else if kind == 2 then Root
+    else if kind == 3 then Trunk
+    else if kind == 4 then FreeLeaf
+    else if kind == 5 then FirstOverflow from
+    else if kind == 6 then LaterOverflow from
+    else Child from
+
+-- the kind in the low three bits, and the page in the others
+unfoldable pub unpacked : ℕ → Mark
+unpacked word = mark_of_kind (word % 8) (word / 8)
+
+-- the page that a mark names, or 0
+abbrev pub named_page : Mark → ℕ
+named_page (FirstOverflow from) = from
+named_page (LaterOverflow from) = from
+named_page (Child from) = from
+named_page _ = 0

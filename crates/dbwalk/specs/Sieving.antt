@@ -10,8 +10,7 @@ use Rattle.dbformat.specs.declared.Encoding.{Encoding}
 use Rattle.dbformat.specs.declared.TreeKind.{TreeKind}
 use Rattle.dbbytes.specs.Sieve.{HasTaken}
 use Rattle.dbbytes.specs.declared.sieve.RowSieve.{RowSieve}
-use Rattle.dbwalk.specs.Running.{AreBefore}
-use Rattle.dbwalk.specs.LeafCells.{overflow_errands}
+use Rattle.dbwalk.specs.LeafCells.{AreBefore, overflow_errands}
 use Rattle.dbtrace.specs.Finding.{visited_below}
 
 -- there is a sieve, and it has taken these bytes of a row that was to have so many

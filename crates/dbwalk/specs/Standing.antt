@@ -15,10 +15,9 @@ use Rattle.dbwalk.specs.Entered.{IsNext}
 use Rattle.dbtrace.specs.Item.{Item}
 use Rattle.dbtrace.specs.Walk.{Walk}
 use Rattle.dbwalk.specs.Found.{StandsAt}
-use Rattle.dbwalk.specs.LeafCells.{overflow_errands}
+use Rattle.dbwalk.specs.LeafCells.{overflow_errands, AreBefore}
 use Rattle.dbwalk.specs.Marking.{AreMarksOf}
 use Rattle.dbwalk.specs.RootRoom.{HasRoom, StartsEmpty}
-use Rattle.dbwalk.specs.Running.{AreBefore}
 use Rattle.dbwalk.specs.Underway.{IsAt}
 use Rattle.dbwalk.specs.Walking.{IsCandidate, IsLeafAt}
 use Rattle.dbwalk.specs.WalkingOn.{IsWalkingOn}

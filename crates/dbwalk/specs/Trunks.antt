@@ -1,18 +1,33 @@
--- The trunks of the freelist as a program walks them.
-use Rattle.std.specs.Prelude.{◌≡◌, ℕ, List, [], ◌∷◌, map, Option, Some, None, Result, Ok, Err, false, ◌==◌, if◌then◌else◌}
-use Rattle.dbsurvey.specs.Story.{Go}
-use Rattle.dbformat.specs.Address.{freelist_start}
-use Rattle.dbformat.specs.Errands.{go}
-use Rattle.dbformat.specs.File.{page_bytes}
-use Rattle.dbformat.specs.Reference.{trunk, next_trunk, Reference, role_of, from_of, item_of}
+-- Trunks of the freelist, and their leaves.
+use Rattle.std.specs.Prelude.{ℕ, List, map, Result, Ok, Err, ◌≡◌, [], ◌∷◌, Option, Some, None, false, ◌==◌, if◌then◌else◌}
+use Rattle.std.specs.List.{range_with_len}
+use Rattle.dbsurvey.specs.Story.{Errand, Go}
+use Rattle.dbformat.specs.Errands.{leaf_errand, go}
+use Rattle.dbformat.specs.Reference.{Way, Reference, trunk, next_trunk, role_of, from_of, item_of}
+use Rattle.dbformat.specs.Story.{Event}
 use Rattle.dbsource.specs.declared.error.RunError.{RunError}
-use Rattle.dbwalk.specs.declared.entering.Step.{Step}
 use Rattle.dbwalk.specs.declared.mark.Mark.{Mark}
-use Rattle.dbwalk.specs.declared.mark.Mark.TheVariants.{Trunk}
 use Rattle.dbtrace.specs.Finding.{Finding}
-use Rattle.dbwalk.specs.Entered.{IsStepOf}
 use Rattle.dbwalk.specs.Left.{IsLeft}
 use Rattle.dbwalk.specs.Done.{IsDone}
+use Rattle.dbformat.specs.Address.{freelist_start}
+use Rattle.dbformat.specs.File.{page_bytes}
+use Rattle.dbwalk.specs.declared.entering.Step.{Step}
+use Rattle.dbwalk.specs.declared.mark.Mark.TheVariants.{Trunk}
+use Rattle.dbwalk.specs.Entered.{IsStepOf}
+
+-- The leaves of a trunk as a program enters them.
+
+-- n leaves of a trunk's page, from leaf j on
+abbrev pub leaves_from : Reference → List ℕ → ℕ → ℕ → List (Errand Way Event)
+leaves_from d page j n = map (leaf_errand d page) (range_with_len j n)
+
+-- something is left after some visits, or an error stopped it
+abbrev pub Leaves : {S : Type 0} → (S → Finding → S → Type 0) → (S → Finding → S → Type 0) → List ℕ → List Reference → List (Errand Way Event) → S → List (Errand Way Event) → Result (Unit {0}) RunError → List Mark → S → Type 0
+Leaves takes drops file W errands before left (Ok u) marks now = (U : List Reference) × IsLeft takes file W errands before U left marks now
+Leaves takes drops file W errands before left (Err e) marks now = IsDone {A = Unit {0}} takes drops file W errands (Err e) marks before now
+
+-- The trunks of the freelist as a program walks them.
 
 -- the step to a trunk
 abbrev pub trunk_step : ℕ → ℕ → ℕ → Step

@@ -12,7 +12,7 @@ use Rattle.dbsource.specs.declared.error.RunError.{RunError}
 use Rattle.dbtrace.specs.Item.{Item}
 use Rattle.dbtrace.specs.Walk.{Walk, bare, advance, run_below}
 use Rattle.dbwalk.specs.Marking.{AreMarksOf}
-use Rattle.dbwalk.specs.Stack.{IsOpenFrame}
+use Rattle.dbwalk.specs.Walking.{IsOpenFrame}
 use Rattle.dbwalk.specs.Watching.{Handed}
 use Rattle.dbwalk.specs.declared.mark.Mark.{Mark}
 use Rattle.dbwalk.specs.declared.state.Tree.{Tree}

@@ -6,9 +6,8 @@ use Rattle.dbsource.specs.declared.error.RunError.{RunError}
 use Rattle.dbtrace.specs.Item.{Item}
 use Rattle.dbtrace.specs.Steps.{roots_in}
 use Rattle.dbtrace.specs.Walk.{Walk, begin, run_below}
-use Rattle.dbwalk.specs.Stack.{left_over, AreCalls, AreOpenFrames}
+use Rattle.dbwalk.specs.Walking.{left_over, AreCalls, AreOpenFrames, AreRead}
 use Rattle.dbwalk.specs.Underway.{IsUnderway}
-use Rattle.dbwalk.specs.Walking.{AreRead}
 use Rattle.dbwalk.specs.Watching.{StopsAt}
 use Rattle.dbwalk.specs.declared.frame.Frame.{Frame}
 use Rattle.dbwalk.specs.declared.mark.Mark.{Mark}

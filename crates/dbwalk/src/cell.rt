@@ -40,18 +40,15 @@ pub(crate) fn walk_overflow<A: Allocator, S: Source, K: Sink>(
     sieve: &mut Option<RowSieve>,
     sink: &mut K,
 ) -> Result<(), RunError>
-    requires page { IsPageNumber page }
-    requires left { IfSome overflow (λ o. o.1 ≤ most_payload) }
-    ensures bench { (bench.new.geometry ≡ bench.old.geometry) × (bench.new.levels ≡ bench.old.levels) }
+    requires { IsPageNumber page × IfSome overflow (λ o. o.1 ≤ most_payload) }
+    ensures kept { (bench.new.geometry ≡ bench.old.geometry) × (bench.new.levels ≡ bench.old.levels) × (is_some sieve.new ≡ is_some sieve.old) }
     ensures reads { (S.held source.new).failures ≡ failures_after is_read_failed result (S.held source.old).failures }
     ensures writes { SinkAfter is_write_failed result (K.held sink.old) (K.held sink.new) }
     ensures log { HasLog S.step (Reads bench.old.geometry.page_size marks.old marks.new) (λ file. bench.old.geometry ≡ shape_of file
         → AtOverflow file tree.now bench.old.levels page i overflow marks.old (λ U c.
         IsDone K.takes K.drops file U (overflow_errands c i overflow) result marks.new sink.old sink.new
-        × OnOk result (FeedsPayload file U c i overflow sieve.old sieve.new)))
-        (S.held source.old) (S.held source.new) }
+        × OnOk result (FeedsPayload file U c i overflow sieve.old sieve.new))) (S.held source.old) (S.held source.new) }
     ensures only { IfErr result IsReadOrWrite }
-    ensures kept { is_some sieve.new ≡ is_some sieve.old }
 {
     match overflow {
         None => Ok(()),

@@ -17,7 +17,11 @@
 //! one part, so that the contract of a tree is made from those of its pages, theirs from those of their cells. Of an overflow
 //! chain and the freelist, which leave the progress, `IsDone` says the same by the visits.
 //!
-//! **Where a walk stands** (specs/Walking, WalkingOn and Stack; Standing has it for clauses). The loop over interior pages keeps
+//! **What a call keeps** (specs/Walked). A walk over a tree is one struct, `TreeWalk`, of all that it borrows but the page buffers.
+//! One clause of each of its methods, `Walked`, says that it still lends the same, that each failure of a source, a sink or a
+//! taker is counted and answered, and that no tree but the schema's calls the taker. `SaysOfFiles` has what was asked for.
+//!
+//! **Where a walk stands** (specs/Walking and WalkingOn; Standing has it for clauses). The loop over interior pages keeps
 //! one equation: what its frames still have to do, gone on with from here, makes the walk whole (`IsUnderway`). Pages on the path
 //! stay in the bench, a level each, and at most 20 are held; behind a chain the path is taken up where it was left.
 //!

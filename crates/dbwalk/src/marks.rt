@@ -1,12 +1,11 @@
 // The marks of all pages.
 ghost use Rattle.std.specs.Prelude.{ℕ, List, ◌≡◌, ◌-◌, ◌+◌, ◌<◌, ◌≤◌, ◌^◌, [], Some, None, IfOk, length, map, slice_set};
 ghost use Rattle.dbformat.specs.FixedPages.{most_pages, IsPageNumber, IsInRange};
-ghost use Rattle.dbwalk.specs.Marking.{cleared, mark_of, marks_of, page_mark};
-ghost use Rattle.dbwalk.specs.Packing.{named_page, unpacked};
+ghost use Rattle.dbwalk.specs.Marking.{cleared, mark_of, marks_of, page_mark, named_page, unpacked};
 ghost use Rattle.dbformat.specs.declared.Geometry.{Geometry};
 ghost use Rattle.dbwalk.specs.EndMarks.{MarksTellTheEnd};
 ghost use Rattle.dbwalk.specs.Reads.{ReadsEachPageOnce};
-ghost use Rattle.dbwalk.specs.Refusal.{refusal_by};
+ghost use Rattle.dbwalk.specs.Entered.{refusal_by};
 
 use crate::Mark;
 use dbformat::{FaultCode, Geometry};
@@ -26,7 +25,7 @@ impl<A: Allocator> Model for Marks<A> {
     ghost Value = { List Mark };
 
     ghost use Rattle.dbformat.specs.FixedPages.{most_pages};
-    ghost use Rattle.dbwalk.specs.Packing.{unpacked};
+    ghost use Rattle.dbwalk.specs.Marking.{unpacked};
 
     ghost view = { λ m. map unpacked m.words.items };
 
@@ -51,7 +50,7 @@ fn pack(mark: Mark) -> u32
 }
 
 // The mark that is stored so.
-#[tactic(auto, unfolding(crate::specs::Packing::unpacked))]
+#[tactic(auto, unfolding(crate::specs::Marking::unpacked))]
 fn unpack(word: u32) -> Mark
     ensures { result ≡ unpacked word }
 {

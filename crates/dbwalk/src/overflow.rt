@@ -6,7 +6,7 @@ ghost use Rattle.dbformat.specs.Tests.{told_if};
 ghost use Rattle.dbformat.specs.declared.FaultCode.TheVariants as fault_code;
 ghost use Rattle.dbformat.specs.declared.PageType.TheVariants as page_type;
 ghost use Rattle.dbsource.specs.declared.error.RunError.TheVariants as run_error;
-ghost use Rattle.dbwalk.specs.Feeding.{Feeds};
+ghost use Rattle.dbwalk.specs.Chains.{Feeds};
 ghost use Rattle.dbtrace.specs.Finding.{told_row, told_fault};
 ghost use Rattle.dbwalk.specs.Outcomes.{Tells};
 ghost use Rattle.dbwalk.specs.Rows.{row_of};

@@ -8,7 +8,7 @@ ghost use Rattle.dbbytes.specs.Row.{seen};
 ghost use Rattle.dbwalk.specs.Outcomes.{IsWriteOrMemory};
 ghost use Rattle.dbwalk.specs.Telling.{IsTold, findings};
 ghost use Rattle.dbwalk.specs.Rows.{schema_row_of};
-ghost use Rattle.dbwalk.specs.RowTold.{place_of, fault_of, taken_faults, TellsRow};
+ghost use Rattle.dbwalk.specs.Taking.{place_of, fault_of, taken_faults, TellsRow};
 ghost use Rattle.dbwalk.specs.Sieving.{HasFed};
 ghost use Rattle.dbsource.specs.Errors.{is_out_of_memory, is_write_failed};
 ghost use Rattle.dbsource.specs.Failures.{failures_after};

@@ -53,7 +53,8 @@ impl<A: Allocator, S: Source, K: Sink, T: Taker> TreeWalk<'_, '_, '_, '_, A, S, 
 }
 
 /// Walks over the tree of a root, and marks and tells all that is below it. Each page is marked, and then read, once; a
-/// root that may not be followed is told. The rows of the schema go to the taker.
+/// root that may not be followed is told. The rows of the schema that can be read go to the taker, in their order; no other
+/// tree calls it.
 ///
 /// # Errors
 ///
@@ -70,8 +71,6 @@ pub fn walk_tree<A: Allocator, S: Source, K: Sink, T: Taker>(
 ) -> Result<(), RunError>
     requires schema { (root.kind ≡ root_kind.Schema) ↔ (root.start ≡ schema_start) }
     ensures shape { bench.new.geometry ≡ bench.old.geometry }
-    // The taker of the schema's tree was given its rows that can be read, in their order; after an error a beginning of them,
-    // up to one for which it was refused memory, where it was.
     ensures asks { Asks S.step (Reads bench.old.geometry.page_size marks.old marks.new) (λ file. bench.old.geometry ≡ shape_of file
         → root.encoding ≡ encoding_of file → (W : List Reference) (c : Reference) → IsRootAfter file root W c marks.old
         → (held : T → ℕ) → (root.kind ≡ root_kind.Schema → StartsEmpty T.takes held taker.old)
@@ -80,7 +79,6 @@ pub fn walk_tree<A: Allocator, S: Source, K: Sink, T: Taker>(
     ensures writes { SinkAfter is_write_failed result (K.held sink.old) (K.held sink.new) }
     ensures refusals { T.refusals taker.new ≡ failures_after is_out_of_memory result (T.refusals taker.old) }
     ensures only { IfErr result IsReadWriteOrMemory }
-    // Only the schema's tree calls the taker.
     ensures others { 1 ≤ root.start → (taker.new ≡ taker.old) × IfErr result IsReadOrWrite }
 {
     let step = tree_step(0, root.page, 0, root.start);

@@ -18,10 +18,9 @@ use Rattle.dbwalk.specs.declared.chain.Chain.{Chain}
 use Rattle.dbwalk.specs.declared.chain.Place.{Place}
 use Rattle.dbwalk.specs.declared.mark.Mark.{Mark}
 use Rattle.dbwalk.specs.declared.mark.Mark.TheVariants.{FirstOverflow, LaterOverflow}
-use Rattle.dbwalk.specs.Chains.{IsChainOf, IsOnWay, next_of}
+use Rattle.dbwalk.specs.Chains.{IsChainOf, IsOnWay, next_of, Feeds, FeedsChain}
 use Rattle.dbwalk.specs.Done.{IsDone}
 use Rattle.dbwalk.specs.Entered.{IsNext, Enters}
-use Rattle.dbwalk.specs.Feeding.{Feeds, FeedsChain}
 use Rattle.dbtrace.specs.Finding.{Finding, told_at, told_below}
 use Rattle.dbwalk.specs.Left.{IsLeft}
 use Rattle.dbwalk.specs.Marking.{role_mark, AreMarksOf}

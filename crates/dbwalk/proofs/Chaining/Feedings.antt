@@ -22,7 +22,7 @@ use Rattle.dbformat.proofs.Theory.{are_rules}
 use Rattle.dbbytes.specs.Sieve.{HasTaken}
 use Rattle.dbbytes.specs.declared.sieve.RowSieve.{RowSieve}
 use Rattle.dbwalk.specs.Entered.{IsNext}
-use Rattle.dbwalk.specs.Feeding.{FeedsChain, Feeds, FeedsPages}
+use Rattle.dbwalk.specs.Chains.{FeedsChain, Feeds, FeedsPages}
 use Rattle.dbtrace.specs.Finding.{visited_below}
 use Rattle.std.proofs.lemmas.Grind.{flat_map-append}
 use Rattle.dbformat.specs.Header.{usable_size}

@@ -14,7 +14,7 @@ use Rattle.dbformat.proofs.Looping.{none_at_free_leaf, by_leaf, all_quiet}
 use Rattle.dbwalk.specs.declared.mark.Mark.{Mark}
 use Rattle.dbwalk.specs.Entered.{IsNext, Enters}
 use Rattle.dbtrace.specs.Finding.{Finding, told_row, told_fault, told_at, told_below}
-use Rattle.dbwalk.specs.FreeLeaves.{leaves_from}
+use Rattle.dbwalk.specs.Trunks.{leaves_from, IsFirstTrunk, IsOnTrunks, TrunkTurns, trunk_step, next_step}
 use Rattle.dbwalk.specs.Left.{IsLeft}
 use Rattle.dbwalk.proofs.Telling.Lefts.{left_refused, left_visit, left_start, left_none, left_stop}
 use Rattle.std.specs.List.{range_with_len}
@@ -34,7 +34,6 @@ use Rattle.dbwalk.specs.declared.entering.Step.{Step}
 use Rattle.dbwalk.specs.Done.{IsDone}
 use Rattle.dbwalk.specs.Marking.{role_mark, AreMarksOf}
 use Rattle.dbwalk.specs.Outcomes.{StopsBy}
-use Rattle.dbwalk.specs.Trunks.{IsFirstTrunk, IsOnTrunks, TrunkTurns, trunk_step, next_step}
 use Rattle.dbwalk.proofs.Telling.Belows.{told_visit}
 
 -- leaf j of a trunk

@@ -31,9 +31,8 @@ use Rattle.dbformat.specs.declared.TreeKind.{TreeKind}
 use Rattle.dbtrace.specs.Finding.{Finding}
 use Rattle.dbwalk.specs.Chains.{IsOnChain, IsChainOf}
 use Rattle.dbwalk.specs.Done.{IsDone}
-use Rattle.dbwalk.specs.LeafCells.{overflow_errands}
+use Rattle.dbwalk.specs.LeafCells.{overflow_errands, AreBefore}
 use Rattle.dbwalk.specs.Marking.{AreMarksOf}
-use Rattle.dbwalk.specs.Running.{AreBefore}
 use Rattle.dbwalk.specs.Walking.{IsLeafAt}
 use Rattle.dbwalk.specs.declared.chain.Chain.{Chain}
 use Rattle.dbwalk.specs.declared.mark.Mark.{Mark}

@@ -21,11 +21,10 @@ use Rattle.dbformat.specs.declared.FaultCode.TheVariants.{R01, R02, R03, T04}
 use Rattle.dbformat.proofs.Theory.{refused_by_marks}
 use Rattle.dbwalk.specs.declared.mark.Mark.{Mark}
 use Rattle.dbwalk.specs.declared.mark.Mark.TheVariants.{Unmarked, Fixed}
-use Rattle.dbwalk.specs.Marking.{role_mark, visit_mark, mark_of, marks_of, AreMarksOf, page_mark}
-use Rattle.dbwalk.specs.Refusal.{refusal_by}
+use Rattle.dbwalk.specs.Marking.{role_mark, visit_mark, mark_of, marks_of, AreMarksOf, page_mark, mark_of_kind, unpacked}
+use Rattle.dbwalk.specs.Entered.{refusal_by}
 use Rattle.std.proofs.Math.Seq.{take-suc-set}
 use Rattle.std.proofs.lemmas.List.{map-append}
-use Rattle.dbwalk.specs.Packing.{mark_of_kind, unpacked}
 
 -- lists by numbers
 

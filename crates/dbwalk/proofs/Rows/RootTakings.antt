@@ -12,7 +12,7 @@ use Rattle.dbsurvey.specs.Moves.{Moves}
 use Rattle.dbtrace.specs.Finding.{Finding, told_fault}
 use Rattle.dbtrace.specs.Item.{Item, given_rows, found, given}
 use Rattle.dbtrace.specs.Steps.{has_root, roots_in}
-use Rattle.dbwalk.specs.Taking.{gives}
+use Rattle.dbwalk.specs.Taking.{gives, fault_of, taken_faults, TellsOrStops, TellsRow}
 use Rattle.dbwalk.specs.Watching.{watches, fails, Handed}
 use Rattle.dbwalk.proofs.Underway.Handing.{moves_both, found_moves, found_stops, handed_after}
 use Rattle.dbformat.specs.Faults.{fault}
@@ -25,7 +25,6 @@ use Rattle.dbformat.specs.declared.RowFault.{RowFault}
 use Rattle.dbformat.specs.declared.RowFault.TheVariants.{Malformed, Root}
 use Rattle.dbsource.specs.declared.error.RunError.{RunError}
 use Rattle.dbsource.specs.declared.error.RunError.TheVariants.{OutOfMemory}
-use Rattle.dbwalk.specs.RowTold.{fault_of, taken_faults, TellsOrStops, TellsRow}
 use Rattle.dbwalk.specs.declared.schema_row.RowPlace.{RowPlace}
 use Rattle.dbwalk.proofs.Underway.CellSteps.{row_items}
 use Rattle.dbwalk.specs.declared.taker.Taken.TheVariants as answer

@@ -21,7 +21,7 @@ use Rattle.dbwalk.specs.Marking.{AreMarksOf, visit_mark, page_mark}
 use Rattle.dbtrace.specs.Finding.{Finding, told_at, told_below, visited_below, told_fault}
 use Rattle.dbwalk.specs.Outcomes.{StopsBy}
 use Rattle.dbwalk.specs.Done.{IsDone}
-use Rattle.dbwalk.specs.Entered.{Enters, IsNext, IsStepOf}
+use Rattle.dbwalk.specs.Entered.{Enters, IsNext, IsStepOf, refusal_by}
 use Rattle.dbwalk.specs.Left.{IsLeft}
 use Rattle.dbwalk.proofs.Telling.Tellings.{stops_by_first, stops_by_after}
 use Rattle.dbwalk.proofs.Telling.Belows.{visited_none, visited_refused, visited_visit, visited_join, told_none, told_join, told_refused, told_visit}
@@ -30,7 +30,6 @@ use Rattle.dbformat.specs.ReferenceFaults.{refusal_fault}
 use Rattle.dbformat.specs.declared.FaultCode.{FaultCode}
 use Rattle.dbwalk.specs.declared.mark.Mark.TheVariants.{Unmarked, Fixed, Root, Trunk, FreeLeaf, FirstOverflow, LaterOverflow, Child}
 use Rattle.dbwalk.specs.declared.entering.Step.{Step}
-use Rattle.dbwalk.specs.Refusal.{refusal_by}
 use Rattle.dbwalk.proofs.Marking.Markings.{refused-by_mark, followed-unrefused, followed-refused, marked-visit}
 
 past_rest : (U : List Reference) (e : Errand Way Event) (es : List (Errand Way Event)) → IsPast U (e ∷ es) → IsPast U es

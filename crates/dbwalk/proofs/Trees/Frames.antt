@@ -3,8 +3,7 @@ use Rattle.std.proofs.Common.{◌≡◌, ℕ, suc, ◌+◌, ◌<◌, List, [], �
 use Rattle.dbformat.specs.Address.{child_step, cell_of_step}
 use Rattle.dbformat.specs.File.{page_bytes}
 use Rattle.std.specs.Prelude.{slice_get, OnOk}
-use Rattle.dbwalk.specs.Stack.{AreCalls}
-use Rattle.dbwalk.specs.Walking.{AreRead, IsOpen, AreOpen, frames_cost, cost, path_of}
+use Rattle.dbwalk.specs.Walking.{AreCalls, AreRead, IsOpen, AreOpen, frames_cost, cost, path_of}
 use Rattle.dbwalk.specs.declared.frame.Frame.{Frame}
 use Rattle.std.proofs.lemmas.List.{map-append, length-map, length-append}
 use Rattle.dbformat.specs.FixedPages.{most_pages, IsPageNumber}

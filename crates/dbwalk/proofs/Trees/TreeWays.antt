@@ -6,8 +6,7 @@ use Rattle.std.proofs.lemmas.List.{append-nil, length-append}
 use Rattle.dbformat.specs.Address.{start_of, then_step, child_step, is_child_step, cell_of_step, children_on, chain_on, child_path, chain_place}
 use Rattle.dbformat.specs.Reference.{child, Reference}
 use Rattle.dbformat.specs.declared.TreeKind.{TreeKind}
-use Rattle.dbwalk.specs.Stack.{child_at, top_visit, AreCalls}
-use Rattle.dbwalk.specs.Walking.{IsCandidate, role_at, path_of}
+use Rattle.dbwalk.specs.Walking.{child_at, top_visit, AreCalls, IsCandidate, role_at, path_of}
 use Rattle.dbwalk.specs.declared.frame.Frame.{Frame}
 
 is_child : (n : ℕ) → is_child_step (child_step n) ≡ true

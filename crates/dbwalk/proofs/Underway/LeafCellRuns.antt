@@ -27,12 +27,11 @@ use Rattle.dbtrace.specs.Walk.{Walk, bare, advance}
 use Rattle.dbtrace.proofs.Asides.{are_aside}
 use Rattle.dbtrace.proofs.Stepping.{has_steps}
 use Rattle.dbwalk.specs.Done.{IsDone}
-use Rattle.dbwalk.specs.LeafCells.{overflow_errands, late_faults, top_after}
+use Rattle.dbwalk.specs.LeafCells.{overflow_errands, late_faults, top_after, AreBefore}
 use Rattle.dbwalk.specs.Marking.{AreMarksOf}
 use Rattle.dbwalk.specs.Outcomes.{IsReadOrWrite}
 use Rattle.dbwalk.specs.RootRoom.{HasRoom}
-use Rattle.dbwalk.specs.RowTold.{place_of, TellsRow}
-use Rattle.dbwalk.specs.Running.{AreBefore}
+use Rattle.dbwalk.specs.Taking.{place_of, TellsRow}
 use Rattle.dbwalk.specs.Sieving.{HasFed, HoldsCell, FeedsPayload}
 use Rattle.dbwalk.specs.Telling.{findings}
 use Rattle.dbwalk.specs.Underway.{IsAt, HasDone, done_below}

@@ -22,9 +22,8 @@ use Rattle.dbtrace.specs.Finding.{Finding, visited_below}
 use Rattle.dbtrace.specs.Walk.{Walk, bare}
 use Rattle.dbtrace.proofs.Stepping.{has_steps}
 use Rattle.dbwalk.specs.KeySpans.{AreRisingFrom, ArePassedAt}
-use Rattle.dbwalk.specs.LeafCells.{overflow_errands}
+use Rattle.dbwalk.specs.LeafCells.{overflow_errands, AreBefore}
 use Rattle.dbwalk.specs.RootRoom.{HasRoom}
-use Rattle.dbwalk.specs.Running.{AreBefore}
 use Rattle.dbwalk.specs.Underway.{IsAt, HasDone, done_below}
 use Rattle.dbwalk.specs.Walking.{IsLeafAt}
 use Rattle.dbwalk.specs.Watching.{watches, fails}

@@ -20,10 +20,9 @@ use Rattle.dbtrace.proofs.Stepping.{has_steps, roots_at, more_roots}
 use Rattle.dbwalk.specs.Entered.{IsNext}
 use Rattle.dbwalk.specs.LeafCells.{top_after}
 use Rattle.dbwalk.specs.Marking.{AreMarksOf}
-use Rattle.dbwalk.specs.Stack.{errands_from, child_at, top_visit, left_over, IsOpenFrame, AreOpenFrames}
+use Rattle.dbwalk.specs.Walking.{errands_from, child_at, top_visit, left_over, IsOpenFrame, AreOpenFrames, AreRead}
 use Rattle.dbwalk.specs.Telling.{findings}
 use Rattle.dbwalk.specs.Underway.{IsUnderway, HasDone, IsInterior, done_below, entered, IsAt}
-use Rattle.dbwalk.specs.Walking.{AreRead}
 use Rattle.dbwalk.specs.WalkingOn.{IsWalkingOn, tree_walk}
 use Rattle.dbwalk.specs.Watching.{StopsAt, watches, fails, Handed}
 use Rattle.dbwalk.specs.declared.frame.Frame.{Frame}

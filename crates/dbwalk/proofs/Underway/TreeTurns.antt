@@ -17,13 +17,11 @@ use Rattle.dbtrace.specs.Item.{Item, found}
 use Rattle.dbtrace.specs.Walk.{Walk}
 use Rattle.dbwalk.specs.Chains.{IsChainOf}
 use Rattle.dbwalk.specs.Entered.{IsNext}
-use Rattle.dbwalk.specs.LeafCells.{order_faults, top_after}
-use Rattle.dbwalk.specs.Running.{greater_key}
-use Rattle.dbwalk.specs.Stack.{errands_from, child_at, top_visit}
+use Rattle.dbwalk.specs.LeafCells.{order_faults, top_after, greater_key}
+use Rattle.dbwalk.specs.Walking.{errands_from, child_at, top_visit, IsCandidate, IsLeafAt, path_of}
 use Rattle.dbwalk.specs.Steps.{IsChainAt, IsChildAt, IsKeyAt, IsEmptyAt, no_chain, no_child, unreadable, without_key, IsNextStep, HasNext}
 use Rattle.dbwalk.specs.Telling.{findings}
 use Rattle.dbwalk.specs.Underway.{IsAt, HasDone, IsInterior, done_below, entered}
-use Rattle.dbwalk.specs.Walking.{IsCandidate, IsLeafAt, path_of}
 use Rattle.dbwalk.specs.WalkingOn.{IsWalkingOn, tree_walk}
 use Rattle.dbwalk.specs.Watching.{StopsAt}
 use Rattle.dbwalk.specs.declared.chain.Chain.{Chain}

@@ -3,7 +3,7 @@ use Rattle.std.proofs.Common.{ℕ, ◌<◌, inl, inr, List, [], ◌∷◌, ◌++
 use Rattle.dbsurvey.specs.Address.{Address, IsBefore}
 use Rattle.dbsurvey.proofs.Order.{IsIn-cases, IsBefore-trans, IsBefore-beginning}
 use Rattle.dbformat.specs.Reference.{Reference}
-use Rattle.dbwalk.specs.Running.{AreBefore}
+use Rattle.dbwalk.specs.LeafCells.{AreBefore}
 use Rattle.std.specs.Prelude.{OnOk}
 use Rattle.std.proofs.lemmas.List.{append-nil}
 use Rattle.dbsurvey.specs.Moves.{Moves, Stops}

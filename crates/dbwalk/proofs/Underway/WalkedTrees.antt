@@ -8,7 +8,7 @@ use Rattle.dbformat.specs.Reference.{Reference, role_of, tree_kind}
 use Rattle.dbformat.specs.declared.TreeKind.{TreeKind}
 use Rattle.dbtrace.specs.Starts.{IsOfEarlierStart, AreOfEarlierStarts}
 use Rattle.dbwalk.specs.Entered.{IsNext}
-use Rattle.dbwalk.specs.Walking.{IsCandidate}
+use Rattle.dbwalk.specs.Walking.{IsCandidate, left_over}
 use Rattle.std.proofs.lemmas.Bool.{eq-eqb}
 use Rattle.std.proofs.lemmas.List.{append-nil}
 use Rattle.dbsurvey.specs.Traverse.{is_followed}
@@ -26,7 +26,6 @@ use Rattle.dbtrace.proofs.Folding.{is_fold}
 use Rattle.dbtrace.proofs.Stepping.{has_steps}
 use Rattle.dbwalk.specs.Marking.{AreMarksOf, marks_of}
 use Rattle.dbwalk.specs.Outcomes.{Tells, IsReadOrWrite}
-use Rattle.dbwalk.specs.Stack.{left_over}
 use Rattle.dbwalk.specs.Taking.{Gives, readable_rows}
 use Rattle.dbwalk.specs.Underway.{IsAt, HasDone, IsUnderway, IsInterior, entered}
 use Rattle.dbwalk.specs.Done.{IsTreeDone}

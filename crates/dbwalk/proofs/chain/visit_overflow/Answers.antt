@@ -6,8 +6,7 @@ use Rattle.dbformat.specs.Header.{usable_size}
 use Rattle.dbformat.specs.Payload.{overflow_bytes, overflow_next}
 use Rattle.dbformat.specs.Story.{at_page}
 use Rattle.dbsource.proofs.Logs.{has_weaker}
-use Rattle.dbwalk.specs.Chains.{IsOverflowVisited}
-use Rattle.dbwalk.specs.Feeding.{Feeds}
+use Rattle.dbwalk.specs.Chains.{IsOverflowVisited, Feeds}
 use Rattle.dbwalk.proofs.Chaining.Feedings.{held_is}
 use Rattle.dbtrace.specs.Finding.{told_at}
 use Rattle.dbwalk.specs.Outcomes.{Tells}

@@ -5,11 +5,9 @@ use Rattle.dbformat.specs.Payload.{most_payload}
 use Rattle.dbformat.specs.FixedPages.{IsPageNumber}
 use Rattle.dbsurvey.specs.Story.{Go}
 use Rattle.dbsource.specs.Bench.{Pages}
-use Rattle.dbwalk.specs.Chains.{Turns}
+use Rattle.dbwalk.specs.Chains.{Turns, FeedsChain}
 use Rattle.dbwalk.specs.Done.{IsDone}
-use Rattle.dbwalk.specs.Feeding.{FeedsChain}
-use Rattle.dbwalk.specs.Marking.{IsUse}
-use Rattle.dbwalk.specs.Packing.{named_page}
+use Rattle.dbwalk.specs.Marking.{IsUse, named_page}
 use Rattle.dbwalk.proofs.Marking.Readings.{log_none, log_then}
 use Rattle.dbwalk.proofs.Chaining.ChainTurns.{way_start}
 use Rattle.dbwalk.proofs.chain.walk_chain.Goals as goal

@@ -7,8 +7,7 @@ use Rattle.dbformat.specs.Reference.{Reference}
 use Rattle.dbsource.specs.Sources.{HasLog}
 use Rattle.dbwalk.specs.Chains.{IsChainOf, IsOnWay}
 use Rattle.dbwalk.specs.Entered.{IsNext}
-use Rattle.dbwalk.specs.Marking.{AreMarksOf, IsUse}
-use Rattle.dbwalk.specs.Packing.{named_page}
+use Rattle.dbwalk.specs.Marking.{AreMarksOf, IsUse, named_page}
 use Rattle.dbwalk.specs.Reads.{Reads}
 use Rattle.dbwalk.proofs.chain.walk_chain.Given as goal
 

@@ -1,7 +1,7 @@
 use Rattle.std.proofs.Common.{◌≡◌, ◌+◌, ◌-◌, ◌<◌, inl, inr, ◌++◌, set, Err, refl, sym, ap, subst, ◌∙◌, arith}
 use Rattle.std.proofs.lemmas.Bool.{cases_Bool}
 use Rattle.std.proofs.lemmas.Result.{err_from_is_err_and}
-use Rattle.dbwalk.specs.FreeLeaves.{Leaves, leaves_from}
+use Rattle.dbwalk.specs.Trunks.{Leaves, leaves_from}
 use Rattle.dbwalk.specs.Left.{IsLeft}
 use Rattle.dbwalk.specs.Marking.{Keeps, unmarked_pages}
 use Rattle.dbwalk.specs.declared.mark.Mark.TheVariants.{FreeLeaf}

@@ -1,5 +1,5 @@
 use Rattle.std.proofs.Common.{sym, ◌∙◌, arith}
-use Rattle.dbwalk.specs.Packing.{unpacked}
+use Rattle.dbwalk.specs.Marking.{unpacked}
 use Rattle.dbwalk.proofs.Marking.Markings.{unpacked_is}
 use Rattle.dbwalk.proofs.marks.pack.Goals as goal
 

@@ -1,6 +1,5 @@
 use Rattle.std.proofs.Common.{◌≡◌, ◌+◌, ◌<◌, ◌++◌, suc, length, map, take, drop, vec_len, ap, ◌∙◌, arith}
-use Rattle.dbwalk.specs.Marking.{cleared}
-use Rattle.dbwalk.specs.Packing.{unpacked}
+use Rattle.dbwalk.specs.Marking.{cleared, unpacked}
 use Rattle.dbwalk.proofs.Marking.Markings.{map_step}
 use Rattle.dbwalk.proofs.marks.Marks.clear.Goals as goal
 

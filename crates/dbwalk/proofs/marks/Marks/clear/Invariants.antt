@@ -1,6 +1,5 @@
 use Rattle.std.proofs.Common.{◌≡◌, ◌++◌, map, take, drop, vec_len}
-use Rattle.dbwalk.specs.Marking.{cleared}
-use Rattle.dbwalk.specs.Packing.{unpacked}
+use Rattle.dbwalk.specs.Marking.{cleared, unpacked}
 use Rattle.dbwalk.proofs.marks.Marks.clear.Given as goal
 
 abbrev pub invariant-loop-index : goal.invariant-loop-index

@@ -1,8 +1,7 @@
 use Rattle.std.proofs.Common.{◌≡◌, [], ◌<◌, length, map, vec_len, ap, ◌∙◌, arith, sym}
 use Rattle.std.proofs.lemmas.List.{take_all}
 use Rattle.std.specs.List.{range_with_len}
-use Rattle.dbwalk.specs.Marking.{mark_of, marks_of}
-use Rattle.dbwalk.specs.Packing.{unpacked}
+use Rattle.dbwalk.specs.Marking.{mark_of, marks_of, unpacked}
 use Rattle.dbwalk.proofs.Marking.Markings.{made_step}
 use Rattle.dbwalk.proofs.marks.Marks.new_in.Goals as goal
 

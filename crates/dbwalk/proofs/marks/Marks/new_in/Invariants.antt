@@ -1,7 +1,6 @@
 use Rattle.std.proofs.Common.{◌≡◌, [], map, take, vec_len}
 use Rattle.std.specs.List.{range_with_len}
-use Rattle.dbwalk.specs.Marking.{mark_of}
-use Rattle.dbwalk.specs.Packing.{unpacked}
+use Rattle.dbwalk.specs.Marking.{mark_of, unpacked}
 use Rattle.dbwalk.proofs.marks.Marks.new_in.Given as goal
 
 abbrev pub invariant-loop-index : goal.invariant-loop-index

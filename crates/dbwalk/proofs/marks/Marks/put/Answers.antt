@@ -1,6 +1,6 @@
 use Rattle.std.proofs.Common.{◌-◌, map, set, ap, ◌∙◌}
 use Rattle.std.proofs.lemmas.List.{map-set}
-use Rattle.dbwalk.specs.Packing.{unpacked}
+use Rattle.dbwalk.specs.Marking.{unpacked}
 use Rattle.dbwalk.proofs.marks.Marks.put.Goals as goal
 
 pub returns : goal.returns

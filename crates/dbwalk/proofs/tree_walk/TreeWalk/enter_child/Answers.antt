@@ -3,9 +3,8 @@ use Rattle.std.specs.Prelude.{ℕ, Bool}
 use Rattle.std.proofs.lemmas.Result.{err_from_is_err_and}
 use Rattle.dbformat.specs.FixedPages.{IsPageNumber}
 use Rattle.dbsource.proofs.Logs.{has_weaker}
-use Rattle.dbwalk.specs.Stack.{child_at, top_visit}
+use Rattle.dbwalk.specs.Walking.{child_at, top_visit, IsOpen, AreOpen, cost}
 use Rattle.dbformat.specs.Address.{schema_start}
-use Rattle.dbwalk.specs.Walking.{IsOpen, AreOpen, cost}
 use Rattle.dbwalk.specs.declared.steps.Next.TheVariants.{Child}
 use Rattle.dbwalk.proofs.Trees.Frames.{open_kept, open_push, ends_on, ends_enter, path_last, at_step, step_on, as_deep, way_on}
 use Rattle.dbwalk.specs.RootRoom.{HasRoom}

@@ -5,8 +5,7 @@ use Rattle.std.proofs.lemmas.Int.{to_z-of_z}
 use Rattle.dbformat.specs.Payload.{most_payload}
 use Rattle.dbformat.specs.FixedPages.{IsPageNumber}
 use Rattle.dbsurvey.specs.Moves.{Moves, Stops}
-use Rattle.dbwalk.specs.LeafCells.{order_faults}
-use Rattle.dbwalk.specs.Running.{greater_key}
+use Rattle.dbwalk.specs.LeafCells.{order_faults, greater_key}
 use Rattle.std.proofs.lemmas.Result.{err_from_is_err_and}
 use Rattle.dbsource.specs.Bench.{Pages}
 use Rattle.dbsource.proofs.Logs.{has_weaker}

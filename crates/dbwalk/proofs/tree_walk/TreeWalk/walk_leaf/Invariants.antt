@@ -5,7 +5,7 @@ use Rattle.dbformat.specs.Head.{View, is_interior}
 use Rattle.dbformat.specs.Reference.{Reference, tree_view}
 use Rattle.dbtrace.specs.Walk.{Walk}
 use Rattle.dbwalk.specs.RootRoom.{HasRoom}
-use Rattle.dbwalk.specs.Running.{AreBefore}
+use Rattle.dbwalk.specs.LeafCells.{AreBefore}
 use Rattle.dbwalk.specs.Standing.{IsSameButGreatest}
 use Rattle.dbwalk.specs.Underway.{IsAt}
 use Rattle.dbwalk.specs.Walked.{Does, SaysOfFiles, Walked}
