@@ -22,7 +22,7 @@ use crate::RootList;
 use crate::check_sink::CheckSink;
 use crate::end_pass::tell_end;
 use crate::schema_watch::SchemaWatch;
-use crate::telling::tell_header;
+use crate::tell::tell_header;
 use crate::walks::walk_starts;
 use dbformat::Verdict;
 use dbsource::{Bench, Header, Out, RunError, Source};

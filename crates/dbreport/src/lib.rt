@@ -29,7 +29,6 @@ mod stat_sink;
 mod statistics;
 mod sums;
 mod tell;
-mod telling;
 mod tree_name;
 mod tree_sink;
 mod walks;

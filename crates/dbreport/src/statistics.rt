@@ -28,7 +28,7 @@ use crate::RootList;
 use crate::end_pass::tell_end;
 use crate::schema_watch::SchemaWatch;
 use crate::stat_sink::StatSink;
-use crate::telling::tell_header;
+use crate::tell::tell_header;
 use crate::tree_name::Label;
 use crate::walks::walk_starts;
 use dbformat::Verdict;

@@ -1,13 +1,16 @@
-// Telling faults to a sink.
+// Telling faults to a sink, and those of the header.
 ghost use Rattle.std.specs.Prelude.{◌≡◌, IfErr};
+ghost use Rattle.dbformat.specs.HeaderFaults.{header_faults};
 ghost use Rattle.dbsource.specs.Errors.{is_write_failed};
 ghost use Rattle.dbsource.specs.declared.error.RunError.TheVariants.{WriteFailed};
 ghost use Rattle.dbwalk.specs.Outcomes.{Tells};
-ghost use Rattle.dbreport.specs.Telling.{items_of};
 ghost use Rattle.dbwalk.specs.Sinks.{SinkAfter};
+ghost use Rattle.dbwalk.specs.Telling.{findings};
+ghost use Rattle.dbreport.specs.Telling.{items_of};
 
+use crate::header_faults::header_faults as faults_of;
 use dbformat::Fault;
-use dbsource::RunError;
+use dbsource::{Header, RunError};
 use dbwalk::Sink;
 
 // Tells those that are faults.
@@ -22,4 +25,18 @@ pub(crate) fn tell_all<K: Sink>(faults: &[Option<Fault>], sink: &mut K) -> Resul
         }
     }
     Ok(())
+}
+
+/// Tells the faults of the header.
+///
+/// # Errors
+///
+/// [`RunError::WriteFailed`] exactly where the sink failed.
+pub(crate) fn tell_header<K: Sink>(header: &Header, sink: &mut K) -> Result<(), RunError>
+    ensures told { Tells K.takes K.drops result sink.old (findings (header_faults header.now.bytes header.now.file_len)) sink.new }
+    ensures writes { SinkAfter is_write_failed result (K.held sink.old) (K.held sink.new) }
+    ensures only { IfErr result (λ e. e ≡ WriteFailed) }
+{
+    let faults = faults_of(header);
+    tell_all(&faults, sink)
 }
