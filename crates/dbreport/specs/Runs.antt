@@ -1,9 +1,10 @@
 -- What an answer of a run says of the file, and of what was written.
-use Rattle.std.specs.Prelude.{◌≡◌, ◌<◌, ◌↔◌, ℕ, true, false, List, length, Option, None, Some, Result, Ok, Err, IfOk, IfSome, ⊤}
+use Rattle.std.specs.Prelude.{◌≡◌, ◌<◌, ◌↔◌, ℕ, true, false, List, length, Option, None, Some, Result, Ok, Err, IfErr, IfOk, IfSome, ⊤}
 use Rattle.dbformat.specs.File.{geometry, refusal}
+use Rattle.dbformat.specs.FixedPages.{geometry_of}
 use Rattle.dbformat.specs.Reference.{Reference}
 use Rattle.dbformat.specs.Lines.{AddsUpToAllPages}
-use Rattle.dbformat.specs.Log.{IsRunLog, IsSomeRunLog}
+use Rattle.dbformat.specs.Log.{IsPageLog, IsRunLog, IsSomeRunLog}
 use Rattle.dbformat.specs.Report.{report}
 use Rattle.dbformat.specs.Rows.{CountsEachPageOnce, CountsNoPageTwice}
 use Rattle.dbformat.specs.Sound.{Sound}
@@ -13,13 +14,21 @@ use Rattle.dbformat.specs.declared.Command.TheVariants.{Check, Stat}
 use Rattle.dbformat.specs.declared.Verdict.{Verdict}
 use Rattle.dbformat.specs.declared.Verdict.TheVariants.{Clean}
 use Rattle.dbsource.specs.Answers.{Lengths, Step, Trail}
+use Rattle.dbsource.specs.Errors.{is_out_of_memory, is_read_failed, is_write_failed}
+use Rattle.dbsource.specs.Failures.{CountsAfter, failures_after}
+use Rattle.dbsource.specs.HeaderBytes.{HeaderBytes}
 use Rattle.dbsource.specs.Headers.{IsOpenLog}
 use Rattle.dbsource.specs.Outs.{Writes}
-use Rattle.dbsource.specs.Snapshots.{HasRead}
+use Rattle.dbsource.specs.Snapshots.{HasRead, HasReadBehind}
 use Rattle.dbsource.specs.Sources.{HasRanges, SourceState}
 use Rattle.dbsource.specs.declared.error.OpenError.TheVariants as opening
 use Rattle.dbsource.specs.declared.error.RunError.{RunError}
 use Rattle.dbsource.specs.declared.error.RunError.TheVariants.{Refused, ReadFailed}
+use Rattle.dbsource.specs.declared.out.Out.{Ghosts as OutWords}
+use Rattle.dbsource.specs.declared.source.Source.{Ghosts as SourceWords}
+use Rattle.dbwalk.specs.Outcomes.{IsReadWriteOrMemory}
+use Rattle.dbreport.specs.Desks.{Things}
+use Rattle.dbreport.specs.StatSink.{failures_of_each}
 
 -- that a command is a check
 abbrev pub IsCheck : Command → Type 0
@@ -65,6 +74,43 @@ pub record IsRunOf (command : Command) (file : List ℕ) (r : Result Verdict Run
   pub answer : IsAnswerOf r file
   pub sound : IfOk r (λ v. v ≡ Clean ↔ Sound file)
   pub counts : (V : List Reference) → Survey file V → CountsPages command file V
+
+-- ---- a run from a source and two Outs to what these have become, by what their traits say of them
+
+module _ {S O E : Type 0} (source : SourceWords S) (out : OutWords O) (err : OutWords E) where
+  -- Whatever the source answered: there is a file, of the length that it answered, that agrees with every byte that the run used;
+  -- and of each such file this was the run, and what it asked for is what a run over that file asks for.
+  abbrev pub HasRun : Command → Result Verdict RunError → S × O × E → S × O × E → Type 0
+  HasRun command r old new = HasRead source.step source.lengths IsSomeRunLog
+      (λ file ranges. IsRunLog (geometry file) ranges
+      × IsRunOf command file r (out.held old.1).bytes (out.held new.1).bytes (err.held old.2).bytes (err.held new.2).bytes)
+      (source.held old.0) (source.held new.0)
+
+  -- The same behind a header that had been read before: there is a file of this header that agrees, and so on.
+  abbrev pub HasRunBehind : HeaderBytes → Command → Result Verdict RunError → S × O × E → S × O × E → Type 0
+  HasRunBehind h command r old new = HasReadBehind source.step (IsPageLog (geometry_of h.bytes h.file_len)) h
+      (λ file. IsRunOf command file r (out.held old.1).bytes (out.held new.1).bytes (err.held old.2).bytes (err.held new.2).bytes)
+      (source.held old.0) (source.held new.0)
+
+  -- Who failed is what was answered: the source failed, once, exactly at a failed read; just one of the Outs, once, exactly at a
+  -- failed write; and of a check that is the first.
+  pub record FailsAsAnswered (command : Command) (r : Result Verdict RunError) (old new : S × O × E) : Type 0 where
+    pub reads : (source.held new.0).failures ≡ failures_after is_read_failed r (source.held old.0).failures
+    pub writes : CountsAfter is_write_failed r (failures_of_each (out.held old.1) (err.held old.2)) (failures_of_each (out.held new.1) (err.held new.2))
+    pub first : IsCheck command → (out.held new.1).failures ≡ failures_after is_write_failed r (out.held old.1).failures
+
+  -- At a refusal nothing but the header was asked for, and nothing was done to either Out.
+  pub record IsLeftAlone (r : Result Verdict RunError) (old new : S × O × E) : Type 0 where
+    pub asked : AsksHeaderAlone source.step r (source.held old.0).trail (source.held new.0).trail
+    pub first : IsUnwritten r old.1 new.1
+    pub second : IsUnwritten r old.2 new.2
+
+-- A run over a desk, which keeps its header: its list of roots was refused memory, once, exactly where that is answered; and no
+-- file is refused.
+pub record HasUsed (r : Result Verdict RunError) (old new : Things) : Type 0 where
+  pub header : new.header ≡ old.header
+  pub memory : new.roots.refusals ≡ failures_after is_out_of_memory r old.roots.refusals
+  pub only : IfErr r IsReadWriteOrMemory
 
 -- What a run left of a source that tells its bytes: it is so of them; they stay; it was asked for what a run over them asks
 -- for, and of bytes too few for a header for nothing.

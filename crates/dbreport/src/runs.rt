@@ -1,19 +1,18 @@
 // A run: from the bytes of a database to what is written of them.
 ghost use Rattle.std.specs.Prelude.{◌≡◌, List, IfErr, IfOk, Ok};
-ghost use Rattle.dbformat.specs.File.{geometry};
 ghost use Rattle.dbformat.specs.FixedPages.{geometry_of};
-ghost use Rattle.dbformat.specs.Log.{IsPageLog, IsRunLog, IsSomeRunLog};
+ghost use Rattle.dbformat.specs.Log.{IsPageLog};
 ghost use Rattle.dbformat.specs.Reference.{Reference};
 ghost use Rattle.dbformat.specs.Report.{report};
 ghost use Rattle.dbformat.specs.Survey.{Survey};
 ghost use Rattle.dbformat.specs.declared.Command.TheVariants.{Check, Stat};
 ghost use Rattle.dbreport.specs.DeskSizes.{DeskFitsInMemory};
-ghost use Rattle.dbreport.specs.Runs.{AsksHeaderAlone, IsCheck, IsReported, IsRunOf, IsUnwritten, ToldFilesAreRead};
+ghost use Rattle.dbreport.specs.Runs.{FailsAsAnswered, HasRun, HasRunBehind, HasUsed, IsCheck, IsLeftAlone, IsReported, ToldFilesAreRead};
 ghost use Rattle.dbreport.specs.StatSink.{failures_of_each};
 ghost use Rattle.dbsource.specs.Errors.{is_out_of_memory, is_read_failed, is_write_failed};
 ghost use Rattle.dbsource.specs.Failures.{CountsAfter, failures_after};
 ghost use Rattle.dbsource.specs.Outs.{Writes};
-ghost use Rattle.dbsource.specs.Snapshots.{HasRead, HasReadBehind};
+ghost use Rattle.dbsource.specs.Snapshots.{HasReadBehind};
 ghost use Rattle.dbwalk.specs.Outcomes.{IsReadWriteOrMemory};
 
 use crate::Desk;
@@ -107,18 +106,10 @@ pub fn run_on<A: Allocator, S: Source, O: Out, E: Out>(
 ) -> Result<Verdict, RunError>
     // Whatever the source answers: there is a file of the desk's header that agrees with what was read behind it, and of each
     // such file this was the run.
-    ensures read { HasReadBehind S.step (IsPageLog (geometry_of desk.old.header.bytes desk.old.header.file_len)) desk.old.header
-        (λ file. IsRunOf command file result (O.held out.old).bytes (O.held out.new).bytes (E.held err.old).bytes (E.held err.new).bytes)
-        (S.held source.old) (S.held source.new) }
-    ensures count { (S.held source.new).failures ≡ failures_after is_read_failed result (S.held source.old).failures }
-    ensures writes { CountsAfter is_write_failed result (failures_of_each (O.held out.old) (E.held err.old))
-        (failures_of_each (O.held out.new) (E.held err.new)) }
-    // A check does nothing to the second Out.
-    ensures out_failures { IsCheck command → (O.held out.new).failures ≡ failures_after is_write_failed result (O.held out.old).failures }
-    ensures second_out { IsCheck command → err.new ≡ err.old }
-    ensures refusals { desk.new.roots.refusals ≡ failures_after is_out_of_memory result desk.old.roots.refusals }
-    ensures only { IfErr result IsReadWriteOrMemory }
-    ensures header { desk.new.header ≡ desk.old.header }
+    ensures read { HasRunBehind S.Source O.Out E.Out desk.old.header command result (source.old, out.old, err.old) (source.new, out.new, err.new) }
+    ensures failed { FailsAsAnswered S.Source O.Out E.Out command result (source.old, out.old, err.old) (source.new, out.new, err.new) }
+    ensures second { IsCheck command → err.new ≡ err.old }
+    ensures desk { HasUsed result desk.old desk.new }
 {
     match command {
         Command::Check { limit } => check_on(limit, desk, source, out),
@@ -142,17 +133,10 @@ pub fn run_in<A: Allocator + Copy, S: Source, O: Out, E: Out>(
 ) -> Result<Verdict, RunError>
     // What is kept of the file is no larger than memory, as is so unless the allocator itself is about that large.
     requires fits { DeskFitsInMemory A.row A.Allocator }
-    ensures read { HasRead S.step S.lengths IsSomeRunLog
-        (λ file ranges. IsRunLog (geometry file) ranges
-        × IsRunOf command file result (O.held out.old).bytes (O.held out.new).bytes (E.held err.old).bytes (E.held err.new).bytes)
-        (S.held source.old) (S.held source.new) }
-    ensures count { (S.held source.new).failures ≡ failures_after is_read_failed result (S.held source.old).failures }
-    ensures refused { AsksHeaderAlone S.step result (S.held source.old).trail (S.held source.new).trail }
-    ensures unwritten { IsUnwritten result out.old out.new × IsUnwritten result err.old err.new }
-    ensures writes { CountsAfter is_write_failed result (failures_of_each (O.held out.old) (E.held err.old))
-        (failures_of_each (O.held out.new) (E.held err.new)) }
-    ensures out_failures { IsCheck command → (O.held out.new).failures ≡ failures_after is_write_failed result (O.held out.old).failures }
-    ensures second_out { IsCheck command → err.new ≡ err.old }
+    ensures read { HasRun S.Source O.Out E.Out command result (source.old, out.old, err.old) (source.new, out.new, err.new) }
+    ensures failed { FailsAsAnswered S.Source O.Out E.Out command result (source.old, out.old, err.old) (source.new, out.new, err.new) }
+    ensures refused { IsLeftAlone S.Source O.Out E.Out result (source.old, out.old, err.old) (source.new, out.new, err.new) }
+    ensures second { IsCheck command → err.new ≡ err.old }
 {
     let header = Header::read(source)?;
     let mut desk = Desk::new_in(alloc, header)?;
@@ -180,19 +164,10 @@ pub fn run<S: Source, O: Out, E: Out>(
 ) -> Result<Verdict, RunError>
     // Whatever the source answers: there is a file, of the length that it answered, that agrees with every byte that the run
     // used, and of each such file this was the run.
-    ensures read { HasRead S.step S.lengths IsSomeRunLog
-        (λ file ranges. IsRunLog (geometry file) ranges
-        × IsRunOf command file result (O.held out.old).bytes (O.held out.new).bytes (E.held err.old).bytes (E.held err.new).bytes)
-        (S.held source.old) (S.held source.new) }
-    ensures count { (S.held source.new).failures ≡ failures_after is_read_failed result (S.held source.old).failures }
-    // At a refusal nothing but the header is asked for, and nothing is done to either Out.
-    ensures refused { AsksHeaderAlone S.step result (S.held source.old).trail (S.held source.new).trail }
-    ensures unwritten { IsUnwritten result out.old out.new × IsUnwritten result err.old err.new }
-    ensures writes { CountsAfter is_write_failed result (failures_of_each (O.held out.old) (E.held err.old))
-        (failures_of_each (O.held out.new) (E.held err.new)) }
-    // A check does nothing to the second Out.
-    ensures out_failures { IsCheck command → (O.held out.new).failures ≡ failures_after is_write_failed result (O.held out.old).failures }
-    ensures second_out { IsCheck command → err.new ≡ err.old }
+    ensures read { HasRun S.Source O.Out E.Out command result (source.old, out.old, err.old) (source.new, out.new, err.new) }
+    ensures failed { FailsAsAnswered S.Source O.Out E.Out command result (source.old, out.old, err.old) (source.new, out.new, err.new) }
+    ensures refused { IsLeftAlone S.Source O.Out E.Out result (source.old, out.old, err.old) (source.new, out.new, err.new) }
+    ensures second { IsCheck command → err.new ≡ err.old }
 {
     run_in(alloc, command, source, out, err)
 }

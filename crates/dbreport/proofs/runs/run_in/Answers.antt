@@ -1,4 +1,4 @@
-use Rattle.std.proofs.Common.{ap, subst, ◌∙◌}
+use Rattle.std.proofs.Common.{ap, refl, subst, ◌∙◌}
 use Rattle.std.proofs.lemmas.Result.{err_from_is_err_and}
 use Rattle.dbformat.specs.FixedPages.{geometry_of}
 use Rattle.dbformat.specs.Log.{IsPageLog}
@@ -23,29 +23,23 @@ returns-in_err-header-clause-read g c =
     rw q.1 (rw q.2 (opened_run e c.in_err-header.ensures.opens
     (λ file h. none_of c.args.command file (run_error e) (g.O.Out.held c.args.out.now).bytes (g.E.Out.held c.args.err.now).bytes (refused_answer file e h))))
 
-pub returns-in_err-header-clause-count : goal.returns-in_err-header-clause-count
-returns-in_err-header-clause-count g c =
+pub returns-in_err-header-clause-failed : goal.returns-in_err-header-clause-failed
+returns-in_err-header-clause-failed g c =
     let q = err_from_is_err_and c.from_residual.result c.from_residual.ensures.1 in
     let e = c.in_err-header.field-0.0 in
-    rw q.1 (rw q.2 (c.in_err-header.ensures.opens.asks.count ∙ open_failures e (g.S.Source.held c.args.source.now).failures))
-
-pub returns-in_err-header-clause-out_failures : goal.returns-in_err-header-clause-out_failures
-returns-in_err-header-clause-out_failures g c = λ check.
-    let q = err_from_is_err_and c.from_residual.result c.from_residual.ensures.1 in
-    rw q.1 (rw q.2 (refused_failures c.in_err-header.field-0.0 (g.O.Out.held c.args.out.now).failures))
-
-pub returns-in_err-header-clause-writes : goal.returns-in_err-header-clause-writes
-returns-in_err-header-clause-writes g c =
-    let q = err_from_is_err_and c.from_residual.result c.from_residual.ensures.1 in
-    rw q.1 (rw q.2 (refused_counts c.in_err-header.field-0.0 (failures_of_each (g.O.Out.held c.args.out.now) (g.E.Out.held c.args.err.now))))
-
-pub returns-in_err-header-clause-unwritten : goal.returns-in_err-header-clause-unwritten
-returns-in_err-header-clause-unwritten g c = (refused_unwritten c.from_residual.result c.args.out.now, refused_unwritten c.from_residual.result c.args.err.now)
+    rw q.1 (rw q.2 (record {
+      reads = c.in_err-header.ensures.opens.asks.count ∙ open_failures e (g.S.Source.held c.args.source.now).failures;
+      writes = refused_counts e (failures_of_each (g.O.Out.held c.args.out.now) (g.E.Out.held c.args.err.now));
+      first = λ check. refused_failures e (g.O.Out.held c.args.out.now).failures;
+    }))
 
 pub returns-in_err-header-clause-refused : goal.returns-in_err-header-clause-refused
 returns-in_err-header-clause-refused g c =
-    let q = err_from_is_err_and c.from_residual.result c.from_residual.ensures.1 in
-    rw q.1 (rw q.2 (refused_log c.in_err-header.field-0.0 _ _ (has_ranges c.in_err-header.ensures.opens.asks.log)))
+    let q = err_from_is_err_and c.from_residual.result c.from_residual.ensures.1 in record {
+      asked = rw q.1 (rw q.2 (refused_log c.in_err-header.field-0.0 _ _ (has_ranges c.in_err-header.ensures.opens.asks.log)));
+      first = refused_unwritten c.from_residual.result c.args.out.now;
+      second = refused_unwritten c.from_residual.result c.args.err.now;
+    }
 
 -- ---- memory was refused
 
@@ -58,18 +52,18 @@ returns-in_err-desk-clause-read g c =
     (behind_none h (g.S.Source.held c.read.new.source) opens.there_is.0 (opens.asks.log.files opens.there_is.0 opens.there_is.2 opens.there_is.1)
     (λ file is. none_of c.args.command file OutOfMemory (g.O.Out.held c.args.out.now).bytes (g.E.Out.held c.args.err.now).bytes is.is_read))))
 
-pub returns-in_err-desk-clause-count : goal.returns-in_err-desk-clause-count
-returns-in_err-desk-clause-count g c =
+pub returns-in_err-desk-clause-failed : goal.returns-in_err-desk-clause-failed
+returns-in_err-desk-clause-failed g c =
     let q = err_from_is_err_and c.from_residual-in_err-desk.result c.from_residual-in_err-desk.ensures.1 in
-    rw q.1 (rw q.2 c.in_ok-header.ensures.opens.asks.count)
-
-pub returns-in_err-desk-clause-unwritten : goal.returns-in_err-desk-clause-unwritten
-returns-in_err-desk-clause-unwritten g c = (refused_unwritten c.from_residual-in_err-desk.result c.args.out.now, refused_unwritten c.from_residual-in_err-desk.result c.args.err.now)
+    rw q.1 (rw q.2 (record { reads = c.in_ok-header.ensures.opens.asks.count; writes = refl; first = λ check. refl }))
 
 pub returns-in_err-desk-clause-refused : goal.returns-in_err-desk-clause-refused
 returns-in_err-desk-clause-refused g c =
-    let q = err_from_is_err_and c.from_residual-in_err-desk.result c.from_residual-in_err-desk.ensures.1 in
-    rw q.1 (rw q.2 tt)
+    let q = err_from_is_err_and c.from_residual-in_err-desk.result c.from_residual-in_err-desk.ensures.1 in record {
+      asked = rw q.1 (rw q.2 tt);
+      first = refused_unwritten c.from_residual-in_err-desk.result c.args.out.now;
+      second = refused_unwritten c.from_residual-in_err-desk.result c.args.err.now;
+    }
 
 -- ---- the file was read
 
@@ -82,17 +76,19 @@ returns-clause-read g c =
     (g.S.Source.held c.read.new.source) (g.S.Source.held c.run_on.new.source))
     c.in_ok-desk.ensures.header c.run_on.ensures.read)
 
-pub returns-clause-count : goal.returns-clause-count
-returns-clause-count g c = c.run_on.ensures.count ∙ ap (failures_after is_read_failed c.run_on.result) c.in_ok-header.ensures.opens.asks.count
-
-pub returns-clause-unwritten : goal.returns-clause-unwritten
-returns-clause-unwritten g c = (
-  read_unwritten c.run_on.result c.args.out.now c.run_on.new.out c.run_on.ensures.only,
-  read_unwritten c.run_on.result c.args.err.now c.run_on.new.err c.run_on.ensures.only,
-)
+pub returns-clause-failed : goal.returns-clause-failed
+returns-clause-failed g c = record {
+  reads = c.run_on.ensures.failed.reads ∙ ap (failures_after is_read_failed c.run_on.result) c.in_ok-header.ensures.opens.asks.count;
+  writes = c.run_on.ensures.failed.writes;
+  first = c.run_on.ensures.failed.first;
+}
 
 pub returns-clause-refused : goal.returns-clause-refused
-returns-clause-refused g c = read_refused g.S.Source.step c.run_on.result _ _ c.run_on.ensures.only
+returns-clause-refused g c = record {
+  asked = read_refused g.S.Source.step c.run_on.result _ _ c.run_on.ensures.desk.only;
+  first = read_unwritten c.run_on.result c.args.out.now c.run_on.new.out c.run_on.ensures.desk.only;
+  second = read_unwritten c.run_on.result c.args.err.now c.run_on.new.err c.run_on.ensures.desk.only;
+}
 
 -- ---- the room that a desk takes
 
