@@ -35,8 +35,9 @@ impl<A: Allocator, S: Source, K: Sink, T: Taker> TreeWalk<'_, '_, '_, '_, A, S, 
         ensures walked { Walked S.held K.held T.refusals result bench.old.geometry bench.new.geometry self.old self.new }
         ensures levels { bench.new.levels ≡ bench.old.levels }
         ensures tree { IsSameButGreatest self.old.tree self.new.tree }
-        ensures log { SaysOfFiles S.step S.held bench.old.geometry self.old self.new (λ file. AtCell T.takes file bench.old.levels page i self.old (λ from c v.
-            Does (watches K.takes T.takes) (fails K.drops T.refuses) file (done_below file from (cell_errands c self.old.tree.kind v i)) result self.old self.new)) }
+        ensures log { SaysOfFiles S.step S.held bench.old.geometry self.old self.new (λ file.
+            AtCell T.takes file bench.old.levels page i self.old (λ from c v. Does (watches K.takes T.takes) (fails K.drops T.refuses) file
+            (done_below file from (cell_errands c self.old.tree.kind v i)) result self.old self.new)) }
     {
         let cell = leaf_cell(bench, self.tree.kind, self.tree.path.len(), page, i);
         let mut sieve = row_sieve(bench, &self.tree, page, i, self.encoding);
