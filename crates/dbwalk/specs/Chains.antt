@@ -1,5 +1,5 @@
 -- Overflow chains as a program walks them, and what a sieve is fed on the way.
-use Rattle.std.specs.Prelude.{ℕ, List, [], ◌∷◌, ◌++◌, flat_map, Option, Some, None, ◌≡◌, Result, Ok, Err, IfOk, OnOk}
+use Rattle.std.specs.Prelude.{ℕ, ◌+◌, ◌≤◌, List, [], ◌∷◌, ◌++◌, flat_map, Option, Some, None, ◌≡◌, Result, Ok, Err, IfOk, OnOk}
 use Rattle.dbsurvey.specs.Story.{Go}
 use Rattle.dbformat.specs.Reference.{Reference, first_overflow, later_overflow, bytes_left, role_of, from_of, item_of}
 use Rattle.dbformat.specs.Schema.{held_bytes}
@@ -9,7 +9,8 @@ use Rattle.dbbytes.specs.declared.sieve.RowSieve.{RowSieve}
 use Rattle.dbtrace.specs.Finding.{visited_below, Finding, told_at}
 use Rattle.dbformat.specs.Address.{start_of, then_step, child_path, chain_place}
 use Rattle.dbformat.specs.File.{page_bytes}
-use Rattle.dbformat.specs.Payload.{overflow_next}
+use Rattle.dbformat.specs.FixedPages.{IsPageNumber}
+use Rattle.dbformat.specs.Payload.{most_payload, overflow_next}
 use Rattle.dbformat.specs.Story.{at_page}
 use Rattle.dbsource.specs.declared.error.RunError.{RunError}
 use Rattle.dbwalk.specs.declared.chain.Chain.{Chain}
@@ -17,6 +18,7 @@ use Rattle.dbwalk.specs.declared.chain.Place.{Place}
 use Rattle.dbwalk.specs.declared.mark.Mark.{Mark}
 use Rattle.dbwalk.specs.Entered.{IsStepOf}
 use Rattle.dbwalk.specs.Left.{IsLeft}
+use Rattle.dbwalk.specs.Marking.{IsUse, named_page}
 use Rattle.dbwalk.specs.Done.{IsDone}
 use Rattle.dbwalk.specs.Outcomes.{Tells}
 
@@ -38,6 +40,12 @@ abbrev pub FeedsChain : List ℕ → List Reference → Reference → Option Row
 FeedsChain file W c old new = FeedsPages file old (visited_below file W (Go c ∷ [])) new
 
 -- Overflow chains as a program walks them.
+
+-- A place to go on from: its mark is that of a use, and names a page; and no payload has as many bytes as could follow.
+pub record IsPlace (place : Place) : Type 0 where
+  pub named : IsPageNumber (named_page place.step.mark)
+  pub used : IsUse place.step.mark
+  pub counted : place.number + place.left ≤ most_payload
 
 -- a reference to the page of this number in a chain, by its address
 pub record IsOnChain (chain : Chain) (number : ℕ) (c : Reference) : Type 0 where

@@ -7,10 +7,10 @@ ghost use Rattle.dbformat.specs.Log.{page_range};
 ghost use Rattle.dbformat.specs.Payload.{most_payload};
 ghost use Rattle.dbformat.specs.Reference.{Reference};
 ghost use Rattle.dbbytes.specs.declared.sieve.RowSieve.{RowSieve};
-ghost use Rattle.dbwalk.specs.Chains.{IsChainOf, IsOnWay, IsOverflowVisited, Turns, FeedsChain};
+ghost use Rattle.dbwalk.specs.Chains.{IsChainOf, IsOnWay, IsOverflowVisited, Turns, FeedsChain, IsPlace};
 ghost use Rattle.dbwalk.specs.Done.{IsDone};
 ghost use Rattle.dbwalk.specs.Entered.{IsNext};
-ghost use Rattle.dbwalk.specs.Marking.{AreMarksOf, IsUse, named_page};
+ghost use Rattle.dbwalk.specs.Marking.{AreMarksOf};
 ghost use Rattle.dbwalk.specs.Outcomes.{IsReadOrWrite};
 ghost use Rattle.dbwalk.specs.Reads.{Reads};
 ghost use Rattle.dbsource.specs.Errors.{is_read_failed, is_write_failed};
@@ -93,23 +93,17 @@ fn turn<S: Source, K: Sink, A: Allocator>(
     sieve: &mut Option<RowSieve>,
     sink: &mut K,
 ) -> Result<Option<Place>, RunError>
-    requires named { IsPageNumber (named_page place.step.mark) }
-    requires used { IsUse place.step.mark }
-    requires counted { place.number + place.left ≤ most_payload }
+    requires place { IsPlace place }
     ensures log { HasLog S.step (Reads bench.old.geometry.page_size marks.old marks.new) (λ file. bench.old.geometry ≡ geometry file
         → (W : List Reference) (c : Reference) (before : K) (first : Option RowSieve)
         → IsOnWay K.takes file W c before chain.now place marks.old sink.old first sieve.old
-        → Turns K.takes K.drops file W c before chain.now result marks.new sink.new first sieve.new)
-        (S.held source.old) (S.held source.new) }
+        → Turns K.takes K.drops file W c before chain.now result marks.new sink.new first sieve.new) (S.held source.old) (S.held source.new) }
     ensures reads { (S.held source.new).failures ≡ failures_after is_read_failed result (S.held source.old).failures }
     ensures writes { SinkAfter is_write_failed result (K.held sink.old) (K.held sink.new) }
     ensures only { IfErr result IsReadOrWrite }
     ensures bench { bench.new ≡ record bench.old { chain = bench.new.chain } }
     ensures kept { is_some sieve.new ≡ is_some sieve.old }
-    ensures named { IfOk result (λ o. IfSome o (λ next. IsPageNumber (named_page next.step.mark))) }
-    ensures used { IfOk result (λ o. IfSome o (λ next. IsUse next.step.mark)) }
-    ensures counted { IfOk result (λ o. IfSome o (λ next. next.number + next.left ≤ most_payload)) }
-    ensures less { IfOk result (λ o. IfSome o (λ next. next.left < place.left)) }
+    ensures next { IfOk result (λ o. IfSome o (λ next. IsPlace next × (next.left < place.left))) }
 {
     if !enter(marks, place.step, sink)? {
         return Ok(None);

@@ -25,7 +25,7 @@ returns-then-not-branch-clause-log g c = log_none c.args.bench.now.geometry.page
 pub returns-in_err-next-clause-log : goal.returns-in_err-next-clause-log
 returns-in_err-next-clause-log g c =
     let k = c.in_ok-enter.ensures.marked (search rules) in
-    log_page _ c.args.bench.now.geometry.page_size c.args.marks.now c.enter.new.marks c.args.place.step.page c.args.place.step.mark k.0 k.1 c.requires.used c.in_err-next.ensures.log (λ file v e W d before first on.
+    log_page _ c.args.bench.now.geometry.page_size c.args.marks.now c.enter.new.marks c.args.place.step.page c.args.place.step.mark k.0 k.1 c.requires.place.used c.in_err-next.ensures.log (λ file v e W d before first on.
     let q = err_from_is_err_and c.from_residual-in_err-next.result c.from_residual-in_err-next.ensures.1 in
     let n = subst (λ b. Enters g.K.Sink.takes g.K.Sink.drops file on.visited on.d (Ok b) c.enter.new.marks c.args.sink.now c.enter.new.sink) c.if-not-branch.false
     (c.in_ok-enter.ensures.entered file on.visited on.d on.step on.rest.past on.rest.marked) in
@@ -36,7 +36,7 @@ returns-in_err-next-clause-log g c =
 pub returns-then-place-room-clause-log : goal.returns-then-place-room-clause-log
 returns-then-place-room-clause-log g c =
     let k = c.in_ok-enter.ensures.marked (search rules) in
-    log_page _ c.args.bench.now.geometry.page_size c.args.marks.now c.enter.new.marks c.args.place.step.page c.args.place.step.mark k.0 k.1 c.requires.used c.in_ok-next.ensures.log (λ file v e W d before first on.
+    log_page _ c.args.bench.now.geometry.page_size c.args.marks.now c.enter.new.marks c.args.place.step.page c.args.place.step.mark k.0 k.1 c.requires.place.used c.in_ok-next.ensures.log (λ file v e W d before first on.
     let n = subst (λ b. Enters g.K.Sink.takes g.K.Sink.drops file on.visited on.d (Ok b) c.enter.new.marks c.args.sink.now c.enter.new.sink) c.if-not-branch.false
     (c.in_ok-enter.ensures.entered file on.visited on.d on.step on.rest.past on.rest.marked) in
     let u : c.geometry.result.usable ≡ usable_size file = ap (λ s. s.usable) (c.geometry.ensures.value ∙ e) in
@@ -47,7 +47,7 @@ returns-then-place-room-clause-log g c =
 pub returns-clause-log : goal.returns-clause-log
 returns-clause-log g c =
     let k = c.in_ok-enter.ensures.marked (search rules) in
-    log_page _ c.args.bench.now.geometry.page_size c.args.marks.now c.enter.new.marks c.args.place.step.page c.args.place.step.mark k.0 k.1 c.requires.used c.in_ok-next.ensures.log (λ file v e W d before first on.
+    log_page _ c.args.bench.now.geometry.page_size c.args.marks.now c.enter.new.marks c.args.place.step.page c.args.place.step.mark k.0 k.1 c.requires.place.used c.in_ok-next.ensures.log (λ file v e W d before first on.
     let n = subst (λ b. Enters g.K.Sink.takes g.K.Sink.drops file on.visited on.d (Ok b) c.enter.new.marks c.args.sink.now c.enter.new.sink) c.if-not-branch.false
     (c.in_ok-enter.ensures.entered file on.visited on.d on.step on.rest.past on.rest.marked) in
     let u : c.geometry.result.usable ≡ usable_size file = ap (λ s. s.usable) (c.geometry.ensures.value ∙ e) in

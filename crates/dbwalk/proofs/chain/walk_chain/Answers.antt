@@ -1,13 +1,10 @@
-use Rattle.std.proofs.Common.{◌+◌, ◌≤◌, [], ◌∷◌, Ok, Err, refl, sym, ap, subst, ◌∙◌, arith}
+use Rattle.std.proofs.Common.{◌<◌, [], ◌∷◌, Ok, Err, refl, sym, ap, subst, ◌∙◌, arith}
 use Rattle.std.specs.Prelude.{IfSome, OnOk}
 use Rattle.std.proofs.lemmas.Result.{err_from_is_err_and}
-use Rattle.dbformat.specs.Payload.{most_payload}
-use Rattle.dbformat.specs.FixedPages.{IsPageNumber}
 use Rattle.dbsurvey.specs.Story.{Go}
 use Rattle.dbsource.specs.Bench.{Pages}
-use Rattle.dbwalk.specs.Chains.{Turns, FeedsChain}
+use Rattle.dbwalk.specs.Chains.{Turns, FeedsChain, IsPlace}
 use Rattle.dbwalk.specs.Done.{IsDone}
-use Rattle.dbwalk.specs.Marking.{IsUse, named_page}
 use Rattle.dbwalk.proofs.Marking.Readings.{log_none, log_then}
 use Rattle.dbwalk.proofs.Chaining.ChainTurns.{way_start}
 use Rattle.dbwalk.proofs.chain.walk_chain.Goals as goal
@@ -20,9 +17,7 @@ loop-next-init g c = record {
   writes = refl;
   bench = refl;
   kept = refl;
-  named = c.requires.page;
-  used = record { some = refl; cleared = refl };
-  counted = omega arith;
+  place = record { named = c.requires.page; used = record { some = refl; cleared = refl }; counted = omega arith };
 }
 
 pub returns-in_err-next-clause-log : goal.returns-in_err-next-clause-log
@@ -43,9 +38,7 @@ loop-next-preserved g c = record {
   writes = c.in_ok-next.ensures.writes ∙ c.loop-next.invariant.writes;
   bench = c.turn.ensures.bench ∙ ap (λ (b : Pages). record b { chain = c.turn.new.bench.chain }) c.loop-next.invariant.bench;
   kept = c.turn.ensures.kept ∙ c.loop-next.invariant.kept;
-  named = subst (λ o. IfSome o (λ next. IsPageNumber (named_page next.step.mark))) c.in-Some.is c.in_ok-next.ensures.named;
-  used = subst (λ o. IfSome o (λ next. IsUse next.step.mark)) c.in-Some.is c.in_ok-next.ensures.used;
-  counted = subst (λ o. IfSome o (λ next. next.number + next.left ≤ most_payload)) c.in-Some.is c.in_ok-next.ensures.counted;
+  place = (subst (λ o. IfSome o (λ next. IsPlace next × (next.left < c.loop-next.place.left))) c.in-Some.is c.in_ok-next.ensures.next).0;
 }
 
 pub returns-clause-log : goal.returns-clause-log

@@ -1,13 +1,11 @@
-use Rattle.std.proofs.Common.{◌≡◌, ◌+◌, ◌≤◌, List}
+use Rattle.std.proofs.Common.{◌≡◌, List}
 use Rattle.std.specs.Prelude.{is_some}
-use Rattle.dbformat.specs.Payload.{most_payload}
-use Rattle.dbformat.specs.FixedPages.{IsPageNumber}
 use Rattle.dbformat.specs.File.{geometry}
 use Rattle.dbformat.specs.Reference.{Reference}
 use Rattle.dbsource.specs.Sources.{HasLog}
-use Rattle.dbwalk.specs.Chains.{IsChainOf, IsOnWay}
+use Rattle.dbwalk.specs.Chains.{IsChainOf, IsOnWay, IsPlace}
 use Rattle.dbwalk.specs.Entered.{IsNext}
-use Rattle.dbwalk.specs.Marking.{AreMarksOf, IsUse, named_page}
+use Rattle.dbwalk.specs.Marking.{AreMarksOf}
 use Rattle.dbwalk.specs.Reads.{Reads}
 use Rattle.dbwalk.proofs.chain.walk_chain.Given as goal
 
@@ -23,7 +21,5 @@ invariant-loop-next g l = record {
   writes : g.K.Sink.held l.sink ≡ g.K.Sink.held l.initial.sink;
   bench : l.bench ≡ record l.initial.bench { chain = l.bench.chain };
   kept : is_some l.sieve ≡ is_some l.initial.sieve;
-  named : IsPageNumber (named_page l.place.step.mark);
-  used : IsUse l.place.step.mark;
-  counted : l.place.number + l.place.left ≤ most_payload;
+  place : IsPlace l.place;
 }
