@@ -18,7 +18,7 @@ use Rattle.dbwalk.specs.EndMarks.{is_root_mark, is_marked}
 use Rattle.dbwalk.specs.Marking.{role_mark, visit_mark, mark_of, marks_of, page_mark}
 use Rattle.dbwalk.proofs.Marking.Markings.{page_mark-in, page_mark-out}
 use Rattle.dbwalk.proofs.Marking.EndMarking.{found_in, survey_visits}
-use Rattle.dbwalk.proofs.Marking.EndRoots.{visited-mark, root_test}
+use Rattle.dbwalk.proofs.Marking.EndMarking.{visited-mark, root_test}
 use Rattle.dbowner.specs.declared.place.Place.{Place}
 use Rattle.dbowner.specs.declared.place.Place.TheVariants as place
 use Rattle.dbowner.specs.Owners.{start_at, place_in, place_of}
