@@ -12,9 +12,8 @@ use Rattle.dbsource.specs.Headers.{IsHeaderOf}
 use Rattle.dbsource.specs.Outs.{Begins, OutState, Puts, Writes}
 use Rattle.dbsource.specs.declared.error.RunError.{RunError}
 use Rattle.dbtrace.specs.Finding.{Finding}
-use Rattle.dbwalk.specs.Outcomes.{StopsBy}
-use Rattle.dbwalk.specs.Telling.{findings}
-use Rattle.dbwalk.proofs.Telling.Tellings.{stops_by_after}
+use Rattle.dbwalk.specs.Telling.{StopsBy, findings}
+use Rattle.dbwalk.proofs.Telling.Belows.{stops_by_after}
 use Rattle.dbreport.specs.CheckSink.{Shows, Cuts, end_text, verdict_of}
 use Rattle.dbreport.specs.Findings.{faults_in}
 use Rattle.dbreport.specs.RunItems.{run_items, walk_items}

@@ -16,8 +16,8 @@ use Rattle.dbsource.specs.declared.error.RunError.{RunError}
 use Rattle.dbsource.specs.declared.error.RunError.TheVariants.{ReadFailed, WriteFailed, OutOfMemory, Refused}
 use Rattle.dbsource.proofs.Puts.{appends_nothing, puts_then}
 use Rattle.dbtrace.specs.Finding.{Finding, told_row, told_fault}
-use Rattle.dbwalk.specs.Outcomes.{StopsBy}
-use Rattle.dbwalk.proofs.Telling.Tellings.{stops_by_first}
+use Rattle.dbwalk.specs.Telling.{StopsBy}
+use Rattle.dbwalk.proofs.Telling.Belows.{stops_by_first}
 use Rattle.dbreport.specs.CheckSink.{PutsAll, ShowsFault, Shows, Cuts, end_text, verdict_of}
 use Rattle.dbreport.specs.Findings.{faults_in}
 use Rattle.dbreport.specs.declared.check_sink.CheckSink.{CheckSink}

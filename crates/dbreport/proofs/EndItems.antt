@@ -27,11 +27,11 @@ use Rattle.dbsource.specs.declared.error.RunError.{RunError}
 use Rattle.dbwalk.specs.EndMarks.{is_free_mark, greatest_root_marked, least_other_marked, mark_fault, late_fault}
 use Rattle.dbtrace.specs.Finding.{Finding, told_fault}
 use Rattle.dbwalk.specs.Marking.{mark_of, marks_of, role_mark, visit_mark, AreMarksOf}
-use Rattle.dbwalk.specs.Outcomes.{Tells}
-use Rattle.dbwalk.specs.declared.mark.Mark.{Mark}
-use Rattle.dbwalk.specs.declared.mark.Mark.TheVariants.{Unmarked, Fixed, Root, Trunk, FreeLeaf, FirstOverflow, LaterOverflow, Child}
+use Rattle.dbwalk.specs.Telling.{Tells}
+use Rattle.dbwalk.specs.declared.marks.Mark.{Mark}
+use Rattle.dbwalk.specs.declared.marks.Mark.TheVariants.{Unmarked, Fixed, Root, Trunk, FreeLeaf, FirstOverflow, LaterOverflow, Child}
 use Rattle.dbwalk.proofs.Marking.LateRoots.{marks_tell_the_end}
-use Rattle.dbwalk.proofs.Telling.Tellings.{stops_by_after}
+use Rattle.dbwalk.proofs.Telling.Belows.{stops_by_after}
 use Rattle.dbreport.specs.EndPass.{counted_faults, is_fixed_mark, page_items, pages_items}
 use Rattle.dbreport.specs.Telling.{items_of}
 use Rattle.dbreport.proofs.CountedMarks.{numbers_more}

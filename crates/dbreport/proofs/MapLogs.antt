@@ -19,7 +19,7 @@ use Rattle.dbsource.specs.declared.error.RunError.TheVariants.{WriteFailed}
 use Rattle.dbsource.proofs.Logs.{has_none}
 use Rattle.dbwalk.specs.Marking.{AreMarksFor}
 use Rattle.dbwalk.specs.Reads.{Reads}
-use Rattle.dbwalk.specs.declared.mark.Mark.{Mark}
+use Rattle.dbwalk.specs.declared.marks.Mark.{Mark}
 use Rattle.dbwalk.proofs.Marking.Unfixed.{unmarked_unfixed, readable}
 use Rattle.dbreport.specs.MapReads.{IsMapInUse, IsMapTurn, MapReads, MapReadsBefore}
 use Rattle.dbreport.proofs.MapPlaces.{at_position}

@@ -18,8 +18,8 @@ use Rattle.dbformat.specs.Survey.{Survey}
 use Rattle.dbformat.specs.declared.Geometry.{Geometry}
 use Rattle.dbwalk.specs.EndMarks.{AreVisits}
 use Rattle.dbwalk.specs.Marking.{role_mark, visit_mark, mark_of, page_mark, AreMarksOf}
-use Rattle.dbwalk.specs.declared.mark.Mark.{Mark}
-use Rattle.dbwalk.specs.declared.mark.Mark.TheVariants.{Unmarked, Fixed}
+use Rattle.dbwalk.specs.declared.marks.Mark.{Mark}
+use Rattle.dbwalk.specs.declared.marks.Mark.TheVariants.{Unmarked, Fixed}
 use Rattle.dbwalk.proofs.Marking.EndMarking.{found_in, survey_visits}
 use Rattle.dbwalk.proofs.Marking.Markings.{page_mark-in, marks_of-length}
 use Rattle.dbbytes.proofs.NameLemmas.{HasPut, put_more, put_stop, put_all}

@@ -11,9 +11,8 @@ use Rattle.dbformat.specs.Schema.{SchemaCell, schema, rooted, rooted_rows, root_
 use Rattle.dbformat.specs.SchemaRow.{SchemaRow}
 use Rattle.dbformat.specs.Sound.{with_root}
 use Rattle.dbformat.specs.declared.RowFault.{RowFault}
-use Rattle.dbwalk.specs.RootRoom.{HasRootRoom, StartsEmpty, roots_after, first_roots}
-use Rattle.dbwalk.specs.Taking.{gives, readable_rows}
-use Rattle.dbwalk.proofs.Rows.RootTakings.{list_has_room, first_more}
+use Rattle.dbwalk.specs.Taking.{HasRootRoom, StartsEmpty, roots_after, first_roots, gives, readable_rows}
+use Rattle.dbwalk.proofs.RootTakings.{list_has_room, first_more}
 use Rattle.dbreport.specs.Roots.{Listed, kept_row, TakesRow}
 use Rattle.dbreport.proofs.ShortNames.{roots_are_kept}
 

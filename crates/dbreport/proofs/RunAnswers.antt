@@ -20,7 +20,7 @@ use Rattle.dbsource.specs.declared.error.OpenError.{OpenError}
 use Rattle.dbsource.specs.declared.error.OpenError.TheVariants as opening
 use Rattle.dbsource.specs.declared.error.RunError.{RunError}
 use Rattle.dbsource.specs.declared.error.RunError.TheVariants.{Refused, ReadFailed, OutOfMemory, WriteFailed}
-use Rattle.dbwalk.specs.Outcomes.{IsReadOrWrite, IsReadWriteOrMemory}
+use Rattle.dbwalk.specs.Telling.{IsReadOrWrite, IsReadWriteOrMemory}
 use Rattle.dbsource.proofs.Beginnings.{begins_nothing}
 use Rattle.dbreport.specs.Runs.{AsksHeaderAlone, IsAnswerOf, IsReported, IsRunOf, IsUnwritten}
 use Rattle.dbreport.proofs.RunReports.{counts_pages}

@@ -19,7 +19,7 @@ use Rattle.dbformat.proofs.SchemaStart.{schema_below}
 use Rattle.dbformat.proofs.Visited.{has_address}
 use Rattle.dbtrace.specs.Finding.{visited_below}
 use Rattle.dbwalk.specs.Marking.{AreMarksOf}
-use Rattle.dbwalk.specs.declared.mark.Mark.{Mark}
+use Rattle.dbwalk.specs.declared.marks.Mark.{Mark}
 use Rattle.dbwalk.proofs.Telling.Belows.{visited_join}
 use Rattle.dbwalk.proofs.Telling.Lefts.{left_start}
 use Rattle.dbreport.specs.Starts.{AreBelowStarts, schema_reference, later_errands}

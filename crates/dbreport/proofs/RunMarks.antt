@@ -4,8 +4,8 @@ use Rattle.dbformat.specs.EndFaults.{page_numbers}
 use Rattle.dbformat.specs.FixedPages.{is_fixed}
 use Rattle.dbformat.specs.declared.Geometry.{Geometry}
 use Rattle.dbwalk.specs.Marking.{mark_of, marks_of, cleared, AreMarksFor}
-use Rattle.dbwalk.specs.declared.mark.Mark.{Mark}
-use Rattle.dbwalk.specs.declared.mark.Mark.TheVariants.{Unmarked, Fixed}
+use Rattle.dbwalk.specs.declared.marks.Mark.{Mark}
+use Rattle.dbwalk.specs.declared.marks.Mark.TheVariants.{Unmarked, Fixed}
 
 cleared_mark : (g : Geometry) (p : ℕ) → cleared (mark_of g [] p) ≡ mark_of g [] p
 unfolding mark_of

@@ -14,14 +14,12 @@ use Rattle.dbformat.proofs.LookBack.{by_starts}
 use Rattle.dbsource.specs.HeaderBytes.{HeaderBytes}
 use Rattle.dbsource.specs.Headers.{IsHeaderOf}
 use Rattle.dbsource.specs.declared.error.RunError.{RunError}
-use Rattle.dbwalk.specs.Done.{IsDone}
+use Rattle.dbwalk.specs.Done.{IsDone, IsTreeDone}
 use Rattle.dbtrace.specs.Finding.{Finding, told_below, visited_below}
 use Rattle.dbwalk.specs.Marking.{AreMarksOf}
-use Rattle.dbwalk.specs.RootRoom.{StartsEmpty}
+use Rattle.dbwalk.specs.Taking.{StartsEmpty, Gives, readable_rows}
 use Rattle.dbwalk.specs.Roots.{IsRootAfter}
-use Rattle.dbwalk.specs.Taking.{Gives, readable_rows}
-use Rattle.dbwalk.specs.Done.{IsTreeDone}
-use Rattle.dbwalk.specs.declared.mark.Mark.{Mark}
+use Rattle.dbwalk.specs.declared.marks.Mark.{Mark}
 use Rattle.dbwalk.specs.declared.root.Root.{Root}
 use Rattle.dbwalk.specs.declared.root.RootKind.TheVariants.{Schema}
 use Rattle.dbreport.specs.Findings.{is_schema_row}

@@ -18,7 +18,7 @@ use Rattle.dbformat.proofs.HeaderPrefix.{encoding_number_within}
 use Rattle.dbtrace.specs.Finding.{visited_below}
 use Rattle.dbtrace.specs.Starts.{IsOfEarlierStart}
 use Rattle.dbwalk.specs.Roots.{kind_in, IsRootAfter}
-use Rattle.dbwalk.specs.declared.mark.Mark.{Mark}
+use Rattle.dbwalk.specs.declared.marks.Mark.{Mark}
 use Rattle.dbwalk.specs.declared.root.Root.{Root}
 use Rattle.dbwalk.specs.declared.root.RootKind.TheVariants.{Schema}
 use Rattle.dbreport.specs.Notices.{root_reference}

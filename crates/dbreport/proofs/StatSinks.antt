@@ -15,8 +15,7 @@ use Rattle.dbsource.specs.declared.error.RunError.TheVariants.{ReadFailed, Write
 use Rattle.dbsource.proofs.Beginnings.{begins_more}
 use Rattle.dbsource.proofs.Puts.{appends_nothing}
 use Rattle.dbtrace.specs.Finding.{told_row, told_fault}
-use Rattle.dbwalk.specs.Outcomes.{Tells}
-use Rattle.dbwalk.specs.Telling.{findings}
+use Rattle.dbwalk.specs.Telling.{Tells, findings}
 use Rattle.dbreport.specs.Findings.{faults_in}
 use Rattle.dbreport.specs.Notices.{Notice, begun, found, ended, Hears}
 use Rattle.dbreport.specs.Roots.{short_name}

@@ -18,7 +18,7 @@ use Rattle.dbsource.specs.Outs.{OutState}
 use Rattle.dbsource.specs.declared.error.RunError.{RunError}
 use Rattle.dbtrace.specs.Finding.{Finding, told_row, told_fault, told_below, visited_below}
 use Rattle.dbwalk.specs.Trunks.{freelist_reference}
-use Rattle.dbwalk.specs.declared.mark.Mark.{Mark}
+use Rattle.dbwalk.specs.declared.marks.Mark.{Mark}
 use Rattle.dbwalk.proofs.Telling.Belows.{told_none}
 use Rattle.dbreport.specs.Findings.{faults_in}
 use Rattle.dbreport.specs.Notices.{Notice, found, ended, Hears, errands_left, root_reference, tree_notices, later_notices, start_notices}

@@ -13,9 +13,8 @@ use Rattle.dbformat.specs.declared.Fault.{Fault}
 use Rattle.dbformat.specs.declared.Geometry.{Geometry}
 use Rattle.dbsource.specs.Outs.{Begins, OutState}
 use Rattle.dbsource.specs.declared.error.RunError.{RunError}
-use Rattle.dbwalk.specs.Outcomes.{Tells}
-use Rattle.dbwalk.specs.Telling.{findings}
-use Rattle.dbwalk.specs.declared.mark.Mark.{Mark}
+use Rattle.dbwalk.specs.Telling.{Tells, findings}
+use Rattle.dbwalk.specs.declared.marks.Mark.{Mark}
 use Rattle.dbreport.specs.OtherMarks.{marked_lines}
 use Rattle.dbreport.specs.StatLines.{starts_text}
 use Rattle.dbreport.specs.StatSink.{Counts, Breaks, HasWritten, HasBegun, PutsOthers, WritesBoth}

@@ -15,7 +15,7 @@ use Rattle.dbformat.specs.Survey.{Survey}
 use Rattle.dbsource.specs.declared.error.RunError.{RunError}
 use Rattle.dbsource.specs.declared.error.RunError.TheVariants.{ReadFailed, WriteFailed, OutOfMemory, Refused}
 use Rattle.dbtrace.specs.Finding.{Finding, told_below, visited_below}
-use Rattle.dbwalk.specs.Outcomes.{Tells}
+use Rattle.dbwalk.specs.Telling.{Tells}
 use Rattle.dbwalk.proofs.Telling.Belows.{told_join}
 use Rattle.dbreport.specs.Notices.{Notice, begun, found, ended, Hears, errands_left, root_reference, tree_notices, later_notices, start_notices}
 use Rattle.dbreport.specs.Starts.{schema_reference}

@@ -20,14 +20,13 @@ use Rattle.dbtrace.specs.Finding.{Finding, told_below, visited_below}
 use Rattle.dbwalk.specs.Done.{IsDone}
 use Rattle.dbwalk.specs.Entered.{IsNext}
 use Rattle.dbwalk.specs.Marking.{AreMarksOf}
-use Rattle.dbwalk.specs.Outcomes.{StopsBy}
+use Rattle.dbwalk.specs.Telling.{StopsBy}
 use Rattle.dbwalk.specs.Roots.{IsRootAfter}
 use Rattle.dbwalk.specs.Trunks.{IsFirstTrunk, freelist_reference}
-use Rattle.dbwalk.specs.declared.mark.Mark.{Mark}
+use Rattle.dbwalk.specs.declared.marks.Mark.{Mark}
 use Rattle.dbwalk.specs.declared.root.Root.{Root}
-use Rattle.dbwalk.proofs.Telling.Belows.{told_none}
+use Rattle.dbwalk.proofs.Telling.Belows.{told_none, stops_by_first, stops_by_after}
 use Rattle.dbwalk.proofs.Telling.Lefts.{left_call, left_none}
-use Rattle.dbwalk.proofs.Telling.Tellings.{stops_by_first, stops_by_after}
 use Rattle.dbreport.specs.Notices.{Notice, begun, found, ended, Hears, errands_left, root_reference, tree_notices, later_notices, start_notices}
 use Rattle.dbreport.specs.Starts.{later_errands, schema_reference}
 use Rattle.dbreport.specs.Walks.{Any, IsAt, BeginsAt, IsTreeWalked, IsSchemaWalked, IsTelling, StopsTelling, AreTold, AreWalked}

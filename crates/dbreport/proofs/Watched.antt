@@ -7,7 +7,7 @@ use Rattle.dbsurvey.specs.Moves.{Moves, Stops, MovesBySome}
 use Rattle.dbsource.specs.declared.error.RunError.{RunError}
 use Rattle.dbsource.specs.declared.error.RunError.TheVariants.{ReadFailed, WriteFailed, OutOfMemory, Refused}
 use Rattle.dbtrace.specs.Finding.{Finding}
-use Rattle.dbwalk.specs.Outcomes.{StopsBy}
+use Rattle.dbwalk.specs.Telling.{StopsBy}
 use Rattle.dbreport.specs.Findings.{is_schema_row}
 use Rattle.dbreport.specs.SchemaWatch.{HandsOn}
 use Rattle.dbreport.specs.declared.schema_watch.SchemaWatch.{SchemaWatch}

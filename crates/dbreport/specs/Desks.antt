@@ -5,7 +5,7 @@ use Rattle.dbformat.specs.FixedPages.{geometry_of}
 use Rattle.dbsource.specs.Bench.{Pages}
 use Rattle.dbsource.specs.HeaderBytes.{HeaderBytes}
 use Rattle.dbwalk.specs.Marking.{AreMarksFor}
-use Rattle.dbwalk.specs.declared.mark.Mark.{Mark}
+use Rattle.dbwalk.specs.declared.marks.Mark.{Mark}
 use Rattle.dbreport.specs.Roots.{Listed}
 use Rattle.dbreport.specs.declared.desk.Desk.TheInside.{Inside}
 

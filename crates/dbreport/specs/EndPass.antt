@@ -13,9 +13,9 @@ use Rattle.dbsource.specs.declared.error.RunError.{RunError}
 use Rattle.dbwalk.specs.EndMarks.{mark_fault, late_fault}
 use Rattle.dbtrace.specs.Finding.{Finding, told_fault}
 use Rattle.dbwalk.specs.Marking.{mark_of}
-use Rattle.dbwalk.specs.Outcomes.{Tells}
-use Rattle.dbwalk.specs.declared.mark.Mark.{Mark}
-use Rattle.dbwalk.specs.declared.mark.Mark.TheVariants.{Fixed}
+use Rattle.dbwalk.specs.Telling.{Tells}
+use Rattle.dbwalk.specs.declared.marks.Mark.{Mark}
+use Rattle.dbwalk.specs.declared.marks.Mark.TheVariants.{Fixed}
 use Rattle.dbreport.specs.MapReads.{HasMapFor}
 
 -- the faults of the whole, by the header, whether the schema has rows, the greatest root and the count of the freelist

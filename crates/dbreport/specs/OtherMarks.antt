@@ -7,8 +7,8 @@ use Rattle.dbformat.specs.FixedPages.{fixed_use}
 use Rattle.dbformat.specs.Rows.{OtherPage, trunk_page, leaf_page, other_unvisited}
 use Rattle.dbformat.specs.declared.Geometry.{Geometry}
 use Rattle.dbwalk.specs.Marking.{page_mark}
-use Rattle.dbwalk.specs.declared.mark.Mark.{Mark}
-use Rattle.dbwalk.specs.declared.mark.Mark.TheVariants.{Unmarked, Fixed, Trunk, FreeLeaf}
+use Rattle.dbwalk.specs.declared.marks.Mark.{Mark}
+use Rattle.dbwalk.specs.declared.marks.Mark.TheVariants.{Unmarked, Fixed, Trunk, FreeLeaf}
 
 -- what page p with this mark is, where it is in no tree and in no overflow chain
 abbrev pub marked_other : Geometry → ℕ → Mark → Option OtherPage

@@ -3,7 +3,7 @@ use Rattle.std.specs.Prelude.{◌≡◌, ℕ, ◌+◌, ◌*◌, ◌≤◌, nat_l
 use Rattle.dbformat.specs.Address.{last_root_start}
 use Rattle.dbformat.specs.SchemaRow.{SchemaRow}
 use Rattle.dbsource.specs.Failures.{one_more}
-use Rattle.dbwalk.specs.RootRoom.{ListTakes}
+use Rattle.dbwalk.specs.Taking.{ListTakes}
 use Rattle.dbwalk.specs.declared.taker.Taken.{Taken}
 use Rattle.dbreport.specs.declared.roots.Span.{Span}
 use Rattle.dbreport.specs.declared.roots.Entry.{Entry}

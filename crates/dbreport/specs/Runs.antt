@@ -26,7 +26,7 @@ use Rattle.dbsource.specs.declared.error.RunError.{RunError}
 use Rattle.dbsource.specs.declared.error.RunError.TheVariants.{Refused, ReadFailed}
 use Rattle.dbsource.specs.declared.out.Out.{Ghosts as OutWords}
 use Rattle.dbsource.specs.declared.source.Source.{Ghosts as SourceWords}
-use Rattle.dbwalk.specs.Outcomes.{IsReadWriteOrMemory}
+use Rattle.dbwalk.specs.Telling.{IsReadWriteOrMemory}
 use Rattle.dbreport.specs.Desks.{Things}
 use Rattle.dbreport.specs.StatSink.{failures_of_each}
 

@@ -14,7 +14,7 @@ use Rattle.dbsource.specs.Failures.{CountsAfter}
 use Rattle.dbsource.specs.Outs.{Begins, Flushes, OutState, Writes}
 use Rattle.dbsource.specs.declared.error.RunError.{RunError}
 use Rattle.dbtrace.specs.Finding.{Finding, told_row, told_fault}
-use Rattle.dbwalk.specs.declared.mark.Mark.{Mark}
+use Rattle.dbwalk.specs.declared.marks.Mark.{Mark}
 use Rattle.dbreport.specs.CheckSink.{PutsAll}
 use Rattle.dbreport.specs.TreeNames.{label_text}
 use Rattle.dbreport.specs.OtherMarks.{marked_lines}

@@ -12,7 +12,7 @@ use Rattle.dbsource.specs.Outs.{OutState}
 use Rattle.dbsource.specs.declared.error.RunError.{RunError}
 use Rattle.dbtrace.specs.Finding.{told_below}
 use Rattle.dbwalk.specs.Marking.{AreMarksOf}
-use Rattle.dbwalk.specs.declared.mark.Mark.{Mark}
+use Rattle.dbwalk.specs.declared.marks.Mark.{Mark}
 use Rattle.dbreport.specs.Findings.{faults_in}
 use Rattle.dbreport.specs.TreeNames.{label_text}
 use Rattle.dbreport.specs.StatLines.{starts_text}

@@ -10,10 +10,10 @@ use Rattle.dbformat.specs.Survey.{Survey}
 use Rattle.dbformat.specs.declared.Encoding.{Encoding}
 use Rattle.dbsource.specs.declared.error.RunError.{RunError}
 use Rattle.dbtrace.specs.Finding.{Finding, visited_below}
-use Rattle.dbwalk.specs.Left.{IsLeft}
+use Rattle.dbwalk.specs.Done.{IsLeft}
 use Rattle.dbwalk.specs.Marking.{AreMarksOf}
-use Rattle.dbwalk.specs.Outcomes.{Tells}
-use Rattle.dbwalk.specs.declared.mark.Mark.{Mark}
+use Rattle.dbwalk.specs.Telling.{Tells}
+use Rattle.dbwalk.specs.declared.marks.Mark.{Mark}
 use Rattle.dbwalk.specs.declared.root.Root.{Root}
 use Rattle.dbreport.specs.Notices.{Notice, errands_left, tree_notices, later_notices, start_notices}
 use Rattle.dbreport.specs.Starts.{IsSchemaOf, root_of, schema_reference}

@@ -13,8 +13,7 @@ ghost use Rattle.dbsource.specs.Outs.{Writes};
 ghost use Rattle.dbsource.specs.Sources.{Asks};
 ghost use Rattle.dbsource.specs.declared.error.RunError.TheVariants.{WriteFailed};
 ghost use Rattle.dbwalk.specs.Marking.{AreMarksFor, marks_of};
-ghost use Rattle.dbwalk.specs.Outcomes.{IsReadWriteOrMemory, Tells};
-ghost use Rattle.dbwalk.specs.Telling.{findings};
+ghost use Rattle.dbwalk.specs.Telling.{IsReadWriteOrMemory, Tells, findings};
 ghost use Rattle.dbreport.specs.CheckSink.{Cuts, Shows};
 ghost use Rattle.dbreport.specs.RunItems.{walk_items};
 

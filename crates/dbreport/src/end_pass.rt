@@ -10,11 +10,10 @@ ghost use Rattle.dbsource.specs.Headers.{IsHeaderOf};
 ghost use Rattle.dbsource.specs.Sources.{Asks};
 ghost use Rattle.dbtrace.specs.Finding.{told_fault};
 ghost use Rattle.dbwalk.specs.Marking.{AreMarksOf, page_mark};
-ghost use Rattle.dbwalk.specs.Outcomes.{Tells, IsReadOrWrite};
-ghost use Rattle.dbwalk.specs.declared.mark.Mark as marking;
+ghost use Rattle.dbwalk.specs.Telling.{Tells, IsReadOrWrite, SinkAfter};
+ghost use Rattle.dbwalk.specs.declared.marks.Mark as marking;
 ghost use Rattle.dbreport.specs.EndPass.{is_fixed_mark, pages_items, EndsPage};
 ghost use Rattle.dbreport.specs.MapReads.{entry_value, HasMapFor, IsMapInUse, IsMapTurn, MapReads};
-ghost use Rattle.dbwalk.specs.Sinks.{SinkAfter};
 
 use crate::counts::count_marks;
 use crate::end_faults::{counted_faults, late_fault, use_fault};

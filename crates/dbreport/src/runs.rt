@@ -13,7 +13,7 @@ ghost use Rattle.dbsource.specs.Errors.{is_out_of_memory, is_read_failed, is_wri
 ghost use Rattle.dbsource.specs.Failures.{CountsAfter, failures_after};
 ghost use Rattle.dbsource.specs.Outs.{Writes};
 ghost use Rattle.dbsource.specs.Snapshots.{HasReadBehind};
-ghost use Rattle.dbwalk.specs.Outcomes.{IsReadWriteOrMemory};
+ghost use Rattle.dbwalk.specs.Telling.{IsReadWriteOrMemory};
 
 use crate::Desk;
 use crate::checking::check;

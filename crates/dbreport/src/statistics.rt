@@ -16,7 +16,7 @@ ghost use Rattle.dbsource.specs.Outs.{Writes};
 ghost use Rattle.dbsource.specs.Sources.{Asks};
 ghost use Rattle.dbsource.specs.declared.error.RunError.TheVariants.{WriteFailed};
 ghost use Rattle.dbwalk.specs.Marking.{AreMarksFor, AreMarksOf, marks_of};
-ghost use Rattle.dbwalk.specs.Outcomes.{IsReadWriteOrMemory};
+ghost use Rattle.dbwalk.specs.Telling.{IsReadWriteOrMemory};
 ghost use Rattle.dbwalk.specs.Reads.{Reads};
 ghost use Rattle.dbreport.specs.Statistics.{form_of};
 ghost use Rattle.dbreport.specs.StatSink.{Fails, IsSameSink, WritesBoth, failures_of_each};

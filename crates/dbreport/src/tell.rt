@@ -3,9 +3,7 @@ ghost use Rattle.std.specs.Prelude.{◌≡◌, IfErr};
 ghost use Rattle.dbformat.specs.HeaderFaults.{header_faults};
 ghost use Rattle.dbsource.specs.Errors.{is_write_failed};
 ghost use Rattle.dbsource.specs.declared.error.RunError.TheVariants.{WriteFailed};
-ghost use Rattle.dbwalk.specs.Outcomes.{Tells};
-ghost use Rattle.dbwalk.specs.Sinks.{SinkAfter};
-ghost use Rattle.dbwalk.specs.Telling.{findings};
+ghost use Rattle.dbwalk.specs.Telling.{Tells, SinkAfter, findings};
 ghost use Rattle.dbreport.specs.Telling.{items_of};
 
 use crate::header_faults::header_faults as faults_of;

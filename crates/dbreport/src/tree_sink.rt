@@ -2,7 +2,7 @@
 ghost use Rattle.std.specs.Prelude.{◌≡◌, MatchResult};
 ghost use Rattle.std.specs.Option.{option_copied};
 ghost use Rattle.dbsource.specs.Failures.{is_any};
-ghost use Rattle.dbwalk.specs.Sinks.{SinkAfter};
+ghost use Rattle.dbwalk.specs.Telling.{SinkAfter};
 
 use dbsource::WriteFailed;
 use dbwalk::Sink;

@@ -1,9 +1,9 @@
 pub mod Marking
 pub mod Telling
 pub mod Chaining
-pub mod Freelists
+pub mod FreeTrunks
 pub mod Pages
 pub mod Leaves
-pub mod Rows
+pub mod RootTakings
 pub mod Trees
 pub mod Underway

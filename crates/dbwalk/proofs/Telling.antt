@@ -1,4 +1,3 @@
 -- What is told below some errands.
 pub mod Belows
 pub mod Lefts
-pub mod Tellings

@@ -2,7 +2,6 @@ pub mod Handing
 pub mod Underways
 pub mod CellSteps
 pub mod LeafCellRuns
-pub mod PassedCells
 pub mod LeafLoop
 pub mod Visits
 pub mod TreeSteps

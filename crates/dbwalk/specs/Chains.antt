@@ -15,12 +15,11 @@ use Rattle.dbformat.specs.Story.{at_page}
 use Rattle.dbsource.specs.declared.error.RunError.{RunError}
 use Rattle.dbwalk.specs.declared.chain.Chain.{Chain}
 use Rattle.dbwalk.specs.declared.chain.Place.{Place}
-use Rattle.dbwalk.specs.declared.mark.Mark.{Mark}
+use Rattle.dbwalk.specs.declared.marks.Mark.{Mark}
 use Rattle.dbwalk.specs.Entered.{IsStepOf}
-use Rattle.dbwalk.specs.Left.{IsLeft}
+use Rattle.dbwalk.specs.Done.{IsLeft, IsDone}
 use Rattle.dbwalk.specs.Marking.{IsUse, named_page}
-use Rattle.dbwalk.specs.Done.{IsDone}
-use Rattle.dbwalk.specs.Outcomes.{Tells}
+use Rattle.dbwalk.specs.Telling.{Tells}
 
 -- What a sieve is fed, where there is one.
 

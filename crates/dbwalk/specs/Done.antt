@@ -1,17 +1,19 @@
--- What a call has done below some errands, after the visits of W.
+-- What a call has done below some errands, and what is left of a walk in its midst, for a loop.
 use Rattle.std.specs.Prelude.{◌≡◌, ℕ, List, [], ◌∷◌, ◌++◌, Result, OnOk}
-use Rattle.dbsurvey.specs.Story.{Errand, Go}
+use Rattle.dbsurvey.specs.Story.{Errand, Go, AreErrandsApart}
 use Rattle.dbformat.specs.Address.{start_of, schema_start}
 use Rattle.dbformat.specs.Reference.{Way, Reference}
 use Rattle.dbformat.specs.SchemaRow.{SchemaRow}
 use Rattle.dbformat.specs.Story.{Event}
 use Rattle.dbsource.specs.declared.error.RunError.{RunError}
-use Rattle.dbwalk.specs.declared.mark.Mark.{Mark}
+use Rattle.dbwalk.specs.declared.marks.Mark.{Mark}
 use Rattle.dbwalk.specs.Marking.{AreMarksOf}
 use Rattle.dbtrace.specs.Finding.{Finding, told_below, visited_below}
-use Rattle.dbwalk.specs.Outcomes.{Tells}
+use Rattle.dbwalk.specs.Telling.{Tells}
 use Rattle.dbwalk.specs.Taking.{Gives, readable_rows}
 use Rattle.dbwalk.specs.declared.taker.Taken.{Taken}
+use Rattle.dbsurvey.specs.Moves.{Moves}
+use Rattle.dbsurvey.specs.InOrder.{IsPast}
 
 -- At Ok the marks are those of W and of all that is visited below the errands. The sink was told what is told below
 -- them, or after an error a beginning of it.
@@ -25,3 +27,14 @@ pub record IsTreeDone {S T : Type 0} (takes drops : S → Finding → S → Type
     (marks : List Mark) (before after : S) (first t : T) : Type 0 where
   pub done : IsDone takes drops file W (Go c ∷ []) r marks before after
   pub given : start_of c.address ≡ schema_start → Gives keeps refuses r first (readable_rows file (W ++ visited_below file W (Go c ∷ []))) t
+
+-- Of all that is below the errands, after the visits of W, what is below the errands `left`, after those of U, is still
+-- to be done: the rest was told, and the marks are those of U.
+pub record IsLeft {S : Type 0} (takes : S → Finding → S → Type 0) (file : List ℕ) (W : List Reference) (errands : List (Errand Way Event)) (before : S) (U : List Reference) (left : List (Errand Way Event)) (marks : List Mark) (now : S) : Type 0 where
+  pub marked : AreMarksOf file U marks
+  pub past : IsPast U left
+  pub apart : AreErrandsApart left
+  pub visits : U ++ visited_below file U left ≡ W ++ visited_below file W errands
+  pub items : List Finding
+  pub told : Moves takes before items now
+  pub rest : items ++ told_below file U left ≡ told_below file W errands

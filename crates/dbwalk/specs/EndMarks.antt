@@ -14,8 +14,8 @@ use Rattle.dbformat.specs.Survey.{Survey}
 use Rattle.dbformat.specs.declared.Geometry.{Geometry}
 use Rattle.dbformat.specs.declared.Fault.{Fault}
 use Rattle.dbformat.specs.declared.FaultCode.TheVariants.{N01, M01, M02}
-use Rattle.dbwalk.specs.declared.mark.Mark.{Mark}
-use Rattle.dbwalk.specs.declared.mark.Mark.TheVariants.{Unmarked, Fixed, Root, Trunk, FreeLeaf, FirstOverflow, LaterOverflow, Child}
+use Rattle.dbwalk.specs.declared.marks.Mark.{Mark}
+use Rattle.dbwalk.specs.declared.marks.Mark.TheVariants.{Unmarked, Fixed, Root, Trunk, FreeLeaf, FirstOverflow, LaterOverflow, Child}
 use Rattle.dbwalk.specs.Marking.{mark_of, marks_of, page_mark}
 
 -- the visits of a walk: of pages of the file without fixed use, each once

@@ -2,8 +2,8 @@
 use Rattle.std.specs.Prelude.{Bool, Option, Some, None, if◌then◌else◌, ◌≡◌, ℕ, true, false, List, [], ◌∷◌, ◌++◌, Result, Ok, Err}
 use Rattle.dbformat.specs.declared.FaultCode.{FaultCode}
 use Rattle.dbformat.specs.declared.FaultCode.TheVariants.{R01, R02, R03, T04}
-use Rattle.dbwalk.specs.declared.mark.Mark.{Mark}
-use Rattle.dbwalk.specs.declared.mark.Mark.TheVariants.{Unmarked, Fixed}
+use Rattle.dbwalk.specs.declared.marks.Mark.{Mark}
+use Rattle.dbwalk.specs.declared.marks.Mark.TheVariants.{Unmarked, Fixed}
 use Rattle.dbsurvey.specs.Moves.{Moves}
 use Rattle.dbsurvey.specs.Traverse.{is_followed}
 use Rattle.dbformat.specs.Reference.{Reference, from_of, item_of}
@@ -15,7 +15,7 @@ use Rattle.dbsource.specs.declared.error.RunError.{RunError}
 use Rattle.dbwalk.specs.declared.entering.Step.{Step}
 use Rattle.dbwalk.specs.Marking.{visit_mark, AreMarksOf}
 use Rattle.dbtrace.specs.Finding.{Finding, told_at}
-use Rattle.dbwalk.specs.Outcomes.{StopsBy}
+use Rattle.dbwalk.specs.Telling.{StopsBy}
 
 -- Why a reference may not be followed, by the mark of its page.
 

@@ -1,12 +1,16 @@
--- What is read off the leaf at a level, and the greatest key so far.
-use Rattle.std.specs.Prelude.{Bool, false, List, Option, Some, None, ℤ, int_lt, int_le, if◌then◌else◌, ◌==◌, not, pos, true, [], ◌∷◌, ◌≡◌, ℕ, ◌<◌, ◌≤◌, IfSome, slice_get, option_map, option_and_then}
+-- What is read off the leaf at a level: its cells; its keys, where nothing else of its cells is left to look at; and the
+-- greatest key so far.
+use Rattle.std.specs.Prelude.{◌≡◌, ℕ, zero, suc, ◌+◌, ◌-◌, ◌<◌, ◌≤◌, List, Option, Some, None, ℤ, slice_get, Bool, false, int_lt, int_le, if◌then◌else◌, ◌==◌, not, pos, true, [], ◌∷◌, IfSome, option_map, option_and_then}
+use Rattle.std.specs.Option.{option_or, option_map_or}
+use Rattle.dbformat.specs.Head.{View, undamaged}
+use Rattle.dbformat.specs.Cell.{count, cell, overflow_size}
+use Rattle.dbpage.specs.Packed.{HasRisingKeys, IsAbove, IsAllLocal, key_at}
+use Rattle.dbformat.specs.declared.TreeKind.{TreeKind}
+use Rattle.dbwalk.specs.declared.state.KeySpan.{KeySpan}
 use Rattle.dbsurvey.specs.Address.{IsIn, Address, IsBefore}
 use Rattle.dbformat.specs.Reference.{Reference, Way, first_overflow, link}
-use Rattle.std.specs.Option.{option_map_or}
 use Rattle.std.specs.Result.{result_ok}
 use Rattle.dbformat.specs.Payload.{most_payload}
-use Rattle.dbformat.specs.Head.{View, undamaged}
-use Rattle.dbformat.specs.Cell.{cell, count, overflow_size}
 use Rattle.dbsurvey.specs.Story.{Errand}
 use Rattle.dbformat.specs.Address.{overflow_step}
 use Rattle.dbformat.specs.Errands.{go}
@@ -15,7 +19,34 @@ use Rattle.dbformat.specs.Story.{Event}
 use Rattle.dbformat.specs.Tests.{told_if}
 use Rattle.dbformat.specs.declared.Fault.{Fault}
 use Rattle.dbformat.specs.declared.FaultCode.TheVariants.{T05, T06}
-use Rattle.dbformat.specs.declared.TreeKind.{TreeKind}
+
+-- the cells of a page are readable and have no overflow pages, and their keys rise from the first to the last
+pub record HasSpan (v : View) (keys : KeySpan) : Type 0 where
+  pub whole : (i : ℕ) → i < count v → IsAllLocal v i
+  pub rising : HasRisingKeys v (count v)
+  pub first_is : 0 < count v → key_at v 0 ≡ keys.first
+  pub last_is : (i : ℕ) → i + 1 ≡ count v → key_at v i ≡ keys.last
+  pub none : count v ≡ 0 → keys.last ≡ None
+
+-- Below a start that is not the schema's the keys of such a leaf come behind the greatest so far; the last of them is the
+-- greatest then.
+pub record ArePassed (start : ℕ) (greatest : Option ℤ) (keys : KeySpan) (after : Option ℤ) : Type 0 where
+  pub other : 1 ≤ start
+  pub above : IsAbove greatest keys.first
+  pub after_is : after ≡ option_or keys.last greatest
+
+-- So many cells from one on are readable and have no overflow pages, and their keys rise from above the greatest before
+-- them; the greatest behind them is the last of these keys, where there is one.
+abbrev pub AreRisingFrom : View → ℕ → ℕ → Option ℤ → Option ℤ → Type 0
+AreRisingFrom v from zero greatest after = after ≡ greatest
+AreRisingFrom v from (suc n) greatest after = (before : Option ℤ) × AreRisingFrom v from n greatest before × IsAllLocal v (from + n)
+    × IsAbove before (key_at v (from + n)) × (after ≡ option_or (key_at v (from + n)) before)
+
+-- the same of the page at a level: the cells from one on to another
+pub record ArePassedAt (usable : ℕ) (kind : TreeKind) (levels : List (List ℕ)) (level page from end : ℕ) (greatest after : Option ℤ) : Type 0 where
+  pub ahead : from ≤ end
+  pub rising : (bytes : List ℕ) (v : View) → slice_get levels level ≡ Some bytes → undamaged kind page usable bytes ≡ Some v → from ≤ count v
+      → (end ≤ count v) × AreRisingFrom v from (end - from) greatest after
 
 -- The greatest key of a walk so far, and visits that stand before a place.
 

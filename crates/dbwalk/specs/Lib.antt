@@ -3,18 +3,11 @@ pub mod Done
 pub mod EndMarks
 pub mod Entered
 pub mod Found
-pub mod KeySpans
 pub mod LeafCells
-pub mod Left
 pub mod Marking
-pub mod Outcomes
-pub mod PageRows
 pub mod Reads
-pub mod RootRoom
 pub mod Roots
 pub mod Rows
-pub mod Sieving
-pub mod Sinks
 pub mod Standing
 pub mod Steps
 pub mod Taking
@@ -23,5 +16,4 @@ pub mod Trunks
 pub mod Underway
 pub mod Walked
 pub mod Walking
-pub mod WalkingOn
 pub mod Watching

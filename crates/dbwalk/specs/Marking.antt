@@ -6,8 +6,8 @@ use Rattle.dbformat.specs.File.{geometry}
 use Rattle.dbformat.specs.Reference.{Role, root, child, first_overflow, later_overflow, trunk, free_leaf, Reference, role_of, from_of}
 use Rattle.dbformat.specs.EndFaults.{visit_of, page_numbers}
 use Rattle.dbformat.specs.declared.Geometry.{Geometry}
-use Rattle.dbwalk.specs.declared.mark.Mark.{Mark}
-use Rattle.dbwalk.specs.declared.mark.Mark.TheVariants.{Unmarked, Fixed, Root, Trunk, FreeLeaf, FirstOverflow, LaterOverflow, Child}
+use Rattle.dbwalk.specs.declared.marks.Mark.{Mark}
+use Rattle.dbwalk.specs.declared.marks.Mark.TheVariants.{Unmarked, Fixed, Root, Trunk, FreeLeaf, FirstOverflow, LaterOverflow, Child}
 
 -- the mark of a page that is visited in a role, from a page
 abbrev pub role_mark : Role → ℕ → Mark

@@ -4,7 +4,7 @@ use Rattle.dbsurvey.specs.Address.{IsIn, EachPair}
 use Rattle.dbformat.specs.Log.{page_range, IsPageLog}
 use Rattle.dbformat.specs.declared.ByteRange.{ByteRange}
 use Rattle.dbformat.specs.declared.Geometry.{Geometry}
-use Rattle.dbwalk.specs.declared.mark.Mark.{Mark}
+use Rattle.dbwalk.specs.declared.marks.Mark.{Mark}
 use Rattle.dbwalk.specs.Marking.{is_unmarked, AreMarksFor, Keeps}
 
 -- Whole pages of one size, none twice, each of which got its mark in between: so none of them is fixed, or was read

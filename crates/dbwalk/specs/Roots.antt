@@ -8,7 +8,7 @@ use Rattle.dbformat.specs.declared.TreeKind.TheVariants as tree
 use Rattle.dbwalk.specs.Marking.{AreMarksOf}
 use Rattle.dbtrace.specs.Starts.{AreOfEarlierStarts}
 use Rattle.dbwalk.specs.Walking.{IsCandidate}
-use Rattle.dbwalk.specs.declared.mark.Mark.{Mark}
+use Rattle.dbwalk.specs.declared.marks.Mark.{Mark}
 use Rattle.dbwalk.specs.declared.root.Root.{Root}
 use Rattle.dbwalk.specs.declared.root.RootKind.{RootKind}
 use Rattle.dbwalk.specs.declared.root.RootKind.TheVariants.{Schema, Index, Own}

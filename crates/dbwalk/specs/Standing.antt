@@ -17,12 +17,11 @@ use Rattle.dbtrace.specs.Walk.{Walk}
 use Rattle.dbwalk.specs.Found.{StandsAt}
 use Rattle.dbwalk.specs.LeafCells.{overflow_errands, AreBefore}
 use Rattle.dbwalk.specs.Marking.{AreMarksOf}
-use Rattle.dbwalk.specs.RootRoom.{HasRoom, StartsEmpty}
-use Rattle.dbwalk.specs.Underway.{IsAt}
+use Rattle.dbwalk.specs.Taking.{HasRoom, StartsEmpty}
+use Rattle.dbwalk.specs.Underway.{IsAt, IsWalkingOn}
 use Rattle.dbwalk.specs.Walking.{IsCandidate, IsLeafAt}
-use Rattle.dbwalk.specs.WalkingOn.{IsWalkingOn}
-use Rattle.dbwalk.specs.declared.frame.Frame.{Frame}
-use Rattle.dbwalk.specs.declared.mark.Mark.{Mark}
+use Rattle.dbwalk.specs.declared.steps.Frame.{Frame}
+use Rattle.dbwalk.specs.declared.marks.Mark.{Mark}
 use Rattle.dbwalk.specs.declared.state.Tree.{Tree}
 use Rattle.dbwalk.specs.declared.taker.Taken.{Taken}
 use Rattle.dbwalk.specs.declared.tree_walk.TreeWalk.{TreeWalk}

@@ -1,13 +1,23 @@
--- What the taker of the schema's rows was given, where a walk has come to a place.
-use Rattle.std.specs.Prelude.{ℕ, List, Result, Ok, Err, filter_map, ◌≡◌, ◌⊎◌, [], ◌∷◌, ◌++◌, MatchResult, Option, is_none, unwrap_or, ℤ, pos}
-use Rattle.std.specs.Result.{result_ok}
-use Rattle.dbsurvey.specs.Moves.{Moves, Stops, MovesBySome}
-use Rattle.dbformat.specs.Reference.{Reference}
-use Rattle.dbformat.specs.Schema.{schema}
+-- Rows of the schema: what a sieve has taken of a payload, what is told of a row, and what the taker answers.
+use Rattle.std.specs.Prelude.{◌≡◌, ℕ, ◌+◌, Bool, true, false, List, [], ◌∷◌, ◌++◌, length, map, take, nat_lt, nat_le, ◌==◌, if◌then◌else◌, ◌<◌, Option, Some, None, slice_get, Result, Ok, Err, filter_map, ◌⊎◌, MatchResult, is_none, unwrap_or, ℤ, pos}
+use Rattle.dbformat.specs.Address.{last_root_start, then_step, overflow_step}
 use Rattle.dbformat.specs.SchemaRow.{SchemaRow}
+use Rattle.dbwalk.specs.declared.taker.Taken.{Taken}
+use Rattle.dbwalk.specs.declared.taker.Taken.TheVariants as answer
+use Rattle.std.specs.Result.{result_ok}
+use Rattle.dbformat.specs.Cell.{Cell, cell, count}
+use Rattle.dbformat.specs.Head.{View, undamaged}
+use Rattle.dbformat.specs.Reference.{Reference}
+use Rattle.dbformat.specs.Schema.{payload, schema}
+use Rattle.dbformat.specs.declared.Encoding.{Encoding}
+use Rattle.dbformat.specs.declared.TreeKind.{TreeKind}
+use Rattle.dbbytes.specs.Sieve.{HasTaken}
+use Rattle.dbbytes.specs.declared.sieve.RowSieve.{RowSieve}
+use Rattle.dbwalk.specs.LeafCells.{AreBefore, overflow_errands}
+use Rattle.dbtrace.specs.Finding.{visited_below, Finding}
+use Rattle.dbsurvey.specs.Moves.{Moves, Stops, MovesBySome}
 use Rattle.dbsource.specs.declared.error.RunError.{RunError}
 use Rattle.dbsource.specs.declared.error.RunError.TheVariants.{OutOfMemory, WriteFailed}
-use Rattle.dbwalk.specs.declared.taker.Taken.{Taken}
 use Rattle.dbformat.specs.Faults.{fault}
 use Rattle.dbformat.specs.Tests.{told_if}
 use Rattle.dbformat.specs.declared.Fault.{Fault}
@@ -15,9 +25,71 @@ use Rattle.dbformat.specs.declared.FaultCode.TheVariants.{S01, S02, S03, S04}
 use Rattle.dbformat.specs.declared.RowFault.{RowFault}
 use Rattle.dbformat.specs.declared.RowFault.TheVariants.{Malformed, Root}
 use Rattle.dbwalk.specs.Telling.{findings}
-use Rattle.dbtrace.specs.Finding.{Finding}
-use Rattle.dbwalk.specs.RootRoom.{is_full}
 use Rattle.dbwalk.specs.declared.schema_row.RowPlace.{RowPlace}
+
+-- the answer to a row of this root, where so many roots are held
+abbrev pub answer_to : ℕ → ℕ → Taken
+answer_to held root = if root == 0 then answer.NoRoot else if nat_lt held last_root_start then answer.Taken else answer.Full
+
+-- how many are held behind it
+abbrev pub held_after : ℕ → ℕ → ℕ
+held_after held root = if root == 0 then held else if nat_lt held last_root_start then held + 1 else held
+
+-- It takes a root while it holds less than 65536, by a count of those it holds, and answers Full to each one behind them.
+pub record HasRootRoom {T : Type 0} (takes : T → SchemaRow → Taken → T → Type 0) (held : T → ℕ) : Type 0 where
+  pub answers : (s t : T) (row : SchemaRow) (a : Taken) → takes s row a t → a ≡ answer_to (held s) row.root
+  pub counts : (s t : T) (row : SchemaRow) (a : Taken) → takes s row a t → held t ≡ held_after (held s) row.root
+
+-- It has room so, and holds none yet.
+pub record StartsEmpty {T : Type 0} (takes : T → SchemaRow → Taken → T → Type 0) (held : T → ℕ) (first : T) : Type 0 where
+  pub room : HasRootRoom takes held
+  pub none : held first ≡ 0
+
+-- how many it holds when so many came
+abbrev pub held_of : ℕ → ℕ
+held_of roots = if nat_le last_root_start roots then last_root_start else roots
+
+-- It has room so, and holds what it would behind so many rows with a root.
+pub record HasRoom {T : Type 0} (takes : T → SchemaRow → Taken → T → Type 0) (held : T → ℕ) (roots : ℕ) (t : T) : Type 0 where
+  pub room : HasRootRoom takes held
+  pub holds : held t ≡ held_of roots
+
+-- whether there was no room
+abbrev pub is_full : Taken → Bool
+is_full answer.Full = true
+is_full answer.Taken = false
+is_full answer.NoRoot = false
+
+-- a list of roots behind a row: its entry is added where it has a root and there is room
+abbrev pub roots_after : {E : Type 0} → (SchemaRow → E) → List E → SchemaRow → List E
+roots_after entry roots row = if row.root == 0 then roots else if nat_lt (length roots) last_root_start then roots ++ entry row ∷ [] else roots
+
+-- what such a list takes, and answers
+abbrev pub ListTakes : {E : Type 0} → (SchemaRow → E) → List E → SchemaRow → Taken → List E → Type 0
+ListTakes entry roots row a new = (a ≡ answer_to (length roots) row.root) × (new ≡ roots_after entry roots row)
+
+-- the list where these rows with a root came: the first 65536 of them
+abbrev pub first_roots : {E : Type 0} → (SchemaRow → E) → List SchemaRow → List E
+first_roots entry rows = map entry (take last_root_start rows)
+
+-- there is a sieve, and it has taken these bytes of a row that was to have so many
+abbrev pub HasFed : Option RowSieve → ℕ → Encoding → List ℕ → Type 0
+HasFed None size e bytes = ⊥
+HasFed (Some s) size e bytes = HasTaken s size e bytes
+
+-- one that has taken what stands of the payload in the cell, where this can be read
+abbrev pub HoldsCell : Option RowSieve → Encoding → Option Cell → Type 0
+HoldsCell sieve e None = sieve ≡ None
+HoldsCell sieve e (Some x) = HasFed sieve x.size e x.local
+
+-- the sieve of cell i of the leaf at a level
+pub record HasSieve (usable : ℕ) (kind : TreeKind) (levels : List (List ℕ)) (level page i : ℕ) (e : Encoding) (sieve : Option RowSieve) : Type 0 where
+  pub read : (bytes : List ℕ) (v : View) → slice_get levels level ≡ Some bytes → undamaged kind page usable bytes ≡ Some v → i < count v → HoldsCell sieve e (result_ok (cell v i))
+
+-- A sieve that had taken what stands of the payload in the cell has taken all of it that is found, when the cell's chain
+-- was visited.
+pub record FeedsPayload (file : List ℕ) (U : List Reference) (c : Reference) (i : ℕ) (overflow : Option (ℕ × ℕ)) (old new : Option RowSieve) : Type 0 where
+  pub fed : (x : Cell) (e : Encoding) → AreBefore U (then_step c.address (overflow_step i)) → HasFed old x.size e x.local → HasFed new x.size e (payload file (U ++ visited_below file U (overflow_errands c i overflow)) c.address i x)
 
 -- a row moves a taker, whatever it answers
 abbrev pub gives : {T : Type 0} → (T → SchemaRow → Taken → T → Type 0) → T → SchemaRow → T → Type 0

@@ -6,14 +6,13 @@ use Rattle.dbformat.specs.Errands.{leaf_errand, go}
 use Rattle.dbformat.specs.Reference.{Way, Reference, trunk, next_trunk, role_of, from_of, item_of}
 use Rattle.dbformat.specs.Story.{Event}
 use Rattle.dbsource.specs.declared.error.RunError.{RunError}
-use Rattle.dbwalk.specs.declared.mark.Mark.{Mark}
+use Rattle.dbwalk.specs.declared.marks.Mark.{Mark}
 use Rattle.dbtrace.specs.Finding.{Finding}
-use Rattle.dbwalk.specs.Left.{IsLeft}
-use Rattle.dbwalk.specs.Done.{IsDone}
+use Rattle.dbwalk.specs.Done.{IsLeft, IsDone}
 use Rattle.dbformat.specs.Address.{freelist_start}
 use Rattle.dbformat.specs.File.{page_bytes}
 use Rattle.dbwalk.specs.declared.entering.Step.{Step}
-use Rattle.dbwalk.specs.declared.mark.Mark.TheVariants.{Trunk}
+use Rattle.dbwalk.specs.declared.marks.Mark.TheVariants.{Trunk}
 use Rattle.dbwalk.specs.Entered.{IsStepOf}
 
 -- The leaves of a trunk as a program enters them.

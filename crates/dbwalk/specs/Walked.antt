@@ -12,9 +12,8 @@ use Rattle.dbsource.specs.declared.error.RunError.{RunError}
 use Rattle.dbsource.specs.declared.error.RunError.TheVariants.{OutOfMemory}
 use Rattle.dbtrace.specs.Item.{Item}
 use Rattle.dbtrace.specs.Walk.{Walk}
-use Rattle.dbwalk.specs.Outcomes.{IsReadOrWrite}
+use Rattle.dbwalk.specs.Telling.{IsReadOrWrite, SinkAfter, SinkState}
 use Rattle.dbwalk.specs.Reads.{Reads}
-use Rattle.dbwalk.specs.Sinks.{SinkAfter, SinkState}
 use Rattle.dbwalk.specs.Underway.{HasDone}
 use Rattle.dbwalk.specs.declared.tree_walk.TreeWalk.{TreeWalk}
 

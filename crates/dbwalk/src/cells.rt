@@ -1,8 +1,7 @@
 // What is read off the cells of a leaf that stands at a level.
 ghost use Rattle.std.specs.Prelude.{◌≡◌, ◌-◌, ◌<◌, ◌≤◌, length};
 ghost use Rattle.dbformat.specs.Cell.{count};
-ghost use Rattle.dbwalk.specs.KeySpans.{ArePassedAt, AreRisingFrom};
-ghost use Rattle.dbwalk.specs.LeafCells.{HasCell, HasCells};
+ghost use Rattle.dbwalk.specs.LeafCells.{ArePassedAt, AreRisingFrom, HasCell, HasCells};
 ghost use Rattle.dbwalk.specs.Standing.{IsSameButGreatest};
 
 use crate::page::undamaged;

@@ -11,12 +11,11 @@ ghost use Rattle.dbwalk.specs.Chains.{IsChainOf, IsOnWay, IsOverflowVisited, Tur
 ghost use Rattle.dbwalk.specs.Done.{IsDone};
 ghost use Rattle.dbwalk.specs.Entered.{IsNext};
 ghost use Rattle.dbwalk.specs.Marking.{AreMarksOf};
-ghost use Rattle.dbwalk.specs.Outcomes.{IsReadOrWrite};
+ghost use Rattle.dbwalk.specs.Telling.{IsReadOrWrite, SinkAfter};
 ghost use Rattle.dbwalk.specs.Reads.{Reads};
 ghost use Rattle.dbsource.specs.Errors.{is_read_failed, is_write_failed};
 ghost use Rattle.dbsource.specs.Failures.{failures_after};
 ghost use Rattle.dbsource.specs.Sources.{HasLog};
-ghost use Rattle.dbwalk.specs.Sinks.{SinkAfter};
 
 use crate::entering::{Step, enter};
 use crate::overflow::{feed_page, last_fault, next_page, overflow_row, tell};

@@ -3,11 +3,11 @@ ghost use Rattle.std.specs.Prelude.{◌≡◌, ◌-◌, ◌≤◌, ℕ, List, If
 ghost use Rattle.dbformat.specs.FixedPages.{most_pages, IsPageNumber};
 ghost use Rattle.dbformat.specs.Reference.{Reference};
 ghost use Rattle.dbsource.specs.declared.error.RunError.TheVariants as run_error;
-ghost use Rattle.dbwalk.specs.declared.mark.Mark.TheVariants as use_mark;
+ghost use Rattle.dbwalk.specs.declared.marks.Mark.TheVariants as use_mark;
 ghost use Rattle.dbwalk.specs.Marking.{AreMarksOf, page_mark, named_page};
 ghost use Rattle.dbwalk.specs.Entered.{IsNext, IsStepOf, Enters};
 ghost use Rattle.dbsource.specs.Errors.{is_write_failed};
-ghost use Rattle.dbwalk.specs.Sinks.{SinkAfter};
+ghost use Rattle.dbwalk.specs.Telling.{SinkAfter};
 
 use crate::{Fault, Mark, Marks, Sink};
 use dbformat::FaultCode;

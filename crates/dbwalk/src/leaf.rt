@@ -1,17 +1,32 @@
-// The cells of a leaf (Database File Format, 1.6).
-ghost use Rattle.std.specs.Prelude.{◌≡◌, ◌<◌, length};
+// The cells of a leaf: their overflow chains, the rows of the schema, and their keys (Database File Format, 1.6 and 2.6).
+ghost use Rattle.std.specs.Prelude.{◌≡◌, ◌<◌, length, ◌≤◌, IfErr, IfSome, OnOk, is_some};
 ghost use Rattle.dbformat.specs.FixedPages.{IsPageNumber};
 ghost use Rattle.dbsurvey.specs.Story.{errands_of};
-ghost use Rattle.dbwalk.specs.Standing.{AtLeaf, IsSameButGreatest};
+ghost use Rattle.dbwalk.specs.Standing.{AtLeaf, IsSameButGreatest, AtCell, AtOverflow};
 ghost use Rattle.dbformat.specs.Story.{story_of};
 ghost use Rattle.dbwalk.specs.Underway.{done_below};
 ghost use Rattle.dbwalk.specs.Walked.{Does, SaysOfFiles, Walked};
 ghost use Rattle.dbwalk.specs.Watching.{fails, watches};
+ghost use Rattle.dbformat.specs.Errands.{cell_errands};
+ghost use Rattle.dbformat.specs.Payload.{most_payload};
+ghost use Rattle.dbformat.specs.File.{geometry as shape_of};
+ghost use Rattle.dbsource.specs.Sources.{HasLog};
+ghost use Rattle.dbwalk.specs.LeafCells.{overflow_errands, late_faults, top_after};
+ghost use Rattle.dbwalk.specs.Taking.{FeedsPayload};
+ghost use Rattle.dbwalk.specs.Telling.{IsTold, findings, IsReadOrWrite, SinkAfter};
+ghost use Rattle.dbwalk.specs.Done.{IsDone};
+ghost use Rattle.dbwalk.specs.Reads.{Reads};
+ghost use Rattle.dbsource.specs.Errors.{is_read_failed, is_write_failed};
+ghost use Rattle.dbsource.specs.Failures.{failures_after};
 
-use crate::cells::{leaf_cells, pass_cells};
+use crate::cells::{leaf_cell, leaf_cells, pass_cells};
+use crate::chain::{Chain, walk_chain};
+use crate::schema_row::{RowPlace, row_sieve, tell_row};
+use crate::state::Tree;
 use crate::tree_walk::TreeWalk;
-use crate::{Sink, Taker};
-use dbsource::{Bench, RunError, Source};
+use crate::{Marks, Sink, Taker};
+use dbbytes::RowSieve;
+use dbsource::{Bench, RunError, Source, WriteFailed};
 use std::alloc::Allocator;
 
 impl<A: Allocator, S: Source, K: Sink, T: Taker> TreeWalk<'_, '_, '_, '_, A, S, K, T> {
@@ -39,5 +54,107 @@ impl<A: Allocator, S: Source, K: Sink, T: Taker> TreeWalk<'_, '_, '_, '_, A, S, 
             i = pass_cells(bench, &mut self.tree, page, i + 1);
         }
         Ok(())
+    }
+
+    /// Walks over cell `i` of the leaf at the level of the tree's path: its overflow chain; in the tree of the schema its row,
+    /// which goes to the taker; and its key.
+    ///
+    /// # Errors
+    ///
+    /// [`RunError::ReadFailed`] exactly where the source failed, [`RunError::WriteFailed`] exactly where the sink failed,
+    /// [`RunError::OutOfMemory`] exactly where the taker was refused memory.
+    pub(crate) fn walk_leaf_cell(
+        &mut self,
+        bench: &mut Bench<A>,
+        page: u32,
+        i: u32,
+    ) -> Result<(), RunError>
+        requires level { length self.old.tree.path.items < 20 }
+        requires page { IsPageNumber page }
+        ensures walked { Walked S.held K.held T.refusals result bench.old.geometry bench.new.geometry self.old self.new }
+        ensures levels { bench.new.levels ≡ bench.old.levels }
+        ensures tree { IsSameButGreatest self.old.tree self.new.tree }
+        ensures log { SaysOfFiles S.step S.held bench.old.geometry self.old self.new (λ file.
+            AtCell T.takes file bench.old.levels page i self.old (λ from c v. Does (watches K.takes T.takes) (fails K.drops T.refuses) file
+            (done_below file from (cell_errands c self.old.tree.kind v i)) result self.old self.new)) }
+    {
+        let cell = leaf_cell(bench, self.tree.kind, self.tree.path.len(), page, i);
+        let mut sieve = row_sieve(bench, &self.tree, page, i, self.encoding);
+        walk_overflow(
+            self.source,
+            bench,
+            self.marks,
+            &self.tree,
+            page,
+            i,
+            cell.overflow,
+            &mut sieve,
+            self.sink,
+        )?;
+        let place = RowPlace::new(page, i, cell.key);
+        tell_row(&sieve, place, self.taker, self.sink)?;
+        tell_rowid(&mut self.tree, page, i, cell.key, self.sink)?;
+        Ok(())
+    }
+}
+
+/// Walks along the overflow chain of cell `i` of the leaf at the level of the tree's path, if it has one, and feeds it to a
+/// sieve, if there is one.
+///
+/// # Errors
+///
+/// [`RunError::ReadFailed`] exactly where the source failed, [`RunError::WriteFailed`] exactly where the sink failed.
+pub(crate) fn walk_overflow<A: Allocator, S: Source, K: Sink>(
+    source: &mut S,
+    bench: &mut Bench<A>,
+    marks: &mut Marks<A>,
+    tree: &Tree,
+    page: u32,
+    i: u32,
+    overflow: Option<(u32, u32)>,
+    sieve: &mut Option<RowSieve>,
+    sink: &mut K,
+) -> Result<(), RunError>
+    requires { IsPageNumber page × IfSome overflow (λ o. o.1 ≤ most_payload) }
+    ensures kept { (bench.new.geometry ≡ bench.old.geometry) × (bench.new.levels ≡ bench.old.levels) × (is_some sieve.new ≡ is_some sieve.old) }
+    ensures reads { (S.held source.new).failures ≡ failures_after is_read_failed result (S.held source.old).failures }
+    ensures writes { SinkAfter is_write_failed result (K.held sink.old) (K.held sink.new) }
+    ensures log { HasLog S.step (Reads bench.old.geometry.page_size marks.old marks.new) (λ file. bench.old.geometry ≡ shape_of file
+        → AtOverflow file tree.now bench.old.levels page i overflow marks.old (λ U c.
+        IsDone K.takes K.drops file U (overflow_errands c i overflow) result marks.new sink.old sink.new
+        × OnOk result (FeedsPayload file U c i overflow sieve.old sieve.new))) (S.held source.old) (S.held source.new) }
+    ensures only { IfErr result IsReadOrWrite }
+{
+    match overflow {
+        None => Ok(()),
+        Some((first, left)) => {
+            let chain = Chain {
+                start: tree.start,
+                path: tree.path.as_slice(),
+                page,
+                cell: i,
+                first,
+                left,
+            };
+            walk_chain(source, bench, marks, &chain, sieve, sink)
+        }
+    }
+}
+
+/// Tells that the key of a cell of a leaf is out of order, where it is, and keeps it if it is the greatest.
+pub(crate) fn tell_rowid<K: Sink>(
+    tree: &mut Tree,
+    page: u32,
+    i: u32,
+    key: Option<i64>,
+    sink: &mut K,
+) -> Result<(), WriteFailed>
+    ensures told { IsTold K.takes K.drops K.held result sink.old (findings (late_faults tree.old.greatest page i key)) sink.new }
+    ensures greatest { tree.new.greatest ≡ top_after tree.old.greatest key }
+    ensures others { IsSameButGreatest tree.old tree.new }
+{
+    match key {
+        None => Ok(()),
+        Some(key) => tree.tell_key(page, i, key, true, sink),
     }
 }

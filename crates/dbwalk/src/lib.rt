@@ -21,42 +21,35 @@
 //! One clause of each of its methods, `Walked`, says that it still lends the same, that each failure of a source, a sink or a
 //! taker is counted and answered, and that no tree but the schema's calls the taker. `SaysOfFiles` has what was asked for.
 //!
-//! **Where a walk stands** (specs/Walking and WalkingOn; Standing has it for clauses). The loop over interior pages keeps
+//! **Where a walk stands** (specs/Walking and Underway; Standing has it for clauses). The loop over interior pages keeps
 //! one equation: what its frames still have to do, gone on with from here, makes the walk whole (`IsUnderway`). Pages on the path
 //! stay in the bench, a level each, and at most 20 are held; behind a chain the path is taken up where it was left.
 //!
-//! **Pages told at once** (specs/KeySpans). Where one reading of a page tells all of its cells, the row and the faults are told
+//! **Pages told at once** (specs/LeafCells). Where one reading of a page tells all of its cells, the row and the faults are told
 //! from that; and of a leaf of which nothing but the keys is left to look at, the first key and the last stand for all cells.
 //!
-//! **Rows of the schema** (specs/Taking and RootRoom) go to the taker where they stand; what it answers decides S04.
+//! **Rows of the schema** (specs/Taking) go to the taker where they stand; what it answers decides S04.
 //!
 //! At the end the marks alone tell which pages nothing refers to: [`marks_tell_the_end`].
 #![tactic(auto)]
 
-mod cell;
 mod cells;
 mod chain;
 mod entering;
-mod frame;
 mod freelist;
 mod leaf;
-mod leaf_cell;
-mod mark;
 mod marks;
 mod overflow;
 mod page;
 mod page_entry;
-mod payload;
 mod root;
 mod schema_row;
-mod sieve;
 mod sink;
 mod state;
 mod steps;
 mod taker;
 mod told;
 mod tree;
-mod tree_turn;
 mod tree_walk;
 mod visit;
 
@@ -64,8 +57,7 @@ pub use dbbytes::{RowKind, SchemaRow};
 pub use dbformat::{Encoding, Fault, FaultCode, Geometry, PageType};
 pub use dbsource::{Bench, RunError, Source, WriteFailed};
 pub use freelist::walk_freelist;
-pub use mark::Mark;
-pub use marks::{Marks, marks_tell_the_end, walks_read_each_page_once};
+pub use marks::{Mark, Marks, marks_tell_the_end, walks_read_each_page_once};
 pub use root::{Root, RootKind};
 pub use sink::{Row, Sink};
 pub use taker::{Taken, Taker};

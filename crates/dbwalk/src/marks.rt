@@ -7,10 +7,30 @@ ghost use Rattle.dbwalk.specs.EndMarks.{MarksTellTheEnd};
 ghost use Rattle.dbwalk.specs.Reads.{ReadsEachPageOnce};
 ghost use Rattle.dbwalk.specs.Entered.{refusal_by};
 
-use crate::Mark;
 use dbformat::{FaultCode, Geometry};
 use std::alloc::{AllocError, Allocator, Global};
 use std::marker::Model;
+
+/// As what a page is used, with the page that it is reached from where a pointer map would name it.
+#[derive(Clone, Copy, Debug, PartialEq, Eq)]
+pub enum Mark {
+    /// It was not reached, and has no fixed use.
+    Unmarked,
+    /// It has a fixed use: the lock-byte page, or a pointer-map page.
+    Fixed,
+    /// The root of a tree.
+    Root,
+    /// A trunk of the freelist.
+    Trunk,
+    /// A leaf of a trunk.
+    FreeLeaf,
+    /// The first overflow page of a cell of this page.
+    FirstOverflow(u32),
+    /// The overflow page behind this one.
+    LaterOverflow(u32),
+    /// A child of this page of a tree.
+    Child(u32),
+}
 
 /// One mark a page, in four bytes each.
 #[derive(Drop)]
@@ -20,7 +40,7 @@ pub struct Marks<A: Allocator = Global> {
 
 impl<A: Allocator> Model for Marks<A> {
     ghost use Rattle.std.specs.Prelude.{List, map, vec_len, ◌≤◌};
-    ghost use Rattle.dbwalk.specs.declared.mark.Mark.{Mark};
+    ghost use Rattle.dbwalk.specs.declared.marks.Mark.{Mark};
 
     ghost Value = { List Mark };
 

@@ -8,10 +8,9 @@ ghost use Rattle.dbformat.specs.declared.PageType.TheVariants as page_type;
 ghost use Rattle.dbsource.specs.declared.error.RunError.TheVariants as run_error;
 ghost use Rattle.dbwalk.specs.Chains.{Feeds};
 ghost use Rattle.dbtrace.specs.Finding.{told_row, told_fault};
-ghost use Rattle.dbwalk.specs.Outcomes.{Tells};
+ghost use Rattle.dbwalk.specs.Telling.{Tells, SinkAfter};
 ghost use Rattle.dbwalk.specs.Rows.{row_of};
 ghost use Rattle.dbsource.specs.Errors.{is_write_failed};
-ghost use Rattle.dbwalk.specs.Sinks.{SinkAfter};
 
 use crate::chain::Chain;
 use crate::{Fault, PageType, Row, Sink};

@@ -1,23 +1,24 @@
 // A row of the schema: who takes it, and what is told of it (Database File Format, 2.6).
-ghost use Rattle.std.specs.Prelude.{◌≡◌, ℕ, List, None, Ok, IfErr};
+ghost use Rattle.std.specs.Prelude.{◌≡◌, ℕ, List, None, Ok, IfErr, ◌<◌, ◌≤◌, length};
 ghost use Rattle.dbformat.specs.Faults.{fault};
 ghost use Rattle.dbformat.specs.SchemaRow.{schema_row};
 ghost use Rattle.dbformat.specs.Tests.{told_if};
 ghost use Rattle.dbformat.specs.declared.Encoding.{Encoding};
 ghost use Rattle.dbbytes.specs.Row.{seen};
-ghost use Rattle.dbwalk.specs.Outcomes.{IsWriteOrMemory};
-ghost use Rattle.dbwalk.specs.Telling.{IsTold, findings};
+ghost use Rattle.dbwalk.specs.Telling.{IsWriteOrMemory, IsTold, findings, SinkAfter};
 ghost use Rattle.dbwalk.specs.Rows.{schema_row_of};
-ghost use Rattle.dbwalk.specs.Taking.{place_of, fault_of, taken_faults, TellsRow};
-ghost use Rattle.dbwalk.specs.Sieving.{HasFed};
+ghost use Rattle.dbwalk.specs.Taking.{place_of, fault_of, taken_faults, TellsRow, HasFed, HasSieve};
 ghost use Rattle.dbsource.specs.Errors.{is_out_of_memory, is_write_failed};
 ghost use Rattle.dbsource.specs.Failures.{failures_after};
-ghost use Rattle.dbwalk.specs.Sinks.{SinkAfter};
+ghost use Rattle.dbformat.specs.Address.{schema_start};
 
+use crate::page::undamaged;
+use crate::state::Tree;
 use crate::{Sink, Taken, Taker};
 use dbbytes::{RowSieve, SchemaRow};
-use dbformat::{Fault, FaultCode, RowFault};
-use dbsource::{RunError, WriteFailed};
+use dbformat::{Encoding, Fault, FaultCode, RowFault};
+use dbsource::{Bench, RunError, WriteFailed};
+use std::alloc::Allocator;
 
 /// Where a row of the schema stands: its page, the number of its cell, and its rowid.
 #[derive(Clone, Copy, Debug, Drop, PartialEq, Eq)]
@@ -129,5 +130,39 @@ pub(crate) fn tell_row<K: Sink, T: Taker>(
     match sieve {
         None => Ok(()),
         Some(sieve) => take_row(sieve.finish(), place, taker, sink),
+    }
+}
+
+/// A sieve that has taken what stands of the payload in cell `i` of the leaf at the level of the tree's path, where this is
+/// the tree of the schema; none for other trees, and for a cell that cannot be read.
+pub(crate) fn row_sieve<A: Allocator>(
+    bench: &Bench<A>,
+    tree: &Tree,
+    page: u32,
+    i: u32,
+    encoding: Encoding,
+) -> Option<RowSieve>
+    requires { length tree.now.path.items < 20 }
+    ensures schema { tree.now.start ≡ schema_start
+        → HasSieve bench.now.geometry.usable tree.now.kind bench.now.levels (length tree.now.path.items) page i encoding result }
+    ensures other { 1 ≤ tree.now.start → result ≡ None }
+{
+    if tree.start != 0 {
+        return None;
+    }
+    let usable = bench.geometry().usable;
+    let Ok(view) = undamaged(bench.page(tree.path.len()), page, usable, tree.kind) else {
+        return None;
+    };
+    if i >= view.cells() {
+        return None;
+    }
+    match view.cell(i) {
+        Ok(cell) => {
+            let mut sieve = RowSieve::new(cell.size, encoding);
+            sieve.feed(cell.local);
+            Some(sieve)
+        }
+        Err(_) => None,
     }
 }

@@ -2,7 +2,7 @@
 ghost use Rattle.std.specs.Prelude.{MatchResult};
 ghost use Rattle.dbtrace.specs.Finding.{Finding, told_row, told_fault};
 ghost use Rattle.dbwalk.specs.Rows.{row_of};
-ghost use Rattle.dbwalk.specs.Sinks.{SinkAfter};
+ghost use Rattle.dbwalk.specs.Telling.{SinkAfter};
 ghost use Rattle.dbsource.specs.Failures.{is_any};
 
 use crate::{Fault, PageType};
@@ -63,7 +63,7 @@ pub struct Row<'a> {
 /// writes `held = { λ s. record { lent = []; failures = s.failures ∷ [] } }`, where `◌∷◌` is brought in beside `[]`.
 pub trait Sink {
     ghost use Rattle.dbtrace.specs.Finding.{Finding};
-    ghost use Rattle.dbwalk.specs.Sinks.{SinkState};
+    ghost use Rattle.dbwalk.specs.Telling.{SinkState};
 
     // What an item that is taken makes of it.
     ghost takes: { Self → Finding → Self → Type 0 };

@@ -1,7 +1,6 @@
 // What the walk over one tree keeps beside marks, buffers and frames.
 ghost use Rattle.std.specs.Prelude.{◌≡◌, [], Some, None, false, IsTrue, IsSomeAnd};
-ghost use Rattle.dbwalk.specs.KeySpans.{ArePassed};
-ghost use Rattle.dbwalk.specs.LeafCells.{greater_key, depth_faults, first_depth, order_faults};
+ghost use Rattle.dbwalk.specs.LeafCells.{ArePassed, greater_key, depth_faults, first_depth, order_faults};
 ghost use Rattle.dbwalk.specs.Standing.{IsSameButGreatest, IsSameButLeaf};
 ghost use Rattle.dbwalk.specs.Telling.{IsTold, findings};
 

@@ -1,17 +1,37 @@
 // The steps of an interior page: at each cell its overflow chain, its left child and its key, and behind the cells the
 // right child.
-ghost use Rattle.std.specs.Prelude.{◌≡◌, ◌<◌};
+ghost use Rattle.std.specs.Prelude.{◌≡◌, ◌<◌, suc};
 ghost use Rattle.dbformat.specs.Address.{overflow_step, child_step, key_step};
 ghost use Rattle.dbformat.specs.Cell.{count};
 ghost use Rattle.dbwalk.specs.Steps.{HasNext, IsNextStep};
 
 use crate::cells::overflow_size;
-use crate::frame::Frame;
 use crate::page::undamaged;
 use dbformat::TreeKind;
 use dbpage::PageView;
 use dbsource::Bench;
 use std::alloc::Allocator;
+
+/// An interior page that was visited, and the step of it that comes next.
+#[derive(Clone, Copy, Debug, Default, PartialEq, Eq)]
+pub(crate) struct Frame {
+    pub(crate) page: u32,
+    pub(crate) next: u32,
+}
+
+impl Frame {
+    /// The frame one step on.
+    pub(crate) fn stepped(self) -> Frame
+        requires { self.next < 4294967295 }
+        ensures page { result.page ≡ self.page }
+        ensures next { result.next ≡ suc self.next }
+    {
+        Frame {
+            page: self.page,
+            next: self.next + 1,
+        }
+    }
+}
 
 /// What an interior page has at a step.
 #[derive(Clone, Copy, Debug, PartialEq, Eq)]

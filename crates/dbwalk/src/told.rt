@@ -1,11 +1,12 @@
 // What is told of one page of a tree: its row, and its faults.
 ghost use Rattle.std.specs.Prelude.{◌≡◌, ◌≤◌, length, IfOk, IfSome};
-ghost use Rattle.dbwalk.specs.KeySpans.{HasSpan};
-ghost use Rattle.dbwalk.specs.PageRows.{undamaged_findings, damaged_findings};
+ghost use Rattle.dbwalk.specs.LeafCells.{HasSpan};
+ghost use Rattle.dbwalk.specs.Found.{undamaged_findings, damaged_findings};
 ghost use Rattle.dbwalk.specs.Telling.{IsTold};
+ghost use Rattle.dbformat.specs.Cell.{cells};
+ghost use Rattle.dbpage.specs.Packed.{payload_of, greatest_of};
 
 use crate::page::{tell_inner, tell_readable};
-use crate::payload::{CellSums, cell_sums};
 use crate::state::KeySpan;
 use crate::{Row, Sink};
 use dbformat::{Fault, PageType};
@@ -101,4 +102,33 @@ pub(crate) fn tell_damaged<K: Sink>(
         mx_payload: 0,
     })?;
     sink.fault(damage)
+}
+
+/// What the readable cells of a page come to: the bytes of payload that stand in them, and the greatest payload of one.
+#[derive(Clone, Copy)]
+pub(crate) struct CellSums {
+    pub(crate) payload: u64,
+    pub(crate) greatest: u64,
+}
+
+/// What the readable cells of a page come to.
+// Most pages are packed, and are not asked for this.
+#[inline(never)]
+pub(crate) fn cell_sums(view: &PageView<'_>) -> CellSums
+    requires { view.now.usable ≤ 65536 }
+    ensures local { result.payload ≡ payload_of (cells view.now) }
+    ensures greatest { result.greatest ≡ greatest_of (cells view.now) }
+{
+    let mut local = 0;
+    let mut greatest = 0;
+    for i in 0..view.cells() {
+        if let Ok(cell) = view.cell(i) {
+            local += cell.local.len() as u64;
+            greatest = greatest.max(u64::from(cell.size));
+        }
+    }
+    CellSums {
+        payload: local,
+        greatest,
+    }
 }

@@ -1,9 +1,22 @@
-// One walk over a tree.
+// One walk over a tree, and a turn of it: a step of the last frame.
+ghost use Rattle.arrayvec.specs.ArrayVec.{array_vec_len};
+ghost use Rattle.std.specs.Prelude.{◌≡◌, ◌≤◌, ◌<◌, ◌++◌, [], ◌∷◌, List, OnOk};
+ghost use Rattle.dbwalk.specs.Steps.{HasNext};
+ghost use Rattle.dbwalk.specs.Walked.{SaysOfFiles, Walked};
+ghost use Rattle.dbwalk.specs.Underway.{HasTurned};
+ghost use Rattle.dbwalk.specs.Watching.{fails, watches};
+ghost use Rattle.dbwalk.specs.Walking.{AreOpen, path_of, cost};
+ghost use Rattle.dbwalk.specs.declared.steps.Frame.{Frame};
+ghost use Rattle.dbwalk.specs.declared.steps.Next.TheVariants.{Child};
+ghost use Rattle.dbwalk.specs.Standing.{AtStep};
 
+use crate::chain::{Chain, walk_unfed};
 use crate::state::Tree;
+use crate::steps::{Frame, Next, step_of};
 use crate::{Marks, Sink, Taker};
+use arrayvec::ArrayVec;
 use dbformat::Encoding;
-use dbsource::Source;
+use dbsource::{Bench, RunError, Source};
 use std::alloc::Allocator;
 
 /// What a walk over one tree borrows, and where it stands. The bench of page buffers goes beside it from call to call.
@@ -16,4 +29,97 @@ pub(crate) struct TreeWalk<'s, 'm, 't, 'k, A: Allocator, S: Source, K: Sink, T: 
     pub(crate) tree: Tree,
     /// How the texts of the file are encoded.
     pub(crate) encoding: Encoding,
+}
+
+impl<A: Allocator, S: Source, K: Sink, T: Taker> TreeWalk<'_, '_, '_, '_, A, S, K, T> {
+    // Enters the child at the step of a frame that was taken from the stack: the frame goes back a step on, and an undamaged
+    // interior page gets a frame of its own.
+    fn enter_child(
+        &mut self,
+        bench: &mut Bench<A>,
+        frames: &mut ArrayVec<Frame, 20>,
+        frame: Frame,
+        page: u32,
+    ) -> Result<(), RunError>
+        requires few { array_vec_len frames.old < 20 }
+        requires open { AreOpen bench.old.geometry.usable self.old.tree.kind bench.old.levels 0 (frames.old.items ++ (frame ∷ [])) }
+        requires path { self.old.tree.path.items ≡ path_of frames.old.items }
+        requires step { HasNext bench.old.geometry.usable self.old.tree.kind bench.old.levels (array_vec_len frames.old) frame.page frame.next (Child page) }
+        ensures walked { Walked S.held K.held T.refusals result bench.old.geometry bench.new.geometry self.old self.new }
+        ensures few { OnOk result (array_vec_len frames.new ≤ 20) }
+        ensures open { OnOk result (AreOpen bench.new.geometry.usable self.new.tree.kind bench.new.levels 0 frames.new.items) }
+        ensures path { OnOk result ((fs : List Frame) (f : Frame) → frames.new.items ≡ fs ++ (f ∷ []) → self.new.tree.path.items ≡ path_of fs) }
+        ensures ends { OnOk result (cost self.new.marks.now frames.new.items < cost self.old.marks.now (frames.old.items ++ (frame ∷ []))) }
+        ensures log { SaysOfFiles S.step S.held bench.old.geometry self.old self.new (λ file.
+            AtStep (watches K.takes T.takes) T.takes file bench.old.levels (frames.old.items ++ (frame ∷ [])) self.old (λ W c before.
+            HasTurned (watches K.takes T.takes) (fails K.drops T.refuses) file (W, c, before) result (frames.new.items, bench.new.levels)
+            (self.new.marks.now, self.new.tree) (self.new.sink.now, self.new.taker.now))) }
+    {
+        let cell = frame.next / 3;
+        frames.push(frame.stepped());
+        self.tree.path.push(cell);
+        if !self.enter_page(bench, page, frame.page, cell)? {
+            let _ = self.tree.path.pop();
+            return Ok(());
+        }
+        frames.push(Frame { page, next: 0 });
+        Ok(())
+    }
+
+    /// One turn: the next step of a frame that was taken from the stack.
+    ///
+    /// # Errors
+    ///
+    /// [`RunError::ReadFailed`] exactly where the source failed, [`RunError::WriteFailed`] exactly where the sink failed,
+    /// [`RunError::OutOfMemory`] exactly where the taker was refused memory.
+    pub(crate) fn turn(
+        &mut self,
+        bench: &mut Bench<A>,
+        frames: &mut ArrayVec<Frame, 20>,
+        frame: Frame,
+    ) -> Result<(), RunError>
+        requires few { array_vec_len frames.old < 20 }
+        requires open { AreOpen bench.old.geometry.usable self.old.tree.kind bench.old.levels 0 (frames.old.items ++ (frame ∷ [])) }
+        requires path { self.old.tree.path.items ≡ path_of frames.old.items }
+        ensures walked { Walked S.held K.held T.refusals result bench.old.geometry bench.new.geometry self.old self.new }
+        ensures few { OnOk result (array_vec_len frames.new ≤ 20) }
+        ensures open { OnOk result (AreOpen bench.new.geometry.usable self.new.tree.kind bench.new.levels 0 frames.new.items) }
+        ensures path { OnOk result ((fs : List Frame) (f : Frame) → frames.new.items ≡ fs ++ (f ∷ []) → self.new.tree.path.items ≡ path_of fs) }
+        ensures ends { OnOk result (cost self.new.marks.now frames.new.items < cost self.old.marks.now (frames.old.items ++ (frame ∷ []))) }
+        ensures log { SaysOfFiles S.step S.held bench.old.geometry self.old self.new (λ file.
+            AtStep (watches K.takes T.takes) T.takes file bench.old.levels (frames.old.items ++ (frame ∷ [])) self.old (λ W c before.
+            HasTurned (watches K.takes T.takes) (fails K.drops T.refuses) file (W, c, before) result (frames.new.items, bench.new.levels)
+            (self.new.marks.now, self.new.tree) (self.new.sink.now, self.new.taker.now))) }
+    {
+        match step_of(bench, self.tree.kind, frames.len(), frame) {
+            Next::Behind => {
+                // The path ends at the page above.
+                let _ = self.tree.path.pop();
+                Ok(())
+            }
+            Next::Nothing => {
+                frames.push(frame.stepped());
+                Ok(())
+            }
+            Next::Key(key) => {
+                frames.push(frame.stepped());
+                self.tree
+                    .tell_key(frame.page, frame.next / 3, key, false, self.sink)?;
+                Ok(())
+            }
+            Next::Chain { first, left } => {
+                frames.push(frame.stepped());
+                let chain = Chain {
+                    start: self.tree.start,
+                    path: self.tree.path.as_slice(),
+                    page: frame.page,
+                    cell: frame.next / 3,
+                    first,
+                    left,
+                };
+                walk_unfed(self.source, bench, self.marks, &chain, self.sink)
+            }
+            Next::Child(page) => self.enter_child(bench, frames, frame, page),
+        }
+    }
 }

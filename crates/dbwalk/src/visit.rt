@@ -1,13 +1,11 @@
 // What is told of a page of a tree that was read.
 ghost use Rattle.std.specs.Prelude.{◌≡◌, ◌<◌, length, IfOk, OnOk};
 ghost use Rattle.dbformat.specs.FixedPages.{IsPageNumber};
-ghost use Rattle.dbwalk.specs.Found.{IsFound};
-ghost use Rattle.dbwalk.specs.Telling.{IsTold};
+ghost use Rattle.dbwalk.specs.Found.{IsFound, page_findings};
+ghost use Rattle.dbwalk.specs.Telling.{IsTold, SinkAfter};
 ghost use Rattle.dbtrace.specs.Progress.{leaf_after};
-ghost use Rattle.dbwalk.specs.PageRows.{page_findings};
 ghost use Rattle.dbsource.specs.Failures.{is_any};
 ghost use Rattle.dbwalk.specs.Standing.{AtRead, IsSameButLeaf};
-ghost use Rattle.dbwalk.specs.Sinks.{SinkAfter};
 
 use crate::Sink;
 use crate::page::undamaged;

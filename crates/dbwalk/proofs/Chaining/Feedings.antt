@@ -28,7 +28,7 @@ use Rattle.std.proofs.lemmas.Grind.{flat_map-append}
 use Rattle.dbformat.specs.Header.{usable_size}
 use Rattle.dbformat.specs.Payload.{overflow_bytes}
 use Rattle.dbwalk.proofs.Telling.Belows.{visited_none, visited_refused}
-use Rattle.dbwalk.specs.Sieving.{HasFed, FeedsPayload}
+use Rattle.dbwalk.specs.Taking.{HasFed, FeedsPayload}
 
 -- At the end of a chain a sieve has taken the payload of its cell.
 

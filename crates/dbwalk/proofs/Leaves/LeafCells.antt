@@ -21,7 +21,7 @@ use Rattle.dbsource.specs.Bench.{Pages, bytes_at}
 use Rattle.dbwalk.specs.LeafCells.{HasCell, HasCells}
 use Rattle.dbformat.specs.declared.Encoding.{Encoding}
 use Rattle.dbbytes.specs.declared.sieve.RowSieve.{RowSieve}
-use Rattle.dbwalk.specs.Sieving.{HasFed, HoldsCell, HasSieve}
+use Rattle.dbwalk.specs.Taking.{HasFed, HoldsCell, HasSieve}
 use Rattle.dbwalk.specs.Steps.{IsNextStep, HasNext}
 use Rattle.dbwalk.specs.declared.steps.Next.{Next}
 

@@ -14,7 +14,7 @@ use Rattle.dbformat.specs.declared.PageKind.TheVariants.{InteriorIndex, Interior
 use Rattle.dbformat.specs.declared.PayloadKind.{PayloadKind}
 use Rattle.dbformat.specs.declared.PayloadKind.TheVariants.{TableLeaf, Index}
 use Rattle.dbpage.specs.Packed.{IsAbove, IsAllLocal, key_at}
-use Rattle.dbwalk.specs.KeySpans.{HasSpan, AreRisingFrom}
+use Rattle.dbwalk.specs.LeafCells.{HasSpan, AreRisingFrom}
 use Rattle.dbwalk.specs.declared.state.KeySpan.{KeySpan}
 
 -- the cells of a table have keys, and those of an index have none

@@ -22,8 +22,8 @@ use Rattle.dbformat.proofs.Visited.{allowed, each_once}
 use Rattle.dbformat.specs.declared.Geometry.{Geometry}
 use Rattle.dbformat.specs.declared.Fault.{Fault}
 use Rattle.dbformat.specs.declared.FaultCode.TheVariants.{N01}
-use Rattle.dbwalk.specs.declared.mark.Mark.{Mark}
-use Rattle.dbwalk.specs.declared.mark.Mark.TheVariants.{Unmarked, Fixed}
+use Rattle.dbwalk.specs.declared.marks.Mark.{Mark}
+use Rattle.dbwalk.specs.declared.marks.Mark.TheVariants.{Unmarked, Fixed}
 use Rattle.dbwalk.specs.Marking.{role_mark, visit_mark, mark_of, marks_of}
 use Rattle.dbwalk.specs.EndMarks.{AreVisits, other_entry, mark_fault, is_free_mark, is_root_mark, is_other_mark, is_marked, marked_pages, greatest_root_marked}
 use Rattle.dbwalk.proofs.Marking.Markings.{marks_of-visit, page_mark-in, page_mark-out, marks_of-length}

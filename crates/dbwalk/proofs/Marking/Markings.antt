@@ -19,8 +19,8 @@ use Rattle.dbformat.specs.declared.Geometry.{Geometry}
 use Rattle.dbformat.specs.declared.FaultCode.{FaultCode}
 use Rattle.dbformat.specs.declared.FaultCode.TheVariants.{R01, R02, R03, T04}
 use Rattle.dbformat.proofs.Theory.{refused_by_marks}
-use Rattle.dbwalk.specs.declared.mark.Mark.{Mark}
-use Rattle.dbwalk.specs.declared.mark.Mark.TheVariants.{Unmarked, Fixed}
+use Rattle.dbwalk.specs.declared.marks.Mark.{Mark}
+use Rattle.dbwalk.specs.declared.marks.Mark.TheVariants.{Unmarked, Fixed}
 use Rattle.dbwalk.specs.Marking.{role_mark, visit_mark, mark_of, marks_of, AreMarksOf, page_mark, mark_of_kind, unpacked}
 use Rattle.dbwalk.specs.Entered.{refusal_by}
 use Rattle.std.proofs.Math.Seq.{take-suc-set}

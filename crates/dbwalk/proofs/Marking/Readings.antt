@@ -10,8 +10,8 @@ use Rattle.std.proofs.lemmas.Option.{slice_get_within, get_or_from_slice_get}
 use Rattle.dbsurvey.proofs.Order.{IsIn-cases, EachPair-append}
 use Rattle.dbformat.specs.Log.{page_range, range}
 use Rattle.dbformat.specs.declared.ByteRange.{ByteRange}
-use Rattle.dbwalk.specs.declared.mark.Mark.{Mark}
-use Rattle.dbwalk.specs.declared.mark.Mark.TheVariants.{Unmarked}
+use Rattle.dbwalk.specs.declared.marks.Mark.{Mark}
+use Rattle.dbwalk.specs.declared.marks.Mark.TheVariants.{Unmarked}
 use Rattle.dbwalk.specs.Marking.{page_mark, is_none, is_unmarked, unmarked_pages, IsUse, cleared, Keeps}
 use Rattle.dbsource.specs.Answers.{IsRangeOf, answer, Step}
 use Rattle.dbsource.specs.Errors.{is_read_failed}

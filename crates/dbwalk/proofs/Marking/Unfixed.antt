@@ -10,8 +10,8 @@ use Rattle.dbformat.specs.Log.{IsReadable}
 use Rattle.dbformat.specs.Tests.{first_true}
 use Rattle.dbformat.specs.declared.Fixed.TheVariants.{Lock, Map}
 use Rattle.dbformat.specs.declared.Geometry.{Geometry}
-use Rattle.dbwalk.specs.declared.mark.Mark.{Mark}
-use Rattle.dbwalk.specs.declared.mark.Mark.TheVariants.{Unmarked, Fixed, Root, Trunk, FreeLeaf, FirstOverflow, LaterOverflow, Child}
+use Rattle.dbwalk.specs.declared.marks.Mark.{Mark}
+use Rattle.dbwalk.specs.declared.marks.Mark.TheVariants.{Unmarked, Fixed, Root, Trunk, FreeLeaf, FirstOverflow, LaterOverflow, Child}
 use Rattle.dbwalk.specs.Marking.{marks_of, page_mark, is_none, is_unmarked, cleared, AreMarksFor, Keeps}
 use Rattle.dbwalk.specs.Reads.{ReadsEachPageOnce}
 use Rattle.dbwalk.proofs.Marking.Readings.{reads_then}

@@ -14,15 +14,14 @@ use Rattle.dbformat.specs.declared.TreeKind.{TreeKind}
 use Rattle.dbtrace.specs.Finding.{told_row, told_fault, Finding}
 use Rattle.dbtrace.specs.Progress.{depth_faults}
 use Rattle.dbtrace.proofs.Depths.{no_depth}
-use Rattle.dbwalk.specs.PageRows.{view_row, damaged_row, page_findings}
-use Rattle.dbwalk.specs.Telling.{findings, IsTold}
+use Rattle.dbwalk.specs.Found.{view_row, damaged_row, page_findings}
+use Rattle.dbwalk.specs.Telling.{findings, IsTold, HasFailed, SinkState}
 use Rattle.std.specs.List.{range_with_len, cons_option}
 use Rattle.std.specs.Option.{is_none}
 use Rattle.std.proofs.lemmas.Grind.{common_steps, flat_map-append}
 use Rattle.std.proofs.lemmas.Bool.Decides.{nat_tests}
 use Rattle.dbsurvey.proofs.Moving.{Moves-append, stops_first, stops_after}
 use Rattle.dbformat.proofs.Looping.{range-one-more}
-use Rattle.dbwalk.specs.Sinks.{HasFailed, SinkState}
 use Rattle.std.specs.Result.{result_ok}
 use Rattle.std.proofs.lemmas.Bool.{cases_order}
 use Rattle.std.specs.Ordering.{is_lt, nat_cmp, ord_max}

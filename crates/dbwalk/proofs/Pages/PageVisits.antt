@@ -19,15 +19,13 @@ use Rattle.dbformat.specs.declared.TreeKind.{TreeKind}
 use Rattle.dbtrace.specs.Finding.{told_row, Finding}
 use Rattle.dbtrace.specs.Progress.{leaf_after, depth_faults}
 use Rattle.dbwalk.specs.LeafCells.{first_depth}
-use Rattle.dbwalk.specs.PageRows.{damaged_row, undamaged_findings, page_findings, damaged_findings}
-use Rattle.dbwalk.specs.Telling.{findings, IsTold}
+use Rattle.dbwalk.specs.Found.{damaged_row, undamaged_findings, page_findings, damaged_findings, StandsAt, IsDamagedAt, IsOpenLeaf}
+use Rattle.dbwalk.specs.Telling.{findings, IsTold, SinkState}
 use Rattle.dbwalk.specs.Walking.{IsCandidate, role_at, IsOpen, IsLeafAt}
 use Rattle.dbwalk.proofs.Pages.PageTellings.{is_child, page_told, view_is, row_of_view, row_of_damage, told_then, told_stop, told_ok}
-use Rattle.dbwalk.specs.Sinks.{SinkState}
 use Rattle.dbsurvey.specs.Traverse.{is_followed}
 use Rattle.dbformat.specs.Survey.{rules_of}
 use Rattle.dbtrace.specs.Walk.{Walk}
-use Rattle.dbwalk.specs.Found.{StandsAt, IsDamagedAt, IsOpenLeaf}
 use Rattle.dbwalk.specs.Underway.{IsInterior}
 use Rattle.dbwalk.specs.LeafCells as depths
 

@@ -16,19 +16,17 @@ use Rattle.dbformat.specs.Survey.{rules_of, refused, is_too_deep}
 use Rattle.dbformat.specs.Story.{Event, at_page, at_refused, own_visit, story_of}
 use Rattle.dbformat.proofs.Theory.{are_rules, is_story}
 use Rattle.dbsource.specs.declared.error.RunError.{RunError}
-use Rattle.dbwalk.specs.declared.mark.Mark.{Mark}
+use Rattle.dbwalk.specs.declared.marks.Mark.{Mark}
 use Rattle.dbwalk.specs.Marking.{AreMarksOf, visit_mark, page_mark}
 use Rattle.dbtrace.specs.Finding.{Finding, told_at, told_below, visited_below, told_fault}
-use Rattle.dbwalk.specs.Outcomes.{StopsBy}
-use Rattle.dbwalk.specs.Done.{IsDone}
+use Rattle.dbwalk.specs.Telling.{StopsBy}
+use Rattle.dbwalk.specs.Done.{IsDone, IsLeft}
 use Rattle.dbwalk.specs.Entered.{Enters, IsNext, IsStepOf, refusal_by}
-use Rattle.dbwalk.specs.Left.{IsLeft}
-use Rattle.dbwalk.proofs.Telling.Tellings.{stops_by_first, stops_by_after}
-use Rattle.dbwalk.proofs.Telling.Belows.{visited_none, visited_refused, visited_visit, visited_join, told_none, told_join, told_refused, told_visit}
+use Rattle.dbwalk.proofs.Telling.Belows.{stops_by_first, stops_by_after, visited_none, visited_refused, visited_visit, visited_join, told_none, told_join, told_refused, told_visit}
 use Rattle.std.specs.Prelude.{pos}
 use Rattle.dbformat.specs.ReferenceFaults.{refusal_fault}
 use Rattle.dbformat.specs.declared.FaultCode.{FaultCode}
-use Rattle.dbwalk.specs.declared.mark.Mark.TheVariants.{Unmarked, Fixed, Root, Trunk, FreeLeaf, FirstOverflow, LaterOverflow, Child}
+use Rattle.dbwalk.specs.declared.marks.Mark.TheVariants.{Unmarked, Fixed, Root, Trunk, FreeLeaf, FirstOverflow, LaterOverflow, Child}
 use Rattle.dbwalk.specs.declared.entering.Step.{Step}
 use Rattle.dbwalk.proofs.Marking.Markings.{refused-by_mark, followed-unrefused, followed-refused, marked-visit}
 

@@ -4,14 +4,14 @@ use Rattle.dbformat.specs.Address.{child_step, cell_of_step}
 use Rattle.dbformat.specs.File.{page_bytes}
 use Rattle.std.specs.Prelude.{slice_get, OnOk}
 use Rattle.dbwalk.specs.Walking.{AreCalls, AreRead, IsOpen, AreOpen, frames_cost, cost, path_of}
-use Rattle.dbwalk.specs.declared.frame.Frame.{Frame}
+use Rattle.dbwalk.specs.declared.steps.Frame.{Frame}
 use Rattle.std.proofs.lemmas.List.{map-append, length-map, length-append}
 use Rattle.dbformat.specs.FixedPages.{most_pages, IsPageNumber}
 use Rattle.dbformat.specs.Cell.{count}
 use Rattle.dbformat.specs.Head.{undamaged, View}
 use Rattle.dbformat.specs.declared.TreeKind.{TreeKind}
 use Rattle.dbwalk.specs.Marking.{unmarked_pages}
-use Rattle.dbwalk.specs.declared.mark.Mark.{Mark}
+use Rattle.dbwalk.specs.declared.marks.Mark.{Mark}
 use Rattle.dbwalk.specs.Steps.{IsEmptyAt, no_chain, no_child, unreadable, without_key, IsNextStep, HasNext}
 use Rattle.dbwalk.specs.declared.steps.Next.{Next}
 use Rattle.dbwalk.specs.declared.steps.Next.TheVariants.{Behind, Nothing, Key, Chain, Child}

@@ -23,7 +23,7 @@ use Rattle.dbformat.proofs.LookBack.{listed as is_listed}
 use Rattle.dbformat.proofs.Looping.{tree_items}
 use Rattle.dbformat.proofs.Theory.{is_story}
 use Rattle.dbwalk.specs.Walking.{errands_from, child_page, child_at, top_visit, left_over}
-use Rattle.dbwalk.specs.declared.frame.Frame.{Frame}
+use Rattle.dbwalk.specs.declared.steps.Frame.{Frame}
 
 -- The readable cells of a page.
 

@@ -7,7 +7,7 @@ use Rattle.dbformat.specs.Address.{start_of, then_step, child_step, is_child_ste
 use Rattle.dbformat.specs.Reference.{child, Reference}
 use Rattle.dbformat.specs.declared.TreeKind.{TreeKind}
 use Rattle.dbwalk.specs.Walking.{child_at, top_visit, AreCalls, IsCandidate, role_at, path_of}
-use Rattle.dbwalk.specs.declared.frame.Frame.{Frame}
+use Rattle.dbwalk.specs.declared.steps.Frame.{Frame}
 
 is_child : (n : ℕ) → is_child_step (child_step n) ≡ true
 is_child n = one ((3 * n + 1) % 3) (rest n)

@@ -1,15 +1,16 @@
 -- The step at the place of a cell's key: of an interior page or a leaf, with a key or without, and of the schema's rows; and
--- many at once, where nothing but the keys is left to look at.
-use Rattle.std.proofs.Common.{◌≡◌, ℕ, ℤ, int_lt, Bool, true, false, cond, not, ◌&&◌, List, [], ◌∷◌, ◌++◌, map, Option, Some, None, refl, sym, ap, ◌∙◌, append_assoc}
-use Rattle.std.specs.Prelude.{flat_map, nat_le, int_le, ◌==◌}
+-- cells of a leaf of which nothing but the keys is left to look at, as long as the keys rise: they hand out nothing, and the
+-- greatest key behind them is all that they change.
+use Rattle.std.proofs.Common.{◌≡◌, ℕ, ℤ, int_lt, Bool, true, false, cond, not, ◌&&◌, List, [], ◌∷◌, ◌++◌, map, Option, Some, None, refl, sym, ap, ◌∙◌, append_assoc, zero, suc, ◌+◌, ◌<◌, ◌≤◌, ◌<ℤ◌, arith, Ok, Err, Result, subst}
+use Rattle.std.specs.Prelude.{flat_map, nat_le, int_le, ◌==◌, option_and_then}
 use Rattle.std.proofs.lemmas.List.{append-nil, map-append}
 use Rattle.dbformat.specs.Address.{start_of, schema_start, last_root_start}
-use Rattle.dbformat.specs.Cell.{Cell}
+use Rattle.dbformat.specs.Cell.{Cell, cell, count}
 use Rattle.dbformat.specs.Head.{View, is_interior}
 use Rattle.dbformat.specs.KeyFaults.{key_of, row_faults_if}
-use Rattle.dbformat.specs.Reference.{Reference}
+use Rattle.dbformat.specs.Reference.{Reference, role_of, tree_kind, tree_view}
 use Rattle.dbformat.specs.Schema.{SchemaCell, schema_cell}
-use Rattle.dbformat.specs.Story.{at_key}
+use Rattle.dbformat.specs.Story.{at_key, own_visit, story_of}
 use Rattle.dbformat.specs.Tests.{told_if}
 use Rattle.dbformat.specs.Faults.{fault}
 use Rattle.dbformat.specs.declared.FaultCode.TheVariants.{T06}
@@ -18,10 +19,33 @@ use Rattle.dbformat.proofs.Places.{cell_key}
 use Rattle.dbtrace.specs.Finding.{told_fault}
 use Rattle.dbtrace.specs.Item.{Item, found, given, readable, items_at}
 use Rattle.dbtrace.specs.Progress.{Progress, rows_of, late_faults, greatest_after}
-use Rattle.dbtrace.specs.Walk.{Walk, advance}
+use Rattle.dbtrace.specs.Walk.{Walk, advance, run_below, bare}
 use Rattle.dbtrace.proofs.Keys.{le_is}
-use Rattle.dbwalk.specs.LeafCells.{order_faults, top_after}
+use Rattle.dbwalk.specs.LeafCells.{order_faults, top_after, AreRisingFrom}
 use Rattle.dbwalk.specs.Telling.{findings}
+use Rattle.std.specs.List.{range_with_len}
+use Rattle.std.specs.Option.{option_map_or, option_or}
+use Rattle.std.specs.Result.{result_ok}
+use Rattle.std.proofs.lemmas.Int.{ints}
+use Rattle.std.proofs.lemmas.Grind.{flat_map-append}
+use Rattle.dbsurvey.specs.Address.{IsIn, Address}
+use Rattle.dbsurvey.specs.InOrder.{AreQuiet}
+use Rattle.dbsurvey.specs.Story.{Tell, errands_of}
+use Rattle.dbsurvey.proofs.Ordering.{IsIn-from_flat_map}
+use Rattle.dbformat.specs.Errands.{errands_in, cell_errands, tell_cell}
+use Rattle.dbformat.specs.declared.CellFault.{CellFault}
+use Rattle.dbformat.specs.declared.TreeKind.{TreeKind}
+use Rattle.dbformat.proofs.Cells.{is_of_kind}
+use Rattle.dbformat.proofs.Looping.{range-more, all_quiet}
+use Rattle.dbpage.specs.Packed.{IsAbove, IsAllLocal, key_at}
+use Rattle.dbtrace.proofs.Stepping.{has_steps}
+use Rattle.dbwalk.proofs.Trees.Stacking.{cells_in}
+use Rattle.std.proofs.lemmas.Bool.Decides.{nat_tests}
+use Rattle.dbsource.specs.declared.error.RunError.{RunError}
+use Rattle.dbwalk.specs.Underway.{IsAt, HasDone, done_below}
+use Rattle.dbwalk.specs.declared.marks.Mark.{Mark}
+use Rattle.dbwalk.specs.declared.state.Tree.{Tree}
+use Rattle.dbwalk.proofs.Leaves.LeafErrands.{leaf_errands_are}
 
 -- what rows of the schema hand out, behind so many rows with a root: those that can be read go to the taker, and then their
 -- faults are told
@@ -80,3 +104,75 @@ no_row_inside file U r v x inside = by_start (start_of r.address == schema_start
 
 pub no_row_elsewhere : (file : List ℕ) (U : List Reference) (r : Reference) (v : View) (x : ℕ × Cell) → (start_of r.address == schema_start) ≡ false → rows_of file U r v x ≡ []
 no_row_elsewhere file U r v x other = rw other refl
+
+-- the same walk with another greatest key
+abbrev pub with_greatest : Walk → Option ℤ → Walk
+with_greatest now top = record { visits = now.visits; state = record { greatest = top; leaf = now.state.leaf; roots = now.state.roots }; items = now.items }
+
+module _ (file : List ℕ) (r : Reference) (kind : TreeKind) (v : View) (leaf : is_interior v.kind ≡ false) (other : (start_of r.address == schema_start) ≡ false) where
+  pub quiet : (is : List ℕ) → AreQuiet own_visit (flat_map (cell_errands r kind v) is)
+  quiet is e h = let m = IsIn-from_flat_map (cell_errands r kind v) is (Tell e) h in by_cell m.0 (cell v m.0) m.2
+    where
+      by_cell : (i : ℕ) (o : Result Cell CellFault) → IsIn (Tell e) (option_map_or (errands_in r kind v i) (result_ok o) []) → own_visit e.event ≡ None
+      by_cell i (Ok c) h = all_quiet.0 r kind v i c e h
+      by_cell i (Err f) h = absurd h
+
+  -- a key that is greater than the last one is told nothing of, and is the greatest
+  rises : (top : Option ℤ) (i : ℕ) (x : Cell) → IsAbove top x.key → (flat_map (late_faults top) (key_of r v (i, x)) ≡ []) × (greatest_after top (key_of r v (i, x)) ≡ option_or x.key top)
+  rises top i x h = by_key x.key top h
+    where
+      by_key : (o top : Option ℤ) → IsAbove top o → (flat_map (late_faults top) (key_of r v (i, record x { key = o })) ≡ []) × (greatest_after top (key_of r v (i, record x { key = o })) ≡ option_or o top)
+      by_key None top h = (refl, refl)
+      by_key (Some value) None h = (refl, refl)
+      by_key (Some value) (Some m) h =
+          let l : m <ℤ value = h m value refl refl in
+          let e : int_lt m value ≡ true = grind (arith, ints) in (rw (leaf, e) refl, rw e refl)
+
+  -- one cell
+  one : (now : Walk) (i : ℕ) → i < count v → (w : IsAllLocal v i) → IsAbove now.state.greatest (key_at v i) → run_below file now (cell_errands r kind v i) ≡ with_greatest now (option_or (key_at v i) now.state.greatest)
+  one now i l w h =
+      let x = w.whole in
+      let at : key_at v i ≡ x.key = ap (λ o. option_and_then (λ c. c.key) (result_ok o)) w.readable in
+      let rise = rises now.state.greatest i x (subst (IsAbove now.state.greatest) at h) in
+      let alone : cell_errands r kind v i ≡ tell_cell r v i x ∷ [] = ap (λ o. option_map_or (errands_in r kind v i) (result_ok o) []) w.readable ∙ no_links x w.here ((is_of_kind v (i, x) (cells_in v i x l w.readable)).leaf leaf) in
+      let none : rows_of file (now.visits ++ []) r v (i, x) ≡ [] = rw other refl in
+      ap (run_below file now) alone ∙ (has_steps file).event now _ [] refl ∙ (has_steps file).none (advance file now (at_key r v (i, x)))
+      ∙ walk_is (append-nil now.visits) (rise.1 ∙ ap (λ o. option_or o now.state.greatest) (sym at)) none rise.0
+    where
+      no_links : (x : Cell) → x.overflow ≡ None → x.left ≡ None → errands_in r kind v i x ≡ tell_cell r v i x ∷ []
+      no_links x e f = rw (e, f) refl
+
+      walk_is : now.visits ++ [] ≡ now.visits → greatest_after now.state.greatest (key_of r v (i, w.whole)) ≡ option_or (key_at v i) now.state.greatest → rows_of file (now.visits ++ []) r v (i, w.whole) ≡ []
+          → flat_map (late_faults now.state.greatest) (key_of r v (i, w.whole)) ≡ [] → advance file now (at_key r v (i, w.whole)) ≡ with_greatest now (option_or (key_at v i) now.state.greatest)
+      walk_is a b c d = let z : now.state.roots + 0 ≡ now.state.roots = omega arith in rw (b, c, d, a, append-nil now.items, z) refl
+
+  -- and so many
+  pub passed : (n from : ℕ) (now : Walk) (after : Option ℤ) → from + n ≤ count v → AreRisingFrom v from n now.state.greatest after
+      → run_below file now (flat_map (cell_errands r kind v) (range_with_len from n)) ≡ with_greatest now after
+  passed zero from now after l h = (has_steps file).none now ∙ ap (with_greatest now) (sym h)
+  passed (suc n) from now after l h =
+      ap (λ is. run_below file now (flat_map (cell_errands r kind v) is)) (range-more from n)
+      ∙ ap (run_below file now) (flat_map-append (cell_errands r kind v) (range_with_len from n) ((from + n) ∷ []) ∙ ap (λ es. flat_map (cell_errands r kind v) (range_with_len from n) ++ es) (append-nil (cell_errands r kind v (from + n))))
+      ∙ (has_steps file).join now (flat_map (cell_errands r kind v) (range_with_len from n)) (cell_errands r kind v (from + n)) (quiet (range_with_len from n))
+      ∙ ap (λ m. run_below file m (cell_errands r kind v (from + n))) (passed n from now h.0 (omega arith) h.1)
+      ∙ one (with_greatest now h.0) (from + n) (omega arith) h.2 h.3
+      ∙ ap (with_greatest now) (sym h.4)
+
+-- A leaf of which nothing but the keys is left to look at, where they come behind the greatest so far.
+
+-- a start after the first is not the schema's
+pub other_start : (a : Address) (k : ℕ) → start_of a ≡ k → 1 ≤ k → (start_of a == schema_start) ≡ false
+other_start a k e l = apart (start_of a) (omega arith)
+  where
+    apart : (n : ℕ) → 1 ≤ n → (n == 0) ≡ false
+    apart n l = grind (arith, nat_tests)
+
+module _ {P : Type 0} (moves : P → Item → P → Type 0) (stops : RunError → P → Item → P → Type 0) (file : List ℕ) (now : Walk) (c : Reference) (kind : TreeKind) (v : View) where
+  -- its cells hand out nothing, and the last key is the greatest
+  pub leaf_passed : (start_of c.address == schema_start) ≡ false → tree_kind (role_of c) ≡ Some kind → tree_view file c ≡ Some v → is_interior v.kind ≡ false → (after : Option ℤ) → AreRisingFrom v 0 (count v) now.state.greatest after
+      → (marks : List Mark) (tree : Tree) (w : P) → IsAt file (with_greatest now after) marks tree → HasDone {A = Unit {0}} moves stops file (done_below file now (errands_of (story_of file) c)) (Ok tt) (marks, tree) w w
+  leaf_passed other role viewed leaf after rising marks tree w at =
+      let low : 0 + count v ≤ count v = omega arith in
+      let all : done_below file now (errands_of (story_of file) c) ≡ with_greatest (bare now) after =
+      ap (run_below file (bare now)) (leaf_errands_are file c kind v role viewed leaf) ∙ passed file c kind v leaf other (count v) 0 (bare now) after low rising in
+      subst (λ m. HasDone {A = Unit {0}} moves stops file m (Ok tt) (marks, tree) w w) (sym all) (record { at = at; handed = refl })

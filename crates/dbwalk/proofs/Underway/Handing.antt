@@ -8,7 +8,7 @@ use Rattle.dbsource.specs.declared.error.RunError.{RunError}
 use Rattle.dbsource.specs.declared.error.RunError.TheVariants.{Refused, ReadFailed, WriteFailed, OutOfMemory}
 use Rattle.dbtrace.specs.Finding.{Finding}
 use Rattle.dbtrace.specs.Item.{Item, found, given, findings, given_rows}
-use Rattle.dbwalk.specs.Outcomes.{IsReadOrWrite, Tells}
+use Rattle.dbwalk.specs.Telling.{IsReadOrWrite, Tells}
 use Rattle.dbwalk.specs.Taking.{gives, Gives}
 use Rattle.dbwalk.specs.Watching.{watches, fails, StopsAt, Handed}
 use Rattle.dbwalk.specs.declared.taker.Taken.{Taken}
@@ -23,7 +23,7 @@ use Rattle.dbtrace.specs.Walk.{Walk, machine, bare, run_below}
 use Rattle.dbtrace.proofs.Stepping.{has_steps}
 use Rattle.dbwalk.specs.Marking.{AreMarksOf}
 use Rattle.dbwalk.specs.Underway.{IsAt, HasDone, done_below}
-use Rattle.dbwalk.specs.declared.mark.Mark.{Mark}
+use Rattle.dbwalk.specs.declared.marks.Mark.{Mark}
 use Rattle.dbwalk.specs.declared.state.Tree.{Tree}
 
 -- items that give no row

@@ -29,14 +29,11 @@ use Rattle.dbtrace.proofs.Stepping.{has_steps}
 use Rattle.dbwalk.specs.Done.{IsDone}
 use Rattle.dbwalk.specs.LeafCells.{overflow_errands, late_faults, top_after, AreBefore}
 use Rattle.dbwalk.specs.Marking.{AreMarksOf}
-use Rattle.dbwalk.specs.Outcomes.{IsReadOrWrite}
-use Rattle.dbwalk.specs.RootRoom.{HasRoom}
-use Rattle.dbwalk.specs.Taking.{place_of, TellsRow}
-use Rattle.dbwalk.specs.Sieving.{HasFed, HoldsCell, FeedsPayload}
-use Rattle.dbwalk.specs.Telling.{findings}
+use Rattle.dbwalk.specs.Telling.{IsReadOrWrite, findings}
+use Rattle.dbwalk.specs.Taking.{HasRoom, place_of, TellsRow, HasFed, HoldsCell, FeedsPayload}
 use Rattle.dbwalk.specs.Underway.{IsAt, HasDone, done_below}
 use Rattle.dbwalk.specs.Watching.{watches, fails, StopsAt, Handed}
-use Rattle.dbwalk.specs.declared.mark.Mark.{Mark}
+use Rattle.dbwalk.specs.declared.marks.Mark.{Mark}
 use Rattle.dbwalk.specs.declared.schema_row.RowPlace.{RowPlace}
 use Rattle.dbwalk.specs.declared.state.Tree.{Tree}
 use Rattle.dbwalk.specs.declared.taker.Taken.{Taken}
@@ -44,7 +41,7 @@ use Rattle.dbwalk.proofs.Leaves.LeafErrands.{own_errands, read_overflow, errands
 use Rattle.dbwalk.proofs.Telling.Belows.{told_none}
 use Rattle.dbwalk.proofs.Underway.CellSteps.{row_items, order_faults_of, cell_items, greatest_behind, no_row_elsewhere}
 use Rattle.dbwalk.proofs.Underway.Handing.{bare_visits, done_then, done_stops, found_handed, no_memory, only_found, handed_after, stop_first}
-use Rattle.dbwalk.proofs.Rows.RootTakings.{row_handed}
+use Rattle.dbwalk.proofs.RootTakings.{row_handed}
 
 -- the row of a readable cell of the schema's tree, by these visits
 abbrev pub rows_behind : List ℕ → List Reference → Reference → View → ℕ → Option Cell → List SchemaCell

@@ -21,13 +21,12 @@ use Rattle.dbsource.specs.declared.error.RunError.{RunError}
 use Rattle.dbtrace.specs.Finding.{Finding, visited_below}
 use Rattle.dbtrace.specs.Walk.{Walk, bare}
 use Rattle.dbtrace.proofs.Stepping.{has_steps}
-use Rattle.dbwalk.specs.KeySpans.{AreRisingFrom, ArePassedAt}
-use Rattle.dbwalk.specs.LeafCells.{overflow_errands, AreBefore}
-use Rattle.dbwalk.specs.RootRoom.{HasRoom}
+use Rattle.dbwalk.specs.LeafCells.{AreRisingFrom, ArePassedAt, overflow_errands, AreBefore}
+use Rattle.dbwalk.specs.Taking.{HasRoom}
 use Rattle.dbwalk.specs.Underway.{IsAt, HasDone, done_below}
 use Rattle.dbwalk.specs.Walking.{IsLeafAt}
 use Rattle.dbwalk.specs.Watching.{watches, fails}
-use Rattle.dbwalk.specs.declared.mark.Mark.{Mark}
+use Rattle.dbwalk.specs.declared.marks.Mark.{Mark}
 use Rattle.dbwalk.specs.declared.state.Tree.{Tree}
 use Rattle.dbwalk.specs.declared.taker.Taken.{Taken}
 use Rattle.dbwalk.proofs.Leaves.LeafErrands.{read_overflow}
@@ -35,8 +34,8 @@ use Rattle.dbwalk.proofs.Underway.Visits.{before_next, before_later}
 use Rattle.dbwalk.proofs.Telling.Belows.{visited_none, below_begins}
 use Rattle.dbwalk.proofs.Underway.Handing.{bare_visits, done_none, done_then, done_stops}
 use Rattle.dbwalk.proofs.Underway.LeafCellRuns.{cell_visits}
-use Rattle.dbwalk.proofs.Underway.PassedCells.{with_greatest, passed}
-use Rattle.dbwalk.proofs.Rows.RootTakings.{room_on}
+use Rattle.dbwalk.proofs.Underway.CellSteps.{with_greatest, passed}
+use Rattle.dbwalk.proofs.RootTakings.{room_on}
 
 -- the part of the walk that is the first cells of a leaf
 abbrev pub cells_done : List ℕ → Walk → Reference → TreeKind → View → ℕ → Walk

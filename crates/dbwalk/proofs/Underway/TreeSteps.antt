@@ -21,12 +21,11 @@ use Rattle.dbwalk.specs.Entered.{IsNext}
 use Rattle.dbwalk.specs.LeafCells.{top_after}
 use Rattle.dbwalk.specs.Marking.{AreMarksOf}
 use Rattle.dbwalk.specs.Walking.{errands_from, child_at, top_visit, left_over, IsOpenFrame, AreOpenFrames, AreRead}
-use Rattle.dbwalk.specs.Telling.{findings}
-use Rattle.dbwalk.specs.Underway.{IsUnderway, HasDone, IsInterior, done_below, entered, IsAt}
-use Rattle.dbwalk.specs.WalkingOn.{IsWalkingOn, tree_walk}
+use Rattle.dbwalk.specs.Telling.{findings, IsReadOrWrite}
+use Rattle.dbwalk.specs.Underway.{IsUnderway, HasDone, IsInterior, done_below, entered, IsAt, IsWalkingOn, tree_walk}
 use Rattle.dbwalk.specs.Watching.{StopsAt, watches, fails, Handed}
-use Rattle.dbwalk.specs.declared.frame.Frame.{Frame}
-use Rattle.dbwalk.specs.declared.mark.Mark.{Mark}
+use Rattle.dbwalk.specs.declared.steps.Frame.{Frame}
+use Rattle.dbwalk.specs.declared.marks.Mark.{Mark}
 use Rattle.dbwalk.specs.declared.state.Tree.{Tree}
 use Rattle.dbwalk.proofs.Trees.Stacking.{left-push, top-push, from_first}
 use Rattle.dbwalk.proofs.Trees.Frames.{read_front, read_push, read_kept, calls_front, calls_on, calls_push}
@@ -36,7 +35,6 @@ use Rattle.dbformat.specs.SchemaRow.{SchemaRow}
 use Rattle.dbtrace.specs.Finding.{Finding, told_below, visited_below}
 use Rattle.dbtrace.proofs.Asides.{are_aside}
 use Rattle.dbwalk.specs.Done.{IsDone}
-use Rattle.dbwalk.specs.Outcomes.{IsReadOrWrite}
 use Rattle.dbwalk.specs.declared.taker.Taken.{Taken}
 use Rattle.dbwalk.proofs.Underway.Handing.{found_handed, no_memory, only_found}
 

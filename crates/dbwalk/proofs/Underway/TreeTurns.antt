@@ -21,12 +21,11 @@ use Rattle.dbwalk.specs.LeafCells.{order_faults, top_after, greater_key}
 use Rattle.dbwalk.specs.Walking.{errands_from, child_at, top_visit, IsCandidate, IsLeafAt, path_of}
 use Rattle.dbwalk.specs.Steps.{IsChainAt, IsChildAt, IsKeyAt, IsEmptyAt, no_chain, no_child, unreadable, without_key, IsNextStep, HasNext}
 use Rattle.dbwalk.specs.Telling.{findings}
-use Rattle.dbwalk.specs.Underway.{IsAt, HasDone, IsInterior, done_below, entered}
-use Rattle.dbwalk.specs.WalkingOn.{IsWalkingOn, tree_walk}
+use Rattle.dbwalk.specs.Underway.{IsAt, HasDone, IsInterior, done_below, entered, IsWalkingOn, tree_walk}
 use Rattle.dbwalk.specs.Watching.{StopsAt}
 use Rattle.dbwalk.specs.declared.chain.Chain.{Chain}
-use Rattle.dbwalk.specs.declared.frame.Frame.{Frame}
-use Rattle.dbwalk.specs.declared.mark.Mark.{Mark}
+use Rattle.dbwalk.specs.declared.steps.Frame.{Frame}
+use Rattle.dbwalk.specs.declared.marks.Mark.{Mark}
 use Rattle.dbwalk.specs.declared.state.Tree.{Tree}
 use Rattle.dbwalk.specs.declared.steps.Next.{Next}
 use Rattle.dbwalk.specs.declared.steps.Next.TheVariants.{Behind, Nothing}

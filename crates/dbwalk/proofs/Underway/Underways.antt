@@ -22,7 +22,7 @@ use Rattle.dbtrace.proofs.Stepping.{has_steps}
 use Rattle.dbwalk.specs.Marking.{AreMarksOf}
 use Rattle.dbwalk.specs.Underway.{IsAt, IsUnderway, HasDone, done_below}
 use Rattle.dbwalk.specs.Watching.{StopsAt}
-use Rattle.dbwalk.specs.declared.mark.Mark.{Mark}
+use Rattle.dbwalk.specs.declared.marks.Mark.{Mark}
 use Rattle.dbwalk.specs.declared.state.Tree.{Tree}
 use Rattle.dbwalk.proofs.Telling.Lefts.{visit_apart, past_visit_all}
 use Rattle.dbwalk.proofs.Underway.Handing.{stop_first, stop_after}

@@ -23,11 +23,11 @@ use Rattle.dbtrace.specs.Walk.{Walk, bare, advance, run_below}
 use Rattle.dbtrace.proofs.Stepping.{has_steps}
 use Rattle.dbwalk.specs.Entered.{IsNext}
 use Rattle.dbwalk.specs.Marking.{AreMarksOf}
-use Rattle.dbwalk.specs.Outcomes.{Tells}
-use Rattle.dbwalk.specs.PageRows.{page_findings}
+use Rattle.dbwalk.specs.Telling.{Tells}
+use Rattle.dbwalk.specs.Found.{page_findings}
 use Rattle.dbwalk.specs.Underway.{IsAt, HasDone, done_below, entered, IsEntered}
 use Rattle.dbwalk.specs.Watching.{watches, fails, StopsAt, Handed}
-use Rattle.dbwalk.specs.declared.mark.Mark.{Mark}
+use Rattle.dbwalk.specs.declared.marks.Mark.{Mark}
 use Rattle.dbwalk.specs.declared.state.Tree.{Tree}
 use Rattle.dbwalk.specs.declared.taker.Taken.{Taken}
 use Rattle.dbwalk.proofs.Underway.Handing.{done_none, done_on, stops_on, found_moves, found_stops, found_handed}

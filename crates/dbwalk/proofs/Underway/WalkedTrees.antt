@@ -25,14 +25,13 @@ use Rattle.dbtrace.specs.Walk.{begin, advance}
 use Rattle.dbtrace.proofs.Folding.{is_fold}
 use Rattle.dbtrace.proofs.Stepping.{has_steps}
 use Rattle.dbwalk.specs.Marking.{AreMarksOf, marks_of}
-use Rattle.dbwalk.specs.Outcomes.{Tells, IsReadOrWrite}
+use Rattle.dbwalk.specs.Telling.{Tells, IsReadOrWrite}
 use Rattle.dbwalk.specs.Taking.{Gives, readable_rows}
-use Rattle.dbwalk.specs.Underway.{IsAt, HasDone, IsUnderway, IsInterior, entered}
+use Rattle.dbwalk.specs.Underway.{IsAt, HasDone, IsUnderway, IsInterior, entered, IsWalkingOn, tree_walk}
 use Rattle.dbwalk.specs.Done.{IsTreeDone}
-use Rattle.dbwalk.specs.WalkingOn.{IsWalkingOn, tree_walk}
 use Rattle.dbwalk.specs.Watching.{watches, fails, Handed}
-use Rattle.dbwalk.specs.declared.frame.Frame.{Frame}
-use Rattle.dbwalk.specs.declared.mark.Mark.{Mark}
+use Rattle.dbwalk.specs.declared.steps.Frame.{Frame}
+use Rattle.dbwalk.specs.declared.marks.Mark.{Mark}
 use Rattle.dbwalk.specs.declared.state.Tree.{Tree}
 use Rattle.dbwalk.specs.declared.taker.Taken.{Taken}
 use Rattle.dbwalk.proofs.Trees.Stacking.{from_first}

@@ -6,8 +6,7 @@ use Rattle.dbsource.specs.Errors.{is_out_of_memory, is_read_failed, is_write_fai
 use Rattle.dbsource.specs.Failures.{failures_after}
 use Rattle.dbsource.specs.Sources.{SourceState}
 use Rattle.dbsource.specs.declared.error.RunError.{RunError}
-use Rattle.dbwalk.specs.Outcomes.{IsReadOrWrite, IsReadWriteOrMemory, IsWriteOrMemory}
-use Rattle.dbwalk.specs.Sinks.{SinkAfter, SinkState}
+use Rattle.dbwalk.specs.Telling.{IsReadOrWrite, IsReadWriteOrMemory, IsWriteOrMemory, SinkAfter, SinkState}
 use Rattle.dbwalk.specs.Walked.{IsTreeError, Walked}
 use Rattle.dbwalk.specs.declared.state.Tree.{Tree}
 use Rattle.dbwalk.specs.declared.tree_walk.TreeWalk.{TreeWalk}

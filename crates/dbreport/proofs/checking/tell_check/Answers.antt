@@ -9,7 +9,7 @@ use Rattle.dbwalk.specs.Marking.{AreMarksFor, marks_of}
 use Rattle.dbwalk.specs.Reads.{Reads}
 use Rattle.dbwalk.specs.Telling.{findings}
 use Rattle.dbwalk.proofs.Marking.Unfixed.{read_once}
-use Rattle.dbwalk.proofs.Telling.Tellings.{stops_by_first}
+use Rattle.dbwalk.proofs.Telling.Belows.{stops_by_first}
 use Rattle.dbreport.specs.CheckSink.{Cuts, Shows}
 use Rattle.dbreport.specs.MapReads.{MapReads}
 use Rattle.dbreport.proofs.EndItems.{tells_then}

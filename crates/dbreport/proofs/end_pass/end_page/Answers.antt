@@ -10,7 +10,7 @@ use Rattle.dbformat.specs.declared.Geometry.{Geometry}
 use Rattle.dbsource.specs.Bench.{Pages}
 use Rattle.dbsource.proofs.Logs.{has_weaker}
 use Rattle.dbwalk.specs.EndMarks.{mark_fault, late_fault}
-use Rattle.dbwalk.specs.Outcomes.{Tells}
+use Rattle.dbwalk.specs.Telling.{Tells}
 use Rattle.dbreport.specs.EndPass.{is_fixed_mark, page_items}
 use Rattle.dbreport.specs.MapReads.{entry_value, HasMapFor, IsMapInUse}
 use Rattle.dbreport.proofs.EndItems.{fixed_items, other_items}

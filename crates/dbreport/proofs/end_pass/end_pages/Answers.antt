@@ -6,10 +6,10 @@ use Rattle.dbformat.specs.File.{geometry}
 use Rattle.dbformat.specs.declared.Geometry.{Geometry}
 use Rattle.dbsource.specs.Bench.{Pages}
 use Rattle.dbsource.proofs.Logs.{asks_then, asks_weaker, has_none}
-use Rattle.dbwalk.specs.Outcomes.{StopsBy}
+use Rattle.dbwalk.specs.Telling.{StopsBy}
 use Rattle.dbwalk.specs.Marking.{mark_of, page_mark}
 use Rattle.dbwalk.proofs.Marking.Markings.{page_mark-in, marks_of-length}
-use Rattle.dbwalk.proofs.Telling.Tellings.{stops_by_first, stops_by_after}
+use Rattle.dbwalk.proofs.Telling.Belows.{stops_by_first, stops_by_after}
 use Rattle.dbreport.specs.EndPass.{page_items, pages_items}
 use Rattle.dbreport.specs.MapReads.{MapReadsBefore, IsMapTurn}
 use Rattle.dbreport.proofs.EndItems.{items_one_more, items_begin, fixed_by_mark}

@@ -4,8 +4,8 @@ use Rattle.dbformat.specs.File.{geometry}
 use Rattle.dbsource.proofs.Logs.{asks_weaker}
 use Rattle.dbwalk.specs.EndMarks.{least_other_marked}
 use Rattle.dbwalk.specs.Marking.{marks_of}
-use Rattle.dbwalk.specs.Outcomes.{Tells, StopsBy}
-use Rattle.dbwalk.proofs.Telling.Tellings.{stops_by_first}
+use Rattle.dbwalk.specs.Telling.{Tells, StopsBy}
+use Rattle.dbwalk.proofs.Telling.Belows.{stops_by_first}
 use Rattle.dbreport.specs.EndPass.{pages_items}
 use Rattle.dbreport.specs.Telling.{items_of}
 use Rattle.dbreport.proofs.EndItems.{all_items, tells_then}

@@ -3,7 +3,7 @@ use Rattle.std.proofs.lemmas.Result.{err_from_is_err_and}
 use Rattle.dbsurvey.specs.Moves.{Moves, Stops}
 use Rattle.dbsurvey.proofs.Moving.{Moves-append, Moves-one, stops_after, stops_here, stops_first}
 use Rattle.dbtrace.specs.Finding.{told_fault}
-use Rattle.dbwalk.specs.Outcomes.{Tells}
+use Rattle.dbwalk.specs.Telling.{Tells}
 use Rattle.dbreport.specs.Telling.{items_of}
 use Rattle.dbreport.proofs.ToldFaults.{items_more, items_around}
 use Rattle.dbreport.proofs.tell.tell_all.Goals.{in-Some+in_ok-fault, in_default}

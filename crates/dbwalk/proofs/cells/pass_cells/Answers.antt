@@ -1,7 +1,7 @@
 use Rattle.std.proofs.Common.{◌-◌, ◌≤◌, length, Some, ap, subst, ◌∙◌}
 use Rattle.dbformat.specs.Cell.{count}
 use Rattle.dbsource.specs.Bench.{bytes_at}
-use Rattle.dbwalk.specs.KeySpans.{AreRisingFrom}
+use Rattle.dbwalk.specs.LeafCells.{AreRisingFrom}
 use Rattle.dbwalk.proofs.Leaves.LeafCells.{seen, same_view}
 use Rattle.dbwalk.proofs.cells.pass_cells.Goals as goal
 

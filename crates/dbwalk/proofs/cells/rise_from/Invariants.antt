@@ -1,5 +1,5 @@
 use Rattle.std.proofs.Common.{◌≤◌, ◌-◌}
-use Rattle.dbwalk.specs.KeySpans.{AreRisingFrom}
+use Rattle.dbwalk.specs.LeafCells.{AreRisingFrom}
 use Rattle.dbwalk.proofs.cells.rise_from.Given as goal
 
 abbrev pub invariant-loop-i : goal.invariant-loop-i

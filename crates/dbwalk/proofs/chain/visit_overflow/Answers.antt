@@ -9,7 +9,7 @@ use Rattle.dbsource.proofs.Logs.{has_weaker}
 use Rattle.dbwalk.specs.Chains.{IsOverflowVisited, Feeds}
 use Rattle.dbwalk.proofs.Chaining.Feedings.{held_is}
 use Rattle.dbtrace.specs.Finding.{told_at}
-use Rattle.dbwalk.specs.Outcomes.{Tells}
+use Rattle.dbwalk.specs.Telling.{Tells}
 use Rattle.dbwalk.proofs.Chaining.Overflows.{page_read, told_is, moves_none}
 use Rattle.dbwalk.proofs.Marking.Readings.{log_load}
 use Rattle.dbwalk.proofs.chain.visit_overflow.Goals as goal

@@ -11,9 +11,9 @@ use Rattle.dbformat.specs.declared.FaultCode.TheVariants.{L01}
 use Rattle.std.specs.Prelude.{pos}
 use Rattle.dbsource.specs.declared.error.RunError.TheVariants.{WriteFailed}
 use Rattle.dbtrace.specs.Finding.{told_fault}
-use Rattle.dbwalk.specs.Left.{IsLeft}
+use Rattle.dbwalk.specs.Done.{IsLeft}
 use Rattle.dbwalk.specs.Trunks.{Opens}
-use Rattle.dbwalk.proofs.Freelists.FreeTrunks.{opened_fitting, opened_crowded, opened_untold}
+use Rattle.dbwalk.proofs.FreeTrunks.{opened_fitting, opened_crowded, opened_untold}
 use Rattle.dbwalk.proofs.freelist.open_trunk.Goals as goal
 
 pub returns-in_err-walk_leaves-clause-opened : goal.returns-in_err-walk_leaves-clause-opened

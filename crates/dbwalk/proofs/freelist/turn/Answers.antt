@@ -4,11 +4,11 @@ use Rattle.dbsurvey.specs.Story.{Go}
 use Rattle.dbformat.specs.Numbers.{u32_at}
 use Rattle.dbsource.specs.declared.error.RunError.TheVariants.{ReadFailed}
 use Rattle.dbwalk.specs.Entered.{Enters}
-use Rattle.dbwalk.specs.Left.{IsLeft}
+use Rattle.dbwalk.specs.Done.{IsLeft}
 use Rattle.dbwalk.specs.Marking.{IsUse, is_none, unmarked_pages}
 use Rattle.dbwalk.specs.Trunks.{TrunkTurns, next_step}
 use Rattle.dbwalk.proofs.Chaining.ChainTurns.{if_some_all}
-use Rattle.dbwalk.proofs.Freelists.FreeTrunks.{trunk_refused, trunk_unread, next_turned}
+use Rattle.dbwalk.proofs.FreeTrunks.{trunk_refused, trunk_unread, next_turned}
 use Rattle.dbwalk.proofs.Telling.Lefts.{left_untold}
 use Rattle.dbwalk.proofs.Chaining.Overflows.{page_read}
 use Rattle.dbwalk.proofs.Marking.Readings.{put_count, log_load, log_none, log_opened, log_page}

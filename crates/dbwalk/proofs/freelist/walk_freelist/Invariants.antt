@@ -6,7 +6,7 @@ use Rattle.dbwalk.specs.Entered.{IsNext}
 use Rattle.dbwalk.specs.Marking.{AreMarksOf, unmarked_pages}
 use Rattle.dbwalk.specs.Reads.{Reads}
 use Rattle.dbwalk.specs.Trunks.{IsFirstTrunk, IsOnTrunks}
-use Rattle.dbwalk.specs.declared.mark.Mark.TheVariants.{Trunk}
+use Rattle.dbwalk.specs.declared.marks.Mark.TheVariants.{Trunk}
 use Rattle.dbwalk.proofs.freelist.walk_freelist.Given as goal
 
 abbrev pub decreases-loop-next : goal.decreases-loop-next

@@ -2,10 +2,10 @@ use Rattle.std.proofs.Common.{◌≡◌, ◌+◌, ◌-◌, ◌<◌, inl, inr, �
 use Rattle.std.proofs.lemmas.Bool.{cases_Bool}
 use Rattle.std.proofs.lemmas.Result.{err_from_is_err_and}
 use Rattle.dbwalk.specs.Trunks.{Leaves, leaves_from}
-use Rattle.dbwalk.specs.Left.{IsLeft}
+use Rattle.dbwalk.specs.Done.{IsLeft}
 use Rattle.dbwalk.specs.Marking.{Keeps, unmarked_pages}
-use Rattle.dbwalk.specs.declared.mark.Mark.TheVariants.{FreeLeaf}
-use Rattle.dbwalk.proofs.Freelists.FreeTrunks.{leaf_of, leaves_more, next_of_left, leaf_entered}
+use Rattle.dbwalk.specs.declared.marks.Mark.TheVariants.{FreeLeaf}
+use Rattle.dbwalk.proofs.FreeTrunks.{leaf_of, leaves_more, next_of_left, leaf_entered}
 use Rattle.dbwalk.proofs.Telling.Lefts.{left_untold}
 use Rattle.dbwalk.proofs.Marking.Readings.{keeps_same, keeps_then, keeps_put, put_count}
 use Rattle.dbwalk.proofs.freelist.walk_leaves.Goals as goal

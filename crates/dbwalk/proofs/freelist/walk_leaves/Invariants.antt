@@ -4,7 +4,7 @@ use Rattle.dbformat.specs.Errands.{leaf_errands}
 use Rattle.dbformat.specs.Reference.{Way, Reference}
 use Rattle.dbformat.specs.Story.{Event}
 use Rattle.dbwalk.specs.Trunks.{leaves_from}
-use Rattle.dbwalk.specs.Left.{IsLeft}
+use Rattle.dbwalk.specs.Done.{IsLeft}
 use Rattle.dbwalk.specs.Marking.{Keeps, unmarked_pages}
 use Rattle.dbwalk.proofs.freelist.walk_leaves.Given as goal
 

@@ -7,11 +7,10 @@ use Rattle.dbwalk.specs.Walking.{child_at, top_visit, IsOpen, AreOpen, cost}
 use Rattle.dbformat.specs.Address.{schema_start}
 use Rattle.dbwalk.specs.declared.steps.Next.TheVariants.{Child}
 use Rattle.dbwalk.proofs.Trees.Frames.{open_kept, open_push, ends_on, ends_enter, path_last, at_step, step_on, as_deep, way_on}
-use Rattle.dbwalk.specs.RootRoom.{HasRoom}
-use Rattle.dbwalk.specs.Underway.{HasDone, IsEntered, entered}
-use Rattle.dbwalk.specs.WalkingOn.{IsWalkingOn, tree_walk}
+use Rattle.dbwalk.specs.Taking.{HasRoom}
+use Rattle.dbwalk.specs.Underway.{HasDone, IsEntered, entered, IsWalkingOn, tree_walk}
 use Rattle.dbwalk.specs.Watching.{StopsAt, fails, watches}
-use Rattle.dbwalk.proofs.Rows.RootTakings.{room_after}
+use Rattle.dbwalk.proofs.RootTakings.{room_after}
 use Rattle.dbwalk.proofs.Underway.TreeSteps.{by_other}
 use Rattle.dbwalk.proofs.Underway.TreeTurns as turns
 use Rattle.dbwalk.proofs.Underway.TreeTurns.{turn_failed}

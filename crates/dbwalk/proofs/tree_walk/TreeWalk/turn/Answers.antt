@@ -1,6 +1,5 @@
-use Rattle.std.proofs.Common.{rules, ◌/◌, ◌<◌, ◌≤◌, ◌++◌, [], ◌∷◌, length, false, Err, refl, sym, ap, subst, arith, ◌∙◌}
+use Rattle.std.proofs.Common.{rules, ◌/◌, ◌<◌, ◌≤◌, ◌++◌, [], ◌∷◌, length, false, Err, refl, sym, ap, subst, arith, ◌∙◌, w64}
 use Rattle.std.specs.Prelude.{slice_get, OnOk, IfErr}
-use Rattle.std.proofs.Common.{w64}
 use Rattle.std.proofs.lemmas.Int.{to_z-of_z}
 use Rattle.dbformat.specs.Payload.{most_payload}
 use Rattle.dbformat.specs.FixedPages.{IsPageNumber}
@@ -18,7 +17,7 @@ use Rattle.dbwalk.specs.declared.steps.Next.TheVariants.{Behind, Nothing, Key, C
 use Rattle.dbwalk.proofs.Trees.Frames.{open_kept, ends_behind, ends_on, on_ok_all, at_step, step_on}
 use Rattle.dbwalk.proofs.Leaves.LeafCells.{cell_size}
 use Rattle.dbwalk.proofs.Pages.Levels.{keeps_fewer}
-use Rattle.dbwalk.specs.WalkingOn.{IsWalkingOn, tree_walk}
+use Rattle.dbwalk.specs.Underway.{IsWalkingOn, tree_walk}
 use Rattle.dbwalk.specs.Watching.{StopsAt, fails, watches}
 use Rattle.dbwalk.proofs.Underway.TreeSteps.{aside_done, by_other}
 use Rattle.dbwalk.proofs.Underway.Handing.{found_moves, found_stops}

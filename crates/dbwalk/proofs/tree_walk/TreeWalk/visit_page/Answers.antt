@@ -6,12 +6,12 @@ use Rattle.dbsource.specs.declared.error.RunError.TheVariants.{WriteFailed}
 use Rattle.dbsource.proofs.Logs.{has_weaker}
 use Rattle.dbwalk.proofs.Marking.Readings.{log_none}
 use Rattle.dbwalk.specs.Found.{IsFound}
-use Rattle.dbwalk.specs.KeySpans.{HasSpan, ArePassed, AreRisingFrom}
+use Rattle.dbwalk.specs.LeafCells.{HasSpan, ArePassed, AreRisingFrom}
 use Rattle.dbwalk.specs.Reads.{Reads}
 use Rattle.dbwalk.proofs.Leaves.RisingKeys.{rising_all}
 use Rattle.dbwalk.proofs.Pages.PageTellings.{with_span}
 use Rattle.dbwalk.proofs.Pages.PageVisits.{found_interior, found_damage, found_leaf, found_view, kind_is}
-use Rattle.dbwalk.proofs.Underway.PassedCells.{other_start, leaf_passed}
+use Rattle.dbwalk.proofs.Underway.CellSteps.{other_start, leaf_passed}
 use Rattle.dbwalk.proofs.Underway.Visits.{visited, visit_then, visit_alone, visit_stops, entered_past, entered_err, visited_before, page_moves, page_stops, visited_at}
 use Rattle.dbwalk.proofs.Underway.Walks.{walked_as, walked_behind, walked_by}
 use Rattle.dbwalk.proofs.tree_walk.TreeWalk.visit_page.Goals as goal

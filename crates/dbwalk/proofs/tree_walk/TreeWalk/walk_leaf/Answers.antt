@@ -13,7 +13,7 @@ use Rattle.dbwalk.specs.Watching.{fails, watches}
 use Rattle.dbwalk.proofs.Leaves.LeafErrands.{view_back, leaf_errands_are}
 use Rattle.dbwalk.proofs.Marking.Readings.{log_none, log_then}
 use Rattle.dbwalk.proofs.Underway.LeafLoop.{cells_done, leaf_as, passed_same, on_start, on_more, on_stop, on_pass, on_end}
-use Rattle.dbwalk.proofs.Underway.PassedCells.{other_start}
+use Rattle.dbwalk.proofs.Underway.CellSteps.{other_start}
 use Rattle.dbwalk.proofs.Underway.Walks.{walked_as, walked_behind, walked_by, walked_tree}
 use Rattle.dbwalk.proofs.tree_walk.TreeWalk.walk_leaf.Goals as goal
 

@@ -4,7 +4,7 @@ use Rattle.dbformat.specs.Cell.{count}
 use Rattle.dbformat.specs.Head.{View, is_interior}
 use Rattle.dbformat.specs.Reference.{Reference, tree_view}
 use Rattle.dbtrace.specs.Walk.{Walk}
-use Rattle.dbwalk.specs.RootRoom.{HasRoom}
+use Rattle.dbwalk.specs.Taking.{HasRoom}
 use Rattle.dbwalk.specs.LeafCells.{AreBefore}
 use Rattle.dbwalk.specs.Standing.{IsSameButGreatest}
 use Rattle.dbwalk.specs.Underway.{IsAt}

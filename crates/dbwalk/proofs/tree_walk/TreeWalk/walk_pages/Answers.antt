@@ -8,12 +8,11 @@ use Rattle.dbsource.proofs.Logs.{has_weaker}
 use Rattle.dbwalk.proofs.Marking.Readings.{log_then}
 use Rattle.dbwalk.proofs.Trees.Frames.{path_last}
 use Rattle.dbtrace.specs.Walk.{begin}
-use Rattle.dbwalk.specs.Underway.{HasDone, IsEntered, entered}
-use Rattle.dbwalk.specs.WalkingOn.{IsWalkingOn, tree_walk}
+use Rattle.dbwalk.specs.Underway.{HasDone, IsEntered, entered, IsWalkingOn, tree_walk}
 use Rattle.dbwalk.specs.Watching.{fails, watches}
 use Rattle.dbwalk.proofs.Pages.PageVisits.{kind_is}
 use Rattle.dbwalk.proofs.Underway.WalkedTrees.{candidate_as, none_left, tree_started, tree_ended}
-use Rattle.dbwalk.proofs.Rows.RootTakings.{empty_room}
+use Rattle.dbwalk.proofs.RootTakings.{empty_room}
 use Rattle.dbwalk.proofs.Underway.Walks.{walked_as, walked_as_ok, walked_behind}
 use Rattle.dbwalk.proofs.tree_walk.TreeWalk.walk_pages.Goals as goal
 

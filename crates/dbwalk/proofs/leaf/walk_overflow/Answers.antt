@@ -6,7 +6,7 @@ use Rattle.dbwalk.proofs.Marking.Readings.{log_none}
 use Rattle.dbwalk.specs.LeafCells.{overflow_errands}
 use Rattle.dbwalk.proofs.Leaves.LeafErrands.{none_done, chain_start}
 use Rattle.dbwalk.proofs.Chaining.Feedings.{on_ok, feeds_nothing, feeds_chain}
-use Rattle.dbwalk.proofs.cell.walk_overflow.Goals as goal
+use Rattle.dbwalk.proofs.leaf.walk_overflow.Goals as goal
 
 pub returns-in-None-clause-log : goal.returns-in-None-clause-log
 returns-in-None-clause-log g c = log_none c.args.bench.now.geometry.page_size c.args.marks.now c.args.marks.now (g.S.Source.held c.args.source.now) refl (λ file e U d at past m. (

@@ -7,12 +7,11 @@ use Rattle.std.proofs.lemmas.List.{append-nil, length-append, length-map, length
 use Rattle.dbformat.specs.Address.{last_root_start}
 use Rattle.dbformat.specs.SchemaRow.{SchemaRow}
 use Rattle.dbwalk.specs.declared.taker.Taken.{Taken}
-use Rattle.dbwalk.specs.RootRoom.{answer_to, held_after, held_of, is_full, HasRootRoom, roots_after, ListTakes, first_roots, StartsEmpty, HasRoom}
+use Rattle.dbwalk.specs.Taking.{answer_to, held_after, held_of, is_full, HasRootRoom, roots_after, ListTakes, first_roots, StartsEmpty, HasRoom, gives, fault_of, taken_faults, TellsOrStops, TellsRow}
 use Rattle.dbsurvey.specs.Moves.{Moves}
 use Rattle.dbtrace.specs.Finding.{Finding, told_fault}
 use Rattle.dbtrace.specs.Item.{Item, given_rows, found, given}
 use Rattle.dbtrace.specs.Steps.{has_root, roots_in}
-use Rattle.dbwalk.specs.Taking.{gives, fault_of, taken_faults, TellsOrStops, TellsRow}
 use Rattle.dbwalk.specs.Watching.{watches, fails, Handed}
 use Rattle.dbwalk.proofs.Underway.Handing.{moves_both, found_moves, found_stops, handed_after}
 use Rattle.dbformat.specs.Faults.{fault}

@@ -3,7 +3,7 @@ use Rattle.dbformat.specs.Cell.{Cell, count}
 use Rattle.dbbytes.specs.Sieve.{HasTaken}
 use Rattle.dbsource.specs.Bench.{bytes_at}
 use Rattle.dbwalk.proofs.Leaves.LeafCells.{none_seen, same_view, has_sieve, holds_cell, holds_none}
-use Rattle.dbwalk.proofs.sieve.row_sieve.Goals as goal
+use Rattle.dbwalk.proofs.schema_row.row_sieve.Goals as goal
 
 pub returns-in_default-clause-schema : goal.returns-in_default-clause-schema
 returns-in_default-clause-schema g c = λ start. has_sieve c.args.bench.now c.args.tree.now.kind (length c.args.tree.now.path.items) c.args.page c.requires c.geometry-usable.result.usable (ap (λ s. s.usable) c.geometry-usable.ensures.value) c.page.result.now (c.page.ensures.bytes ∙ ap (bytes_at c.args.bench.now) c.len.ensures.value) None c.in_default.ensures.view

@@ -4,8 +4,8 @@ use Rattle.dbpage.specs.Packed.{first_cells, payload_of, greatest_of}
 use Rattle.dbpage.proofs.CellLemmas.{cell_local}
 use Rattle.dbpage.proofs.PackedLemmas.{first_cells_more}
 use Rattle.dbwalk.proofs.Pages.PageTellings.{cells_all, cells_err, local_more, greatest_more, ord_max-max}
-use Rattle.dbwalk.proofs.payload.cell_sums.Goals as goal
-use Rattle.dbwalk.proofs.payload.cell_sums.Goals.{in-Ok, in_default}
+use Rattle.dbwalk.proofs.told.cell_sums.Goals as goal
+use Rattle.dbwalk.proofs.told.cell_sums.Goals.{in-Ok, in_default}
 
 pub loop-i-preserved : goal.loop-i-preserved
 loop-i-preserved c = elim c.match-cell.branch [

@@ -1,6 +1,6 @@
 use Rattle.std.proofs.Common.{◌≡◌, ◌≤◌, ◌*◌}
 use Rattle.dbpage.specs.Packed.{first_cells, payload_of, greatest_of}
-use Rattle.dbwalk.proofs.payload.cell_sums.Given as goal
+use Rattle.dbwalk.proofs.told.cell_sums.Given as goal
 
 abbrev pub invariant-loop-i : goal.invariant-loop-i
 invariant-loop-i l = record {

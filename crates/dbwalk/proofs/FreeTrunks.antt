@@ -11,11 +11,11 @@ use Rattle.dbsurvey.specs.Moves.{Moves}
 use Rattle.dbformat.specs.Reference.{free_leaf, Way, Reference, role_of, Role, trunk, link, next_trunk, leaf_count, most_leaves}
 use Rattle.dbformat.specs.Story.{Event, at_page, own_visit, story_of}
 use Rattle.dbformat.proofs.Looping.{none_at_free_leaf, by_leaf, all_quiet}
-use Rattle.dbwalk.specs.declared.mark.Mark.{Mark}
+use Rattle.dbwalk.specs.declared.marks.Mark.{Mark}
 use Rattle.dbwalk.specs.Entered.{IsNext, Enters}
 use Rattle.dbtrace.specs.Finding.{Finding, told_row, told_fault, told_at, told_below}
 use Rattle.dbwalk.specs.Trunks.{leaves_from, IsFirstTrunk, IsOnTrunks, TrunkTurns, trunk_step, next_step}
-use Rattle.dbwalk.specs.Left.{IsLeft}
+use Rattle.dbwalk.specs.Done.{IsLeft, IsDone}
 use Rattle.dbwalk.proofs.Telling.Lefts.{left_refused, left_visit, left_start, left_none, left_stop}
 use Rattle.std.specs.List.{range_with_len}
 use Rattle.std.proofs.lemmas.Bool.Decides.{nat_tests}
@@ -31,9 +31,8 @@ use Rattle.dbformat.specs.Survey.{rules_of, is_too_deep}
 use Rattle.dbformat.specs.declared.FaultCode.TheVariants.{L01}
 use Rattle.dbsource.specs.declared.error.RunError.{RunError}
 use Rattle.dbwalk.specs.declared.entering.Step.{Step}
-use Rattle.dbwalk.specs.Done.{IsDone}
 use Rattle.dbwalk.specs.Marking.{role_mark, AreMarksOf}
-use Rattle.dbwalk.specs.Outcomes.{StopsBy}
+use Rattle.dbwalk.specs.Telling.{StopsBy}
 use Rattle.dbwalk.proofs.Telling.Belows.{told_visit}
 
 -- leaf j of a trunk

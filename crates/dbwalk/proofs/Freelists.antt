@@ -1,2 +1,0 @@
--- Trunks and their leaves.
-pub mod FreeTrunks

@@ -1,2 +1,0 @@
--- Rows of the schema, and who takes them.
-pub mod RootTakings
