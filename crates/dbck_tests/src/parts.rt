@@ -1,6 +1,5 @@
-// What runs are made of: headers, desks, lists of roots and outs.
+// What runs are made of: headers, desks and outs.
 mod buffered_outs;
 mod desks;
 mod headers;
 mod outs;
-mod root_list;

@@ -4,7 +4,8 @@ pub mod Ways
 pub mod Starts
 pub mod Owned
 pub mod PageMarks
-pub mod Roots
+pub mod RootLists
+pub mod RootPages
 pub mod Trees
 pub mod AllFaults
 pub mod Worked

@@ -1,3 +1,4 @@
+pub mod Roots
 pub mod Owners
 pub mod Climbs
 pub mod Steps

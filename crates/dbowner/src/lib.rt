@@ -1,4 +1,7 @@
-//! Who owns a page of a database, and what it is: told by the marks of a walk and its list of roots, without a page read anew.
+//! The roots of a database, and who owns a page of it, and what the page is: told by the marks of a walk and its list of roots,
+//! without a page read anew.
+//!
+//! [`RootList`] takes the rows of the schema in a walk, and keeps those that have a root page.
 //!
 //! specs/Owners says it by the survey of a file, of which nothing but the visits is used: the start that a page belongs to
 //! ([`PageTrees::start_of`]), what it is there ([`place_of`]), and that the tree of a root page owns it
@@ -15,8 +18,10 @@ mod explained;
 mod owner;
 mod page_trees;
 mod place;
+mod roots;
 
 pub use explained::summary_counts_all_faults;
 pub use owner::visited_pages_are_owned;
 pub use page_trees::PageTrees;
 pub use place::{Place, place_of};
+pub use roots::{MAX_NAME, RootList};

@@ -3,18 +3,18 @@ ghost use Rattle.std.specs.Prelude.{◌≡◌, ◌+◌, ◌-◌, ◌<◌, ◌≤
 ghost use Rattle.dbformat.specs.FixedPages.{IsInRange, IsPageNumber};
 ghost use Rattle.dbformat.specs.Reference.{Reference};
 ghost use Rattle.dbformat.specs.Survey.{Survey};
-ghost use Rattle.dbreport.specs.Starts.{AreListed};
 ghost use Rattle.dbwalk.specs.EndMarks.{is_root_mark, is_marked};
 ghost use Rattle.dbwalk.specs.Marking.{AreMarksOf};
 ghost use Rattle.dbowner.specs.Climbs.{above, slot, known_of, known_pages, unpacked, AreTrees};
 ghost use Rattle.dbowner.specs.Climbs as climbs;
 ghost use Rattle.dbowner.specs.Owners.{start_at};
+ghost use Rattle.dbowner.specs.Roots.{AreListed};
 ghost use Rattle.dbowner.specs.Steps.{entered, Fits, IsClimb, IsSettled};
 ghost use Rattle.dbowner.specs.Steps as steps;
 
 use crate::place::mark_of;
+use crate::roots::RootList;
 use dbformat::Geometry;
-use dbreport::RootList;
 use dbwalk::{Mark, Marks};
 use std::alloc::{AllocError, Allocator, Global};
 use std::marker::Model;

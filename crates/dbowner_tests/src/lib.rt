@@ -1,6 +1,9 @@
-//! Tests of owners and places: over walked files, with a desk that is used again, and where the one growth is refused.
+//! Tests of the list of roots, and of owners and places: over walked files, with a desk that is used again, and where growths
+//! are refused.
 #![tactic(auto)]
 
+#[cfg(test)]
+mod roots;
 #[cfg(test)]
 mod trees;
 #[cfg(test)]

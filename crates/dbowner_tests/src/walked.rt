@@ -3,10 +3,12 @@ ghost use Rattle.std.specs.Prelude.{◌≡◌, ◌≤◌, ◌↔◌};
 ghost use Rattle.dbwalk.specs.declared.root.RootKind.TheVariants as root_kind;
 
 use dbfiles::{Sample, TestFile, schema_row};
-use dbformat::Encoding;
-use dbreport::{Header, RootList, RowKind, SchemaRow};
-use dbsource::{Bench, MemSource};
-use dbwalk::{Fault, Marks, Root, RootKind, Row, Sink, WriteFailed, walk_freelist, walk_tree};
+use dbformat::{Encoding, RowKind};
+use dbowner::RootList;
+use dbsource::{Bench, Header, MemSource};
+use dbwalk::{
+    Fault, Marks, Root, RootKind, Row, SchemaRow, Sink, WriteFailed, walk_freelist, walk_tree,
+};
 use std::alloc::{AllocError, Global};
 use std::test::Fail;
 

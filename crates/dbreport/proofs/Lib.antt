@@ -8,7 +8,6 @@ pub mod ListedNames
 pub mod MapLogs
 pub mod MapPlaces
 pub mod OtherRows
-pub mod RootLists
 pub mod RootsTaken
 pub mod RunAnswers
 pub mod RunItems

@@ -13,7 +13,7 @@ use Rattle.dbformat.specs.Sound.{with_root}
 use Rattle.dbformat.specs.declared.RowFault.{RowFault}
 use Rattle.dbwalk.specs.Taking.{HasRootRoom, StartsEmpty, roots_after, first_roots, gives, readable_rows}
 use Rattle.dbwalk.proofs.RootTakings.{list_has_room, first_more}
-use Rattle.dbreport.specs.Roots.{Listed, kept_row, TakesRow}
+use Rattle.dbowner.specs.Roots.{Listed, kept_row, TakesRow}
 use Rattle.dbreport.proofs.ShortNames.{roots_are_kept}
 
 roots_have_room : HasRootRoom TakesRow (λ l. length l.rows)

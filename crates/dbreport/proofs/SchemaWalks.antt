@@ -22,8 +22,8 @@ use Rattle.dbwalk.specs.Roots.{IsRootAfter}
 use Rattle.dbwalk.specs.declared.marks.Mark.{Mark}
 use Rattle.dbwalk.specs.declared.root.Root.{Root}
 use Rattle.dbwalk.specs.declared.root.RootKind.TheVariants.{Schema}
+use Rattle.dbowner.specs.Roots.{Listed, TakesRow, RefusesRow}
 use Rattle.dbreport.specs.Findings.{is_schema_row}
-use Rattle.dbreport.specs.Roots.{Listed, TakesRow, RefusesRow}
 use Rattle.dbreport.specs.SchemaWatch.{HandsOn}
 use Rattle.dbreport.specs.Starts.{IsSchemaOf, schema_reference, schema_root}
 use Rattle.dbreport.specs.declared.schema_watch.SchemaWatch.{SchemaWatch}

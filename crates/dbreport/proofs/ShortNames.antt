@@ -16,7 +16,7 @@ use Rattle.dbformat.specs.Text.{is_well_formed}
 use Rattle.dbformat.specs.declared.Encoding.{Encoding}
 use Rattle.dbformat.specs.declared.RowFault.{RowFault}
 use Rattle.dbformat.specs.declared.RowKind.{RowKind}
-use Rattle.dbreport.specs.Roots.{short_name, kept_row}
+use Rattle.dbowner.specs.Roots.{short_name, kept_row}
 
 -- what is read has a short name
 abbrev HasShortName : Result SchemaRow RowFault → Type 0

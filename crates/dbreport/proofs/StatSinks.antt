@@ -16,9 +16,9 @@ use Rattle.dbsource.proofs.Beginnings.{begins_more}
 use Rattle.dbsource.proofs.Puts.{appends_nothing}
 use Rattle.dbtrace.specs.Finding.{told_row, told_fault}
 use Rattle.dbwalk.specs.Telling.{Tells, findings}
+use Rattle.dbowner.specs.Roots.{short_name}
 use Rattle.dbreport.specs.Findings.{faults_in}
 use Rattle.dbreport.specs.Notices.{Notice, begun, found, ended, Hears}
-use Rattle.dbreport.specs.Roots.{short_name}
 use Rattle.dbreport.specs.StatSink.{end_text, pages_text, BeginsTree, Breaks, Counts, CutsEnd, CutsFault, EndsTree, HasBegun, HasWritten, IsSameSink, TakesFault, WritesBoth}
 use Rattle.dbreport.specs.Sums.{sums_of}
 use Rattle.dbreport.specs.TreeNames.{label_text}

@@ -20,9 +20,9 @@ use Rattle.dbtrace.specs.Finding.{Finding, told_row, told_fault, told_below, vis
 use Rattle.dbwalk.specs.Trunks.{freelist_reference}
 use Rattle.dbwalk.specs.declared.marks.Mark.{Mark}
 use Rattle.dbwalk.proofs.Telling.Belows.{told_none}
+use Rattle.dbowner.specs.Roots.{short_name}
 use Rattle.dbreport.specs.Findings.{faults_in}
 use Rattle.dbreport.specs.Notices.{Notice, found, ended, Hears, errands_left, root_reference, tree_notices, later_notices, start_notices}
-use Rattle.dbreport.specs.Roots.{short_name}
 use Rattle.dbreport.specs.Starts.{schema_reference}
 use Rattle.dbreport.specs.StatLines.{tree_text, starts_text, rows_told}
 use Rattle.dbreport.specs.StatSink.{end_text, pages_text, BeginsTree, Breaks, Counts, CutsEnd, EndsTree, WritesBoth}

@@ -6,7 +6,7 @@ use Rattle.dbsource.specs.Bench.{Pages}
 use Rattle.dbsource.specs.HeaderBytes.{HeaderBytes}
 use Rattle.dbwalk.specs.Marking.{AreMarksFor}
 use Rattle.dbwalk.specs.declared.marks.Mark.{Mark}
-use Rattle.dbreport.specs.Roots.{Listed}
+use Rattle.dbowner.specs.Roots.{Listed}
 use Rattle.dbreport.specs.declared.desk.Desk.TheInside.{Inside}
 
 -- a desk as contracts see it

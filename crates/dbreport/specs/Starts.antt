@@ -1,13 +1,13 @@
 -- The starts behind the schema's, as a run comes by them: the roots of a list, and the first trunk.
-use Rattle.std.specs.Prelude.{◌≡◌, ◌≢◌, ℕ, Bool, List, [], ◌∷◌, map, take, ◌++◌}
+use Rattle.std.specs.Prelude.{◌≡◌, ◌≢◌, ℕ, Bool, List, [], ◌∷◌, map, ◌++◌}
 use Rattle.std.specs.List.{enumerate_from}
 use Rattle.dbsurvey.specs.Address.{IsIn}
 use Rattle.dbsurvey.specs.Story.{Errand, Follow, errands_at}
 use Rattle.dbsurvey.specs.Survey.{Link}
-use Rattle.dbformat.specs.Address.{schema_start, last_root_start}
+use Rattle.dbformat.specs.Address.{schema_start}
 use Rattle.dbformat.specs.EndFaults.{has_rows}
 use Rattle.dbformat.specs.Reference.{Way, Reference}
-use Rattle.dbformat.specs.Schema.{schema, schema_link, root_start, rooted_rows, freelist_starts, later_starts}
+use Rattle.dbformat.specs.Schema.{schema_link, root_start, freelist_starts, later_starts}
 use Rattle.dbformat.specs.SchemaRow.{SchemaRow}
 use Rattle.dbformat.specs.Story.{Event}
 use Rattle.dbformat.specs.declared.Encoding.{Encoding}
@@ -16,6 +16,7 @@ use Rattle.dbformat.specs.declared.RowKind.TheVariants as row
 use Rattle.dbwalk.specs.declared.root.Root.{Root}
 use Rattle.dbwalk.specs.declared.root.RootKind.{RootKind}
 use Rattle.dbwalk.specs.declared.root.RootKind.TheVariants as root
+use Rattle.dbowner.specs.Roots.{AreListed}
 
 -- how a row names the kind of its tree
 abbrev pub kind_by : RowKind → RootKind
@@ -45,10 +46,6 @@ schema_reference = record { address = schema_start ∷ []; page = 1; role = sche
 -- what there is to do behind it, by the rows of the schema
 abbrev pub later_errands : List ℕ → List Reference → List (Errand Way Event)
 later_errands file V = errands_at [] (map Follow (later_starts file V))
-
--- the rows of a list are those of the schema that have a root page, the first 65536
-abbrev pub AreListed : List ℕ → List Reference → List SchemaRow → Type 0
-AreListed file V rows = rows ≡ take last_root_start (rooted_rows (schema file V))
 
 -- What the walk over the schema has come by: whether it has a row, and the roots of its rows, by which what is left to do
 -- is known.

@@ -15,10 +15,10 @@ use Rattle.dbsource.specs.Outs.{Begins, Flushes, OutState, Writes}
 use Rattle.dbsource.specs.declared.error.RunError.{RunError}
 use Rattle.dbtrace.specs.Finding.{Finding, told_row, told_fault}
 use Rattle.dbwalk.specs.declared.marks.Mark.{Mark}
+use Rattle.dbowner.specs.Roots.{short_name}
 use Rattle.dbreport.specs.CheckSink.{PutsAll}
 use Rattle.dbreport.specs.TreeNames.{label_text}
 use Rattle.dbreport.specs.OtherMarks.{marked_lines}
-use Rattle.dbreport.specs.Roots.{short_name}
 use Rattle.dbreport.specs.Sums.{sums_of}
 use Rattle.dbreport.specs.declared.stat_sink.StatSink.{StatSink}
 

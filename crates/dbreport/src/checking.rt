@@ -17,13 +17,13 @@ ghost use Rattle.dbwalk.specs.Telling.{IsReadWriteOrMemory, Tells, findings};
 ghost use Rattle.dbreport.specs.CheckSink.{Cuts, Shows};
 ghost use Rattle.dbreport.specs.RunItems.{walk_items};
 
-use crate::RootList;
 use crate::check_sink::CheckSink;
 use crate::end_pass::tell_end;
 use crate::schema_watch::SchemaWatch;
 use crate::tell::tell_header;
 use crate::walks::walk_starts;
 use dbformat::Verdict;
+use dbowner::RootList;
 use dbsource::{Bench, Header, Out, RunError, Source};
 use dbwalk::Marks;
 use std::alloc::Allocator;

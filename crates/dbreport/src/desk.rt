@@ -2,7 +2,7 @@
 ghost use Rattle.std.specs.Prelude.{◌≡◌, [], IfOk};
 ghost use Rattle.dbformat.specs.FixedPages.{geometry_of, IsInRange};
 
-use crate::RootList;
+use dbowner::RootList;
 use dbsource::{Bench, Header};
 use dbwalk::Marks;
 use std::alloc::{AllocError, Allocator, Global};

@@ -21,7 +21,6 @@ mod lines;
 mod map_entry;
 mod other_pages;
 mod page_texts;
-mod roots;
 mod runs;
 mod schema_watch;
 mod stat_lines;
@@ -33,9 +32,7 @@ mod tree_name;
 mod tree_sink;
 mod walks;
 
-pub use dbformat::{Command, RowKind, Verdict};
+pub use dbformat::{Command, Verdict};
 pub use dbsource::{Header, Out, RunError, Source};
-pub use dbwalk::{SchemaRow, Taken, Taker};
 pub use desk::Desk;
-pub use roots::RootList;
 pub use runs::{run, run_in, run_on, told_files_are_read};

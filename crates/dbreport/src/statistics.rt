@@ -24,7 +24,6 @@ ghost use Rattle.dbreport.specs.StatStarts.{ArePagesWritten, IsForSchema, rows_t
 ghost use Rattle.dbreport.specs.Sums.{sums_of};
 ghost use Rattle.dbreport.specs.TreeNames.{label_text};
 
-use crate::RootList;
 use crate::end_pass::tell_end;
 use crate::schema_watch::SchemaWatch;
 use crate::stat_sink::StatSink;
@@ -32,6 +31,7 @@ use crate::tell::tell_header;
 use crate::tree_name::Label;
 use crate::walks::walk_starts;
 use dbformat::Verdict;
+use dbowner::RootList;
 use dbsource::{Bench, Header, Out, RunError, Source};
 use dbwalk::Marks;
 use std::alloc::Allocator;

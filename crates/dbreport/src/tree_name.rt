@@ -3,13 +3,13 @@ ghost use Rattle.std.specs.Prelude.{◌≡◌, codes};
 ghost use Rattle.std.specs.Option.{option_copied, option_map_or};
 ghost use Rattle.dbformat.specs.Text.{shown_name};
 ghost use Rattle.dbsource.specs.Outs.{Puts};
-ghost use Rattle.dbreport.specs.Roots.{short_name};
+ghost use Rattle.dbowner.specs.Roots.{short_name};
 ghost use Rattle.dbreport.specs.TreeNames.{shown_tree, label_text};
 
-use crate::roots::MAX_NAME;
 use arrayvec::ArrayVec;
 use dbbytes::name_text;
 use dbformat::Encoding;
+use dbowner::MAX_NAME;
 use dbsource::{Out, WriteFailed};
 
 // The name of a tree.

@@ -20,11 +20,11 @@ ghost use Rattle.dbreport.specs.Notices.{Hears};
 ghost use Rattle.dbreport.specs.Starts.{kind_by, root_of, schema_root};
 ghost use Rattle.dbreport.specs.Walks.{AreTold, AreWalked, BeginsAt, IsSchemaWalked, IsTelling, IsTreeWalked, StopsTelling};
 
-use crate::RootList;
 use crate::schema_watch::SchemaWatch;
 use crate::tree_sink::TreeSink;
 use dbbytes::SchemaRow;
 use dbformat::{Encoding, RowKind};
+use dbowner::RootList;
 use dbsource::{Bench, Header, RunError, Source};
 use dbwalk::{Marks, Root, RootKind, walk_freelist, walk_tree};
 use std::alloc::Allocator;

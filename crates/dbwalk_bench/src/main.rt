@@ -9,7 +9,7 @@ use crate::totals::Totals;
 use anyhow::{Context, Result};
 use dbfiles::TestFile;
 use dbformat::RowKind;
-use dbreport::RootList;
+use dbowner::RootList;
 use dbsource::{Bench, Header, MemSource, RunError};
 use dbwalk::{Marks, Root, RootKind, walk_freelist, walk_tree};
 use std::alloc::Global;

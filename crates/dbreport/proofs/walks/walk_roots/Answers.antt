@@ -3,8 +3,8 @@ use Rattle.std.specs.List.{enumerate_from}
 use Rattle.std.proofs.lemmas.Result.{err_from_is_err_and}
 use Rattle.dbsource.proofs.Logs.{asks_weaker}
 use Rattle.dbwalk.proofs.Marking.Readings.{asks_then, log_none}
+use Rattle.dbowner.specs.Roots.{Listed}
 use Rattle.dbreport.specs.Notices.{Hears}
-use Rattle.dbreport.specs.Roots.{Listed}
 use Rattle.dbreport.specs.Walks.{BeginsAt, IsTelling}
 use Rattle.dbreport.proofs.Starts.{drop_none}
 use Rattle.dbreport.proofs.TreeWalks.{root_told, begun_encoding}

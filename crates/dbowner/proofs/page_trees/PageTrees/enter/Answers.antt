@@ -1,6 +1,6 @@
 use Rattle.std.proofs.Common.{ap, sym, ◌∙◌}
 use Rattle.dbowner.specs.Climbs.{known_of}
-use Rattle.dbowner.proofs.Roots.{entered_is}
+use Rattle.dbowner.proofs.RootPages.{entered_is}
 use Rattle.dbowner.proofs.page_trees.PageTrees.enter.Goals as goal
 
 pub returns-then-is_open-clause-known : goal.returns-then-is_open-clause-known

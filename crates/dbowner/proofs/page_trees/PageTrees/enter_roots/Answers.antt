@@ -2,7 +2,7 @@ use Rattle.std.proofs.Common.{◌≡◌, ◌+◌, ◌-◌, ◌≤◌, length, So
 use Rattle.std.specs.Prelude.{option_map, slice_get}
 use Rattle.std.proofs.lemmas.List.{length-replicate}
 use Rattle.dbowner.specs.Steps.{entered}
-use Rattle.dbowner.proofs.Roots.{listed_start, root_known, roots_right, schema_entered, next_entered, all_entered}
+use Rattle.dbowner.proofs.RootPages.{listed_start, root_known, roots_right, schema_entered, next_entered, all_entered}
 use Rattle.dbowner.proofs.page_trees.PageTrees.enter_roots.Goals as goal
 
 pub loop-index-init : goal.loop-index-init

@@ -1,5 +1,5 @@
 use Rattle.std.proofs.Common.{◌≡◌, length}
-use Rattle.dbowner.proofs.Roots.{AreEntered}
+use Rattle.dbowner.proofs.RootPages.{AreEntered}
 use Rattle.dbowner.proofs.page_trees.PageTrees.enter_roots.Given as goal
 
 abbrev pub invariant-loop-index : goal.invariant-loop-index

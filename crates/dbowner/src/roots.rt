@@ -2,7 +2,7 @@
 ghost use Rattle.std.specs.Prelude.{◌≡◌, ◌+◌, ◌-◌, ◌<◌, ◌≤◌, [], ◌∷◌, ◌++◌, length, option_map, slice_get, vec_len, IfOk, IfErr, OnOk, OnErr};
 ghost use Rattle.std.specs.Option.{option_copied};
 ghost use Rattle.dbwalk.specs.Rows.{schema_row_of};
-ghost use Rattle.dbreport.specs.Roots.{kept_row, short_name, name_in, IsWithin, Grows};
+ghost use Rattle.dbowner.specs.Roots.{kept_row, short_name, name_in, IsWithin, Grows};
 
 use dbbytes::SchemaRow;
 use dbformat::RowKind;
@@ -13,8 +13,8 @@ use std::marker::Model;
 
 // How many roots are taken (own).
 const MAX_ROOTS: usize = 65536;
-// How many bytes of a name are kept (own).
-pub(crate) const MAX_NAME: usize = 1000;
+/// How many bytes of a name are kept: a limit of our own.
+pub const MAX_NAME: usize = 1000;
 
 // Where the bytes of a name stand.
 #[derive(Clone, Copy, Debug, PartialEq, Eq)]
@@ -41,11 +41,11 @@ pub struct RootList<A: Allocator = Global> {
 }
 
 impl<A: Allocator> Model for RootList<A> {
-    ghost use Rattle.dbreport.specs.Roots.{Listed};
+    ghost use Rattle.dbowner.specs.Roots.{Listed};
 
     ghost Value = { Listed };
 
-    ghost use Rattle.dbreport.specs.Roots.{listed, AreRoots};
+    ghost use Rattle.dbowner.specs.Roots.{listed, AreRoots};
 
     ghost view = { listed };
 
@@ -137,7 +137,7 @@ impl<A: Allocator> RootList<A> {
 }
 
 impl<A: Allocator> Taker for RootList<A> {
-    ghost use Rattle.dbreport.specs.Roots.{TakesRow, RefusesRow};
+    ghost use Rattle.dbowner.specs.Roots.{TakesRow, RefusesRow};
 
     ghost takes = { TakesRow };
 

@@ -1,8 +1,7 @@
 // The list of roots: how many it takes, and that it is as before where it finds no memory.
-use dbbytes::SchemaRow;
 use dbformat::RowKind;
-use dbreport::RootList;
-use dbwalk::{Taken, Taker};
+use dbowner::RootList;
+use dbwalk::{SchemaRow, Taken, Taker};
 use linked_list_allocator::LocalHeap;
 use std::test::Fail;
 

@@ -1,18 +1,24 @@
 -- The list of roots: the rows of the schema that have a root page, as far as there is room.
 use Rattle.std.specs.Prelude.{◌≡◌, ℕ, ◌+◌, ◌*◌, ◌≤◌, nat_le, List, ◌++◌, length, take, drop, map, All, vec_len, Option, Some, None, if◌then◌else◌}
 use Rattle.dbformat.specs.Address.{last_root_start}
+use Rattle.dbformat.specs.Reference.{Reference}
+use Rattle.dbformat.specs.Schema.{schema, rooted_rows}
 use Rattle.dbformat.specs.SchemaRow.{SchemaRow}
 use Rattle.dbsource.specs.Failures.{one_more}
 use Rattle.dbwalk.specs.Taking.{ListTakes}
 use Rattle.dbwalk.specs.declared.taker.Taken.{Taken}
-use Rattle.dbreport.specs.declared.roots.Span.{Span}
-use Rattle.dbreport.specs.declared.roots.Entry.{Entry}
-use Rattle.dbreport.specs.declared.roots.RootList.TheInside.{Inside}
+use Rattle.dbowner.specs.declared.roots.Span.{Span}
+use Rattle.dbowner.specs.declared.roots.Entry.{Entry}
+use Rattle.dbowner.specs.declared.roots.RootList.TheInside.{Inside}
 
 -- a list of roots as contracts see it: its rows, and how many calls were refused memory
 pub record Listed : Type 0 where
   pub rows : List SchemaRow
   pub refusals : ℕ
+
+-- these rows are those of the schema that have a root page, the first 65536
+abbrev pub AreListed : List ℕ → List Reference → List SchemaRow → Type 0
+AreListed file V rows = rows ≡ take last_root_start (rooted_rows (schema file V))
 
 -- a name of at most 1000 bytes, or none
 abbrev pub short_name : Option (List ℕ) → Option (List ℕ)

@@ -21,9 +21,9 @@ use Rattle.dbwalk.specs.declared.marks.Mark.{Mark}
 use Rattle.dbwalk.specs.EndMarks.{is_root_mark, is_marked}
 use Rattle.dbwalk.specs.Marking.{AreMarksOf}
 use Rattle.dbwalk.proofs.Marking.Markings.{marks_of-length}
-use Rattle.dbreport.specs.Starts.{AreListed}
 use Rattle.dbowner.specs.Owners.{start_at, first_start}
 use Rattle.dbowner.specs.Climbs.{known_of, AreTrees}
+use Rattle.dbowner.specs.Roots.{AreListed}
 use Rattle.dbowner.specs.Steps.{is_open, entered}
 use Rattle.dbowner.proofs.PageMarks.{start_here, root_marked, root_visited}
 use Rattle.dbowner.proofs.Slots.{has_room, open_is, open_slot, within, put_here, put_there, nothing_known}
