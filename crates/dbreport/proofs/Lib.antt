@@ -32,3 +32,4 @@ pub mod ToldFaults
 pub mod ToldStarts
 pub mod TreeWalks
 pub mod Watched
+pub mod PlacedFaults
