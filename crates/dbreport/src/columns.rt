@@ -5,8 +5,8 @@ ghost use Rattle.dbformat.specs.Lines.{tab, chain_text};
 ghost use Rattle.dbreport.specs.Columns.{counts_text, place_text};
 
 use crate::hex::append_hex;
-use crate::lines::append;
 use arrayvec::ArrayVec;
+use dblines::append;
 use itoa::Buffer;
 
 // Adds a column with a text, for which there is room.

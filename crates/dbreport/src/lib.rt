@@ -9,7 +9,6 @@
 
 mod check_sink;
 mod checking;
-mod code_text;
 mod columns;
 mod counts;
 mod desk;
@@ -17,7 +16,6 @@ mod end_faults;
 mod end_pass;
 mod header_faults;
 mod hex;
-mod lines;
 mod map_entry;
 mod other_pages;
 mod page_texts;

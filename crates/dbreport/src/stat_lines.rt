@@ -12,11 +12,11 @@ ghost use Rattle.dbreport.specs.TreeNames.{label_text};
 
 use crate::columns::{append_chain, append_counts, append_number, append_place, append_text};
 use crate::hex::append_hex;
-use crate::lines::append;
 use crate::page_texts::{OtherPage, other_text, pagetype_text};
 use crate::sums::Sums;
 use crate::tree_name::Label;
 use arrayvec::ArrayVec;
+use dblines::append;
 use dbsource::{Out, WriteFailed};
 use dbwalk::Row;
 

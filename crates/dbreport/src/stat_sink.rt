@@ -8,13 +8,13 @@ ghost use Rattle.dbreport.specs.StatSink.{PutsOthers, end_text, failures_of_each
 ghost use Rattle.dbreport.specs.Sums.{sums_of};
 ghost use Rattle.dbreport.specs.TreeNames.{label_text};
 
-use crate::lines::put_fault;
 use crate::other_pages::put_others;
 use crate::stat_lines::{put_page_row, put_tree_row};
 use crate::sums::Sums;
 use crate::tree_name::Label;
 use crate::tree_sink::TreeSink;
 use dbformat::Verdict;
+use dblines::put_fault;
 use dbsource::{Geometry, Out, WriteFailed};
 use dbwalk::{Fault, Marks, Row, Sink};
 use std::alloc::Allocator;

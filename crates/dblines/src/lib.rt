@@ -1,0 +1,11 @@
+//! The lines of a report, each put to an [`Out`](dbsource::Out) as a whole: a fault, how many more there are, and `ok`. And the
+//! pieces of lines that are made on the stack.
+#![tactic(auto)]
+
+mod codes;
+mod lines;
+mod pieces;
+
+pub use codes::{code_text, code_words};
+pub use lines::{put_fault, put_more, put_ok};
+pub use pieces::{append, append_number};
