@@ -28,6 +28,7 @@ use Rattle.dbreport.specs.StatLines.{tree_text, starts_text, rows_told}
 use Rattle.dbreport.specs.StatSink.{end_text, pages_text, BeginsTree, Breaks, Counts, CutsEnd, EndsTree, WritesBoth}
 use Rattle.dbreport.specs.StatStarts.{AreWritten, IsForSchema}
 use Rattle.dbreport.specs.Walks.{AreWalked}
+use Rattle.dbreport.specs.declared.schema_watch.SchemaWatch.{SchemaWatch}
 use Rattle.dbreport.specs.declared.stat_sink.StatSink.{StatSink}
 use Rattle.dbreport.proofs.ListedNames.{listed_name}
 use Rattle.dbreport.proofs.StatSinks.{Sheet, all_lines, notices_written}
@@ -138,16 +139,17 @@ module _ (file : List ℕ) (V : List Reference) (form : Bool) where
       ∙ ap (starts_text form file V []) (sym (start_errands_listed file V survey))
 
 -- All starts have been walked from, and it is written what was told.
-pub walked_written : {O E : Type 0} (held : O → OutState) (held' : E → OutState) (file : List ℕ) (V : List Reference) → Survey file V → (s t : StatSink O E) → IsForSchema file s
-    → (r : Result (Unit {0}) RunError) (marks : List Mark) (any : Bool)
-    → AreWalked (Hears (Counts held held') (Breaks held held') BeginsTree (EndsTree held held') (CutsEnd held held')) file V r marks any s t
-    → AreWritten held held' file V r marks any s t
-walked_written held held' file V survey s t is r marks any h =
-    let p = sheet file V s.aggregate (tree_name file V 0) in record {
+pub walked_written : {O E : Type 0} (held : O → OutState) (held' : E → OutState) (file : List ℕ) (V : List Reference) → Survey file V → (s t : SchemaWatch (StatSink O E)) → IsForSchema file s.sink
+    → (r : Result (Unit {0}) RunError) (marks : List Mark) (rows : List SchemaRow)
+    → AreWalked (Hears (Counts held held') (Breaks held held') BeginsTree (EndsTree held held') (CutsEnd held held')) file V r marks rows s t
+    → AreWritten held held' file V r marks t.has_rows s.sink t.sink
+walked_written held held' file V survey s t is r marks rows h =
+    let form = s.sink.aggregate in
+    let p = sheet file V form (tree_name file V 0) in record {
       marked = h.all.marked;
-      writes = subst (λ x. WritesBoth held held' r s t x (faults_in (told_below file [] (start_errands file V)))) (start_lines file V s.aggregate survey)
-          (subst (λ items. WritesBoth held held' r s t (all_lines p (start_notices file V)) (faults_in items)) (of_starts file V survey)
-          (notices_written held held' r p (start_notices file V) s t
+      writes = subst (λ x. WritesBoth held held' r s.sink t.sink x (faults_in (told_below file [] (start_errands file V)))) (start_lines file V form survey)
+          (subst (λ items. WritesBoth held held' r s.sink t.sink (all_lines p (start_notices file V)) (faults_in items)) (of_starts file V survey)
+          (notices_written held held' r p (start_notices file V) s.sink t.sink
           (record { form = refl; encoding = is.encoding; size = is.page_size; name = is.name ∙ schema_name file V; summed = is.summed }) h.all.told));
       has_rows = h.has_rows;
     }

@@ -6,7 +6,6 @@ use Rattle.dbsurvey.specs.Moves.{Moves, Stops, MovesBySome}
 use Rattle.dbsurvey.specs.Story.{Errand, Go, Follow, errands_at}
 use Rattle.dbsurvey.proofs.Moving.{Moves-append}
 use Rattle.dbformat.specs.Address.{freelist_start}
-use Rattle.dbformat.specs.EndFaults.{has_rows}
 use Rattle.dbformat.specs.Header.{first_trunk}
 use Rattle.dbformat.specs.Reference.{trunk, Way, Reference}
 use Rattle.dbformat.specs.Schema.{start}
@@ -28,8 +27,9 @@ use Rattle.dbwalk.specs.declared.root.Root.{Root}
 use Rattle.dbwalk.proofs.Telling.Belows.{told_none, stops_by_first, stops_by_after}
 use Rattle.dbwalk.proofs.Telling.Lefts.{left_call, left_none}
 use Rattle.dbreport.specs.Notices.{Notice, begun, found, ended, Hears, errands_left, root_reference, tree_notices, later_notices, start_notices}
-use Rattle.dbreport.specs.Starts.{later_errands, schema_reference}
+use Rattle.dbreport.specs.Starts.{IsSchemaOf, later_errands, schema_reference}
 use Rattle.dbreport.specs.Walks.{Any, IsAt, BeginsAt, IsTreeWalked, IsSchemaWalked, IsTelling, StopsTelling, AreTold, AreWalked}
+use Rattle.dbreport.specs.declared.schema_watch.SchemaWatch.{SchemaWatch}
 use Rattle.dbreport.proofs.RunItems.{all_visited, starts_left, survey_below_starts}
 use Rattle.dbreport.proofs.Starts.{drop_more, quiet_go, root_next}
 
@@ -107,14 +107,6 @@ module _ {S : Type 0} (takes drops : S → Finding → S → Type 0) (begins : S
           told = d.tree.told;
           rest = ap (λ l. tree_notices file [] schema_reference ++ later_notices file U (enumerate_from 1 l)) of.listed;
         }
-
-    -- an error stopped it
-    pub schema_stopped : (marks : List Mark) (any : Bool) (t : S) (e : RunError) → IsTreeWalked hears file [] schema_reference (Err e) marks before t
-        → AreWalked hears file V (Err e) marks any before t
-    schema_stopped marks any t e d = record {
-      all = record { marked = tt; told = stops_by_first (hears true) (hears false) e before t (tree_notices file [] schema_reference) _ d.told };
-      has_rows = tt;
-    }
 
     -- ---- the tree of the next row
 
@@ -200,11 +192,21 @@ module _ {S : Type 0} (takes drops : S → Finding → S → Type 0) (begins : S
         whole = sym (append-nil h.notices) ∙ ap (λ L. h.notices ++ map found L) (sym (told_none file h.visits))
             ∙ ap (λ es. h.notices ++ map found (told_below file h.visits es)) (sym none) ∙ h.rest
 
-    -- and it is known whether the schema has a row
-    pub all_walked : (marks : List Mark) (any : Bool) (t : S) (r : Result (Unit {0}) RunError) → any ≡ has_rows file V → AreTold hears file V r marks before t
-        → AreWalked hears file V r marks any before t
-    all_walked marks any t (Ok u) e d = record { all = d; has_rows = e }
-    all_walked marks any t (Err x) e d = record { all = d; has_rows = tt }
+  -- ---- all starts, and what is known of the schema
+
+  module _ (file : List ℕ) (V : List Reference) (marks : List Mark) (rows : List SchemaRow) (s t : SchemaWatch S) where
+    -- an error stopped the walk over the schema's tree
+    pub schema_stopped : (e : RunError) → IsTreeWalked hears file [] schema_reference (Err e) marks s.sink t.sink → AreWalked hears file V (Err e) marks rows s t
+    schema_stopped e d = record {
+      all = record { marked = tt; told = stops_by_first (hears true) (hears false) e s.sink t.sink (tree_notices file [] schema_reference) _ d.told };
+      has_rows = tt;
+      listed = tt;
+    }
+
+    -- that walk was done, and then the others
+    pub all_walked : (r : Result (Unit {0}) RunError) → IsSchemaOf file V rows t.has_rows → AreTold hears file V r marks s.sink t.sink → AreWalked hears file V r marks rows s t
+    all_walked (Ok u) of d = record { all = d; has_rows = of.has_rows; listed = of.listed }
+    all_walked (Err x) of d = record { all = d; has_rows = tt; listed = tt }
 
 -- what is known of the root of the next tree
 pub begun_encoding : {S : Type 0} (begins : S → Option (List ℕ) → S → Type 0) (rows : List SchemaRow) (encoding : Encoding) (k : ℕ) (named : Root) (s t : S)

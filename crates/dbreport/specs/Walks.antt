@@ -15,8 +15,10 @@ use Rattle.dbwalk.specs.Marking.{AreMarksOf}
 use Rattle.dbwalk.specs.Telling.{Tells}
 use Rattle.dbwalk.specs.declared.marks.Mark.{Mark}
 use Rattle.dbwalk.specs.declared.root.Root.{Root}
+use Rattle.dbowner.specs.Roots.{AreListed}
 use Rattle.dbreport.specs.Notices.{Notice, errands_left, tree_notices, later_notices, start_notices}
 use Rattle.dbreport.specs.Starts.{IsSchemaOf, root_of, schema_reference}
+use Rattle.dbreport.specs.declared.schema_watch.SchemaWatch.{SchemaWatch}
 
 -- whatever was told
 abbrev pub Any : Unit {0} → Finding → Unit {0} → Type 0
@@ -61,7 +63,8 @@ pub record AreTold {S : Type 0} (hears : Bool → S → Notice → S → Type 0)
   pub marked : OnOk r (AreMarksOf file V marks)
   pub told : Tells (hears true) (hears false) r before (start_notices file V) after
 
--- And it is known whether the schema has a row.
-pub record AreWalked {S : Type 0} (hears : Bool → S → Notice → S → Type 0) (file : List ℕ) (V : List Reference) (r : Result (Unit {0}) RunError) (marks : List Mark) (any : Bool) (before after : S) : Type 0 where
-  pub all : AreTold hears file V r marks before after
-  pub has_rows : OnOk r (any ≡ has_rows file V)
+-- And a watch over the schema knows whether it has a row, and a list has its rows with a root page.
+pub record AreWalked {S : Type 0} (hears : Bool → S → Notice → S → Type 0) (file : List ℕ) (V : List Reference) (r : Result (Unit {0}) RunError) (marks : List Mark) (rows : List SchemaRow) (before after : SchemaWatch S) : Type 0 where
+  pub all : AreTold hears file V r marks before.sink after.sink
+  pub has_rows : OnOk r (after.has_rows ≡ has_rows file V)
+  pub listed : OnOk r (AreListed file V rows)

@@ -209,8 +209,7 @@ pub(crate) fn walk_starts<A: Allocator, S: Source, K: TreeSink + Drop>(
     ensures asks { Asks S.step (Reads bench.old.geometry.page_size marks.old marks.new)
         (λ file. IsHeaderOf header.now file → bench.old.geometry ≡ shape_of file → AreMarksOf file [] marks.old
         → (V : List Reference) → Survey file V
-        → AreWalked (Hears K.takes K.drops K.begins K.ends K.cuts) file V result marks.new watch.new.has_rows
-        watch.old.sink watch.new.sink)
+        → AreWalked (Hears K.takes K.drops K.begins K.ends K.cuts) file V result marks.new roots.new.rows watch.old watch.new)
         is_read_failed result (S.held source.old) (S.held source.new) }
     ensures writes { SinkAfter is_write_failed result (K.held watch.old.sink) (K.held watch.new.sink) }
     ensures refusals { roots.new.refusals ≡ failures_after is_out_of_memory result roots.old.refusals }
