@@ -7,7 +7,7 @@ use Rattle.std.proofs.lemmas.List.{drop-take, get_or-take, take-take}
 use Rattle.byteorder.specs.Endian.{big_number}
 use Rattle.byteorder.specs.Numbers.{big_from-take}
 use Rattle.dbformat.specs.Numbers.{u16_at}
-use Rattle.dbformat.specs.Header.{page_size, reserved_bytes, usable_size, change_counter, stated_pages, first_trunk, freelist_count, schema_format, greatest_root, encoding_number, incremental_vacuum, version_valid_for, has_pointer_map, is_size_valid, whole_pages, page_count}
+use Rattle.dbformat.specs.Header.{page_size, reserved_bytes, usable_size, change_counter, stated_pages, first_trunk, freelist_count, schema_format, greatest_root, encoding, encoding_number, incremental_vacuum, version_valid_for, has_pointer_map, is_size_valid, whole_pages, page_count}
 use Rattle.dbformat.specs.FixedPages.{most_pages, geometry_of}
 use Rattle.dbformat.specs.File.{refusal_of}
 use Rattle.dbformat.specs.FixedPages.{lock_page, is_map_position}
@@ -66,6 +66,10 @@ greatest_root_within file = number_within 52 4 file (omega arith)
 pub encoding_number_within : (file : List ℕ) → encoding_number (take 100 file) ≡ encoding_number file
 unfolding encoding_number
 encoding_number_within file = number_within 56 4 file (omega arith)
+
+pub encoding_within : (file : List ℕ) → encoding (take 100 file) ≡ encoding file
+unfolding encoding
+encoding_within file = rw (encoding_number_within file) refl
 
 pub incremental_vacuum_within : (file : List ℕ) → incremental_vacuum (take 100 file) ≡ incremental_vacuum file
 unfolding incremental_vacuum

@@ -8,4 +8,8 @@ pub mod RootLists
 pub mod RootPages
 pub mod Trees
 pub mod AllFaults
+pub mod Below
+pub mod Pieces
+pub mod SumPieces
+pub mod Summaries
 pub mod Worked

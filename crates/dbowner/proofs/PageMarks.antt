@@ -53,7 +53,7 @@ unnamed trunk from k e off f = ap Some (sym (f refl))
 unnamed free_leaf from k e off f = ap Some (sym (f refl))
 
 -- the mark of a page that no visit names
-abbrev unused : Bool → Bool → Option Mark
+abbrev pub unused : Bool → Bool → Option Mark
 unused fixed here = cond fixed (Some Fixed) (cond here (Some Unmarked) None)
 
 unused_parent : (b c : Bool) → parent_by (unused b c) ≡ None
@@ -96,7 +96,7 @@ module _ (file : List ℕ) (V : List Reference) (s : Survey file V) where
   unfolding fixed_use
   no_number p h = rw h refl
 
-  no_visit : (p : ℕ) → visit_of V p ≡ None → page_mark (marks_of (geometry file) V) p ≡ unused (is_fixed (geometry file) p) (is_page (geometry file) p)
+  pub no_visit : (p : ℕ) → visit_of V p ≡ None → page_mark (marks_of (geometry file) V) p ≡ unused (is_fixed (geometry file) p) (is_page (geometry file) p)
   unfolding mark_of
   no_visit p n = elim (cases_Bool (is_page (geometry file) p)) [
     | inl e ↦ (let l : 1 ≤ p = grind (arith, nat_tests) in

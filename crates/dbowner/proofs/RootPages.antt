@@ -165,7 +165,7 @@ free_first file q k e = by_case (first_trunk file == 0) e
     by_case false e = by_page (first_trunk file == q) e
 
 module _ (file : List ℕ) (V : List Reference) (s : Survey file V) (rows : List SchemaRow) (listed : AreListed file V rows) where
-  starts_are : starts file V ≡ schema_link ∷ (map (root_start file) (enumerate_from 1 rows) ++ freelist_starts file)
+  pub starts_are : starts file V ≡ schema_link ∷ (map (root_start file) (enumerate_from 1 rows) ++ freelist_starts file)
   unfolding later_starts
   starts_are = ap (λ rows. schema_link ∷ (map (root_start file) (enumerate_from 1 rows) ++ freelist_starts file))
       (ap (λ rows. take last_root_start (rooted_rows rows)) (sym (schema_below file V s)) ∙ sym listed)

@@ -35,7 +35,7 @@ rows_start file k [] l i = absurd i
 rows_start file k (row ∷ rows) l (inl e) = (ap (λ l. is_root l.role.role) e, let d : l.step ≡ k = ap (λ l. l.step) e in omega arith)
 rows_start file k (row ∷ rows) l (inr i) = let h = rows_start file (k + 1) rows l i in let d = h.1 in (h.0, omega arith)
 
-length_taken : {X : Type 0} (n : ℕ) (xs : List X) → length (take n xs) ≤ n
+pub length_taken : {X : Type 0} (n : ℕ) (xs : List X) → length (take n xs) ≤ n
 length_taken zero xs = omega arith
 length_taken (suc n) [] = omega arith
 length_taken (suc n) (x ∷ xs) = let h = length_taken n xs in omega arith

@@ -3,21 +3,25 @@
 use Rattle.std.specs.Prelude.{◌≡◌, ℕ, zero, suc, ◌-◌, ◌*◌, ℤ, pos, Bool, true, false, List, [], ◌∷◌, ◌++◌, length, replicate, take, drop, map, flat_map, count_by, Option, Some, None, Ok, slice_get, codes, decimal, ◌==◌, if◌then◌else◌}
 use Rattle.std.specs.Option.{option_map_or}
 use Rattle.std.specs.Str.{bytes_eq}
-use Rattle.dbformat.specs.Address.{start_of, freelist_start}
+use Rattle.dbformat.specs.Address.{start_of, last_root_start, freelist_start}
 use Rattle.dbformat.specs.EndFaults.{visit_of, end_faults}
 use Rattle.dbformat.specs.File.{MapEntry, geometry, refusal}
 use Rattle.dbformat.specs.FixedPages.{is_page, fixed_use}
-use Rattle.dbformat.specs.Header.{page_size, stated_pages, greatest_root, freelist_count}
+use Rattle.dbformat.specs.Header.{encoding, stated_pages, greatest_root, freelist_count}
 use Rattle.dbformat.specs.HeaderFaults.{header_faults}
-use Rattle.dbformat.specs.Lines.{line_feed, code_text, code_words, fault_line, ok_line, counted, tree_name}
+use Rattle.dbformat.specs.Lines.{line_feed, code_text, code_words, fault_line, ok_line, counted}
 use Rattle.dbformat.specs.Reference.{Reference, role_of, from_of, entry_of}
 use Rattle.dbformat.specs.Report.{Report, event_faults, faults, verdict, more_text, refused_report}
 use Rattle.dbformat.specs.Schema.{schema, rooted_rows, starts}
+use Rattle.dbformat.specs.SchemaRow.{SchemaRow}
 use Rattle.dbformat.specs.Story.{telling}
+use Rattle.dbformat.specs.Text.{shown_name}
+use Rattle.dbformat.specs.declared.Encoding.{Encoding}
 use Rattle.dbformat.specs.declared.Fault.{Fault}
 use Rattle.dbformat.specs.declared.FaultCode.{FaultCode}
 use Rattle.dbformat.specs.declared.FaultCode.TheVariants.{H01, H02, H03, H04, H05, H06, H07, H08, H09, H10, P01, P02, P03, P04, P05, P06, P07, P08, P09, P10, R01, R02, R03, T04, T05, T06, O01, L01, S01, S02, S03, S04, N01, M01, M02}
 use Rattle.dbformat.specs.declared.Fixed.{Fixed}
+use Rattle.dbformat.specs.declared.Geometry.{Geometry}
 use Rattle.dbformat.specs.declared.Fixed.TheVariants.{Lock}
 use Rattle.dbformat.specs.declared.RowKind.{RowKind}
 use Rattle.dbformat.specs.declared.RowKind.TheVariants as row
@@ -32,10 +36,18 @@ abbrev pub kind_text : RowKind → List ℕ
 kind_text row.Index = codes "index "
 kind_text _ = codes "table "
 
--- the tree of a start: `sqlite_schema`, or the kind and the name of its row
+-- the tree of a row: its kind and its name
+abbrev pub row_text : Encoding → SchemaRow → List ℕ
+row_text e r = kind_text r.kind ++ option_map_or (shown_name e) r.name (codes "?")
+
+-- the tree of a start, by the rows that have one: `sqlite_schema`, or that of a row
+abbrev pub tree_of_row : Encoding → List SchemaRow → ℕ → List ℕ
+tree_of_row e rows zero = codes "sqlite_schema"
+tree_of_row e rows (suc k) = option_map_or (row_text e) (slice_get rows k) []
+
+-- the same of a file: 65536 rows have a start
 abbrev pub tree_text : List ℕ → List Reference → ℕ → List ℕ
-tree_text file V zero = tree_name file V zero
-tree_text file V (suc k) = option_map_or (λ r. kind_text r.kind) (slice_get (rooted_rows (schema file V)) k) [] ++ tree_name file V (suc k)
+tree_text file V k = tree_of_row (encoding file) (take last_root_start (rooted_rows (schema file V))) k
 
 -- the fixed use of a page
 abbrev pub use_text : Option Fixed → List ℕ
@@ -59,19 +71,27 @@ place_text fixed tree place.Nowhere = codes "in no tree, overflow chain or freel
 abbrev pub indented : List ℕ → List ℕ
 indented text = codes "    " ++ text ++ line_feed ∷ []
 
--- where page p begins and what it is; a number that no page has gets no line
-abbrev pub place_line : List ℕ → List Reference → ℕ → List ℕ
-place_line file V p =
-    if is_page (geometry file) p
-    then indented (codes "page " ++ decimal p ++ codes " at byte " ++ decimal ((p - 1) * page_size file) ++ codes ": "
-    ++ place_text (fixed_use (geometry file) p) (option_map_or (tree_text file V) (start_at V p) []) (place_of file V p))
+-- Where page p begins and what it is, by the shape of the file, the texts of its trees, and the page's place and start. A
+-- number that no page has gets no line.
+abbrev pub page_line : Geometry → (ℕ → List ℕ) → ℕ → Place → Option ℕ → List ℕ
+page_line g tree p place start =
+    if is_page g p
+    then indented (codes "page " ++ decimal p ++ codes " at byte " ++ decimal ((p - 1) * g.page_size) ++ codes ": "
+    ++ place_text (fixed_use g p) (option_map_or tree start []) place)
     else []
 
--- the start of this number
+-- the line of page p of a file
+abbrev pub place_line : List ℕ → List Reference → ℕ → List ℕ
+place_line file V p = page_line (geometry file) (tree_text file V) p (place_of file V p) (start_at V p)
+
+-- what start k is
+abbrev pub line_of_start : (ℕ → List ℕ) → ℕ → List ℕ
+line_of_start tree k =
+    indented (codes "start " ++ decimal k ++ codes ": " ++ (if k == freelist_start then codes "first trunk of the freelist" else codes "root of " ++ tree k))
+
+-- the line of start k of a file
 abbrev pub start_line : List ℕ → List Reference → ℕ → List ℕ
-start_line file V k =
-    indented (codes "start " ++ decimal k ++ codes ": "
-    ++ (if k == freelist_start then codes "first trunk of the freelist" else codes "root of " ++ tree_text file V k))
+start_line file V k = line_of_start (tree_text file V) k
 
 -- where a fault stands: on its page, or at a start
 abbrev pub own_line : List ℕ → List Reference → Fault → List ℕ
@@ -90,12 +110,13 @@ both_lines file V f = own_line file V f ++ place_line file V (value_page f.value
 abbrev pub header_line : ℕ → List ℕ
 header_line n = indented (codes "header: " ++ decimal n)
 
--- the pointer-map entry that the visit of a page asks for
+-- a pointer-map entry
+abbrev pub line_of_entry : MapEntry → List ℕ
+line_of_entry e = indented (codes "entry wanted: type " ++ decimal e.type ++ codes ", number " ++ decimal e.number)
+
+-- the one that the visit of a page asks for
 abbrev pub entry_line : Option Reference → List ℕ
-entry_line None = []
-entry_line (Some r) =
-    let e : MapEntry = entry_of (role_of r) (from_of r) in
-    indented (codes "entry wanted: type " ++ decimal e.type ++ codes ", number " ++ decimal e.number)
+entry_line v = option_map_or (λ r. line_of_entry (entry_of (role_of r) (from_of r))) v []
 
 -- The lines below a fault: the number of the header that is wrong, or its page, and with it the page that it names, or the
 -- entry that was wanted. The other faults of the header have none.

@@ -3,3 +3,5 @@ pub mod Owners
 pub mod Climbs
 pub mod Steps
 pub mod Explained
+pub mod Notes
+pub mod Sums

@@ -11,15 +11,18 @@
 //! pages, in one pass over the list; each later question climbs by the marks to the first page of which the start is known, and
 //! notes it of those that it passes. So all questions together pass no more pages than there are.
 //!
-//! specs/Explained says with these words what `dbck explain` is to write; no code of it stands here yet.
+//! specs/Explained says with these words what `dbck explain` is to write. [`Owners`] puts the lines below each fault, and the
+//! summary by its counts ([`Counts`]).
 #![tactic(auto)]
 
+mod explain;
 mod explained;
 mod owner;
 mod page_trees;
 mod place;
 mod roots;
 
+pub use explain::{CodeCount, Counts, Owners};
 pub use explained::summary_counts_all_faults;
 pub use owner::visited_pages_are_owned;
 pub use page_trees::PageTrees;

@@ -3,6 +3,8 @@
 #![tactic(auto)]
 
 #[cfg(test)]
+mod lines;
+#[cfg(test)]
 mod roots;
 #[cfg(test)]
 mod trees;

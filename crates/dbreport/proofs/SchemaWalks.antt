@@ -29,7 +29,7 @@ use Rattle.dbreport.specs.Starts.{IsSchemaOf, schema_reference, schema_root}
 use Rattle.dbreport.specs.declared.schema_watch.SchemaWatch.{SchemaWatch}
 use Rattle.dbreport.proofs.RootsTaken.{roots_start_empty, schema_roots, starts_listed}
 use Rattle.dbreport.proofs.SchemaTold.{schema_rows_told}
-use Rattle.dbreport.proofs.Starts.{encoding_within}
+use Rattle.dbformat.proofs.HeaderPrefix.{encoding_within}
 use Rattle.dbreport.proofs.Watched.{watch_moves, watch_stops}
 
 -- page 1 comes first

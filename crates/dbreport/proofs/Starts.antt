@@ -25,10 +25,6 @@ use Rattle.dbreport.specs.Notices.{root_reference}
 use Rattle.dbreport.specs.Starts.{root_of, AreBelowStarts}
 use Rattle.dbreport.specs.Walks.{IsAt}
 
-pub encoding_within : (file : List ℕ) → encoding (take 100 file) ≡ encoding file
-unfolding encoding
-encoding_within file = rw (encoding_number_within file) refl
-
 pub quiet_go : (c : Reference) → AreQuiet own_visit (Go c ∷ [])
 quiet_go c e (inl h) = cc
 quiet_go c e (inr h) = absurd h

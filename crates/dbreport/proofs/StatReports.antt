@@ -17,7 +17,7 @@ use Rattle.dbformat.specs.declared.Fault.{Fault}
 use Rattle.dbformat.specs.declared.Geometry.{Geometry}
 use Rattle.dbformat.specs.declared.Verdict.{Verdict}
 use Rattle.dbformat.specs.declared.Verdict.TheVariants.{Clean, Faulty}
-use Rattle.dbformat.proofs.HeaderPrefix.{header_faults_within}
+use Rattle.dbformat.proofs.HeaderPrefix.{header_faults_within, encoding_within}
 use Rattle.dbformat.proofs.LookBack.{looks_back}
 use Rattle.dbsource.specs.HeaderBytes.{HeaderBytes}
 use Rattle.dbsource.specs.Headers.{IsHeaderOf}
@@ -32,7 +32,6 @@ use Rattle.dbreport.specs.declared.stat_sink.StatSink.{StatSink}
 use Rattle.dbreport.specs.declared.statistics.Form.{Form}
 use Rattle.dbreport.specs.declared.tree_name.Label.{Label}
 use Rattle.dbreport.proofs.RunTold.{faults_told}
-use Rattle.dbreport.proofs.Starts.{encoding_within}
 use Rattle.dbreport.proofs.StatTexts.{trees_written}
 use Rattle.dbreport.proofs.StatWrites.{both_then, begun_first}
 

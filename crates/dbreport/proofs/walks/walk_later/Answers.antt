@@ -3,10 +3,9 @@ use Rattle.std.proofs.lemmas.Bool.Decides.{nat_tests}
 use Rattle.std.proofs.Common.{false, ◌≡◌, Err, Ok, refl, sym, ap, ◌∙◌, arith}
 use Rattle.std.proofs.lemmas.Result.{err_from_is_err_and}
 use Rattle.dbformat.specs.Header.{encoding, first_trunk}
-use Rattle.dbformat.proofs.HeaderPrefix.{first_trunk_within}
+use Rattle.dbformat.proofs.HeaderPrefix.{first_trunk_within, encoding_within}
 use Rattle.dbsource.proofs.Logs.{asks_weaker}
 use Rattle.dbwalk.proofs.Marking.Readings.{asks_then}
-use Rattle.dbreport.proofs.Starts.{encoding_within}
 use Rattle.dbreport.proofs.TreeWalks.{freelist_told, no_freelist_told}
 use Rattle.dbreport.proofs.walks.walk_later.Goals as goal
 

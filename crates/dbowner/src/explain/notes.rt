@@ -1,0 +1,118 @@
+// The lines that stand below a fault.
+ghost use Rattle.std.specs.Prelude.{◌≡◌, [], option_map};
+ghost use Rattle.std.specs.Option.{option_map_or};
+ghost use Rattle.dbformat.specs.FixedPages.{IsInRange};
+ghost use Rattle.dbsource.specs.Outs.{Puts};
+ghost use Rattle.dbowner.specs.Explained.{header_line, line_of_entry, tree_of_row};
+ghost use Rattle.dbowner.specs.Notes.{entry_value, note_text, notes_text, wanted_entry};
+
+use crate::explain::page_line::Spot;
+use crate::explain::tree_line::TreeNames;
+use arrayvec::ArrayVec;
+use dblines::{append, append_number};
+use dbsource::{Geometry, Out, WriteFailed};
+use dbwalk::Mark;
+use std::alloc::Allocator;
+
+/// An entry of the pointer map.
+#[derive(Clone, Copy, Debug, PartialEq, Eq)]
+pub struct Entry {
+    pub kind: u8,
+    pub number: u32,
+}
+
+/// What a line below a fault says.
+#[derive(Clone, Copy, Debug, PartialEq, Eq)]
+pub enum Note {
+    /// Where a page is.
+    Page(Spot),
+    /// What a start is.
+    Start(u32),
+    /// A number of the header.
+    Header(u32),
+    /// The entry that was wanted.
+    Entry(Entry),
+}
+
+// The entry that a page with this mark has, if it is in use.
+pub(crate) fn wanted_entry(mark: Option<Mark>) -> Option<Entry>
+    ensures { option_map entry_value result ≡ wanted_entry mark }
+{
+    let (kind, number) = match mark? {
+        Mark::Root => (1, 0),
+        Mark::Trunk | Mark::FreeLeaf => (2, 0),
+        Mark::FirstOverflow(from) => (3, from),
+        Mark::LaterOverflow(from) => (4, from),
+        Mark::Child(from) => (5, from),
+        Mark::Unmarked | Mark::Fixed => return None,
+    };
+    Some(Entry { kind, number })
+}
+
+fn header_line(number: u32) -> ArrayVec<u8, 64>
+    ensures { result.items ≡ header_line number }
+{
+    let mut line = ArrayVec::new();
+    append(&mut line, "    header: ");
+    append_number(&mut line, u64::from(number));
+    append(&mut line, "\n");
+    line
+}
+
+fn entry_line(entry: Entry) -> ArrayVec<u8, 96>
+    ensures { result.items ≡ line_of_entry (entry_value entry) }
+{
+    let mut line = ArrayVec::new();
+    append(&mut line, "    entry wanted: type ");
+    append_number(&mut line, u64::from(entry.kind));
+    append(&mut line, ", number ");
+    append_number(&mut line, u64::from(entry.number));
+    append(&mut line, "\n");
+    line
+}
+
+impl<A: Allocator> TreeNames<'_, A> {
+    // Puts the line of a note.
+    fn put_note<O: Out>(&self, out: &mut O, shape: Geometry, note: Note) -> Result<(), WriteFailed>
+        requires { IsInRange shape }
+        ensures { Puts result (O.held out.old) (O.held out.new) (note_text shape (tree_of_row self.now.encoding self.now.roots.now.rows) note) }
+    {
+        match note {
+            Note::Page(spot) => self.put_page_line(out, shape, spot),
+            Note::Start(start) => self.put_start_line(out, start),
+            Note::Header(number) => out.put(header_line(number).as_slice()),
+            Note::Entry(entry) => out.put(entry_line(entry).as_slice()),
+        }
+    }
+
+    // Puts the line of a note, if there is one.
+    fn put_note_of<O: Out>(
+        &self,
+        out: &mut O,
+        shape: Geometry,
+        note: Option<Note>,
+    ) -> Result<(), WriteFailed>
+        requires { IsInRange shape }
+        ensures { Puts result (O.held out.old) (O.held out.new)
+            (option_map_or (note_text shape (tree_of_row self.now.encoding self.now.roots.now.rows)) note []) }
+    {
+        match note {
+            Some(note) => self.put_note(out, shape, note),
+            None => Ok(()),
+        }
+    }
+
+    // Puts the lines of two notes.
+    pub(crate) fn put_notes<O: Out>(
+        &self,
+        out: &mut O,
+        shape: Geometry,
+        notes: (Option<Note>, Option<Note>),
+    ) -> Result<(), WriteFailed>
+        requires { IsInRange shape }
+        ensures { Puts result (O.held out.old) (O.held out.new) (notes_text shape (tree_of_row self.now.encoding self.now.roots.now.rows) notes) }
+    {
+        self.put_note_of(out, shape, notes.0)?;
+        self.put_note_of(out, shape, notes.1)
+    }
+}

@@ -1,0 +1,82 @@
+// Lines with the text of a tree in them.
+ghost use Rattle.std.specs.Prelude.{◌≡◌, ◌++◌, []};
+ghost use Rattle.std.specs.Option.{option_map_or};
+ghost use Rattle.dbsource.specs.Outs.{Puts};
+ghost use Rattle.dbwalk.specs.Rows.{schema_row_of};
+ghost use Rattle.dbowner.specs.Explained.{kind_text, row_text, tree_of_row};
+
+use crate::roots::RootList;
+use dbbytes::name_text;
+use dbformat::{Encoding, RowKind};
+use dbsource::{Out, WriteFailed};
+use dbwalk::SchemaRow;
+use std::alloc::{Allocator, Global};
+
+/// The texts of trees: how texts are stored, and the rows of the schema that have a root page.
+#[derive(Drop)]
+pub struct TreeNames<'a, A: Allocator = Global> {
+    pub encoding: Encoding,
+    pub roots: &'a RootList<A>,
+}
+
+impl<A: Allocator> TreeNames<'_, A> {
+    // Puts the text of the tree of a start.
+    fn put_tree<O: Out>(&self, out: &mut O, start: u32) -> Result<(), WriteFailed>
+        ensures { Puts result (O.held out.old) (O.held out.new) (tree_of_row self.now.encoding self.now.roots.now.rows start) }
+    {
+        if start == 0 {
+            return out.put(b"sqlite_schema");
+        }
+        match self.roots.get(start) {
+            Some(row) => put_row(out, self.encoding, &row),
+            None => Ok(()),
+        }
+    }
+
+    // Puts the text of the tree of a start, if there is one.
+    fn put_tree_of<O: Out>(&self, out: &mut O, start: Option<u32>) -> Result<(), WriteFailed>
+        ensures { Puts result (O.held out.old) (O.held out.new) (option_map_or (tree_of_row self.now.encoding self.now.roots.now.rows) start []) }
+    {
+        match start {
+            Some(start) => self.put_tree(out, start),
+            None => Ok(()),
+        }
+    }
+
+    /// Puts a line with the text of a tree in it, or of none.
+    pub(crate) fn put_line<O: Out>(
+        &self,
+        out: &mut O,
+        front: &[u8],
+        start: Option<u32>,
+        end: &[u8],
+    ) -> Result<(), WriteFailed>
+        ensures { Puts result (O.held out.old) (O.held out.new)
+            (front.now ++ (option_map_or (tree_of_row self.now.encoding self.now.roots.now.rows) start [] ++ end.now)) }
+    {
+        out.put(front)?;
+        self.put_tree_of(out, start)?;
+        out.put(end)
+    }
+}
+
+// Puts the text of the tree of a row.
+fn put_row<O: Out>(out: &mut O, encoding: Encoding, row: &SchemaRow<'_>) -> Result<(), WriteFailed>
+    ensures { Puts result (O.held out.old) (O.held out.new) (row_text encoding (schema_row_of row.now)) }
+{
+    out.put(kind_text(row.kind).as_bytes())?;
+    match row.name {
+        Some(name) => name_text(name, encoding, out),
+        None => out.put(b"?"),
+    }
+}
+
+// The kind of tree that a row names.
+fn kind_text(kind: RowKind) -> &'static str
+    ensures { result.now ≡ kind_text kind }
+{
+    match kind {
+        RowKind::Index => "index ",
+        RowKind::Table | RowKind::View | RowKind::Trigger => "table ",
+    }
+}
