@@ -130,9 +130,9 @@ pub finish_of : (command : Command) (file : List ℕ) (outcome : Result Verdict 
     → IsRunOf command file outcome out.bytes out'.bytes err.bytes mid.bytes → IsUnwritten outcome out.bytes out'.bytes → OnOk outcome (err' ≡ mid) → PutsLine mid err'
     → IsFinishOf (exit_status outcome) command file out out' err err'
 finish_of command file outcome out out' err mid err' run unwritten quiet line = record {
-  exit = λ V s. let k = run.reported V s in exit_by_outcome command file V outcome out out' err mid err' run.answer k.out k.err k.verdict unwritten quiet line;
-  errors = status_by outcome file run.answer;
-  sound = sound_by outcome file run.sound;
+  exit = λ V s. let k = run.run.reported V s in exit_by_outcome command file V outcome out out' err mid err' run.run.answer k.out k.err k.verdict unwritten quiet line;
+  errors = status_by outcome file run.run.answer;
+  sound = sound_by outcome file run.run.sound;
 }
 
 -- at a refusal it is as it was

@@ -97,14 +97,16 @@ module _ (out out' err err' : OutState) where
   pub still_run : (command : Command) (file : List ℕ) (o r : Result Verdict RunError) (first second : Option (List ℕ)) → IsHanded o r out out' err err'
       → IsRunOf command file o first out.bytes second err.bytes → IsRunOf command file r first out'.bytes second err'.bytes
   still_run command file o r first second h run = record {
-    survey = run.survey;
-    reported = λ V s. let k = run.reported V s in record {
-      out = still_writes o r first (report command file V).out h k.out;
-      err = still_second o r second (report command file V).err h k.err;
-      verdict = still_of (λ v. (report command file V).answer ≡ Ok v) o r h k.verdict;
+    run = record {
+      survey = run.run.survey;
+      reported = λ V s. let k = run.run.reported V s in record {
+        out = still_writes o r first (report command file V).out h k.out;
+        err = still_second o r second (report command file V).err h k.err;
+        verdict = still_of (λ v. (report command file V).answer ≡ Ok v) o r h k.verdict;
+      };
+      answer = still_answers o r file h run.run.answer;
+      sound = still_of (λ v. v ≡ Clean ↔ Sound file) o r h run.run.sound;
     };
-    answer = still_answers o r file h run.answer;
-    sound = still_of (λ v. v ≡ Clean ↔ Sound file) o r h run.sound;
     counts = run.counts;
   }
 

@@ -16,9 +16,9 @@ use Rattle.dbformat.specs.declared.FaultCode.TheVariants.{H01, H02, H03, H04, H0
 use Rattle.dbformat.specs.declared.Geometry.{Geometry}
 use Rattle.dbsource.specs.HeaderBytes.{HeaderBytes}
 use Rattle.dbsource.specs.Headers.{IsHeaderOf}
-use Rattle.dbwalk.specs.Marking.{role_mark, marks_of, page_mark, AreMarksOf}
-use Rattle.dbwalk.specs.declared.marks.Mark.{Mark}
-use Rattle.dbwalk.proofs.Marking.EndMarking.{found_in}
+use Rattle.dbmarks.specs.Marking.{role_mark, marks_of, page_mark, AreMarksOf}
+use Rattle.dbmarks.specs.declared.marks.Mark.{Mark}
+use Rattle.dbmarks.proofs.EndMarking.{found_in}
 use Rattle.dbowner.specs.Roots.{AreListed}
 use Rattle.dbformat.proofs.HeaderPrefix.{encoding_within}
 use Rattle.dbowner.specs.Explained.{own_line, both_lines, header_line, line_of_entry, entry_line, lines_below, tree_of_row, tree_text}

@@ -13,3 +13,5 @@ pub mod Pieces
 pub mod SumPieces
 pub mod Summaries
 pub mod Worked
+pub mod Tallies
+pub mod FreelistFaults

@@ -12,12 +12,12 @@ use Rattle.dbformat.specs.FixedPages.{is_page, is_fixed, fixed_use}
 use Rattle.dbformat.specs.Reference.{Role, root, child, first_overflow, later_overflow, trunk, free_leaf, Reference, role_of, from_of, is_root, is_on_freelist}
 use Rattle.dbformat.specs.Survey.{Survey}
 use Rattle.dbformat.proofs.Visited.{allowed, visit_is}
-use Rattle.dbwalk.specs.declared.marks.Mark.{Mark}
-use Rattle.dbwalk.specs.declared.marks.Mark.TheVariants.{Unmarked, Fixed}
-use Rattle.dbwalk.specs.EndMarks.{is_root_mark, is_marked}
-use Rattle.dbwalk.specs.Marking.{role_mark, visit_mark, mark_of, marks_of, page_mark}
-use Rattle.dbwalk.proofs.Marking.Markings.{page_mark-in, page_mark-out}
-use Rattle.dbwalk.proofs.Marking.EndMarking.{found_in, survey_visits, visited-mark, root_test}
+use Rattle.dbmarks.specs.declared.marks.Mark.{Mark}
+use Rattle.dbmarks.specs.declared.marks.Mark.TheVariants.{Unmarked, Fixed}
+use Rattle.dbmarks.specs.EndMarks.{is_root_mark, is_marked}
+use Rattle.dbmarks.specs.Marking.{role_mark, visit_mark, mark_of, marks_of, page_mark}
+use Rattle.dbmarks.proofs.Markings.{page_mark-in, page_mark-out}
+use Rattle.dbmarks.proofs.EndMarking.{found_in, survey_visits, visited-mark, root_test}
 use Rattle.dbowner.specs.declared.place.Place.{Place}
 use Rattle.dbowner.specs.declared.place.Place.TheVariants as place
 use Rattle.dbowner.specs.Owners.{start_at, place_in, place_of}

@@ -2,7 +2,7 @@
 use Rattle.std.proofs.Common.{◌≡◌, ℕ, zero, suc, ◌+◌, ◌-◌, ◌<◌, ◌≤◌, ◌⊎◌, inl, inr, List, length, set, Option, Some, None, refl, sym, ap, subst, ◌∙◌, arith}
 use Rattle.std.specs.Prelude.{unwrap_or, option_and_then}
 use Rattle.std.proofs.lemmas.List.{length-set}
-use Rattle.dbwalk.specs.declared.marks.Mark.{Mark}
+use Rattle.dbmarks.specs.declared.marks.Mark.{Mark}
 use Rattle.dbowner.specs.Climbs.{parent, above, IsPassed, slot, known_of}
 use Rattle.dbowner.specs.Steps.{IsClimb, IsSettled}
 use Rattle.dbowner.proofs.Slots.{within, known_slot, put_here, put_cases, count_new, count_same}

@@ -17,10 +17,10 @@ use Rattle.dbformat.specs.SchemaRow.{SchemaRow}
 use Rattle.dbformat.specs.Survey.{Survey}
 use Rattle.dbformat.proofs.SchemaStart.{schema_below}
 use Rattle.dbformat.proofs.Visited.{allowed}
-use Rattle.dbwalk.specs.declared.marks.Mark.{Mark}
-use Rattle.dbwalk.specs.EndMarks.{is_root_mark, is_marked}
-use Rattle.dbwalk.specs.Marking.{AreMarksOf}
-use Rattle.dbwalk.proofs.Marking.Markings.{marks_of-length}
+use Rattle.dbmarks.specs.declared.marks.Mark.{Mark}
+use Rattle.dbmarks.specs.EndMarks.{is_root_mark, is_marked}
+use Rattle.dbmarks.specs.Marking.{AreMarksOf}
+use Rattle.dbmarks.proofs.Markings.{marks_of-length}
 use Rattle.dbowner.specs.Owners.{start_at, first_start}
 use Rattle.dbowner.specs.Climbs.{known_of, AreTrees}
 use Rattle.dbowner.specs.Roots.{AreListed}

@@ -14,12 +14,12 @@ use Rattle.dbowner.specs.Steps.{is_open}
 abbrev Known : Type 0
 Known = Option (Option ℕ)
 
-get_set : (xs : List Known) (i : ℕ) (x : Known) → i < length xs → slice_get (set xs i x) i ≡ Some x
+pub get_set : {X : Type 0} (xs : List X) (i : ℕ) (x : X) → i < length xs → slice_get (set xs i x) i ≡ Some x
 get_set [] i x l = absurd (let f : ⊥ = omega arith in f)
 get_set (y ∷ ys) zero x l = refl
 get_set (y ∷ ys) (suc i) x l = get_set ys i x (omega arith)
 
-get_set_other : (xs : List Known) (i j : ℕ) (x : Known) → (j ≡ i → ⊥) → slice_get (set xs i x) j ≡ slice_get xs j
+pub get_set_other : {X : Type 0} (xs : List X) (i j : ℕ) (x : X) → (j ≡ i → ⊥) → slice_get (set xs i x) j ≡ slice_get xs j
 get_set_other [] i j x d = refl
 get_set_other (y ∷ ys) zero zero x d = absurd (d refl)
 get_set_other (y ∷ ys) zero (suc j) x d = refl

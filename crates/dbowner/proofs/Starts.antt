@@ -30,7 +30,7 @@ use Rattle.dbowner.specs.Owners.{is_start, first_start}
 abbrev pub IsAtStart : ℕ → Role → Type 0
 IsAtStart k role = ((role ≡ trunk) × (k ≡ freelist_start)) ⊎ ((is_root role ≡ true) × (k < freelist_start))
 
-rows_start : (file : List ℕ) (k : ℕ) (rows : List SchemaRow) (l : Link Way) → IsIn l (map (root_start file) (enumerate_from k rows)) → (is_root l.role.role ≡ true) × (l.step < k + length rows)
+pub rows_start : (file : List ℕ) (k : ℕ) (rows : List SchemaRow) (l : Link Way) → IsIn l (map (root_start file) (enumerate_from k rows)) → (is_root l.role.role ≡ true) × (l.step < k + length rows)
 rows_start file k [] l i = absurd i
 rows_start file k (row ∷ rows) l (inl e) = (ap (λ l. is_root l.role.role) e, let d : l.step ≡ k = ap (λ l. l.step) e in omega arith)
 rows_start file k (row ∷ rows) l (inr i) = let h = rows_start file (k + 1) rows l i in let d = h.1 in (h.0, omega arith)

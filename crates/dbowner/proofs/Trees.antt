@@ -9,9 +9,9 @@ use Rattle.dbformat.specs.File.{geometry}
 use Rattle.dbformat.specs.FixedPages.{is_page}
 use Rattle.dbformat.specs.Reference.{Reference, role_of, is_root}
 use Rattle.dbformat.specs.Survey.{Survey}
-use Rattle.dbwalk.specs.declared.marks.Mark.{Mark}
-use Rattle.dbwalk.specs.Marking.{AreMarksOf, page_mark}
-use Rattle.dbwalk.proofs.Marking.Markings.{page_mark-out}
+use Rattle.dbmarks.specs.declared.marks.Mark.{Mark}
+use Rattle.dbmarks.specs.Marking.{AreMarksOf, page_mark}
+use Rattle.dbmarks.proofs.Markings.{page_mark-out}
 use Rattle.dbowner.specs.Owners.{start_at}
 use Rattle.dbowner.specs.Climbs.{parent_by, parent, above, IsPassed, slot, known_of, AreTrees}
 use Rattle.dbowner.specs.Steps.{start_by, start_above, IsClimb, IsSettled}

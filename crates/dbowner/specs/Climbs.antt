@@ -5,9 +5,9 @@ use Rattle.dbformat.specs.Address.{start_of}
 use Rattle.dbformat.specs.File.{geometry}
 use Rattle.dbformat.specs.FixedPages.{most_pages}
 use Rattle.dbformat.specs.Reference.{Reference, role_of, is_root}
-use Rattle.dbwalk.specs.Marking.{page_mark}
-use Rattle.dbwalk.specs.declared.marks.Mark.{Mark}
-use Rattle.dbwalk.specs.declared.marks.Mark.TheVariants.{Fixed, Root, Trunk, FreeLeaf, FirstOverflow, LaterOverflow, Child}
+use Rattle.dbmarks.specs.Marking.{page_mark}
+use Rattle.dbmarks.specs.declared.marks.Mark.{Mark}
+use Rattle.dbmarks.specs.declared.marks.Mark.TheVariants.{Fixed, Root, Trunk, FreeLeaf, FirstOverflow, LaterOverflow, Child}
 use Rattle.dbowner.specs.Owners.{start_at}
 use Rattle.dbowner.specs.declared.page_trees.PageTrees.TheInside.{Inside}
 use Rattle.dbowner.specs.declared.place.Place.{Place}

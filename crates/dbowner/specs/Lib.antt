@@ -5,3 +5,4 @@ pub mod Steps
 pub mod Explained
 pub mod Notes
 pub mod Sums
+pub mod Tallies

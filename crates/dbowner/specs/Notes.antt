@@ -12,11 +12,11 @@ use Rattle.dbformat.specs.declared.FaultCode.TheVariants.{H01, H02, H03, H04, H0
 use Rattle.dbformat.specs.declared.Fixed.{Fixed}
 use Rattle.dbformat.specs.declared.Geometry.{Geometry}
 use Rattle.dbsource.specs.Headers.{IsHeaderOf}
-use Rattle.dbwalk.specs.EndMarks.{mark_entry}
-use Rattle.dbwalk.specs.Marking.{AreMarksOf}
-use Rattle.dbwalk.specs.declared.marks.Mark.{Mark}
-use Rattle.dbwalk.specs.declared.marks.Mark.TheVariants.{Unmarked}
-use Rattle.dbwalk.specs.declared.marks.Mark.TheVariants as mark
+use Rattle.dbmarks.specs.EndMarks.{mark_entry}
+use Rattle.dbmarks.specs.Marking.{AreMarksOf}
+use Rattle.dbmarks.specs.declared.marks.Mark.{Mark}
+use Rattle.dbmarks.specs.declared.marks.Mark.TheVariants.{Unmarked}
+use Rattle.dbmarks.specs.declared.marks.Mark.TheVariants as mark
 use Rattle.dbowner.specs.Roots.{AreListed}
 use Rattle.dbowner.specs.Explained.{use_text, page_line, line_of_start, header_line, line_of_entry, value_page}
 use Rattle.dbowner.specs.declared.place.Place.{Place}

@@ -2,10 +2,10 @@
 use Rattle.std.specs.Prelude.{◌≡◌, ℕ, suc, ◌+◌, ◌<◌, ◌^◌, ◌⊎◌, Bool, false, not, ◌&&◌, List, length, is_some, Option, Some, None, IfSome, unwrap_or, ◌==◌, if◌then◌else◌}
 use Rattle.std.specs.Option.{option_map_or}
 use Rattle.dbformat.specs.Address.{freelist_start}
-use Rattle.dbwalk.specs.EndMarks.{is_root_mark, is_marked}
-use Rattle.dbwalk.specs.Marking.{page_mark}
-use Rattle.dbwalk.specs.declared.marks.Mark.{Mark}
-use Rattle.dbwalk.specs.declared.marks.Mark.TheVariants.{Trunk, FreeLeaf}
+use Rattle.dbmarks.specs.EndMarks.{is_root_mark, is_marked}
+use Rattle.dbmarks.specs.Marking.{page_mark}
+use Rattle.dbmarks.specs.declared.marks.Mark.{Mark}
+use Rattle.dbmarks.specs.declared.marks.Mark.TheVariants.{Trunk, FreeLeaf}
 use Rattle.dbowner.specs.Climbs.{parent, above, IsPassed, slot, known_of, known_pages}
 
 -- a start that can be stored

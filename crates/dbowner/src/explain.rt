@@ -4,8 +4,12 @@ mod owners;
 mod page_line;
 mod summary;
 mod sums;
+mod tally;
 mod tree_line;
 
 pub use owners::Owners;
+pub use page_line::{place_front, place_tree};
 pub use summary::Counts;
 pub use sums::CodeCount;
+pub use tally::Tally;
+pub use tree_line::TreeNames;

@@ -3,8 +3,8 @@ ghost use Rattle.std.specs.Prelude.{◌≡◌, ◌+◌, ◌-◌, ◌<◌, ◌≤
 ghost use Rattle.dbformat.specs.FixedPages.{IsInRange, IsPageNumber};
 ghost use Rattle.dbformat.specs.Reference.{Reference};
 ghost use Rattle.dbformat.specs.Survey.{Survey};
-ghost use Rattle.dbwalk.specs.EndMarks.{is_root_mark, is_marked};
-ghost use Rattle.dbwalk.specs.Marking.{AreMarksOf};
+ghost use Rattle.dbmarks.specs.EndMarks.{is_root_mark, is_marked};
+ghost use Rattle.dbmarks.specs.Marking.{AreMarksOf};
 ghost use Rattle.dbowner.specs.Climbs.{above, slot, known_of, known_pages, unpacked, AreTrees};
 ghost use Rattle.dbowner.specs.Climbs as climbs;
 ghost use Rattle.dbowner.specs.Owners.{start_at};
@@ -21,7 +21,8 @@ use std::marker::Model;
 
 const SCHEMA_START: u32 = 0;
 
-const FREELIST_START: u32 = 65537;
+// The start of the freelist, behind the schema's and those of 65536 rows.
+pub(crate) const FREELIST_START: u32 = 65537;
 
 /// Of each page the start of its tree, as far as it is known, in four bytes.
 #[derive(Drop)]

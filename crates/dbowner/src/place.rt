@@ -2,7 +2,7 @@
 ghost use Rattle.std.specs.Prelude.{◌≡◌, ℕ, List};
 ghost use Rattle.dbformat.specs.Reference.{Reference};
 ghost use Rattle.dbformat.specs.Survey.{Survey};
-ghost use Rattle.dbwalk.specs.Marking.{AreMarksOf, page_mark};
+ghost use Rattle.dbmarks.specs.Marking.{AreMarksOf, page_mark};
 ghost use Rattle.dbowner.specs.Climbs.{place_by};
 ghost use Rattle.dbowner.specs.Owners as owners;
 

@@ -1,4 +1,4 @@
-//! Tests of the list of roots, and of owners and places: over walked files, with a desk that is used again, and where growths
+//! Tests of the list of roots, of owners and places, and of tallies: over walked files, with a desk that is used again, and where growths
 //! are refused.
 #![tactic(auto)]
 
@@ -6,6 +6,8 @@
 mod lines;
 #[cfg(test)]
 mod roots;
+#[cfg(test)]
+mod tallies;
 #[cfg(test)]
 mod trees;
 #[cfg(test)]

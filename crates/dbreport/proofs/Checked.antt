@@ -15,11 +15,11 @@ use Rattle.dbtrace.specs.Finding.{Finding}
 use Rattle.dbwalk.specs.Telling.{StopsBy, findings}
 use Rattle.dbwalk.proofs.Telling.Belows.{stops_by_after}
 use Rattle.dbreport.specs.CheckSink.{Shows, Cuts, end_text, verdict_of}
-use Rattle.dbreport.specs.Findings.{faults_in}
-use Rattle.dbreport.specs.RunItems.{run_items, walk_items}
+use Rattle.dbscan.specs.Findings.{faults_in}
+use Rattle.dbscan.specs.RunItems.{run_items, walk_items}
 use Rattle.dbreport.specs.declared.check_sink.CheckSink.{CheckSink}
 use Rattle.dbreport.proofs.Checks.{check_writes, check_finds, check_begins}
-use Rattle.dbreport.proofs.RunTold.{run_faults, header_items}
+use Rattle.dbscan.proofs.RunTold.{run_faults, header_items}
 
 -- what an error leaves, where the Out ends as some other that is equal
 pub at_error : {A E O : Type 0} (held : O → OutState) (r : Result A E) (e : E) (old : Option (List ℕ)) (t u : O) (bytes : List ℕ)

@@ -19,7 +19,7 @@ use Rattle.dbtrace.specs.Finding.{Finding, told_row, told_fault}
 use Rattle.dbwalk.specs.Telling.{StopsBy}
 use Rattle.dbwalk.proofs.Telling.Belows.{stops_by_first}
 use Rattle.dbreport.specs.CheckSink.{PutsAll, ShowsFault, Shows, Cuts, end_text, verdict_of}
-use Rattle.dbreport.specs.Findings.{faults_in}
+use Rattle.dbscan.specs.Findings.{faults_in}
 use Rattle.dbreport.specs.declared.check_sink.CheckSink.{CheckSink}
 use Rattle.dbsource.proofs.Beginnings.{begins_nothing, begins_more, begins_after}
 
@@ -35,7 +35,7 @@ lines limit fs = flat_map fault_line (take limit fs)
 
 -- ---- the last line
 
-more_counted : (n : ℕ) → more_text (counted n) ≡ more_text n
+pub more_counted : (n : ℕ) → more_text (counted n) ≡ more_text n
 more_counted zero = refl
 more_counted (suc k) =
     let e : counted (suc k) ≡ suc (counted (suc k) - 1) = omega arith in

@@ -12,7 +12,7 @@ use Rattle.dbformat.specs.SchemaRow.{SchemaRow}
 use Rattle.dbformat.specs.Text.{shown_name}
 use Rattle.dbowner.specs.Roots.{kept_row, short_name}
 use Rattle.dbowner.specs.Roots.{AreListed}
-use Rattle.dbreport.proofs.ShortNames.{roots_are_kept}
+use Rattle.dbscan.proofs.ShortNames.{roots_are_kept}
 
 of_first : {X : Type 0} (n : ℕ) (xs : List X) (k : ℕ) (x : X) → slice_get (take n xs) k ≡ Some x → slice_get xs k ≡ Some x
 of_first zero [] k x e = cc

@@ -16,12 +16,12 @@ use Rattle.dbformat.specs.Reference.{Role, root, child, first_overflow, later_ov
 use Rattle.dbformat.specs.Rows.{OtherPage, FormRow, other_row, other_rows, other_page, other_visited, other_unvisited}
 use Rattle.dbformat.specs.Survey.{Survey}
 use Rattle.dbformat.specs.declared.Geometry.{Geometry}
-use Rattle.dbwalk.specs.EndMarks.{AreVisits}
-use Rattle.dbwalk.specs.Marking.{role_mark, visit_mark, mark_of, page_mark, AreMarksOf}
-use Rattle.dbwalk.specs.declared.marks.Mark.{Mark}
-use Rattle.dbwalk.specs.declared.marks.Mark.TheVariants.{Unmarked, Fixed}
-use Rattle.dbwalk.proofs.Marking.EndMarking.{found_in, survey_visits}
-use Rattle.dbwalk.proofs.Marking.Markings.{page_mark-in, marks_of-length}
+use Rattle.dbmarks.specs.EndMarks.{AreVisits}
+use Rattle.dbmarks.specs.Marking.{role_mark, visit_mark, mark_of, page_mark, AreMarksOf}
+use Rattle.dbmarks.specs.declared.marks.Mark.{Mark}
+use Rattle.dbmarks.specs.declared.marks.Mark.TheVariants.{Unmarked, Fixed}
+use Rattle.dbmarks.proofs.EndMarking.{found_in, survey_visits}
+use Rattle.dbmarks.proofs.Markings.{page_mark-in, marks_of-length}
 use Rattle.dbbytes.proofs.NameLemmas.{HasPut, put_more, put_stop, put_all}
 use Rattle.dbreport.specs.OtherMarks.{marked_other, marked_line, marked_lines}
 

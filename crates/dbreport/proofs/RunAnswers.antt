@@ -3,7 +3,7 @@ use Rattle.std.proofs.Common.{◌≡◌, ℕ, List, [], ◌∷◌, None, Option,
 use Rattle.std.specs.Prelude.{◌↔◌, IfErr, IfOk}
 use Rattle.dbformat.specs.File.{refusal}
 use Rattle.dbformat.specs.Reference.{Reference}
-use Rattle.dbformat.specs.Report.{report}
+use Rattle.dbformat.specs.Report.{Report, report}
 use Rattle.dbformat.specs.Sound.{Sound}
 use Rattle.dbformat.specs.Survey.{Survey, survey}
 use Rattle.dbformat.specs.declared.Command.{Command}
@@ -12,7 +12,7 @@ use Rattle.dbformat.specs.declared.Verdict.TheVariants.{Clean}
 use Rattle.dbformat.proofs.Theory.{one_survey}
 use Rattle.dbsound.proofs.Soundness.{sound_by_verdict}
 use Rattle.dbsource.specs.Answers.{Step, Trail}
-use Rattle.dbsource.specs.Errors.{run_error, is_out_of_memory, is_write_failed}
+use Rattle.dbsource.specs.Errors.{run_error, is_write_failed}
 use Rattle.dbsource.specs.Failures.{CountsAfter, failures_after}
 use Rattle.dbsource.specs.Headers.{IsOpenLog, IsRefusalOf}
 use Rattle.dbsource.specs.Sources.{HasRanges}
@@ -20,9 +20,9 @@ use Rattle.dbsource.specs.declared.error.OpenError.{OpenError}
 use Rattle.dbsource.specs.declared.error.OpenError.TheVariants as opening
 use Rattle.dbsource.specs.declared.error.RunError.{RunError}
 use Rattle.dbsource.specs.declared.error.RunError.TheVariants.{Refused, ReadFailed, OutOfMemory, WriteFailed}
-use Rattle.dbwalk.specs.Telling.{IsReadOrWrite, IsReadWriteOrMemory}
+use Rattle.dbwalk.specs.Telling.{IsReadWriteOrMemory}
 use Rattle.dbsource.proofs.Beginnings.{begins_nothing}
-use Rattle.dbreport.specs.Runs.{AsksHeaderAlone, IsAnswerOf, IsReported, IsRunOf, IsUnwritten}
+use Rattle.dbreport.specs.Runs.{AsksHeaderAlone, IsAnswerOf, IsReported, IsReportedBy, IsRunBy, IsRunOf, IsUnwritten}
 use Rattle.dbreport.proofs.RunReports.{counts_pages}
 
 -- the header was not read
@@ -68,12 +68,6 @@ pub read_refused : (step : Step) (r : Result Verdict RunError) (old new : Trail)
 read_refused step (Ok v) old new only = tt
 read_refused step (Err e) old new only = never_refused e only (λ e. AsksHeaderAlone {A = Verdict} step (Err e) old new) tt tt tt
 
--- where memory was not refused, no refusal is counted
-pub memory_kept : (r : Result (Unit {0}) RunError) (n : ℕ) → IfErr r IsReadOrWrite → n ≡ failures_after is_out_of_memory r n
-memory_kept (Ok u) n only = refl
-memory_kept (Err e) n (inl h) = subst (λ (x : RunError). n ≡ failures_after {A = Unit {0}} is_out_of_memory (Err x) n) (sym h) refl
-memory_kept (Err e) n (inr h) = subst (λ (x : RunError). n ≡ failures_after {A = Unit {0}} is_out_of_memory (Err x) n) (sym h) refl
-
 pub if_ok : {P Q : Verdict → Type 0} (r : Result Verdict RunError) → ((v : Verdict) → P v → Q v) → IfOk r P → IfOk r Q
 if_ok (Ok v) f h = f v h
 if_ok (Err e) f h = tt
@@ -88,27 +82,39 @@ first_failures (Err WriteFailed) a n b e = inl (e, refl)
 
 -- ---- what a run left of a file
 
+-- the verdict of a report is clean just where the file is sound
+abbrev pub IsSoundRep : (List ℕ → List Reference → Report) → List ℕ → Type 0
+IsSoundRep rep file = (v : Verdict) → (rep file (survey file)).answer ≡ Ok v → v ≡ Clean ↔ Sound file
+
 -- the file was read: by any survey of it this is its report
-pub run_of : (command : Command) (file : List ℕ) (r : Result Verdict RunError) (out_old out_new err_old err_new : Option (List ℕ)) → IfErr r IsReadWriteOrMemory → refusal file ≡ None
-    → ((V : List Reference) → Survey file V → IsReported command file V r out_old out_new err_old err_new) → IsRunOf command file r out_old out_new err_old err_new
-run_of command file r out_old out_new err_old err_new only read told = record {
+pub run_by : (rep : List ℕ → List Reference → Report) (file : List ℕ) (r : Result Verdict RunError) (out_old out_new err_old err_new : Option (List ℕ)) → IfErr r IsReadWriteOrMemory → refusal file ≡ None
+    → IsSoundRep rep file → ((V : List Reference) → Survey file V → IsReportedBy (rep file V) r out_old out_new err_old err_new) → IsRunBy rep file r out_old out_new err_old err_new
+run_by rep file r out_old out_new err_old err_new only read sound told = record {
   survey = (one_survey file).0;
   reported = told;
   answer = read_answer file r only read;
-  sound = by_answer r (told (survey file) (one_survey file).0).verdict;
-  counts = λ V s. counts_pages command file V s;
+  sound = if_ok r sound (told (survey file) (one_survey file).0).verdict;
 }
-  where
-    by_answer : (r : Result Verdict RunError) → IfOk r (λ v. (report command file (survey file)).answer ≡ Ok v) → IfOk r (λ v. v ≡ Clean ↔ Sound file)
-    by_answer (Ok v) h = sound_by_verdict file command (survey file) (one_survey file).0 v h
-    by_answer (Err e) h = tt
 
 -- nothing was written, and no verdict found
-pub none_of : (command : Command) (file : List ℕ) (e : RunError) (out err : Option (List ℕ)) → IsAnswerOf {A = Verdict} (Err e) file → IsRunOf command file (Err e) out out err err
-none_of command file e out err answer = record {
+pub none_by : (rep : List ℕ → List Reference → Report) (file : List ℕ) (e : RunError) (out err : Option (List ℕ)) → IsAnswerOf {A = Verdict} (Err e) file → IsRunBy rep file (Err e) out out err err
+none_by rep file e out err answer = record {
   survey = (one_survey file).0;
-  reported = λ V s. record { out = begins_nothing out (report command file V).out; err = begins_nothing err (report command file V).err; verdict = tt };
+  reported = λ V s. record { out = begins_nothing out (rep file V).out; err = begins_nothing err (rep file V).err; verdict = tt };
   answer = answer;
   sound = tt;
+}
+
+-- the same of a run of a command
+pub run_of : (command : Command) (file : List ℕ) (r : Result Verdict RunError) (out_old out_new err_old err_new : Option (List ℕ)) → IfErr r IsReadWriteOrMemory → refusal file ≡ None
+    → ((V : List Reference) → Survey file V → IsReported command file V r out_old out_new err_old err_new) → IsRunOf command file r out_old out_new err_old err_new
+run_of command file r out_old out_new err_old err_new only read told = record {
+  run = run_by (report command) file r out_old out_new err_old err_new only read (λ v e. sound_by_verdict file command (survey file) (one_survey file).0 v e) told;
+  counts = λ V s. counts_pages command file V s;
+}
+
+pub none_of : (command : Command) (file : List ℕ) (e : RunError) (out err : Option (List ℕ)) → IsAnswerOf {A = Verdict} (Err e) file → IsRunOf command file (Err e) out out err err
+none_of command file e out err answer = record {
+  run = none_by (report command) file e out err answer;
   counts = λ V s. counts_pages command file V s;
 }

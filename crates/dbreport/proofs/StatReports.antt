@@ -31,7 +31,7 @@ use Rattle.dbreport.specs.TreeNames.{label_text}
 use Rattle.dbreport.specs.declared.stat_sink.StatSink.{StatSink}
 use Rattle.dbreport.specs.declared.statistics.Form.{Form}
 use Rattle.dbreport.specs.declared.tree_name.Label.{Label}
-use Rattle.dbreport.proofs.RunTold.{faults_told}
+use Rattle.dbscan.proofs.RunTold.{faults_told}
 use Rattle.dbreport.proofs.StatTexts.{trees_written}
 use Rattle.dbreport.proofs.StatWrites.{both_then, begun_first}
 

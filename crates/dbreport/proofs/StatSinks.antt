@@ -17,8 +17,8 @@ use Rattle.dbsource.proofs.Puts.{appends_nothing}
 use Rattle.dbtrace.specs.Finding.{told_row, told_fault}
 use Rattle.dbwalk.specs.Telling.{Tells, findings}
 use Rattle.dbowner.specs.Roots.{short_name}
-use Rattle.dbreport.specs.Findings.{faults_in}
-use Rattle.dbreport.specs.Notices.{Notice, begun, found, ended, Hears}
+use Rattle.dbscan.specs.Findings.{faults_in}
+use Rattle.dbscan.specs.Notices.{Notice, begun, found, ended, Hearing, Hears}
 use Rattle.dbreport.specs.StatSink.{end_text, pages_text, BeginsTree, Breaks, Counts, CutsEnd, CutsFault, EndsTree, HasBegun, HasWritten, IsSameSink, TakesFault, WritesBoth}
 use Rattle.dbreport.specs.Sums.{sums_of}
 use Rattle.dbreport.specs.TreeNames.{label_text}
@@ -26,7 +26,7 @@ use Rattle.dbreport.specs.declared.stat_sink.StatSink.{StatSink}
 use Rattle.dbreport.specs.declared.tree_name.Label.{Label}
 use Rattle.dbreport.proofs.Flushed.{keeps_begins, kept_appends, kept_if}
 use Rattle.dbreport.proofs.StatWrites.{begun_first, begun_none, begun_then, written_none, written_then}
-use Rattle.dbreport.proofs.ToldStarts.{findings_in}
+use Rattle.dbscan.proofs.ToldStarts.{findings_in}
 
 counted_more : (n : ℕ) → counted (counted n + 1) ≡ counted (n + 1)
 counted_more n = omega arith
@@ -92,11 +92,14 @@ one_more (found (told_fault f)) ns = refl
 one_more ended ns = refl
 
 module _ {O E : Type 0} (held : O → OutState) (held' : E → OutState) where
+  abbrev pub hearing : Hearing (StatSink O E)
+  hearing = record { takes = Counts held held'; drops = Breaks held held'; begins = BeginsTree; ends = EndsTree held held'; cuts = CutsEnd held held' }
+
   abbrev whole : StatSink O E → Notice → StatSink O E → Type 0
-  whole = Hears (Counts held held') (Breaks held held') BeginsTree (EndsTree held held') (CutsEnd held held') true
+  whole = Hears hearing true
 
   abbrev part : StatSink O E → Notice → StatSink O E → Type 0
-  part = Hears (Counts held held') (Breaks held held') BeginsTree (EndsTree held held') (CutsEnd held held') false
+  part = Hears hearing false
 
   -- it writes so
   pub record IsOn (p : Sheet) (s : StatSink O E) : Type 0 where

@@ -18,24 +18,25 @@ use Rattle.dbsource.specs.Outs.{OutState}
 use Rattle.dbsource.specs.declared.error.RunError.{RunError}
 use Rattle.dbtrace.specs.Finding.{Finding, told_row, told_fault, told_below, visited_below}
 use Rattle.dbwalk.specs.Trunks.{freelist_reference}
-use Rattle.dbwalk.specs.declared.marks.Mark.{Mark}
+use Rattle.dbmarks.specs.declared.marks.Mark.{Mark}
 use Rattle.dbwalk.proofs.Telling.Belows.{told_none}
 use Rattle.dbowner.specs.Roots.{short_name}
-use Rattle.dbreport.specs.Findings.{faults_in}
-use Rattle.dbreport.specs.Notices.{Notice, found, ended, Hears, errands_left, root_reference, tree_notices, later_notices, start_notices}
-use Rattle.dbreport.specs.Starts.{schema_reference}
+use Rattle.dbscan.specs.Findings.{faults_in}
+use Rattle.dbscan.specs.Notices.{Notice, begun, found, ended, Hears, errands_left, root_reference, tree_notices, later_notices, start_notices}
+use Rattle.dbscan.specs.Starts.{schema_reference}
 use Rattle.dbreport.specs.StatLines.{tree_text, starts_text, rows_told}
-use Rattle.dbreport.specs.StatSink.{end_text, pages_text, BeginsTree, Breaks, Counts, CutsEnd, EndsTree, WritesBoth}
-use Rattle.dbreport.specs.StatStarts.{AreWritten, IsForSchema}
-use Rattle.dbreport.specs.Walks.{AreWalked}
-use Rattle.dbreport.specs.declared.schema_watch.SchemaWatch.{SchemaWatch}
+use Rattle.dbreport.specs.StatSink.{end_text, pages_text, WritesBoth}
+use Rattle.dbreport.specs.StatStarts.{IsForSchema, IsSurveyed, faults_told}
+use Rattle.dbscan.specs.Walks.{AreWalked}
+use Rattle.dbscan.specs.declared.schema_watch.SchemaWatch.{SchemaWatch}
 use Rattle.dbreport.specs.declared.stat_sink.StatSink.{StatSink}
 use Rattle.dbreport.proofs.ListedNames.{listed_name}
-use Rattle.dbreport.proofs.StatSinks.{Sheet, all_lines, notices_written}
+use Rattle.dbreport.proofs.StatSinks.{Sheet, all_lines, hearing, notices_written}
 use Rattle.dbreport.proofs.StatTexts.{rows_below}
 use Rattle.dbreport.proofs.StatTrees.{freelist_rows}
-use Rattle.dbreport.proofs.Starts.{quiet_go}
-use Rattle.dbreport.proofs.ToldStarts.{of_starts, start_errands_listed}
+use Rattle.dbscan.proofs.StartByStart.{of_later}
+use Rattle.dbscan.proofs.Starts.{quiet_go}
+use Rattle.dbscan.proofs.ToldStarts.{of_starts, start_errands_listed}
 
 schema_name : (file : List ℕ) (V : List Reference) → codes "sqlite_schema" ≡ tree_name file V 0
 unfolding tree_name
@@ -115,17 +116,19 @@ module _ (file : List ℕ) (V : List Reference) (form : Bool) where
   abbrev AreNamed : ℕ → List SchemaRow → Type 0
   AreNamed k rows = (j : ℕ) (r : SchemaRow) → slice_get rows j ≡ Some r → option_map_or (shown_name (encoding_of file)) (short_name r.name) (codes "?") ≡ tree_name file V (k + j)
 
-  later_lines : (k : ℕ) (rows : List SchemaRow) (W : List Reference) (name : List ℕ) → AreNamed k rows
-      → all_lines (sheet name) (later_notices file W (enumerate_from k rows)) ≡ starts_text form file V W (errands_left file (enumerate_from k rows))
-  later_lines k [] W name named = freelist_lines W name
-  later_lines k (row ∷ rows) W name named =
+  -- what is written from a tree on, where its name is known by then
+  abbrev Writes : ℕ → List SchemaRow → List Reference → List Notice → List (Errand Way Event) → Type 0
+  Writes k rows W ns es = (name : List ℕ) → AreNamed k rows → all_lines (sheet name) ns ≡ starts_text form file V W es
+
+  next_lines : (k : ℕ) (row : SchemaRow) (rows : List SchemaRow) (W : List Reference) (ns : List Notice) (es : List (Errand Way Event))
+      → Writes (k + 1) rows (W ++ visited_below file W (Go (root_reference file k row) ∷ [])) ns es
+      → Writes k (row ∷ rows) W (begun row.name ∷ tree_notices file W (root_reference file k row) ++ ns) (Go (root_reference file k row) ∷ es)
+  next_lines k row rows W ns es h name named =
       let c = root_reference file k row in
-      let U = W ++ visited_below file W (Go c ∷ []) in
-      let rest = later_notices file U (enumerate_from (k + 1) rows) in
       let zero_more : k + 0 ≡ k = omega arith in
-      ap (λ name. all_lines (sheet name) (tree_notices file W c ++ rest)) (named 0 row refl ∙ ap (tree_name file V) zero_more)
-      ∙ tree_lines W c (tree_name file V k) rest
-      ∙ ap (λ l. tree_text form (tree_name file V k) (page_size file) (rows_told (told_below file W (Go c ∷ []))) ++ l) (later_lines (k + 1) rows U (tree_name file V k) (λ j r e.
+      ap (λ name. all_lines (sheet name) (tree_notices file W c ++ ns)) (named 0 row refl ∙ ap (tree_name file V) zero_more)
+      ∙ tree_lines W c (tree_name file V k) ns
+      ∙ ap (λ l. tree_text form (tree_name file V k) (page_size file) (rows_told (told_below file W (Go c ∷ []))) ++ l) (h (tree_name file V k) (λ j r e.
       let n : k + suc j ≡ (k + 1) + j = omega arith in named (suc j) r e ∙ ap (tree_name file V) n))
 
   start_lines : Survey file V → all_lines (sheet (tree_name file V 0)) (start_notices file V) ≡ starts_text form file V [] (start_errands file V)
@@ -134,22 +137,20 @@ module _ (file : List ℕ) (V : List Reference) (form : Bool) where
       let U = [] ++ visited_below file [] (Go c ∷ []) in
       let rows = take last_root_start (rooted_rows (schema file V)) in
       tree_lines [] c (tree_name file V 0) (later_notices file U (enumerate_from 1 rows))
-      ∙ ap (λ l. tree_text form (tree_name file V 0) (page_size file) (rows_told (told_below file [] (Go c ∷ []))) ++ l) (later_lines 1 rows U (tree_name file V 0) (λ j r e.
+      ∙ ap (λ l. tree_text form (tree_name file V 0) (page_size file) (rows_told (told_below file [] (Go c ∷ []))) ++ l) (of_later file Writes (λ k W name named. freelist_lines W name) next_lines 1 rows U (tree_name file V 0) (λ j r e.
       let n : suc j ≡ 1 + j = omega arith in listed_name file V rows j r refl e ∙ ap (tree_name file V) n))
       ∙ ap (starts_text form file V []) (sym (start_errands_listed file V survey))
 
 -- All starts have been walked from, and it is written what was told.
 pub walked_written : {O E : Type 0} (held : O → OutState) (held' : E → OutState) (file : List ℕ) (V : List Reference) → Survey file V → (s t : SchemaWatch (StatSink O E)) → IsForSchema file s.sink
-    → (r : Result (Unit {0}) RunError) (marks : List Mark) (rows : List SchemaRow)
-    → AreWalked (Hears (Counts held held') (Breaks held held') BeginsTree (EndsTree held held') (CutsEnd held held')) file V r marks rows s t
-    → AreWritten held held' file V r marks t.has_rows s.sink t.sink
+    → (r : Result (Unit {0}) RunError) (marks : List Mark) (rows : List SchemaRow) → AreWalked (Hears (hearing held held')) file V r marks rows s t
+    → IsSurveyed file V r marks t.has_rows × WritesBoth held held' r s.sink t.sink (starts_text s.sink.aggregate file V [] (start_errands file V)) (faults_told file [] (start_errands file V))
 walked_written held held' file V survey s t is r marks rows h =
     let form = s.sink.aggregate in
-    let p = sheet file V form (tree_name file V 0) in record {
-      marked = h.all.marked;
-      writes = subst (λ x. WritesBoth held held' r s.sink t.sink x (faults_in (told_below file [] (start_errands file V)))) (start_lines file V form survey)
+    let p = sheet file V form (tree_name file V 0) in (
+      record { marked = h.all.marked; has_rows = h.has_rows },
+      subst (λ x. WritesBoth held held' r s.sink t.sink x (faults_told file [] (start_errands file V))) (start_lines file V form survey)
           (subst (λ items. WritesBoth held held' r s.sink t.sink (all_lines p (start_notices file V)) (faults_in items)) (of_starts file V survey)
           (notices_written held held' r p (start_notices file V) s.sink t.sink
-          (record { form = refl; encoding = is.encoding; size = is.page_size; name = is.name ∙ schema_name file V; summed = is.summed }) h.all.told));
-      has_rows = h.has_rows;
-    }
+          (record { form = refl; encoding = is.encoding; size = is.page_size; name = is.name ∙ schema_name file V; summed = is.summed }) h.all.told)),
+    )

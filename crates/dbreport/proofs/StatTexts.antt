@@ -32,8 +32,8 @@ use Rattle.dbformat.proofs.Theory.{are_rules, is_story, shows_visits}
 use Rattle.dbtrace.specs.Finding.{told_row, told_fault, told_at, told_below, visited_below}
 use Rattle.dbwalk.proofs.Telling.Belows.{visited_none}
 use Rattle.dbreport.specs.StatLines.{row_told, rows_told, tree_text, starts_text}
-use Rattle.dbreport.proofs.RunItems.{all_visited, goes_named}
-use Rattle.dbreport.proofs.Starts.{quiet_go}
+use Rattle.dbscan.proofs.RunItems.{all_visited, goes_named}
+use Rattle.dbscan.proofs.Starts.{quiet_go}
 use Rattle.dbsound.proofs.RowCounts.FormRows.{start_role}
 use Rattle.dbreport.proofs.StatTrees.{rows_none, rows_join, row_of_tree, HasLaterStarts, trees_apart, IsTree, no_tree, tree, IsStart, below_links, later_starts_below, row_start, one_tree}
 

@@ -6,9 +6,9 @@ use Rattle.dbformat.specs.Lines.{other_line}
 use Rattle.dbformat.specs.FixedPages.{fixed_use}
 use Rattle.dbformat.specs.Rows.{OtherPage, trunk_page, leaf_page, other_unvisited}
 use Rattle.dbformat.specs.declared.Geometry.{Geometry}
-use Rattle.dbwalk.specs.Marking.{page_mark}
-use Rattle.dbwalk.specs.declared.marks.Mark.{Mark}
-use Rattle.dbwalk.specs.declared.marks.Mark.TheVariants.{Unmarked, Fixed, Trunk, FreeLeaf}
+use Rattle.dbmarks.specs.Marking.{page_mark}
+use Rattle.dbmarks.specs.declared.marks.Mark.{Mark}
+use Rattle.dbmarks.specs.declared.marks.Mark.TheVariants.{Unmarked, Fixed, Trunk, FreeLeaf}
 
 -- what page p with this mark is, where it is in no tree and in no overflow chain
 abbrev pub marked_other : Geometry → ℕ → Mark → Option OtherPage

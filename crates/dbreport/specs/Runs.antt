@@ -5,7 +5,7 @@ use Rattle.dbformat.specs.FixedPages.{geometry_of}
 use Rattle.dbformat.specs.Reference.{Reference}
 use Rattle.dbformat.specs.Lines.{AddsUpToAllPages}
 use Rattle.dbformat.specs.Log.{IsPageLog, IsRunLog, IsSomeRunLog}
-use Rattle.dbformat.specs.Report.{report}
+use Rattle.dbformat.specs.Report.{Report, report}
 use Rattle.dbformat.specs.Rows.{CountsEachPageOnce, CountsNoPageTwice}
 use Rattle.dbformat.specs.Sound.{Sound}
 use Rattle.dbformat.specs.Survey.{Survey, survey}
@@ -27,7 +27,7 @@ use Rattle.dbsource.specs.declared.error.RunError.TheVariants.{Refused, ReadFail
 use Rattle.dbsource.specs.declared.out.Out.{Ghosts as OutWords}
 use Rattle.dbsource.specs.declared.source.Source.{Ghosts as SourceWords}
 use Rattle.dbwalk.specs.Telling.{IsReadWriteOrMemory}
-use Rattle.dbreport.specs.Desks.{Things}
+use Rattle.dbscan.specs.Desks.{Things}
 use Rattle.dbreport.specs.StatSink.{failures_of_each}
 
 -- that a command is a check
@@ -60,19 +60,28 @@ CountsPages (Stat aggregate true) file V =
 CountsPages (Stat aggregate false) file V = CountsNoPageTwice (record { aggregate = aggregate; all = false }) file V
 CountsPages (Check limit) file V = Unit {0}
 
--- What a run left, by a survey of a file: on each Out its part of the report, at an error a beginning of it; and the verdict.
-pub record IsReported (command : Command) (file : List ℕ) (V : List Reference) (r : Result Verdict RunError) (out_old out_new err_old err_new : Option (List ℕ)) : Type 0 where
-  pub out : Writes r out_old out_new (report command file V).out
-  pub err : Writes r err_old err_new (report command file V).err
-  pub verdict : IfOk r (λ v. (report command file V).answer ≡ Ok v)
+-- What a run left, by a survey of a file whose report this is: on each Out its part of the report, at an error a beginning of it;
+-- and the verdict.
+pub record IsReportedBy (told : Report) (r : Result Verdict RunError) (out_old out_new err_old err_new : Option (List ℕ)) : Type 0 where
+  pub out : Writes r out_old out_new told.out
+  pub err : Writes r err_old err_new told.err
+  pub verdict : IfOk r (λ v. told.answer ≡ Ok v)
 
--- What a run left is so of a file: it has a survey, and by any survey of it that is its report; `Clean` is what a sound file
--- is answered, and no other.
-pub record IsRunOf (command : Command) (file : List ℕ) (r : Result Verdict RunError) (out_old out_new err_old err_new : Option (List ℕ)) : Type 0 where
+-- the same of the report of a command
+abbrev pub IsReported : Command → List ℕ → List Reference → Result Verdict RunError → Option (List ℕ) → Option (List ℕ) → Option (List ℕ) → Option (List ℕ) → Type 0
+IsReported command file V r out_old out_new err_old err_new = IsReportedBy (report command file V) r out_old out_new err_old err_new
+
+-- What a run left is so of a file, where `rep` is the report of a file by its survey: the file has a survey, and by any survey of
+-- it that is its report; `Clean` is what a sound file is answered, and no other.
+pub record IsRunBy (rep : List ℕ → List Reference → Report) (file : List ℕ) (r : Result Verdict RunError) (out_old out_new err_old err_new : Option (List ℕ)) : Type 0 where
   pub survey : Survey file (survey file)
-  pub reported : (V : List Reference) → Survey file V → IsReported command file V r out_old out_new err_old err_new
+  pub reported : (V : List Reference) → Survey file V → IsReportedBy (rep file V) r out_old out_new err_old err_new
   pub answer : IsAnswerOf r file
   pub sound : IfOk r (λ v. v ≡ Clean ↔ Sound file)
+
+-- The same of a run of a command; and its rows count the pages of the file.
+pub record IsRunOf (command : Command) (file : List ℕ) (r : Result Verdict RunError) (out_old out_new err_old err_new : Option (List ℕ)) : Type 0 where
+  pub run : IsRunBy (report command) file r out_old out_new err_old err_new
   pub counts : (V : List Reference) → Survey file V → CountsPages command file V
 
 -- ---- a run from a source and two Outs to what these have become, by what their traits say of them

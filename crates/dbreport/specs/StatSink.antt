@@ -14,7 +14,7 @@ use Rattle.dbsource.specs.Failures.{CountsAfter}
 use Rattle.dbsource.specs.Outs.{Begins, Flushes, OutState, Writes}
 use Rattle.dbsource.specs.declared.error.RunError.{RunError}
 use Rattle.dbtrace.specs.Finding.{Finding, told_row, told_fault}
-use Rattle.dbwalk.specs.declared.marks.Mark.{Mark}
+use Rattle.dbmarks.specs.declared.marks.Mark.{Mark}
 use Rattle.dbowner.specs.Roots.{short_name}
 use Rattle.dbreport.specs.CheckSink.{PutsAll}
 use Rattle.dbreport.specs.TreeNames.{label_text}
@@ -36,6 +36,10 @@ end_text false name size rows = []
 -- what a sink writes of rows as they come
 abbrev pub text_of : {O E : Type 0} → StatSink O E → List StatRow → List ℕ
 text_of s rows = pages_text s.aggregate (label_text s.label.now) s.label.now.page_size rows
+
+-- it writes to the same Outs as before
+abbrev pub AreSameOuts : {O E : Type 0} → StatSink O E → StatSink O E → Type 0
+AreSameOuts s t = (t.out.ghost_name ≡ s.out.ghost_name) × (t.err.ghost_name ≡ s.err.ghost_name)
 
 -- it writes to the same Outs as before, with the same label and form
 pub record IsSameSink {O E : Type 0} (s t : StatSink O E) : Type 0 where

@@ -8,15 +8,13 @@ use Rattle.dbformat.specs.Story.{Event, start_errands}
 use Rattle.dbformat.specs.Rows.{other_rows}
 use Rattle.dbformat.specs.declared.Fault.{Fault}
 use Rattle.dbformat.specs.Lines.{form_line}
-use Rattle.dbsource.specs.Outs.{OutState}
 use Rattle.dbsource.specs.declared.error.RunError.{RunError}
 use Rattle.dbtrace.specs.Finding.{told_below}
-use Rattle.dbwalk.specs.Marking.{AreMarksOf}
-use Rattle.dbwalk.specs.declared.marks.Mark.{Mark}
-use Rattle.dbreport.specs.Findings.{faults_in}
+use Rattle.dbmarks.specs.Marking.{AreMarksOf}
+use Rattle.dbmarks.specs.declared.marks.Mark.{Mark}
+use Rattle.dbscan.specs.Findings.{faults_in}
 use Rattle.dbreport.specs.TreeNames.{label_text}
 use Rattle.dbreport.specs.StatLines.{starts_text}
-use Rattle.dbreport.specs.StatSink.{WritesBoth}
 use Rattle.dbreport.specs.Sums.{sums_of}
 use Rattle.dbreport.specs.declared.stat_sink.StatSink.{StatSink}
 
@@ -39,15 +37,7 @@ rows_text aggregate all file V = starts_text aggregate file V [] (start_errands 
 abbrev pub walk_faults_told : List ℕ → List Reference → List Fault
 walk_faults_told file V = faults_told file [] (start_errands file V) ++ end_faults file V
 
--- All starts have been walked from: the survey is marked, its rows and faults are written, and it is known whether the
--- schema has a row; or after an error a beginning was written.
-pub record AreWritten {O E A : Type 0} (held : O → OutState) (held' : E → OutState) (file : List ℕ) (V : List Reference) (r : Result A RunError) (marks : List Mark) (any : Bool) (s t : StatSink O E) : Type 0 where
+-- All starts have been walked from: the survey is marked, and it is known whether the schema has a row.
+pub record IsSurveyed {A : Type 0} (file : List ℕ) (V : List Reference) (r : Result A RunError) (marks : List Mark) (any : Bool) : Type 0 where
   pub marked : OnOk r (AreMarksOf file V marks)
-  pub writes : WritesBoth held held' r s t (starts_text s.aggregate file V [] (start_errands file V)) (faults_told file [] (start_errands file V))
-  pub has_rows : OnOk r (any ≡ has_rows file V)
-
--- The trees are written, and the other pages behind them, where all pages are asked for.
-pub record ArePagesWritten {O E A : Type 0} (held : O → OutState) (held' : E → OutState) (file : List ℕ) (V : List Reference) (all : Bool) (r : Result A RunError) (marks : List Mark) (any : Bool) (s t : StatSink O E) : Type 0 where
-  pub marked : OnOk r (AreMarksOf file V marks)
-  pub writes : WritesBoth held held' r s t (rows_text s.aggregate all file V) (faults_told file [] (start_errands file V))
   pub has_rows : OnOk r (any ≡ has_rows file V)

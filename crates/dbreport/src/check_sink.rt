@@ -4,9 +4,9 @@ ghost use Rattle.dbformat.specs.Report.{more_text};
 ghost use Rattle.dbsource.specs.Outs.{Puts};
 ghost use Rattle.dbreport.specs.CheckSink.{end_text, verdict_of};
 
-use crate::tree_sink::TreeSink;
 use dbformat::Verdict;
 use dblines::{put_fault, put_more, put_ok};
+use dbscan::TreeSink;
 use dbsource::{Out, WriteFailed};
 use dbwalk::{Fault, Row, Sink};
 

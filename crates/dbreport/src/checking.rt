@@ -1,6 +1,5 @@
 // A check of a file, by its header.
-ghost use Rattle.std.specs.Prelude.{◌≡◌, [], false, List, IfErr, IfOk};
-ghost use Rattle.dbformat.specs.File.{geometry};
+ghost use Rattle.std.specs.Prelude.{◌≡◌, false, List, IfErr, IfOk};
 ghost use Rattle.dbformat.specs.HeaderFaults.{header_faults};
 ghost use Rattle.dbformat.specs.Log.{IsPageLog};
 ghost use Rattle.dbformat.specs.Reference.{Reference};
@@ -12,20 +11,15 @@ ghost use Rattle.dbsource.specs.Headers.{IsHeaderOf};
 ghost use Rattle.dbsource.specs.Outs.{Writes};
 ghost use Rattle.dbsource.specs.Sources.{Asks};
 ghost use Rattle.dbsource.specs.declared.error.RunError.TheVariants.{WriteFailed};
-ghost use Rattle.dbwalk.specs.Marking.{AreMarksFor, marks_of};
 ghost use Rattle.dbwalk.specs.Telling.{IsReadWriteOrMemory, Tells, findings};
 ghost use Rattle.dbreport.specs.CheckSink.{Cuts, Shows};
-ghost use Rattle.dbreport.specs.RunItems.{walk_items};
+ghost use Rattle.dbscan.specs.Desks.{IsFresh, shape_of};
+ghost use Rattle.dbscan.specs.RunItems.{walk_items};
 
 use crate::check_sink::CheckSink;
-use crate::end_pass::tell_end;
-use crate::schema_watch::SchemaWatch;
-use crate::tell::tell_header;
-use crate::walks::walk_starts;
 use dbformat::Verdict;
-use dbowner::RootList;
-use dbsource::{Bench, Header, Out, RunError, Source};
-use dbwalk::Marks;
+use dbscan::{Desk, SchemaWatch, tell_end, tell_header, walk_starts};
+use dbsource::{Header, Out, RunError, Source};
 use std::alloc::Allocator;
 
 // Tells the header's faults to the sink of a check, which keeps its Out.
@@ -40,36 +34,23 @@ fn tell_check_header<O: Out>(header: &Header, sink: &mut CheckSink<'_, O>) -> Re
 
 // Tells it what the walks find and what is told at the end.
 fn tell_check<A: Allocator, S: Source, O: Out>(
-    header: &Header,
+    desk: &mut Desk<A>,
     source: &mut S,
-    bench: &mut Bench<A>,
-    marks: &mut Marks<A>,
-    roots: &mut RootList<A>,
     watch: &mut SchemaWatch<CheckSink<'_, O>>,
 ) -> Result<(), RunError>
-    requires empty { roots.old.rows ≡ [] }
+    requires fresh { IsFresh desk.old }
     requires unseen { watch.old.has_rows ≡ false }
-    requires fresh { marks.old ≡ marks_of bench.old.geometry [] }
     ensures same_out { watch.new.sink.out.ghost_name ≡ watch.old.sink.out.ghost_name }
-    ensures shape { bench.new.geometry ≡ bench.old.geometry }
-    ensures marks { AreMarksFor bench.old.geometry marks.new }
-    ensures asks { Asks S.step (IsPageLog bench.old.geometry) (λ file. IsHeaderOf header.now file → bench.old.geometry ≡ geometry file
-        → (V : List Reference) → Survey file V
+    ensures header { desk.new.header ≡ desk.old.header }
+    ensures asks { Asks S.step (IsPageLog (shape_of desk.old)) (λ file. IsHeaderOf desk.old.header file → (V : List Reference) → Survey file V
         → Tells (Shows O.held) (Cuts O.held) result watch.old.sink (walk_items file V) watch.new.sink)
         is_read_failed result (S.held source.old) (S.held source.new) }
     ensures writes { (O.held watch.new.sink.out.now).failures ≡ failures_after is_write_failed result (O.held watch.old.sink.out.now).failures }
-    ensures refusals { roots.new.refusals ≡ failures_after is_out_of_memory result roots.old.refusals }
+    ensures refusals { desk.new.roots.refusals ≡ failures_after is_out_of_memory result desk.old.roots.refusals }
     ensures only { IfErr result IsReadWriteOrMemory }
 {
-    walk_starts(header, source, bench, marks, roots, watch)?;
-    tell_end(
-        header,
-        source,
-        bench,
-        marks,
-        watch.has_rows,
-        &mut watch.sink,
-    )
+    walk_starts(desk, source, watch)?;
+    tell_end(desk, source, watch.has_rows, &mut watch.sink)
 }
 
 /// Writes the first faults of a file, so many at most, and how many more there are, or that there is none; and answers
@@ -81,28 +62,22 @@ fn tell_check<A: Allocator, S: Source, O: Out>(
 /// [`RunError::OutOfMemory`] exactly where the list was refused memory. The Out got a beginning of the text then.
 pub(crate) fn check<A: Allocator, S: Source, O: Out>(
     limit: u32,
-    header: &Header,
+    desk: &mut Desk<A>,
     source: &mut S,
-    bench: &mut Bench<A>,
-    marks: &mut Marks<A>,
-    roots: &mut RootList<A>,
     out: &mut O,
 ) -> Result<Verdict, RunError>
-    requires empty { roots.old.rows ≡ [] }
-    requires fresh { marks.old ≡ marks_of bench.old.geometry [] }
-    ensures shape { bench.new.geometry ≡ bench.old.geometry }
-    ensures marks { AreMarksFor bench.old.geometry marks.new }
-    ensures asks { Asks S.step (IsPageLog bench.old.geometry) (λ file. IsHeaderOf header.now file → bench.old.geometry ≡ geometry file
-        → (V : List Reference) → Survey file V
+    requires fresh { IsFresh desk.old }
+    ensures header { desk.new.header ≡ desk.old.header }
+    ensures asks { Asks S.step (IsPageLog (shape_of desk.old)) (λ file. IsHeaderOf desk.old.header file → (V : List Reference) → Survey file V
         → Writes result (O.held out.old).bytes (O.held out.new).bytes (check_text limit (faults file V)) × IfOk result (λ v. v ≡ verdict (faults file V)))
         is_read_failed result (S.held source.old) (S.held source.new) }
     ensures writes { (O.held out.new).failures ≡ failures_after is_write_failed result (O.held out.old).failures }
-    ensures refusals { roots.new.refusals ≡ failures_after is_out_of_memory result roots.old.refusals }
+    ensures refusals { desk.new.roots.refusals ≡ failures_after is_out_of_memory result desk.old.roots.refusals }
     ensures only { IfErr result IsReadWriteOrMemory }
 {
     let mut sink = CheckSink::new(out, limit);
-    tell_check_header(header, &mut sink)?;
+    tell_check_header(desk.header(), &mut sink)?;
     let mut watch = SchemaWatch::new(sink);
-    tell_check(header, source, bench, marks, roots, &mut watch)?;
+    tell_check(desk, source, &mut watch)?;
     Ok(watch.sink.finish()?)
 }

@@ -6,7 +6,7 @@ ghost use Rattle.dbformat.specs.Reference.{Reference};
 ghost use Rattle.dbformat.specs.Report.{report};
 ghost use Rattle.dbformat.specs.Survey.{Survey};
 ghost use Rattle.dbformat.specs.declared.Command.TheVariants.{Check, Stat};
-ghost use Rattle.dbreport.specs.DeskSizes.{DeskFitsInMemory};
+ghost use Rattle.dbscan.specs.DeskSizes.{DeskFitsInMemory};
 ghost use Rattle.dbreport.specs.Runs.{FailsAsAnswered, HasRun, HasRunBehind, HasUsed, IsCheck, IsLeftAlone, IsReported, ToldFilesAreRead};
 ghost use Rattle.dbreport.specs.StatSink.{failures_of_each};
 ghost use Rattle.dbsource.specs.Errors.{is_out_of_memory, is_read_failed, is_write_failed};
@@ -15,10 +15,10 @@ ghost use Rattle.dbsource.specs.Outs.{Writes};
 ghost use Rattle.dbsource.specs.Snapshots.{HasReadBehind};
 ghost use Rattle.dbwalk.specs.Telling.{IsReadWriteOrMemory};
 
-use crate::Desk;
 use crate::checking::check;
 use crate::statistics::{Form, stat};
 use dbformat::{Command, Verdict};
+use dbscan::Desk;
 use dbsource::{HeadedSource, Header, Out, RunError, Source};
 use std::alloc::{Allocator, Global};
 
@@ -40,18 +40,10 @@ fn check_on<A: Allocator, S: Source, O: Out>(
     ensures only { IfErr result IsReadWriteOrMemory }
     ensures header { desk.new.header ≡ desk.old.header }
 {
-    desk.marks.clear();
-    desk.roots.clear();
-    let mut headed = HeadedSource::new(&desk.header, source);
-    check(
-        limit,
-        &desk.header,
-        &mut headed,
-        &mut desk.bench,
-        &mut desk.marks,
-        &mut desk.roots,
-        out,
-    )
+    desk.renew();
+    let header = *desk.header();
+    let mut headed = HeadedSource::new(&header, source);
+    check(limit, desk, &mut headed, out)
 }
 
 // The statistics of the file whose header is on the desk.
@@ -73,19 +65,10 @@ fn stat_on<A: Allocator, S: Source, O: Out, E: Out>(
     ensures only { IfErr result IsReadWriteOrMemory }
     ensures header { desk.new.header ≡ desk.old.header }
 {
-    desk.marks.clear();
-    desk.roots.clear();
-    let mut headed = HeadedSource::new(&desk.header, source);
-    stat(
-        form,
-        &desk.header,
-        &mut headed,
-        &mut desk.bench,
-        &mut desk.marks,
-        &mut desk.roots,
-        out,
-        err,
-    )
+    desk.renew();
+    let header = *desk.header();
+    let mut headed = HeadedSource::new(&header, source);
+    stat(form, desk, &mut headed, out, err)
 }
 
 /// Writes what `command` asks of the file whose header is on the desk: for a check the fault lines to `out`, and nothing to

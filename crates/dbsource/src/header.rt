@@ -12,7 +12,7 @@ use std::marker::Model;
 
 /// The header of a file that is not refused: its first 100 bytes, how many bytes the file has, and the shape that these
 /// give it.
-#[derive(Drop)]
+#[derive(Clone, Copy)]
 pub struct Header {
     bytes: [u8; 100],
     file_len: u64,
@@ -21,6 +21,7 @@ pub struct Header {
 
 impl Model for Header {
     ghost use Rattle.std.specs.Prelude.{◌≡◌, None, length};
+    ghost use Rattle.std.proofs.Common.{sym};
     ghost use Rattle.dbformat.specs.FixedPages.{geometry_of};
     ghost use Rattle.dbformat.specs.File.{refusal_of};
     ghost use Rattle.dbsource.specs.HeaderBytes.{HeaderBytes};
@@ -30,6 +31,10 @@ impl Model for Header {
     ghost view = { λ h. record { bytes = h.bytes; file_len = h.file_len } };
 
     ghost invariant = { λ h. (refusal_of h.bytes h.file_len ≡ None) × (h.geometry ≡ geometry_of h.bytes h.file_len) };
+
+    ghost inverse = { λ h. record { bytes = h.bytes; file_len = h.file_len; geometry = geometry_of h.bytes h.file_len } };
+
+    ghost inverse_ok = { λ h is i. record { bytes = h.bytes; file_len = h.file_len; geometry = sym is.1 i } };
 }
 
 impl Header {

@@ -1,7 +1,6 @@
 -- Below a page of no tree stands no page of a tree; so what is told there leaves the progress.
 use Rattle.std.proofs.Common.{◌≡◌, ℕ, zero, suc, ◌<◌, inl, inr, Bool, true, false, cond, not, ◌&&◌, List, [], ◌∷◌, ◌++◌, map, length, Option, Some, None, refl, sym, ap, subst, arith, ◌∙◌}
 use Rattle.std.specs.Prelude.{option_to_list, unwrap_or, pos, ◌==◌}
-use Rattle.std.specs.Option.{option_map_or}
 use Rattle.std.proofs.lemmas.List.{append-nil, length-append}
 use Rattle.dbsurvey.specs.Address.{IsIn, Address}
 use Rattle.dbsurvey.specs.Run.{run, up_to}
@@ -14,7 +13,6 @@ use Rattle.dbformat.proofs.Visited.{kind_of_view}
 use Rattle.dbformat.specs.Tests.{told_if}
 use Rattle.dbformat.specs.Faults.{fault}
 use Rattle.dbformat.specs.Address.{start_of, depth}
-use Rattle.dbformat.specs.Head.{is_interior}
 use Rattle.dbformat.specs.Reference.{Reference, role_of, tree_kind, tree_view}
 use Rattle.dbformat.specs.PageFaults.{is_leaf_of, page_faults}
 use Rattle.dbformat.specs.Report.{event_faults}
@@ -28,7 +26,7 @@ use Rattle.dbtrace.specs.Item.{finding_in, given_rows, readable, rows_at_event, 
 use Rattle.dbtrace.specs.Progress.{Progress, leaf_after, depth_faults, step}
 use Rattle.dbtrace.specs.Steps.{AreAside}
 use Rattle.dbtrace.specs.Walk.{Walk, machine, advance}
-use Rattle.dbtrace.proofs.Depths.{page_parts, no_leaf}
+use Rattle.dbtrace.proofs.Depths.{page_parts, not_leaf, no_leaf}
 use Rattle.dbtrace.proofs.Folding.{findings_at, given_are}
 use Rattle.dbtrace.proofs.RowsTold.{rows_told}
 use Rattle.dbtrace.proofs.SchemaOrder.{parent_inside}
@@ -45,18 +43,11 @@ module _ (file : List ℕ) where
   IsOff (at_key r v x) = ⊥
   IsOff (at_refused r) = Unit {0}
 
-  not_leaf : (k : ℕ) (r : Reference) → tree_view file r ≡ None → is_leaf_of file k r ≡ false
-  not_leaf k r e = by_start (start_of r.address == k)
-    where
-      by_start : (b : Bool) → (b && option_map_or (λ v. not (is_interior v.kind)) (tree_view file r) false) ≡ false
-      by_start true = rw e refl
-      by_start false = refl
-
   step_off : (U : List Reference) (p : Progress) (e : Event) → IsOff e → step file U p e ≡ p
   step_off U p (at_page r) h = ap (λ leaf. record { greatest = p.greatest; leaf = leaf; roots = p.roots }) (kept p.leaf)
     where
       kept : (leaf : Option ℕ) → leaf_after file leaf r ≡ leaf
-      kept None = ap (λ b. cond b (Some (depth r.address)) None) (not_leaf (start_of r.address) r h)
+      kept None = ap (λ b. cond b (Some (depth r.address)) None) (not_leaf file (start_of r.address) r h)
       kept (Some d) = refl
   step_off U p (at_key r v x) h = absurd h
   step_off U p (at_refused r) h = refl
@@ -65,7 +56,7 @@ module _ (file : List ℕ) where
   faults_off U p (at_page r) h = ap (λ l. page_faults file [] r ++ l) (quiet ∙ sym (no_leaf file U r h)) ∙ sym (page_parts file U r)
     where
       quiet : depth_faults file p.leaf r ≡ []
-      quiet = ap (λ b. told_if (b && not (depth r.address == unwrap_or p.leaf (depth r.address))) (fault T05 r.page 0 (pos (depth r.address)))) (not_leaf (start_of r.address) r h)
+      quiet = ap (λ b. told_if (b && not (depth r.address == unwrap_or p.leaf (depth r.address))) (fault T05 r.page 0 (pos (depth r.address)))) (not_leaf file (start_of r.address) r h)
   faults_off U p (at_key r v x) h = absurd h
   faults_off U p (at_refused r) h = refl
 

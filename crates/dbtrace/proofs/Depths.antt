@@ -80,13 +80,16 @@ module _ (file : List ℕ) where
       by_leaf true = ap (λ b. told_if (not b) (fault T05 r.page 0 (pos (depth r.address)))) (eq-eqb (depth r.address) (depth r.address) refl)
       by_leaf false = refl
 
-  pub no_leaf : (V : List Reference) (r : Reference) → tree_view file r ≡ None → depth_fault file V r ≡ []
-  unfolding depth_fault
-  no_leaf V r e = by_start (start_of r.address == start_of r.address)
+  pub not_leaf : (k : ℕ) (r : Reference) → tree_view file r ≡ None → is_leaf_of file k r ≡ false
+  not_leaf k r e = by_start (start_of r.address == k)
     where
-      by_start : (b : Bool) → told_if ((b && option_map_or (λ v. not (is_interior v.kind)) (tree_view file r) false) && not (depth r.address == leaf_depth file V (start_of r.address) (depth r.address))) (fault T05 r.page 0 (pos (depth r.address))) ≡ []
+      by_start : (b : Bool) → (b && option_map_or (λ v. not (is_interior v.kind)) (tree_view file r) false) ≡ false
       by_start true = rw e refl
       by_start false = refl
+
+  pub no_leaf : (V : List Reference) (r : Reference) → tree_view file r ≡ None → depth_fault file V r ≡ []
+  unfolding depth_fault
+  no_leaf V r e = ap (λ b. told_if (b && not (depth r.address == leaf_depth file V (start_of r.address) (depth r.address))) (fault T05 r.page 0 (pos (depth r.address)))) (not_leaf (start_of r.address) r e)
 
   pub page_parts : (V : List Reference) (r : Reference) → page_faults file V r ≡ page_faults file [] r ++ depth_fault file V r
   unfolding page_faults tree_view

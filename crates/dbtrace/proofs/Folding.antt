@@ -8,7 +8,7 @@ use Rattle.std.specs.Result.{result_ok}
 use Rattle.dbsurvey.specs.Address.{IsIn, Address}
 use Rattle.dbsurvey.specs.Run.{run, up_to}
 use Rattle.dbsurvey.specs.Story.{Told, Go}
-use Rattle.dbsurvey.specs.InOrder.{visits_in, AreQuiet}
+use Rattle.dbsurvey.specs.InOrder.{visits_in}
 use Rattle.dbsurvey.proofs.Advancing.{run_visits, run_reads, run_below_visits}
 use Rattle.dbsurvey.proofs.Lists.{flat_map-same, flat_map-none}
 use Rattle.dbsurvey.proofs.Order.{IsIn-right}
@@ -28,7 +28,7 @@ use Rattle.dbformat.specs.Report.{event_faults}
 use Rattle.dbformat.specs.Laws.{event_row}
 use Rattle.dbformat.proofs.Places.{key_place}
 use Rattle.dbformat.proofs.Theory.{are_rules, is_story, shows_visits}
-use Rattle.dbtrace.specs.Finding.{Finding, told_row, told_fault, told_at, told_below, visited_below}
+use Rattle.dbtrace.specs.Finding.{Finding, told_row, told_fault, told_at, visited_below}
 use Rattle.dbtrace.specs.Fold.{IsFold}
 use Rattle.dbtrace.specs.Item.{found, given, finding_in, row_in, findings, given_rows, readable, faults_at, rows_at_event, items_at}
 use Rattle.dbtrace.specs.Progress.{Progress, rows_of, late_faults, depth_faults}
@@ -41,34 +41,26 @@ use Rattle.dbtrace.proofs.Told.{visited, trace, tells, IsOf, told_as, below_star
 
 -- items, by what they are for
 
-found_only : (fs : List Finding) → findings (map found fs) ≡ fs
-found_only [] = refl
-found_only (f ∷ fs) = ap (λ l. f ∷ l) (found_only fs)
+found_only : (fs : List Finding) → (findings (map found fs) ≡ fs) × (given_rows (map found fs) ≡ [])
+found_only [] = (refl, refl)
+found_only (f ∷ fs) = let h = found_only fs in (ap (λ l. f ∷ l) h.0, h.1)
 
-given_found : (rows : List SchemaRow) → findings (map given rows) ≡ []
-given_found [] = refl
-given_found (r ∷ rows) = given_found rows
-
-given_only : (rows : List SchemaRow) → given_rows (map given rows) ≡ rows
-given_only [] = refl
-given_only (r ∷ rows) = ap (λ l. r ∷ l) (given_only rows)
-
-found_given : (fs : List Finding) → given_rows (map found fs) ≡ []
-found_given [] = refl
-found_given (f ∷ fs) = found_given fs
+given_only : (rows : List SchemaRow) → (given_rows (map given rows) ≡ rows) × (findings (map given rows) ≡ [])
+given_only [] = (refl, refl)
+given_only (r ∷ rows) = let h = given_only rows in (ap (λ l. r ∷ l) h.0, h.1)
 
 module _ (file : List ℕ) where
   pub findings_at : (U : List Reference) (p : Progress) (e : Event) → findings (items_at file U p e) ≡ map told_row (option_to_list (event_row file e)) ++ map told_fault (faults_at file U p e)
   findings_at U p e =
       let rows = readable (rows_at_event file U e) in
       let fs = map told_row (option_to_list (event_row file e)) ++ map told_fault (faults_at file U p e) in
-      filter_map-append finding_in (map given rows) (map found fs) ∙ ap (λ l. l ++ findings (map found fs)) (given_found rows) ∙ found_only fs
+      filter_map-append finding_in (map given rows) (map found fs) ∙ ap (λ l. l ++ findings (map found fs)) (given_only rows).1 ∙ (found_only fs).0
 
   pub rows_at_item : (U : List Reference) (p : Progress) (e : Event) → given_rows (items_at file U p e) ≡ readable (rows_at_event file U e)
   rows_at_item U p e =
       let rows = readable (rows_at_event file U e) in
       let fs = map told_row (option_to_list (event_row file e)) ++ map told_fault (faults_at file U p e) in
-      filter_map-append row_in (map given rows) (map found fs) ∙ ap (λ l. given_rows (map given rows) ++ l) (found_given fs) ∙ append-nil (given_rows (map given rows)) ∙ given_only rows
+      filter_map-append row_in (map given rows) (map found fs) ∙ ap (λ l. given_rows (map given rows) ++ l) (found_only fs).1 ∙ append-nil (given_rows (map given rows)) ∙ (given_only rows).0
 
   -- the rows that were given
   pub given_are : (now : Walk) (A : List (Told Event)) → given_rows (run (machine file) now A).items ≡ given_rows now.items ++ readable (rows_told file now.visits A)
@@ -172,15 +164,6 @@ module _ (file : List ℕ) (k : ℕ) (W : List Reference) (c : Reference) (at : 
     told = findings_at file (up_to (machine file) (after A) t.event) (after A).state t.event
         ∙ ap (λ fs. map told_row (option_to_list (event_row file t.event)) ++ map told_fault fs) (faults t.event refl here)
 
-  pub all_findings : findings (run_below file (begin W) (Go c ∷ [])).items ≡ told_below file W (Go c ∷ [])
-  all_findings = run_reads (machine file) finding_in (told_at file) (begin W) (trace file W c) told
-
-  quiet_start : AreQuiet {E = Event} own_visit (Go c ∷ [])
-  quiet_start e i = elim i [ inl f ↦ cc | inr n ↦ absurd n ]
-
-  pub all_visits : (run_below file (begin W) (Go c ∷ [])).visits ≡ W ++ visited_below file W (Go c ∷ [])
-  all_visits = run_below_visits (rules_of file) (story_of file) (geometry file).pages (are_rules file) (machine file) (is_story file) (shows_visits file) (begin W) (Go c ∷ []) quiet_start
-
   -- the rows of the schema are given at the schema's start alone
   no_rows : (k == schema_start) ≡ false → rows_told file W (trace file W c) ≡ []
   no_rows other = read_as own_visit (rows_at_event file) (λ e. []) W (trace file W c) (λ A B t split. by_event A t.key t.event (here A B t split))
@@ -192,7 +175,7 @@ module _ (file : List ℕ) (k : ℕ) (W : List Reference) (c : Reference) (at : 
       by_event A place (at_key r v x) h = ap (λ b. cond (b && not (is_interior v.kind)) (schema_cell file ((W ++ visits_in own_visit A) ++ []) r x ∷ []) [])
           (ap (λ s. s == schema_start) (ap start_of (below_start file W c k at r h.0).1) ∙ other)
 
-  pub all_rows : given_rows (run_below file (begin W) (Go c ∷ [])).items ≡ cond (k == schema_start) (readable (schema file (W ++ visited_below file W (Go c ∷ [])))) []
+  all_rows : given_rows (run_below file (begin W) (Go c ∷ [])).items ≡ cond (k == schema_start) (readable (schema file (W ++ visited_below file W (Go c ∷ [])))) []
   all_rows = given_are file (begin W) (trace file W c) ∙ by_start (k == schema_start) refl
     where
       by_start : (b : Bool) → (k == schema_start) ≡ b → readable (rows_told file W (trace file W c)) ≡ cond b (readable (schema file (W ++ visited file W c))) []
@@ -206,7 +189,8 @@ module _ (file : List ℕ) (k : ℕ) (W : List Reference) (c : Reference) (at : 
 
 pub is_fold : (file : List ℕ) → IsFold file
 is_fold file = record {
-  findings_are = λ k W c at early. all_findings file k W c at early;
+  findings_are = λ k W c at early. run_reads (machine file) finding_in (told_at file) (begin W) (trace file W c) (told file k W c at early);
   rows_are = λ k W c at early. all_rows file k W c at early;
-  visits_are = λ k W c at early. all_visits file k W c at early;
+  visits_are = λ k W c at early. run_below_visits (rules_of file) (story_of file) (geometry file).pages (are_rules file) (machine file) (is_story file) (shows_visits file) (begin W) (Go c ∷ [])
+      (λ e i. elim i [ inl f ↦ cc | inr n ↦ absurd n ]);
 }

@@ -11,7 +11,7 @@ use Rattle.dbsurvey.specs.Moves.{Moves}
 use Rattle.dbformat.specs.Reference.{free_leaf, Way, Reference, role_of, Role, trunk, link, next_trunk, leaf_count, most_leaves}
 use Rattle.dbformat.specs.Story.{Event, at_page, own_visit, story_of}
 use Rattle.dbformat.proofs.Looping.{none_at_free_leaf, by_leaf, all_quiet}
-use Rattle.dbwalk.specs.declared.marks.Mark.{Mark}
+use Rattle.dbmarks.specs.declared.marks.Mark.{Mark}
 use Rattle.dbwalk.specs.Entered.{IsNext, Enters}
 use Rattle.dbtrace.specs.Finding.{Finding, told_row, told_fault, told_at, told_below}
 use Rattle.dbwalk.specs.Trunks.{leaves_from, IsFirstTrunk, IsOnTrunks, TrunkTurns, trunk_step, next_step}
@@ -31,7 +31,7 @@ use Rattle.dbformat.specs.Survey.{rules_of, is_too_deep}
 use Rattle.dbformat.specs.declared.FaultCode.TheVariants.{L01}
 use Rattle.dbsource.specs.declared.error.RunError.{RunError}
 use Rattle.dbwalk.specs.declared.entering.Step.{Step}
-use Rattle.dbwalk.specs.Marking.{role_mark, AreMarksOf}
+use Rattle.dbmarks.specs.Marking.{role_mark, AreMarksOf}
 use Rattle.dbwalk.specs.Telling.{StopsBy}
 use Rattle.dbwalk.proofs.Telling.Belows.{told_visit}
 
@@ -48,18 +48,18 @@ told_free : (file : List ℕ) (V : List Reference) (c : Reference) → role_of c
 unfolding page_faults
 told_free file V c r = ap (λ role. map told_row (option_to_list (row_in role file c)) ++ map told_fault (role_faults role file V c)) r
 
-module _ {S : Type 0} (takes drops : S → Finding → S → Type 0) (file : List ℕ) (W : List Reference) (errands : List (Errand Way Event)) (before : S) (U : List Reference) (c : Reference) (es : List (Errand Way Event)) (marks marks' : List Mark) (s t : S) (left : IsLeft takes file W errands before U (Go c ∷ es) marks s) where
+module _ {S : Type 0} (takes drops : S → Finding → S → Type 0) (file : List ℕ) (W : List Reference) (errands : List (Errand Way Event)) (before : S) (U : List Reference) (c : Reference) (es : List (Errand Way Event)) (marks marks' : List Mark) (s t : S) (left : IsLeft takes file W errands before U (Go c ∷ es) (marks, s)) where
   pub next_of_left : IsNext U c
   next_of_left u f i (inl e) = left.past u f i (inl e)
   next_of_left u f i (inr n) = absurd n
 
   -- a leaf is entered: nothing is told of it, or why it is refused
-  pub leaf_entered : (b : Bool) → role_of c ≡ free_leaf → Enters takes drops file U c (Ok b) marks' s t → (T : List Reference) × IsLeft takes file W errands before T es marks' t
+  pub leaf_entered : (b : Bool) → role_of c ≡ free_leaf → Enters takes drops file U c (Ok b) marks' s t → (T : List Reference) × IsLeft takes file W errands before T es (marks', t)
   leaf_entered false r e = (U, left_refused takes file W errands before U marks s t marks' c es left e.0 e.1 e.2)
   leaf_entered true r e =
       let none : errands_of (story_of file) c ≡ [] = none_at_free_leaf file c r in (
         U ++ (c ∷ []),
-        subst (λ fs. IsLeft takes file W errands before (U ++ (c ∷ [])) (fs ++ es) marks' t) none
+        subst (λ fs. IsLeft takes file W errands before (U ++ (c ∷ [])) (fs ++ es) (marks', t)) none
             (left_visit takes file W errands before U marks s t marks' c es left e.0 (subst (λ fs. AreQuiet own_visit fs) (sym none) (λ d i. absurd i)) e.1 (subst (λ l. Moves takes s l t) (sym (told_free file (U ++ (c ∷ [])) c r)) e.2)),
       )
 
@@ -118,18 +118,18 @@ trunk_shallow c h = by_role (role_of c) h
     by_role : (role : Role) → role ≡ trunk → is_too_deep (record { address = c.address; page = c.page; role = record { role = role; from = 0; item = 0 } }) ≡ false
     by_role role e = rw e refl
 
-module _ {S : Type 0} (takes drops : S → Finding → S → Type 0) (file : List ℕ) (W : List Reference) (c : Reference) (before : S) (U : List Reference) (d : Reference) (old marks : List Mark) (s : S) (role : role_of d ≡ trunk) (followed : is_followed (rules_of file) U d ≡ true) (marked : AreMarksOf file (U ++ d ∷ []) marks) (left : IsLeft takes file W (Go c ∷ []) before U (Go d ∷ []) old s) where
+module _ {S : Type 0} (takes drops : S → Finding → S → Type 0) (file : List ℕ) (W : List Reference) (c : Reference) (before : S) (U : List Reference) (d : Reference) (old marks : List Mark) (s : S) (role : role_of d ≡ trunk) (followed : is_followed (rules_of file) U d ≡ true) (marked : AreMarksOf file (U ++ d ∷ []) marks) (left : IsLeft takes file W (Go c ∷ []) before U (Go d ∷ []) (old, s)) where
   -- a trunk whose leaves fit: they are left, and the next trunk
   pub opened_fitting : leaf_count (page_bytes file d.page) ≤ most_leaves (usable_size file)
-      → IsLeft takes file W (Go c ∷ []) before (U ++ d ∷ []) (leaf_errands d (page_bytes file d.page) (leaf_count (page_bytes file d.page)) ++ map (go d) (next_trunk d.page (page_bytes file d.page) (leaf_count (page_bytes file d.page)))) marks s
-  opened_fitting l = subst (λ es. IsLeft takes file W (Go c ∷ []) before (U ++ d ∷ []) es marks s) (append-nil (errands_of (story_of file) d) ∙ fitting_errands file d role l)
+      → IsLeft takes file W (Go c ∷ []) before (U ++ d ∷ []) (leaf_errands d (page_bytes file d.page) (leaf_count (page_bytes file d.page)) ++ map (go d) (next_trunk d.page (page_bytes file d.page) (leaf_count (page_bytes file d.page)))) (marks, s)
+  opened_fitting l = subst (λ es. IsLeft takes file W (Go c ∷ []) before (U ++ d ∷ []) es (marks, s)) (append-nil (errands_of (story_of file) d) ∙ fitting_errands file d role l)
       (left_visit takes file W (Go c ∷ []) before U old s s marks d [] left followed (quiet_trunk file d role) marked (subst (λ L. Moves takes s L s) (sym (told_fitting file (U ++ d ∷ []) d role l)) refl))
 
   -- one with too many, when that was told: the next trunk is left
   pub opened_crowded : (t : S) → most_leaves (usable_size file) < leaf_count (page_bytes file d.page)
       → Moves takes s (told_fault (fault L01 d.page 0 (pos (leaf_count (page_bytes file d.page)))) ∷ []) t
-      → IsLeft takes file W (Go c ∷ []) before (U ++ d ∷ []) (map (go d) (next_trunk d.page (page_bytes file d.page) 0)) marks t
-  opened_crowded t l m = subst (λ es. IsLeft takes file W (Go c ∷ []) before (U ++ d ∷ []) es marks t) (append-nil (errands_of (story_of file) d) ∙ crowded_errands file d role l)
+      → IsLeft takes file W (Go c ∷ []) before (U ++ d ∷ []) (map (go d) (next_trunk d.page (page_bytes file d.page) 0)) (marks, t)
+  opened_crowded t l m = subst (λ es. IsLeft takes file W (Go c ∷ []) before (U ++ d ∷ []) es (marks, t)) (append-nil (errands_of (story_of file) d) ∙ crowded_errands file d role l)
       (left_visit takes file W (Go c ∷ []) before U old s t marks d [] left followed (quiet_trunk file d role) marked (subst (λ L. Moves takes s L t) (sym (told_too_many file (U ++ d ∷ []) d role l)) m))
 
   -- and when that could not be told
@@ -155,12 +155,12 @@ module _ {S : Type 0} (takes drops : S → Finding → S → Type 0) (file : Lis
 
 -- the next trunk, or none
 pub next_turned : {S : Type 0} (takes drops : S → Finding → S → Type 0) (file : List ℕ) (W : List Reference) (c : Reference) (before : S) (d : Reference) (page item : ℕ) (U : List Reference) (marks : List Mark) (s : S) → d.page ≡ page
-    → IsLeft takes file W (Go c ∷ []) before U (map (go d) (next_trunk d.page (page_bytes file d.page) item)) marks s
+    → IsLeft takes file W (Go c ∷ []) before U (map (go d) (next_trunk d.page (page_bytes file d.page) item)) (marks, s)
     → TrunkTurns takes drops file W c before (Ok (next_step (u32_at 0 (page_bytes file page)) page item)) marks s
 next_turned {S} takes drops file W c before d page item U marks s e h =
     subst (λ p. TrunkTurns takes drops file W c before (Ok (next_step (u32_at 0 (page_bytes file p)) p item)) marks s) e (by_next (u32_at 0 (page_bytes file d.page)) (u32_at 0 (page_bytes file d.page) == 0) h)
   where
-    by_next : (n : ℕ) (b : Bool) → IsLeft takes file W (Go c ∷ []) before U (map (go d) (cond b [] (link d.page item item trunk n ∷ []))) marks s
+    by_next : (n : ℕ) (b : Bool) → IsLeft takes file W (Go c ∷ []) before U (map (go d) (cond b [] (link d.page item item trunk n ∷ []))) (marks, s)
         → TrunkTurns takes drops file W c before (Ok (cond b None (Some (trunk_step n d.page item)))) marks s
     by_next n true h = left_none takes file W (Go c ∷ []) before U marks s drops tt h
     by_next n false h = record {

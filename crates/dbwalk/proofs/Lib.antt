@@ -1,4 +1,3 @@
-pub mod Marking
 pub mod Telling
 pub mod Chaining
 pub mod FreeTrunks

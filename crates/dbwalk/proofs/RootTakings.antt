@@ -146,17 +146,17 @@ pub empty_room : {T : Type 0} (keeps : T → SchemaRow → Taken → T → Type 
 empty_room keeps held t empty = record { room = empty.room; holds = empty.none }
 
 -- and once it was handed some items
-pub room_on : {S T : Type 0} (takes drops : S → Finding → S → Type 0) (keeps : T → SchemaRow → Taken → T → Type 0) (refuses : T → SchemaRow → T → Type 0) (held : T → ℕ) (items : List Item) (w x : S × T) (roots after : ℕ)
+pub room_on : {S T : Type 0} (takes : S → Finding → S → Type 0) (keeps : T → SchemaRow → Taken → T → Type 0) (held : T → ℕ) (items : List Item) (w x : S × T) (roots after : ℕ)
     → after ≡ roots + roots_in items → HasRoom keeps held roots w.1 → Moves (watches takes keeps) w items x → HasRoom keeps held after x.1
-room_on takes drops keeps refuses held items w x roots after are room m = record {
+room_on takes keeps held items w x roots after are room m = record {
   room = room.room;
-  holds = held_behind keeps held room.room roots (given_rows items) w.1 x.1 room.holds (moves_both takes drops keeps refuses items w x m).1 ∙ ap held_of (sym are);
+  holds = held_behind keeps held room.room roots (given_rows items) w.1 x.1 room.holds (moves_both takes keeps items w x m).1 ∙ ap held_of (sym are);
 }
 
 -- all items so far
-pub room_after : {S T : Type 0} (takes drops : S → Finding → S → Type 0) (keeps : T → SchemaRow → Taken → T → Type 0) (refuses : T → SchemaRow → T → Type 0) (held : T → ℕ) (items : List Item) (w x : S × T) (roots : ℕ)
+pub room_after : {S T : Type 0} (takes : S → Finding → S → Type 0) (keeps : T → SchemaRow → Taken → T → Type 0) (held : T → ℕ) (items : List Item) (w x : S × T) (roots : ℕ)
     → roots ≡ roots_in items → StartsEmpty keeps held w.1 → Moves (watches takes keeps) w items x → HasRoom keeps held roots x.1
-room_after takes drops keeps refuses held items w x roots are empty m = room_on takes drops keeps refuses held items w x 0 roots (are ∙ (let z : roots_in items ≡ 0 + roots_in items = omega arith in z)) (empty_room keeps held w.1 empty) m
+room_after takes keeps held items w x roots are empty m = room_on takes keeps held items w x 0 roots (are ∙ (let z : roots_in items ≡ 0 + roots_in items = omega arith in z)) (empty_room keeps held w.1 empty) m
 
 -- What telling a row of the schema leaves is what its walk hands out: the row goes to the taker, where it can be read, and then
 -- its faults are told, with S04 where the roots before it are too many.
@@ -188,13 +188,13 @@ module _ {S T : Type 0} (takes drops : S → Finding → S → Type 0) (keeps : 
     good_row : (row : SchemaRow) (a : Taken) → keeps t row a t' → taken_faults at row a ≡ faults (Ok row)
     good_row row a taken = ap (λ b. told_if (is_none row.name) (fault S02 d.page d.item d.rowid) ++ told_if b (fault S04 d.page d.item (pos row.root))) (answer_full keeps held room.room t t' row a taken roots room.holds)
 
-    pub row_handed : (r : Result (Unit {0}) RunError) → TellsRow takes drops keeps refuses at d.row r s s' t t' → Hands r (s, t) (row_items roots (d ∷ [])) (s', t')
+    pub row_handed : (r : Result (Unit {0}) RunError) → TellsRow takes drops keeps refuses (at, d.row) r (s, t) (s', t') → Hands r (s, t) (row_items roots (d ∷ [])) (s', t')
     row_handed r = by_row d.row
       where
         refused : (row : SchemaRow) (e : RunError) → Err e ≡ r → e ≡ OutOfMemory → refuses t row t' → s' ≡ s → Hands r (s, t) (row_items roots (with_row (Ok row) ∷ [])) (s', t')
         refused row e is out h same = subst (λ r. Hands r (s, t) (row_items roots (with_row (Ok row) ∷ [])) (s', t')) (ap Err (sym out) ∙ is) (inl (h, sym same))
 
-        by_row : (row : Result SchemaRow RowFault) → TellsRow takes drops keeps refuses at row r s s' t t' → Hands r (s, t) (row_items roots (with_row row ∷ [])) (s', t')
+        by_row : (row : Result SchemaRow RowFault) → TellsRow takes drops keeps refuses (at, row) r (s, t) (s', t') → Hands r (s, t) (row_items roots (with_row row ∷ [])) (s', t')
         by_row (Err f) h =
             subst (λ fs. Hands r (s, t) (map found (map told_fault fs)) (s', t')) (bad_row f ∙ sym (append-nil (faults (Err f))))
             (subst (λ t'. Hands r (s, t) (map found (map told_fault (fault_of at f ∷ []))) (s', t')) (sym h.0) (tells_handed r (map told_fault (fault_of at f ∷ [])) s s' t h.1))

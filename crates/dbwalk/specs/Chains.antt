@@ -15,10 +15,10 @@ use Rattle.dbformat.specs.Story.{at_page}
 use Rattle.dbsource.specs.declared.error.RunError.{RunError}
 use Rattle.dbwalk.specs.declared.chain.Chain.{Chain}
 use Rattle.dbwalk.specs.declared.chain.Place.{Place}
-use Rattle.dbwalk.specs.declared.marks.Mark.{Mark}
+use Rattle.dbmarks.specs.declared.marks.Mark.{Mark}
 use Rattle.dbwalk.specs.Entered.{IsStepOf}
 use Rattle.dbwalk.specs.Done.{IsLeft, IsDone}
-use Rattle.dbwalk.specs.Marking.{IsUse, named_page}
+use Rattle.dbmarks.specs.Marking.{IsUse, named_page}
 use Rattle.dbwalk.specs.Telling.{Tells}
 
 -- What a sieve is fed, where there is one.
@@ -81,7 +81,7 @@ pub record IsOnWay {S : Type 0} (takes : S → Finding → S → Type 0) (file :
   pub step : IsStepOf place.step d
   pub left : bytes_left (role_of d) ≡ Some place.left
   pub on : IsOnChain chain place.number d
-  pub rest : IsLeft takes file W (Go c ∷ []) before visited (Go d ∷ []) marks now
+  pub rest : IsLeft takes file W (Go c ∷ []) before visited (Go d ∷ []) (marks, now)
 
 -- after a turn: at the next place, or at the end, or stopped by an error
 abbrev pub Turns : {S : Type 0} → (S → Finding → S → Type 0) → (S → Finding → S → Type 0) → List ℕ → List Reference → Reference → S → Chain → Result (Option Place) RunError → List Mark → S → Option RowSieve → Option RowSieve → Type 0

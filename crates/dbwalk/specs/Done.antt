@@ -6,8 +6,8 @@ use Rattle.dbformat.specs.Reference.{Way, Reference}
 use Rattle.dbformat.specs.SchemaRow.{SchemaRow}
 use Rattle.dbformat.specs.Story.{Event}
 use Rattle.dbsource.specs.declared.error.RunError.{RunError}
-use Rattle.dbwalk.specs.declared.marks.Mark.{Mark}
-use Rattle.dbwalk.specs.Marking.{AreMarksOf}
+use Rattle.dbmarks.specs.declared.marks.Mark.{Mark}
+use Rattle.dbmarks.specs.Marking.{AreMarksOf}
 use Rattle.dbtrace.specs.Finding.{Finding, told_below, visited_below}
 use Rattle.dbwalk.specs.Telling.{Tells}
 use Rattle.dbwalk.specs.Taking.{Gives, readable_rows}
@@ -30,11 +30,11 @@ pub record IsTreeDone {S T : Type 0} (takes drops : S → Finding → S → Type
 
 -- Of all that is below the errands, after the visits of W, what is below the errands `left`, after those of U, is still
 -- to be done: the rest was told, and the marks are those of U.
-pub record IsLeft {S : Type 0} (takes : S → Finding → S → Type 0) (file : List ℕ) (W : List Reference) (errands : List (Errand Way Event)) (before : S) (U : List Reference) (left : List (Errand Way Event)) (marks : List Mark) (now : S) : Type 0 where
-  pub marked : AreMarksOf file U marks
+pub record IsLeft {S : Type 0} (takes : S → Finding → S → Type 0) (file : List ℕ) (W : List Reference) (errands : List (Errand Way Event)) (before : S) (U : List Reference) (left : List (Errand Way Event)) (now : List Mark × S) : Type 0 where
+  pub marked : AreMarksOf file U now.0
   pub past : IsPast U left
   pub apart : AreErrandsApart left
   pub visits : U ++ visited_below file U left ≡ W ++ visited_below file W errands
   pub items : List Finding
-  pub told : Moves takes before items now
+  pub told : Moves takes before items now.1
   pub rest : items ++ told_below file U left ≡ told_below file W errands

@@ -1,9 +1,6 @@
 -- What it leaves to enter a candidate: its page is marked, or the reason against it is told.
-use Rattle.std.specs.Prelude.{Bool, Option, Some, None, if◌then◌else◌, ◌≡◌, ℕ, true, false, List, [], ◌∷◌, ◌++◌, Result, Ok, Err}
-use Rattle.dbformat.specs.declared.FaultCode.{FaultCode}
-use Rattle.dbformat.specs.declared.FaultCode.TheVariants.{R01, R02, R03, T04}
-use Rattle.dbwalk.specs.declared.marks.Mark.{Mark}
-use Rattle.dbwalk.specs.declared.marks.Mark.TheVariants.{Unmarked, Fixed}
+use Rattle.std.specs.Prelude.{Bool, ◌≡◌, ℕ, true, false, List, [], ◌∷◌, ◌++◌, Result, Ok, Err}
+use Rattle.dbmarks.specs.declared.marks.Mark.{Mark}
 use Rattle.dbsurvey.specs.Moves.{Moves}
 use Rattle.dbsurvey.specs.Traverse.{is_followed}
 use Rattle.dbformat.specs.Reference.{Reference, from_of, item_of}
@@ -13,21 +10,9 @@ use Rattle.dbsurvey.specs.InOrder.{IsPast}
 use Rattle.dbformat.specs.Story.{Event, at_refused}
 use Rattle.dbsource.specs.declared.error.RunError.{RunError}
 use Rattle.dbwalk.specs.declared.entering.Step.{Step}
-use Rattle.dbwalk.specs.Marking.{visit_mark, AreMarksOf}
+use Rattle.dbmarks.specs.Marking.{visit_mark, AreMarksOf}
 use Rattle.dbtrace.specs.Finding.{Finding, told_at}
 use Rattle.dbwalk.specs.Telling.{StopsBy}
-
--- Why a reference may not be followed, by the mark of its page.
-
--- the first reason, where the page has this mark, or there is no such page, and where it would be too deep in its tree or
--- not; none where it may be followed
-abbrev pub refusal_by : Option Mark → Bool → Option FaultCode
-refusal_by None is_too_deep = Some R01
-refusal_by (Some Fixed) is_too_deep = Some R02
-refusal_by (Some Unmarked) is_too_deep = if is_too_deep then Some T04 else None
-refusal_by (Some _) is_too_deep = if is_too_deep then Some T04 else Some R03
-
--- What it leaves to enter a candidate: its page is marked, or the reason against it is told.
 
 -- all visits of W stand before a candidate
 abbrev pub IsNext : List Reference → Reference → Type 0

@@ -1,11 +1,8 @@
 pub mod Chains
 pub mod Done
-pub mod EndMarks
 pub mod Entered
 pub mod Found
 pub mod LeafCells
-pub mod Marking
-pub mod Reads
 pub mod Roots
 pub mod Rows
 pub mod Standing

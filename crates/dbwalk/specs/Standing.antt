@@ -16,12 +16,12 @@ use Rattle.dbtrace.specs.Item.{Item}
 use Rattle.dbtrace.specs.Walk.{Walk}
 use Rattle.dbwalk.specs.Found.{StandsAt}
 use Rattle.dbwalk.specs.LeafCells.{overflow_errands, AreBefore}
-use Rattle.dbwalk.specs.Marking.{AreMarksOf}
+use Rattle.dbmarks.specs.Marking.{AreMarksOf}
 use Rattle.dbwalk.specs.Taking.{HasRoom, StartsEmpty}
 use Rattle.dbwalk.specs.Underway.{IsAt, IsWalkingOn}
 use Rattle.dbwalk.specs.Walking.{IsCandidate, IsLeafAt}
 use Rattle.dbwalk.specs.declared.steps.Frame.{Frame}
-use Rattle.dbwalk.specs.declared.marks.Mark.{Mark}
+use Rattle.dbmarks.specs.declared.marks.Mark.{Mark}
 use Rattle.dbwalk.specs.declared.state.Tree.{Tree}
 use Rattle.dbwalk.specs.declared.taker.Taken.{Taken}
 use Rattle.dbwalk.specs.declared.tree_walk.TreeWalk.{TreeWalk}

@@ -131,7 +131,7 @@ TellsOrStops takes drops r s items t = MatchResult r (λ _. Moves takes s items 
 
 -- What became of a row: its fault was told, and nobody took it; or it was taken, and then its faults were told; or memory
 -- was refused for it, and nothing was told.
-abbrev pub TellsRow : {S T A : Type 0} → (S → Finding → S → Type 0) → (S → Finding → S → Type 0) → (T → SchemaRow → Taken → T → Type 0) → (T → SchemaRow → T → Type 0) → RowPlace → Result SchemaRow RowFault → Result A RunError → S → S → T → T → Type 0
-TellsRow takes drops keeps refuses at (Err f) r s s' t t' = (t' ≡ t) × TellsOrStops takes drops r s (findings (fault_of at f ∷ [])) s'
-TellsRow {A = A} takes drops keeps refuses at (Ok row) r s s' t t' = ((a : Taken) × keeps t row a t' × TellsOrStops takes drops r s (findings (taken_faults at row a)) s')
-    ⊎ ((r ≡ Err OutOfMemory) × refuses t row t' × (s' ≡ s))
+abbrev pub TellsRow : {S T A : Type 0} → (S → Finding → S → Type 0) → (S → Finding → S → Type 0) → (T → SchemaRow → Taken → T → Type 0) → (T → SchemaRow → T → Type 0) → RowPlace × Result SchemaRow RowFault → Result A RunError → S × T → S × T → Type 0
+TellsRow takes drops keeps refuses (at, Err f) r before after = (after.1 ≡ before.1) × TellsOrStops takes drops r before.0 (findings (fault_of at f ∷ [])) after.0
+TellsRow {A = A} takes drops keeps refuses (at, Ok row) r before after = ((a : Taken) × keeps before.1 row a after.1 × TellsOrStops takes drops r before.0 (findings (taken_faults at row a)) after.0)
+    ⊎ ((r ≡ Err OutOfMemory) × refuses before.1 row after.1 × (after.0 ≡ before.0))

@@ -6,13 +6,13 @@ use Rattle.dbformat.specs.Errands.{leaf_errand, go}
 use Rattle.dbformat.specs.Reference.{Way, Reference, trunk, next_trunk, role_of, from_of, item_of}
 use Rattle.dbformat.specs.Story.{Event}
 use Rattle.dbsource.specs.declared.error.RunError.{RunError}
-use Rattle.dbwalk.specs.declared.marks.Mark.{Mark}
+use Rattle.dbmarks.specs.declared.marks.Mark.{Mark}
 use Rattle.dbtrace.specs.Finding.{Finding}
 use Rattle.dbwalk.specs.Done.{IsLeft, IsDone}
 use Rattle.dbformat.specs.Address.{freelist_start}
 use Rattle.dbformat.specs.File.{page_bytes}
 use Rattle.dbwalk.specs.declared.entering.Step.{Step}
-use Rattle.dbwalk.specs.declared.marks.Mark.TheVariants.{Trunk}
+use Rattle.dbmarks.specs.declared.marks.Mark.TheVariants.{Trunk}
 use Rattle.dbwalk.specs.Entered.{IsStepOf}
 
 -- The leaves of a trunk as a program enters them.
@@ -23,7 +23,7 @@ leaves_from d page j n = map (leaf_errand d page) (range_with_len j n)
 
 -- something is left after some visits, or an error stopped it
 abbrev pub Leaves : {S : Type 0} → (S → Finding → S → Type 0) → (S → Finding → S → Type 0) → List ℕ → List Reference → List (Errand Way Event) → S → List (Errand Way Event) → Result (Unit {0}) RunError → List Mark → S → Type 0
-Leaves takes drops file W errands before left (Ok u) marks now = (U : List Reference) × IsLeft takes file W errands before U left marks now
+Leaves takes drops file W errands before left (Ok u) marks now = (U : List Reference) × IsLeft takes file W errands before U left (marks, now)
 Leaves takes drops file W errands before left (Err e) marks now = IsDone {A = Unit {0}} takes drops file W errands (Err e) marks before now
 
 -- The trunks of the freelist as a program walks them.
@@ -53,11 +53,11 @@ pub record IsOnTrunks {S : Type 0} (takes : S → Finding → S → Type 0) (fil
   pub d : Reference
   pub step : IsStepOf place d
   pub role : role_of d ≡ trunk
-  pub rest : IsLeft takes file W (Go c ∷ []) before visited (Go d ∷ []) marks now
+  pub rest : IsLeft takes file W (Go c ∷ []) before visited (Go d ∷ []) (marks, now)
 
 -- a trunk is open: the next one is left, from this item, or an error stopped it
 abbrev pub Opens : {S : Type 0} → (S → Finding → S → Type 0) → (S → Finding → S → Type 0) → List ℕ → List Reference → Reference → S → Reference → Result ℕ RunError → List Mark → S → Type 0
-Opens takes drops file W c before d (Ok item) marks now = (U : List Reference) × IsLeft takes file W (Go c ∷ []) before U (map (go d) (next_trunk d.page (page_bytes file d.page) item)) marks now
+Opens takes drops file W c before d (Ok item) marks now = (U : List Reference) × IsLeft takes file W (Go c ∷ []) before U (map (go d) (next_trunk d.page (page_bytes file d.page) item)) (marks, now)
 Opens takes drops file W c before d (Err e) marks now = IsDone {A = Unit {0}} takes drops file W (Go c ∷ []) (Err e) marks before now
 
 -- after a turn: at the next trunk, or at the end, or stopped by an error

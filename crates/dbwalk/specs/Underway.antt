@@ -11,10 +11,10 @@ use Rattle.dbformat.specs.Survey.{rules_of}
 use Rattle.dbsource.specs.declared.error.RunError.{RunError}
 use Rattle.dbtrace.specs.Item.{Item}
 use Rattle.dbtrace.specs.Walk.{Walk, bare, advance, run_below, begin}
-use Rattle.dbwalk.specs.Marking.{AreMarksOf}
+use Rattle.dbmarks.specs.Marking.{AreMarksOf}
 use Rattle.dbwalk.specs.Walking.{IsOpenFrame, left_over, AreCalls, AreOpenFrames, AreRead}
 use Rattle.dbwalk.specs.Watching.{Handed, StopsAt}
-use Rattle.dbwalk.specs.declared.marks.Mark.{Mark}
+use Rattle.dbmarks.specs.declared.marks.Mark.{Mark}
 use Rattle.dbwalk.specs.declared.state.Tree.{Tree}
 use Rattle.dbtrace.specs.Steps.{roots_in}
 use Rattle.dbwalk.specs.declared.steps.Frame.{Frame}

@@ -13,7 +13,7 @@ use Rattle.dbsource.specs.declared.error.RunError.TheVariants.{OutOfMemory}
 use Rattle.dbtrace.specs.Item.{Item}
 use Rattle.dbtrace.specs.Walk.{Walk}
 use Rattle.dbwalk.specs.Telling.{IsReadOrWrite, SinkAfter, SinkState}
-use Rattle.dbwalk.specs.Reads.{Reads}
+use Rattle.dbmarks.specs.Reads.{Reads}
 use Rattle.dbwalk.specs.Underway.{HasDone}
 use Rattle.dbwalk.specs.declared.tree_walk.TreeWalk.{TreeWalk}
 

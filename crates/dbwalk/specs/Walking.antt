@@ -7,8 +7,8 @@ use Rattle.dbformat.specs.File.{page_bytes}
 use Rattle.dbformat.specs.Address.{start_of, cell_of_step, child_path, chain_place, then_step, child_step}
 use Rattle.dbformat.specs.Reference.{Role, root, child, Reference, role_of, tree_kind, Way, tree_view}
 use Rattle.dbformat.specs.declared.TreeKind.{TreeKind}
-use Rattle.dbwalk.specs.declared.marks.Mark.{Mark}
-use Rattle.dbwalk.specs.Marking.{unmarked_pages}
+use Rattle.dbmarks.specs.declared.marks.Mark.{Mark}
+use Rattle.dbmarks.specs.Marking.{unmarked_pages}
 use Rattle.dbwalk.specs.declared.steps.Frame.{Frame}
 use Rattle.std.specs.Option.{option_map_or}
 use Rattle.dbsurvey.specs.Story.{step_of, Errand, errands_at}

@@ -3,8 +3,8 @@ ghost use Rattle.std.specs.Prelude.{◌≡◌, ◌-◌, ◌≤◌, ℕ, List, If
 ghost use Rattle.dbformat.specs.FixedPages.{most_pages, IsPageNumber};
 ghost use Rattle.dbformat.specs.Reference.{Reference};
 ghost use Rattle.dbsource.specs.declared.error.RunError.TheVariants as run_error;
-ghost use Rattle.dbwalk.specs.declared.marks.Mark.TheVariants as use_mark;
-ghost use Rattle.dbwalk.specs.Marking.{AreMarksOf, page_mark, named_page};
+ghost use Rattle.dbmarks.specs.declared.marks.Mark.TheVariants as use_mark;
+ghost use Rattle.dbmarks.specs.Marking.{AreMarksOf, page_mark, named_page};
 ghost use Rattle.dbwalk.specs.Entered.{IsNext, IsStepOf, Enters};
 ghost use Rattle.dbsource.specs.Errors.{is_write_failed};
 ghost use Rattle.dbwalk.specs.Telling.{SinkAfter};
@@ -50,11 +50,8 @@ pub(crate) fn enter<K: Sink, A: Allocator>(
     ensures entered { (file : List ℕ) (W : List Reference) (c : Reference) → IsStepOf step c → IsNext W c → AreMarksOf file W marks.old
         → Enters K.takes K.drops file W c result marks.new sink.old sink.new }
 {
-    match marks.refusal(step.page, step.is_too_deep) {
-        None => {
-            marks.put(step.page, step.mark);
-            Ok(true)
-        }
+    match marks.follow(step.page, step.mark, step.is_too_deep) {
+        None => Ok(true),
         Some(code) => {
             let fault = Fault::new(code, step.from, step.item, step.page);
             sink.fault(&fault)?;

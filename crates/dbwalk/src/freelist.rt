@@ -13,11 +13,11 @@ ghost use Rattle.dbsource.specs.declared.error.RunError.TheVariants as run_error
 ghost use Rattle.dbwalk.specs.Done.{IsDone, IsLeft};
 ghost use Rattle.dbwalk.specs.Entered.{IsNext};
 ghost use Rattle.dbwalk.specs.Trunks.{Leaves, IsFirstTrunk, IsOnTrunks, Opens, TrunkTurns, next_step};
-ghost use Rattle.dbwalk.specs.Marking.{AreMarksOf, Keeps, unmarked_pages};
+ghost use Rattle.dbmarks.specs.Marking.{AreMarksOf, Keeps, unmarked_pages};
 ghost use Rattle.dbwalk.specs.Telling.{IsReadOrWrite, SinkAfter};
-ghost use Rattle.dbwalk.specs.Reads.{Reads};
-ghost use Rattle.dbwalk.specs.declared.marks.Mark.{Mark};
-ghost use Rattle.dbwalk.specs.declared.marks.Mark.TheVariants as use_mark;
+ghost use Rattle.dbmarks.specs.Reads.{Reads};
+ghost use Rattle.dbmarks.specs.declared.marks.Mark.{Mark};
+ghost use Rattle.dbmarks.specs.declared.marks.Mark.TheVariants as use_mark;
 ghost use Rattle.dbsource.specs.Errors.{is_read_failed, is_write_failed};
 ghost use Rattle.dbsource.specs.Failures.{failures_after};
 ghost use Rattle.dbsource.specs.Sources.{Asks, HasLog};
@@ -52,7 +52,7 @@ pub(crate) fn walk_leaves<K: Sink, A: Allocator>(
     ensures only { IfErr result (λ e. e ≡ run_error.WriteFailed) }
     ensures done { (file : List ℕ) (W : List Reference) (errands : List (Errand Way Event)) (before : K) (U : List Reference) (d : Reference)
         (tail : List (Errand Way Event))
-        → d.page ≡ page → IsLeft K.takes file W errands before U (leaf_errands d bytes.now count ++ tail) marks.old sink.old
+        → d.page ≡ page → IsLeft K.takes file W errands before U (leaf_errands d bytes.now count ++ tail) (marks.old, sink.old)
         → Leaves K.takes K.drops file W errands before tail result marks.new sink.new }
 {
     for index in 0..count {
@@ -83,7 +83,7 @@ fn open_trunk<K: Sink, A: Allocator>(
     ensures only { IfErr result (λ e. e ≡ run_error.WriteFailed) }
     ensures opened { (file : List ℕ) (W : List Reference) (c : Reference) (before : K) (U : List Reference) (d : Reference) (old : List Mark)
         → d.page ≡ page → role_of d ≡ trunk → bytes.now ≡ page_bytes file page → usable ≡ usable_size file → is_followed (rules_of file) U d ≡ true
-        → AreMarksOf file (U ++ d ∷ []) marks.old → IsLeft K.takes file W (Go c ∷ []) before U (Go d ∷ []) old sink.old
+        → AreMarksOf file (U ++ d ∷ []) marks.old → IsLeft K.takes file W (Go c ∷ []) before U (Go d ∷ []) (old, sink.old)
         → Opens K.takes K.drops file W c before d result marks.new sink.new }
 {
     let count = u32_at(bytes, 4);

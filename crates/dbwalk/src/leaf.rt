@@ -1,5 +1,5 @@
 // The cells of a leaf: their overflow chains, the rows of the schema, and their keys (Database File Format, 1.6 and 2.6).
-ghost use Rattle.std.specs.Prelude.{◌≡◌, ◌<◌, length, ◌≤◌, IfErr, IfSome, OnOk, is_some};
+ghost use Rattle.std.specs.Prelude.{◌≡◌, ◌<◌, length, ◌≤◌, None, IfErr, IfSome, OnOk, is_some};
 ghost use Rattle.dbformat.specs.FixedPages.{IsPageNumber};
 ghost use Rattle.dbsurvey.specs.Story.{errands_of};
 ghost use Rattle.dbwalk.specs.Standing.{AtLeaf, IsSameButGreatest, AtCell, AtOverflow};
@@ -15,13 +15,13 @@ ghost use Rattle.dbwalk.specs.LeafCells.{overflow_errands, late_faults, top_afte
 ghost use Rattle.dbwalk.specs.Taking.{FeedsPayload};
 ghost use Rattle.dbwalk.specs.Telling.{IsTold, findings, IsReadOrWrite, SinkAfter};
 ghost use Rattle.dbwalk.specs.Done.{IsDone};
-ghost use Rattle.dbwalk.specs.Reads.{Reads};
+ghost use Rattle.dbmarks.specs.Reads.{Reads};
 ghost use Rattle.dbsource.specs.Errors.{is_read_failed, is_write_failed};
 ghost use Rattle.dbsource.specs.Failures.{failures_after};
 
 use crate::cells::{leaf_cell, leaf_cells, pass_cells};
 use crate::chain::{Chain, walk_chain};
-use crate::schema_row::{RowPlace, row_sieve, tell_row};
+use crate::schema_row::{RowPlace, begin_row, tell_row};
 use crate::state::Tree;
 use crate::tree_walk::TreeWalk;
 use crate::{Marks, Sink, Taker};
@@ -48,16 +48,17 @@ impl<A: Allocator, S: Source, K: Sink, T: Taker> TreeWalk<'_, '_, '_, '_, A, S, 
     {
         let level = self.tree.path.len();
         let cells = leaf_cells(bench, self.tree.kind, level, page);
+        let mut sieve: Option<RowSieve> = None;
         let mut i = pass_cells(bench, &mut self.tree, page, 0);
         while i < cells {
-            self.walk_leaf_cell(bench, page, i)?;
+            self.walk_leaf_cell(bench, page, i, &mut sieve)?;
             i = pass_cells(bench, &mut self.tree, page, i + 1);
         }
         Ok(())
     }
 
     /// Walks over cell `i` of the leaf at the level of the tree's path: its overflow chain; in the tree of the schema its row,
-    /// which goes to the taker; and its key.
+    /// which goes to the taker; and its key. The place of a sieve is lent, which the tree of the schema alone fills.
     ///
     /// # Errors
     ///
@@ -68,18 +69,21 @@ impl<A: Allocator, S: Source, K: Sink, T: Taker> TreeWalk<'_, '_, '_, '_, A, S, 
         bench: &mut Bench<A>,
         page: u32,
         i: u32,
+        sieve: &mut Option<RowSieve>,
     ) -> Result<(), RunError>
         requires level { length self.old.tree.path.items < 20 }
         requires page { IsPageNumber page }
+        requires empty { 1 ≤ self.old.tree.start → sieve.old ≡ None }
         ensures walked { Walked S.held K.held T.refusals result bench.old.geometry bench.new.geometry self.old self.new }
         ensures levels { bench.new.levels ≡ bench.old.levels }
         ensures tree { IsSameButGreatest self.old.tree self.new.tree }
+        ensures empty { OnOk result (1 ≤ self.old.tree.start → sieve.new ≡ None) }
         ensures log { SaysOfFiles S.step S.held bench.old.geometry self.old self.new (λ file.
             AtCell T.takes file bench.old.levels page i self.old (λ from c v. Does (watches K.takes T.takes) (fails K.drops T.refuses) file
             (done_below file from (cell_errands c self.old.tree.kind v i)) result self.old self.new)) }
     {
         let cell = leaf_cell(bench, self.tree.kind, self.tree.path.len(), page, i);
-        let mut sieve = row_sieve(bench, &self.tree, page, i, self.encoding);
+        begin_row(bench, &self.tree, page, i, self.encoding, sieve);
         walk_overflow(
             self.source,
             bench,
@@ -88,11 +92,11 @@ impl<A: Allocator, S: Source, K: Sink, T: Taker> TreeWalk<'_, '_, '_, '_, A, S, 
             page,
             i,
             cell.overflow,
-            &mut sieve,
+            sieve,
             self.sink,
         )?;
         let place = RowPlace::new(page, i, cell.key);
-        tell_row(&sieve, place, self.taker, self.sink)?;
+        tell_row(sieve, place, self.taker, self.sink)?;
         tell_rowid(&mut self.tree, page, i, cell.key, self.sink)?;
         Ok(())
     }

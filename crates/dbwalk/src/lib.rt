@@ -5,10 +5,9 @@
 //! the starts one after another. It lends a source, a bench of page buffers, the marks of all pages, a [`Sink`] for what is
 //! told and a [`Taker`] for the rows of the schema. At both traits stands an `impl` of which nothing is claimed, to copy.
 //!
-//! **Marks** (specs/Marking). A page has the mark of the visit that came to it, with the page that refers to it: marks are
-//! what is left of all visits so far, so that whether a reference may be followed is seen from one mark. A page is marked
-//! before it is read, and is not read where that is refused: hence no page is read twice, whatever the source answers
-//! (specs/Reads).
+//! **Marks** (`dbmarks`) are what is left of all visits so far, so that whether a reference may be followed is seen from one mark.
+//! A page is marked before it is read, and is not read where that is refused: hence no page is read twice, whatever the source
+//! answers (`Reads`).
 //!
 //! **What a call has done** (specs/Underway, Watching and Done). A walk goes along the events of a trace; `dbtrace` says what it
 //! keeps of them, its progress, and which items it hands out: findings to the sink, rows of the schema to the taker. Of each
@@ -28,9 +27,8 @@
 //! **Pages told at once** (specs/LeafCells). Where one reading of a page tells all of its cells, the row and the faults are told
 //! from that; and of a leaf of which nothing but the keys is left to look at, the first key and the last stand for all cells.
 //!
-//! **Rows of the schema** (specs/Taking) go to the taker where they stand; what it answers decides S04.
-//!
-//! At the end the marks alone tell which pages nothing refers to: [`marks_tell_the_end`].
+//! **Rows of the schema** (specs/Taking) go to the taker where they stand; what it answers decides S04. The walk over a leaf lends
+//! its cells the place of the sieve that takes a row's payload, which other trees leave empty.
 #![tactic(auto)]
 
 mod cells;
@@ -38,7 +36,6 @@ mod chain;
 mod entering;
 mod freelist;
 mod leaf;
-mod marks;
 mod overflow;
 mod page;
 mod page_entry;
@@ -55,9 +52,9 @@ mod visit;
 
 pub use dbbytes::{RowKind, SchemaRow};
 pub use dbformat::{Encoding, Fault, FaultCode, Geometry, PageType};
+pub use dbmarks::{Mark, Marks};
 pub use dbsource::{Bench, RunError, Source, WriteFailed};
 pub use freelist::walk_freelist;
-pub use marks::{Mark, Marks, marks_tell_the_end, walks_read_each_page_once};
 pub use root::{Root, RootKind};
 pub use sink::{Row, Sink};
 pub use taker::{Taken, Taker};

@@ -8,7 +8,7 @@ ghost use Rattle.dbwalk.specs.Walked.{Does, SaysOfFiles, Walked};
 ghost use Rattle.dbwalk.specs.Watching.{fails, watches};
 ghost use Rattle.dbwalk.specs.Walking.{IsCandidate, IsOpen};
 ghost use Rattle.dbwalk.specs.Entered.{IsStepOf};
-ghost use Rattle.dbwalk.specs.Marking.{IsUse, unmarked_pages, named_page};
+ghost use Rattle.dbmarks.specs.Marking.{IsUse, unmarked_pages, named_page};
 ghost use Rattle.dbwalk.specs.Standing.{AtPage, AtReference};
 
 use crate::entering::{Step, enter};

@@ -95,7 +95,7 @@ fn take_row<K: Sink, T: Taker>(
     ensures writes { SinkAfter is_write_failed result (K.held sink.old) (K.held sink.new) }
     ensures refusals { T.refusals taker.new ≡ failures_after is_out_of_memory result (T.refusals taker.old) }
     ensures only { IfErr result IsWriteOrMemory }
-    ensures told { TellsRow K.takes K.drops T.takes T.refuses place (seen row.entry) result sink.old sink.new taker.old taker.new }
+    ensures told { TellsRow K.takes K.drops T.takes T.refuses (place, seen row.entry) result (sink.old, taker.old) (sink.new, taker.new) }
 {
     match row {
         Err(fault) => sink.fault(&place.row_fault(fault))?,
@@ -125,7 +125,7 @@ pub(crate) fn tell_row<K: Sink, T: Taker>(
     ensures only { IfErr result IsWriteOrMemory }
     ensures none { sieve.now ≡ None → (result ≡ Ok tt) × (sink.new ≡ sink.old) × (taker.new ≡ taker.old) }
     ensures told { (size : ℕ) (e : Encoding) (bytes : List ℕ) → HasFed sieve.now size e bytes
-        → TellsRow K.takes K.drops T.takes T.refuses place (schema_row bytes size e) result sink.old sink.new taker.old taker.new }
+        → TellsRow K.takes K.drops T.takes T.refuses (place, schema_row bytes size e) result (sink.old, taker.old) (sink.new, taker.new) }
 {
     match sieve {
         None => Ok(()),
@@ -133,9 +133,9 @@ pub(crate) fn tell_row<K: Sink, T: Taker>(
     }
 }
 
-/// A sieve that has taken what stands of the payload in cell `i` of the leaf at the level of the tree's path, where this is
-/// the tree of the schema; none for other trees, and for a cell that cannot be read.
-pub(crate) fn row_sieve<A: Allocator>(
+// A sieve that has taken what stands of the payload in cell `i` of the leaf at the level of the tree's path; none for a cell
+// that cannot be read.
+fn row_sieve<A: Allocator>(
     bench: &Bench<A>,
     tree: &Tree,
     page: u32,
@@ -143,13 +143,8 @@ pub(crate) fn row_sieve<A: Allocator>(
     encoding: Encoding,
 ) -> Option<RowSieve>
     requires { length tree.now.path.items < 20 }
-    ensures schema { tree.now.start ≡ schema_start
-        → HasSieve bench.now.geometry.usable tree.now.kind bench.now.levels (length tree.now.path.items) page i encoding result }
-    ensures other { 1 ≤ tree.now.start → result ≡ None }
+    ensures { HasSieve bench.now.geometry.usable tree.now.kind bench.now.levels (length tree.now.path.items) page i encoding result }
 {
-    if tree.start != 0 {
-        return None;
-    }
     let usable = bench.geometry().usable;
     let Ok(view) = undamaged(bench.page(tree.path.len()), page, usable, tree.kind) else {
         return None;
@@ -164,5 +159,41 @@ pub(crate) fn row_sieve<A: Allocator>(
             Some(sieve)
         }
         Err(_) => None,
+    }
+}
+
+// Puts that sieve where one is kept. It is a function of its own so that only a row of the schema costs the room of one more.
+#[inline(never)]
+fn put_sieve<A: Allocator>(
+    bench: &Bench<A>,
+    tree: &Tree,
+    page: u32,
+    i: u32,
+    encoding: Encoding,
+    sieve: &mut Option<RowSieve>,
+)
+    requires { length tree.now.path.items < 20 }
+    ensures { HasSieve bench.now.geometry.usable tree.now.kind bench.now.levels (length tree.now.path.items) page i encoding sieve.new }
+{
+    *sieve = row_sieve(bench, tree, page, i, encoding);
+}
+
+/// Where this is the tree of the schema: the sieve is one then that has taken what stands of the payload in cell `i` of the
+/// leaf at the level of the tree's path, or none for a cell that cannot be read. In other trees it stays.
+pub(crate) fn begin_row<A: Allocator>(
+    bench: &Bench<A>,
+    tree: &Tree,
+    page: u32,
+    i: u32,
+    encoding: Encoding,
+    sieve: &mut Option<RowSieve>,
+)
+    requires { length tree.now.path.items < 20 }
+    ensures schema { tree.now.start ≡ schema_start
+        → HasSieve bench.now.geometry.usable tree.now.kind bench.now.levels (length tree.now.path.items) page i encoding sieve.new }
+    ensures other { 1 ≤ tree.now.start → sieve.new ≡ sieve.old }
+{
+    if tree.start == 0 {
+        put_sieve(bench, tree, page, i, encoding, sieve);
     }
 }

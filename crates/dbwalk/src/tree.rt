@@ -9,7 +9,7 @@ ghost use Rattle.dbsource.specs.Errors.{is_out_of_memory, is_read_failed, is_wri
 ghost use Rattle.dbsource.specs.Failures.{failures_after};
 ghost use Rattle.dbsource.specs.Sources.{Asks};
 ghost use Rattle.dbwalk.specs.Telling.{IsReadOrWrite, IsReadWriteOrMemory, SinkAfter};
-ghost use Rattle.dbwalk.specs.Reads.{Reads};
+ghost use Rattle.dbmarks.specs.Reads.{Reads};
 ghost use Rattle.dbwalk.specs.Taking.{StartsEmpty};
 ghost use Rattle.dbwalk.specs.Roots.{IsRootAfter};
 ghost use Rattle.dbwalk.specs.Standing.{AtRoot};

@@ -8,13 +8,12 @@ ghost use Rattle.dbowner.specs.Explained.{page_line, line_of_start, tree_of_row}
 ghost use Rattle.dbowner.specs.Notes.{place_front, place_end, start_front, page_front, place_tree, start_tree};
 
 use crate::explain::tree_line::TreeNames;
+use crate::page_trees::FREELIST_START;
 use crate::place::Place;
 use arrayvec::ArrayVec;
 use dblines::{append, append_number};
 use dbsource::{Fixed, Geometry, Out, WriteFailed};
 use std::alloc::Allocator;
-
-const FREELIST_START: u32 = 65537;
 
 /// Where a page is: what it is there, and the start that it belongs to.
 #[derive(Clone, Copy, Debug, PartialEq, Eq)]
@@ -24,8 +23,8 @@ pub struct Spot {
     pub start: Option<u32>,
 }
 
-// What stands before the tree of a page.
-fn place_front(fixed: Option<Fixed>, place: Place) -> &'static str
+/// What stands before the tree of a page, by the page's fixed use, if it has one.
+pub fn place_front(fixed: Option<Fixed>, place: Place) -> &'static str
     ensures text { result.now ≡ place_front fixed place }
     ensures short { length result.now ≤ 39 }
 {
@@ -42,8 +41,8 @@ fn place_front(fixed: Option<Fixed>, place: Place) -> &'static str
     }
 }
 
-// The start whose tree a page is said to be in.
-fn place_tree(place: Place, start: Option<u32>) -> Option<u32>
+/// The start whose tree a page is said to be in.
+pub fn place_tree(place: Place, start: Option<u32>) -> Option<u32>
     ensures { result ≡ place_tree place start }
 {
     match place {

@@ -20,8 +20,12 @@ pub struct TreeNames<'a, A: Allocator = Global> {
 }
 
 impl<A: Allocator> TreeNames<'_, A> {
-    // Puts the text of the tree of a start.
-    fn put_tree<O: Out>(&self, out: &mut O, start: u32) -> Result<(), WriteFailed>
+    /// Puts the text of the tree of a start: its kind and its name, or nothing where the list has no such row.
+    ///
+    /// # Errors
+    ///
+    /// [`WriteFailed`] where a put failed. A beginning of the text was put then.
+    pub fn put_tree<O: Out>(&self, out: &mut O, start: u32) -> Result<(), WriteFailed>
         ensures { Puts result (O.held out.old) (O.held out.new) (tree_of_row self.now.encoding self.now.roots.now.rows start) }
     {
         if start == 0 {

@@ -16,13 +16,13 @@ use Rattle.dbbytes.specs.declared.sieve.RowSieve.{RowSieve}
 use Rattle.dbsource.specs.declared.error.RunError.{RunError}
 use Rattle.dbwalk.specs.declared.chain.Chain.{Chain}
 use Rattle.dbwalk.specs.declared.chain.Place.{Place}
-use Rattle.dbwalk.specs.declared.marks.Mark.{Mark}
-use Rattle.dbwalk.specs.declared.marks.Mark.TheVariants.{FirstOverflow, LaterOverflow}
+use Rattle.dbmarks.specs.declared.marks.Mark.{Mark}
+use Rattle.dbmarks.specs.declared.marks.Mark.TheVariants.{FirstOverflow, LaterOverflow}
 use Rattle.dbwalk.specs.Chains.{IsChainOf, IsOnWay, next_of, Feeds, FeedsChain}
 use Rattle.dbwalk.specs.Done.{IsDone, IsLeft}
 use Rattle.dbwalk.specs.Entered.{IsNext, Enters}
 use Rattle.dbtrace.specs.Finding.{Finding, told_at, told_below}
-use Rattle.dbwalk.specs.Marking.{role_mark, AreMarksOf}
+use Rattle.dbmarks.specs.Marking.{role_mark, AreMarksOf}
 use Rattle.dbwalk.specs.Telling.{StopsBy}
 use Rattle.dbwalk.proofs.Telling.Belows.{told_visit}
 use Rattle.dbwalk.proofs.Chaining.Feedings.{feeds_none, feeds_page, fed_whole, fed_refused}
@@ -55,7 +55,7 @@ module _ {S : Type 0} (takes drops : S → Finding → S → Type 0) (file : Lis
 
   turn_visited : (marks' : List Mark) (m t : S) → Enters takes drops file on.visited on.d (Ok true) marks' s m
       → Moves takes m (told_at file (on.visited ++ (on.d ∷ [])) (at_page on.d)) t
-      → IsLeft takes file W (Go c ∷ []) before (on.visited ++ (on.d ∷ [])) (errands_of (story_of file) on.d ++ []) marks' t
+      → IsLeft takes file W (Go c ∷ []) before (on.visited ++ (on.d ∷ [])) (errands_of (story_of file) on.d ++ []) (marks', t)
   turn_visited marks' m t e h = left_visit takes file W (Go c ∷ []) before on.visited marks s t marks' on.d [] on.rest e.0 (quiet_chain file on.d place.left on.left) e.1
       (subst (λ y. Moves takes y (told_at file (on.visited ++ (on.d ∷ [])) (at_page on.d)) t) (sym e.2) h)
 
@@ -68,7 +68,7 @@ module _ {S : Type 0} (takes drops : S → Finding → S → Type 0) (file : Lis
       → (new : Option RowSieve) → Feeds old (held_bytes file on.d) new
       → IsDone {A = Unit {0}} takes drops file W (Go c ∷ []) (Ok tt) marks' before t × FeedsChain file W c first new
   turn_last marks' m t e h l new f =
-      let n = subst (λ es. IsLeft takes file W (Go c ∷ []) before (on.visited ++ (on.d ∷ [])) es marks' t) (ap (λ es. es ++ []) (last_errands file on.d place.left on.left l)) (turn_visited marks' m t e h) in (
+      let n = subst (λ es. IsLeft takes file W (Go c ∷ []) before (on.visited ++ (on.d ∷ [])) es (marks', t)) (ap (λ es. es ++ []) (last_errands file on.d place.left on.left l)) (turn_visited marks' m t e h) in (
         left_none takes file W (Go c ∷ []) before (on.visited ++ (on.d ∷ [])) marks' t drops tt n,
         fed_whole file W c first new (on.pages ++ on.d ∷ []) (on.visited ++ on.d ∷ []) (feeds_page file first old new on.pages on.d on.fed f) since_more n.visits,
       )
@@ -91,7 +91,7 @@ module _ {S : Type 0} (takes drops : S → Finding → S → Type 0) (file : Lis
     step = record { page = ap (λ p. overflow_next (page_bytes file p)) on.step.page ∙ sym n; mark = ap LaterOverflow on.step.page; from = on.step.page; item = refl; deep = refl };
     left = refl;
     on = next_on_chain chain place.number on.d (place.left - (usable_size file - 4)) (overflow_next (page_bytes file on.d.page)) on.on;
-    rest = subst (λ es. IsLeft takes file W (Go c ∷ []) before (on.visited ++ (on.d ∷ [])) es marks' t) (ap (λ es. es ++ []) (more_errands file on.d place.left on.left l)) (turn_visited marks' m t e h);
+    rest = subst (λ es. IsLeft takes file W (Go c ∷ []) before (on.visited ++ (on.d ∷ [])) es (marks', t)) (ap (λ es. es ++ []) (more_errands file on.d place.left on.left l)) (turn_visited marks' m t e h);
   }
 
   pub turn_more_by : (marks' : List Mark) (m t : S) (next room : ℕ) → room ≡ usable_size file - 4 → Enters takes drops file on.visited on.d (Ok true) marks' s m

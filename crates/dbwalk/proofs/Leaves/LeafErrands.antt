@@ -1,6 +1,6 @@
 -- What a cell of a leaf leads to: its overflow chain, and then its own event.
-use Rattle.std.proofs.Common.{◌≡◌, ℕ, ◌+◌, ◌-◌, ◌*◌, ◌%◌, ◌/◌, Bool, true, false, cond, inl, inr, List, [], ◌∷◌, ◌++◌, length, map, Option, Some, None, Result, Ok, Err, ℤ, refl, sym, ap, subst, arith, ◌∙◌}
-use Rattle.std.specs.Prelude.{take, drop, nat_le, nat_lt, ok_or, option_map, option_and_then, option_to_list, ◌==◌, ◌&&◌}
+use Rattle.std.proofs.Common.{◌≡◌, ℕ, ◌+◌, ◌-◌, ◌*◌, ◌%◌, ◌/◌, ◌<◌, Bool, true, false, cond, inl, inr, List, [], ◌∷◌, ◌++◌, length, map, Option, Some, None, Result, Ok, Err, ℤ, refl, sym, ap, subst, arith, ◌∙◌}
+use Rattle.std.specs.Prelude.{take, drop, nat_le, nat_lt, ok_or, option_map, option_and_then, option_to_list, slice_get, ◌==◌, ◌&&◌}
 use Rattle.std.specs.Option.{option_map_or}
 use Rattle.std.specs.Result.{result_ok}
 use Rattle.std.proofs.lemmas.List.{append-nil}
@@ -31,11 +31,11 @@ use Rattle.dbformat.specs.declared.TreeKind.{TreeKind}
 use Rattle.dbtrace.specs.Finding.{Finding}
 use Rattle.dbwalk.specs.Chains.{IsOnChain, IsChainOf}
 use Rattle.dbwalk.specs.Done.{IsDone}
-use Rattle.dbwalk.specs.LeafCells.{overflow_errands, AreBefore}
-use Rattle.dbwalk.specs.Marking.{AreMarksOf}
+use Rattle.dbwalk.specs.LeafCells.{HasCells, HasCell, overflow_errands, AreBefore}
+use Rattle.dbmarks.specs.Marking.{AreMarksOf}
 use Rattle.dbwalk.specs.Walking.{IsLeafAt}
 use Rattle.dbwalk.specs.declared.chain.Chain.{Chain}
-use Rattle.dbwalk.specs.declared.marks.Mark.{Mark}
+use Rattle.dbmarks.specs.declared.marks.Mark.{Mark}
 use Rattle.dbwalk.proofs.Pages.PageTellings.{view_is}
 use Rattle.dbwalk.proofs.Telling.Belows.{visited_none, told_none}
 
@@ -172,9 +172,19 @@ chain_start chain file kind k children c levels p i first left at start path pag
         none m e = omega arith
     by_address (x ∷ a) s d q n = let f = chain_first a i n in record { start = s ∙ sym start; path = f.0 ∙ q ∙ sym path; place = f.1 ∙ ap (λ j. Some (j, 0)) (sym item) }
 
-pub view_back : (file : List ℕ) (kind : TreeKind) (k : ℕ) (children : List ℕ) (c : Reference) (levels : List (List ℕ)) (p : ℕ) (v : View) → IsLeafAt file kind k children c levels p → tree_view file c ≡ Some v
-    → undamaged kind p (usable_size file) (page_bytes file p) ≡ Some v
-view_back file kind k children c levels p v at e = ap (λ q. undamaged kind q (usable_size file) (page_bytes file q)) (sym at.page) ∙ sym (view_is file c kind at.kind_is) ∙ e
+-- what a program reads off the leaf at its level: its page, the number of its cells, and a cell
+module _ (file : List ℕ) {kind : TreeKind} {k : ℕ} {children : List ℕ} {c : Reference} {levels : List (List ℕ)} {p : ℕ} {v : View} (at : IsLeafAt file kind k children c levels p) (viewed : tree_view file c ≡ Some v) {usable : ℕ} (usables : usable ≡ usable_size file) where
+  pub seen_here : undamaged kind p usable (page_bytes file p) ≡ Some v
+  seen_here = ap (λ u. undamaged kind p u (page_bytes file p)) usables ∙ ap (λ q. undamaged kind q (usable_size file) (page_bytes file q)) (sym at.page) ∙ sym (view_is file c kind at.kind_is) ∙ viewed
+
+  pub cells_here : {level n : ℕ} → level ≡ length children → HasCells usable kind levels level p n → n ≡ count v
+  cells_here deep has = has.count_is (page_bytes file p) v (ap (slice_get levels) deep ∙ at.bytes) seen_here
+
+  pub cell_here : {level i : ℕ} {overflow : Option (ℕ × ℕ)} {key : Option ℤ} → level ≡ length children → HasCell usable kind levels level p i overflow key → i < count v
+      → (overflow ≡ read_overflow (result_ok (cell v i))) × (key ≡ option_and_then (λ c. c.key) (result_ok (cell v i)))
+  cell_here deep has low =
+      let there = ap (slice_get levels) deep ∙ at.bytes in
+      (has.chain (page_bytes file p) v there seen_here low, has.key_is (page_bytes file p) v there seen_here low)
 
 -- visits that all stand before the place of its chain stand before all that it leads to
 pub past_cell : (U : List Reference) (c : Reference) (i : ℕ) (overflow : Option (ℕ × ℕ)) → AreBefore U (then_step c.address (overflow_step i)) → IsPast U (overflow_errands c i overflow)

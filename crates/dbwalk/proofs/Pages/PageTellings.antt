@@ -103,6 +103,12 @@ told_stop (Ok b) r L M e f h = cc
 told_stop (Err b) (Ok c) L M e f h = cc
 told_stop (Err b) (Err c) {s} {t} L M e f h = record { items = stops_first _ _ s t L M h.items; count = h.count }
 
+-- the same error, of a call that answers something else
+pub told_same : {S I A B E F : Type 0} {takes drops : S → I → S → Type 0} {held : S → SinkState} {e : E} {f : F} (r0 : Result A E) (r : Result B F) {s t : S} {L : List I} → r0 ≡ Err e → r ≡ Err f → IsTold takes drops held r0 s L t → IsTold takes drops held r s L t
+told_same (Ok b) r e f h = cc
+told_same (Err b) (Ok c) e f h = cc
+told_same (Err b) (Err c) e f h = record { items = h.items; count = h.count }
+
 -- the answer does not matter beyond Ok
 pub told_ok : {S I A B E : Type 0} {takes drops : S → I → S → Type 0} {held : S → SinkState} {a : A} (b : B) (r0 : Result A E) {s t : S} {L : List I} → r0 ≡ Ok a → IsTold takes drops held r0 s L t → IsTold {E = E} takes drops held (Ok b) s L t
 told_ok b (Ok a) e h = record { items = h.items; count = h.count }

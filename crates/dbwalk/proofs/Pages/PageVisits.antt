@@ -22,7 +22,7 @@ use Rattle.dbwalk.specs.LeafCells.{first_depth}
 use Rattle.dbwalk.specs.Found.{damaged_row, undamaged_findings, page_findings, damaged_findings, StandsAt, IsDamagedAt, IsOpenLeaf}
 use Rattle.dbwalk.specs.Telling.{findings, IsTold, SinkState}
 use Rattle.dbwalk.specs.Walking.{IsCandidate, role_at, IsOpen, IsLeafAt}
-use Rattle.dbwalk.proofs.Pages.PageTellings.{is_child, page_told, view_is, row_of_view, row_of_damage, told_then, told_stop, told_ok}
+use Rattle.dbwalk.proofs.Pages.PageTellings.{is_child, page_told, view_is, row_of_view, row_of_damage, told_then, told_stop, told_same, told_ok}
 use Rattle.dbsurvey.specs.Traverse.{is_followed}
 use Rattle.dbformat.specs.Survey.{rules_of}
 use Rattle.dbtrace.specs.Walk.{Walk}
@@ -157,12 +157,7 @@ module _ {S : Type 0} (A E : Type 0) (takes drops : S → Finding → S → Type
     )
 
     pub exit_damaged_stop : (new : Option ℕ) (r : Result A E) {e x : E} → r0 ≡ Err e → r ≡ Err x → Exit r t new
-    exit_damaged_stop new r e f = (subst (λ L. IsTold takes drops held r s L t) (sym all_told) (same r0 r e f told), on_err _ r f)
-      where
-        same : {L : List Finding} {e x : E} (r0 : Result B E) (r : Result A E) → r0 ≡ Err e → r ≡ Err x → IsTold takes drops held r0 s L t → IsTold takes drops held r s L t
-        same (Ok b) r e f h = cc
-        same (Err y) (Ok b) e f h = cc
-        same (Err y) (Err z) e f h = record { items = h.items; count = h.count }
+    exit_damaged_stop new r e f = (subst (λ L. IsTold takes drops held r s L t) (sym all_told) (told_same r0 r e f told), on_err _ r f)
 
   module _ (v : View) (viewed : undamaged kind p usable bytes ≡ Some v) (number : v.number ≡ p) (within : (b : Bool) → tree_page_faults kind b p usable bytes ≡ inner_faults v b) {B : Type 0} (r0 : Result B E) (t : S)
       (told : IsTold takes drops held r0 s (undamaged_findings k path' v (nat_lt 1 depth)) t) where
@@ -211,17 +206,12 @@ module _ {S : Type 0} (A E : Type 0) (takes drops : S → Finding → S → Type
       )
 
       pub exit_leaf_stop : (new : Option ℕ) (r : Result A E) {e x : E} → r1 ≡ Err e → r ≡ Err x → Exit r t1 new
-      exit_leaf_stop new r e f = (same r1 r e f both_told, on_err _ r f)
-        where
-          same : {L : List Finding} {e x : E} (r0 : Result C E) (r : Result A E) → r0 ≡ Err e → r ≡ Err x → IsTold takes drops held r0 s L t1 → IsTold takes drops held r s L t1
-          same (Ok b) r e f h = cc
-          same (Err y) (Ok b) e f h = cc
-          same (Err y) (Err z) e f h = record { items = h.items; count = h.count }
+      exit_leaf_stop new r e f = (told_same r1 r e f both_told, on_err _ r f)
 
 -- A page of a tree that was read, by what it was found to be.
 
-module _ (file : List ℕ) (kind : TreeKind) (k : ℕ) (children : List ℕ) (p from item : ℕ) (c : Reference) (candidate : IsCandidate kind k children p from item c)
-    (levels levels' : List (List ℕ)) (there : StandsAt levels (length children) (page_bytes file p)) (same : levels' ≡ levels) (kind' : TreeKind) (kinds : kind' ≡ kind) (usable : ℕ) (usables : usable ≡ usable_size file) where
+module _ (file : List ℕ) {kind : TreeKind} {k : ℕ} {children : List ℕ} {p from item : ℕ} {c : Reference} (candidate : IsCandidate kind k children p from item c)
+    {levels levels' : List (List ℕ)} (there : StandsAt levels (length children) (page_bytes file p)) (same : levels' ≡ levels) {kind' : TreeKind} (kinds : kind' ≡ kind) {usable : ℕ} (usables : usable ≡ usable_size file) where
   bytes_are : (bytes : List ℕ) → slice_get levels' (length children) ≡ Some bytes → bytes ≡ page_bytes file p
   bytes_are bytes e = there bytes (ap (λ ls. slice_get ls (length children)) (sym same) ∙ e)
 
@@ -245,7 +235,7 @@ module _ (file : List ℕ) (kind : TreeKind) (k : ℕ) (children : List ℕ) (p 
   found_view found = view_of found.bytes (Some found.view) found.there found.viewed
 
   -- a leaf, for the state that has come to its cells
-  module _ (kind'' : TreeKind) (now_is : kind'' ≡ kind) (k' : ℕ) (starts : k' ≡ k) (children' : List ℕ) (ways : children' ≡ children) (found : IsOpenLeaf usable kind' levels' (length children) p) where
+  module _ {kind'' : TreeKind} (now_is : kind'' ≡ kind) {k' : ℕ} (starts : k' ≡ k) {children' : List ℕ} (ways : children' ≡ children) (found : IsOpenLeaf usable kind' levels' (length children) p) where
     pub found_leaf : IsLeafAt file kind'' k' children' c levels' p
     found_leaf = record {
       page = candidate.page;

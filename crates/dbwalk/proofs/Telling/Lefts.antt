@@ -16,19 +16,19 @@ use Rattle.dbformat.specs.Survey.{rules_of, refused, is_too_deep}
 use Rattle.dbformat.specs.Story.{Event, at_page, at_refused, own_visit, story_of}
 use Rattle.dbformat.proofs.Theory.{are_rules, is_story}
 use Rattle.dbsource.specs.declared.error.RunError.{RunError}
-use Rattle.dbwalk.specs.declared.marks.Mark.{Mark}
-use Rattle.dbwalk.specs.Marking.{AreMarksOf, visit_mark, page_mark}
+use Rattle.dbmarks.specs.declared.marks.Mark.{Mark}
+use Rattle.dbmarks.specs.Marking.{AreMarksOf, visit_mark, page_mark, refusal_by}
 use Rattle.dbtrace.specs.Finding.{Finding, told_at, told_below, visited_below, told_fault}
 use Rattle.dbwalk.specs.Telling.{StopsBy}
 use Rattle.dbwalk.specs.Done.{IsDone, IsLeft}
-use Rattle.dbwalk.specs.Entered.{Enters, IsNext, IsStepOf, refusal_by}
+use Rattle.dbwalk.specs.Entered.{Enters, IsNext, IsStepOf}
 use Rattle.dbwalk.proofs.Telling.Belows.{stops_by_first, stops_by_after, visited_none, visited_refused, visited_visit, visited_join, told_none, told_join, told_refused, told_visit}
 use Rattle.std.specs.Prelude.{pos}
 use Rattle.dbformat.specs.ReferenceFaults.{refusal_fault}
 use Rattle.dbformat.specs.declared.FaultCode.{FaultCode}
-use Rattle.dbwalk.specs.declared.marks.Mark.TheVariants.{Unmarked, Fixed, Root, Trunk, FreeLeaf, FirstOverflow, LaterOverflow, Child}
+use Rattle.dbmarks.specs.declared.marks.Mark.TheVariants.{Unmarked, Fixed, Root, Trunk, FreeLeaf, FirstOverflow, LaterOverflow, Child}
 use Rattle.dbwalk.specs.declared.entering.Step.{Step}
-use Rattle.dbwalk.proofs.Marking.Markings.{refused-by_mark, followed-unrefused, followed-refused, marked-visit}
+use Rattle.dbmarks.proofs.Markings.{refused-by_mark, followed-unrefused, followed-refused, marked-visit}
 
 past_rest : (U : List Reference) (e : Errand Way Event) (es : List (Errand Way Event)) → IsPast U (e ∷ es) → IsPast U es
 past_rest U e es h u f i j = h u f i (inr j)
@@ -55,13 +55,13 @@ past_visit_all file U c es past apart u f i j = elim (IsIn-cases f (errands_of (
 
 module _ {S : Type 0} (takes : S → Finding → S → Type 0) (file : List ℕ) (W : List Reference) (errands : List (Errand Way Event)) (before : S) where
   -- at the start all is left
-  pub left_start : (marks : List Mark) → AreMarksOf file W marks → IsPast W errands → AreErrandsApart errands → IsLeft takes file W errands before W errands marks before
+  pub left_start : (marks : List Mark) → AreMarksOf file W marks → IsPast W errands → AreErrandsApart errands → IsLeft takes file W errands before W errands (marks, before)
   left_start marks m p a = record { marked = m; past = p; apart = a; visits = refl; items = []; told = refl; rest = refl }
 
   module _ (U : List Reference) (marks : List Mark) (s : S) where
     -- a candidate is refused, and that is told
-    pub left_refused : (t : S) (marks' : List Mark) (c : Reference) (es : List (Errand Way Event)) → IsLeft takes file W errands before U (Go c ∷ es) marks s → is_followed (rules_of file) U c ≡ false
-        → AreMarksOf file U marks' → Moves takes s (told_at file U (at_refused c)) t → IsLeft takes file W errands before U es marks' t
+    pub left_refused : (t : S) (marks' : List Mark) (c : Reference) (es : List (Errand Way Event)) → IsLeft takes file W errands before U (Go c ∷ es) (marks, s) → is_followed (rules_of file) U c ≡ false
+        → AreMarksOf file U marks' → Moves takes s (told_at file U (at_refused c)) t → IsLeft takes file W errands before U es (marks', t)
     left_refused t marks' c es h f marked m = record {
       marked = marked;
       past = past_rest U (Go c) es h.past;
@@ -73,9 +73,9 @@ module _ {S : Type 0} (takes : S → Finding → S → Type 0) (file : List ℕ)
     }
 
     -- a candidate is visited: it is marked, and its own event is told
-    pub left_visit : (t : S) (marks' : List Mark) (c : Reference) (es : List (Errand Way Event)) → IsLeft takes file W errands before U (Go c ∷ es) marks s → is_followed (rules_of file) U c ≡ true
+    pub left_visit : (t : S) (marks' : List Mark) (c : Reference) (es : List (Errand Way Event)) → IsLeft takes file W errands before U (Go c ∷ es) (marks, s) → is_followed (rules_of file) U c ≡ true
         → AreQuiet own_visit (errands_of (story_of file) c) → AreMarksOf file (U ++ (c ∷ [])) marks'
-        → Moves takes s (told_at file (U ++ (c ∷ [])) (at_page c)) t → IsLeft takes file W errands before (U ++ (c ∷ [])) (errands_of (story_of file) c ++ es) marks' t
+        → Moves takes s (told_at file (U ++ (c ∷ [])) (at_page c)) t → IsLeft takes file W errands before (U ++ (c ∷ [])) (errands_of (story_of file) c ++ es) (marks', t)
     left_visit t marks' c es h f quiet marked m = record {
       marked = marked;
       past = past_visit_all file U c es h.past h.apart;
@@ -88,8 +88,8 @@ module _ {S : Type 0} (takes : S → Finding → S → Type 0) (file : List ℕ)
     }
 
     -- a call does the first errands
-    pub left_call : {A : Type 0} (drops : S → Finding → S → Type 0) (t : S) (marks' : List Mark) (a : A) (es fs : List (Errand Way Event)) → IsLeft takes file W errands before U (es ++ fs) marks s
-        → AreQuiet own_visit es → IsDone takes drops file U es (Ok a) marks' s t → IsLeft takes file W errands before (U ++ visited_below file U es) fs marks' t
+    pub left_call : {A : Type 0} (drops : S → Finding → S → Type 0) (t : S) (marks' : List Mark) (a : A) (es fs : List (Errand Way Event)) → IsLeft takes file W errands before U (es ++ fs) (marks, s)
+        → AreQuiet own_visit es → IsDone takes drops file U es (Ok a) marks' s t → IsLeft takes file W errands before (U ++ visited_below file U es) fs (marks', t)
     left_call drops t marks' a es fs h quiet done = record {
       marked = done.marked;
       past = past_join (rules_of file) (geometry file).pages (are_rules file) U es fs h.apart (EachPair-left (λ e f. IsLeftOf (errand_key e) (errand_key f)) es fs h.apart) (λ u f i j. h.past u f i (IsIn-right f es fs j));
@@ -101,7 +101,7 @@ module _ {S : Type 0} (takes : S → Finding → S → Type 0) (file : List ℕ)
     }
 
     -- nothing is left
-    pub left_none : {A : Type 0} (drops : S → Finding → S → Type 0) (a : A) → IsLeft takes file W errands before U [] marks s → IsDone takes drops file W errands (Ok a) marks before s
+    pub left_none : {A : Type 0} (drops : S → Finding → S → Type 0) (a : A) → IsLeft takes file W errands before U [] (marks, s) → IsDone takes drops file W errands (Ok a) marks before s
     left_none drops a h = record {
       marked = subst (λ V. AreMarksOf file V marks) (sym (append-nil U) ∙ ap (λ V. U ++ V) (sym (visited_none file U)) ∙ h.visits) h.marked;
       told = subst (λ L. Moves takes before L s) (sym (append-nil h.items) ∙ ap (λ L. h.items ++ L) (sym (told_none file U)) ∙ h.rest) h.told;
@@ -109,7 +109,7 @@ module _ {S : Type 0} (takes : S → Finding → S → Type 0) (file : List ℕ)
 
     -- an error, while the first items of what is left are told
     pub left_stop : {A : Type 0} (drops : S → Finding → S → Type 0) (t : S) (marks' : List Mark) (e : RunError) (left : List (Errand Way Event)) (part rest : List Finding)
-        → IsLeft takes file W errands before U left marks s → part ++ rest ≡ told_below file U left
+        → IsLeft takes file W errands before U left (marks, s) → part ++ rest ≡ told_below file U left
         → StopsBy takes drops e s part t → IsDone {A = A} takes drops file W errands (Err e) marks' before t
     left_stop drops t marks' e left part rest h whole k = record {
       marked = tt;
@@ -119,41 +119,29 @@ module _ {S : Type 0} (takes : S → Finding → S → Type 0) (file : List ℕ)
 
     -- an error, while it is told that a reference is refused
     pub left_untold : (drops : S → Finding → S → Type 0) (t : S) (marks' : List Mark) (e : RunError) (c : Reference) (es : List (Errand Way Event))
-        → IsLeft takes file W errands before U (Go c ∷ es) marks s → Enters takes drops file U c (Err e) marks' s t → IsDone {A = Unit {0}} takes drops file W errands (Err e) marks' before t
+        → IsLeft takes file W errands before U (Go c ∷ es) (marks, s) → Enters takes drops file U c (Err e) marks' s t → IsDone {A = Unit {0}} takes drops file W errands (Err e) marks' before t
     left_untold drops t marks' e c es h n = left_stop drops t marks' e (Go c ∷ es) _ (told_below file U es) h (sym (told_refused file U c es n.0)) n.2
 
 -- How a candidate is entered.
 
--- only a page without a mark is followed
-pub refusal_none : (o : Option Mark) (deep : Bool) → refusal_by o deep ≡ None → o ≡ Some Unmarked
-refusal_none None deep e = cc
-refusal_none (Some Unmarked) deep e = refl
-refusal_none (Some Fixed) deep e = cc
-refusal_none (Some Root) true e = cc
-refusal_none (Some Root) false e = cc
-refusal_none (Some Trunk) true e = cc
-refusal_none (Some Trunk) false e = cc
-refusal_none (Some FreeLeaf) true e = cc
-refusal_none (Some FreeLeaf) false e = cc
-refusal_none (Some (FirstOverflow from)) true e = cc
-refusal_none (Some (FirstOverflow from)) false e = cc
-refusal_none (Some (LaterOverflow from)) true e = cc
-refusal_none (Some (LaterOverflow from)) false e = cc
-refusal_none (Some (Child from)) true e = cc
-refusal_none (Some (Child from)) false e = cc
-
--- and only a reference that does not lead too deep
-pub refusal_shallow : (o : Option Mark) (deep : Bool) → refusal_by o deep ≡ None → deep ≡ false
-refusal_shallow o false e = refl
-refusal_shallow None true e = cc
-refusal_shallow (Some Unmarked) true e = cc
-refusal_shallow (Some Fixed) true e = cc
-refusal_shallow (Some Root) true e = cc
-refusal_shallow (Some Trunk) true e = cc
-refusal_shallow (Some FreeLeaf) true e = cc
-refusal_shallow (Some (FirstOverflow from)) true e = cc
-refusal_shallow (Some (LaterOverflow from)) true e = cc
-refusal_shallow (Some (Child from)) true e = cc
+-- only a page without a mark is followed, by a reference that does not lead too deep
+pub refusal_none : (o : Option Mark) (deep : Bool) → refusal_by o deep ≡ None → (o ≡ Some Unmarked) × (deep ≡ false)
+refusal_none (Some Unmarked) false e = (refl, refl)
+refusal_none None deep e = absurd (cc)
+refusal_none (Some Fixed) deep e = absurd (cc)
+refusal_none (Some Unmarked) true e = absurd (cc)
+refusal_none (Some Root) true e = absurd (cc)
+refusal_none (Some Root) false e = absurd (cc)
+refusal_none (Some Trunk) true e = absurd (cc)
+refusal_none (Some Trunk) false e = absurd (cc)
+refusal_none (Some FreeLeaf) true e = absurd (cc)
+refusal_none (Some FreeLeaf) false e = absurd (cc)
+refusal_none (Some (FirstOverflow from)) true e = absurd (cc)
+refusal_none (Some (FirstOverflow from)) false e = absurd (cc)
+refusal_none (Some (LaterOverflow from)) true e = absurd (cc)
+refusal_none (Some (LaterOverflow from)) false e = absurd (cc)
+refusal_none (Some (Child from)) true e = absurd (cc)
+refusal_none (Some (Child from)) false e = absurd (cc)
 
 module _ (file : List ℕ) (W : List Reference) (c : Reference) (marks : List Mark) (step : Step) (is : IsStepOf step c) (next : IsNext W c) (m : AreMarksOf file W marks) where
   before : (u : Reference) → IsIn u W → IsBefore u.address c.address
@@ -168,7 +156,7 @@ module _ (file : List ℕ) (W : List Reference) (c : Reference) (marks : List Ma
     followed-unrefused file W c before (refused-is ∙ h),
     subst (λ x. AreMarksOf file (W ++ (c ∷ [])) (set marks (step.page - 1) x)) is.mark
         (subst (λ p. AreMarksOf file (W ++ (c ∷ [])) (set marks (p - 1) (visit_mark c))) is.page
-        (marked-visit file W c marks m (ap (λ p. page_mark marks p) is.page ∙ refusal_none (page_mark marks step.page) step.is_too_deep h))),
+        (marked-visit file W c marks m (ap (λ p. page_mark marks p) is.page ∙ (refusal_none (page_mark marks step.page) step.is_too_deep h).0))),
   )
 
   pub entered_no : (code : FaultCode) → refusal_by (page_mark marks step.page) step.is_too_deep ≡ Some code

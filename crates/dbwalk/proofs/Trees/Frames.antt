@@ -10,8 +10,8 @@ use Rattle.dbformat.specs.FixedPages.{most_pages, IsPageNumber}
 use Rattle.dbformat.specs.Cell.{count}
 use Rattle.dbformat.specs.Head.{undamaged, View}
 use Rattle.dbformat.specs.declared.TreeKind.{TreeKind}
-use Rattle.dbwalk.specs.Marking.{unmarked_pages}
-use Rattle.dbwalk.specs.declared.marks.Mark.{Mark}
+use Rattle.dbmarks.specs.Marking.{unmarked_pages}
+use Rattle.dbmarks.specs.declared.marks.Mark.{Mark}
 use Rattle.dbwalk.specs.Steps.{IsEmptyAt, no_chain, no_child, unreadable, without_key, IsNextStep, HasNext}
 use Rattle.dbwalk.specs.declared.steps.Next.{Next}
 use Rattle.dbwalk.specs.declared.steps.Next.TheVariants.{Behind, Nothing, Key, Chain, Child}
@@ -128,12 +128,12 @@ cost_push (g ∷ fs) f = let r = cost_push fs f in omega arith
 pub ends_behind : (marks : List Mark) (fs : List Frame) (f : Frame) → f.next ≤ 98306 → cost marks fs < cost marks (fs ++ (f ∷ []))
 ends_behind marks fs f l = let p = cost_push fs f in omega arith
 
-pub ends_on : (marks marks' : List Mark) (fs : List Frame) (f g : Frame) → unmarked_pages marks' ≤ unmarked_pages marks → g.next ≡ suc f.next → f.next ≤ 98306 → cost marks' (fs ++ (g ∷ [])) < cost marks (fs ++ (f ∷ []))
-ends_on marks marks' fs f g fewer next l = let p = cost_push fs f in let q = cost_push fs g in omega arith
+pub ends_on : (marks marks' : List Mark) (fs : List Frame) (f g : Frame) {items : List Frame} → items ≡ fs ++ (g ∷ []) → unmarked_pages marks' ≤ unmarked_pages marks → g.next ≡ suc f.next → f.next ≤ 98306 → cost marks' items < cost marks (fs ++ (f ∷ []))
+ends_on marks marks' fs f g are fewer next l = let p = cost_push fs f in let q = ap frames_cost are ∙ cost_push fs g in omega arith
 
-pub ends_enter : (marks marks' : List Mark) (fs : List Frame) (f g h : Frame) → unmarked_pages marks' < unmarked_pages marks → g.next ≡ suc f.next → f.next ≤ 98306 → h.next ≡ 0
-    → cost marks' ((fs ++ (g ∷ [])) ++ (h ∷ [])) < cost marks (fs ++ (f ∷ []))
-ends_enter marks marks' fs f g h fewer next l start = let p = cost_push fs f in let q = cost_push fs g in let r = cost_push (fs ++ (g ∷ [])) h in omega arith
+pub ends_enter : (marks marks' : List Mark) (fs : List Frame) (f g h : Frame) {items : List Frame} → items ≡ (fs ++ (g ∷ [])) ++ (h ∷ []) → unmarked_pages marks' < unmarked_pages marks → g.next ≡ suc f.next → f.next ≤ 98306 → h.next ≡ 0
+    → cost marks' items < cost marks (fs ++ (f ∷ []))
+ends_enter marks marks' fs f g h are fewer next l start = let p = cost_push fs f in let q = cost_push fs g in let r = ap frames_cost are ∙ cost_push (fs ++ (g ∷ [])) h in omega arith
 
 -- the way
 
@@ -178,7 +178,11 @@ pub record IsAtStep (usable : ℕ) (kind : TreeKind) (levels : List (List ℕ)) 
   pub last : IsOpen usable kind levels (0 + length fs) f
   pub stands : IsNextStep last.view f.next next
 
-module _ (usable : ℕ) (kind : TreeKind) (levels : List (List ℕ)) (fs : List Frame) (f : Frame) (next : Next) where
+-- by another number of the level, and of what was found there
+pub next_at : {usable : ℕ} {kind : TreeKind} {levels : List (List ℕ)} {level level' page s : ℕ} {next next' : Next} → level ≡ level' → next ≡ next' → HasNext usable kind levels level page s next → HasNext usable kind levels level' page s next'
+next_at {usable = usable} {kind = kind} {levels = levels} {level' = level'} {page = page} {s = s} {next = next} deep is has = subst (λ n. HasNext usable kind levels level' page s n) is (subst (λ n. HasNext usable kind levels n page s next) deep has)
+
+module _ {usable : ℕ} {kind : TreeKind} {levels : List (List ℕ)} (fs : List Frame) (f : Frame) {next : Next} where
   pub at_step : AreOpen usable kind levels 0 (fs ++ (f ∷ [])) → HasNext usable kind levels (length fs) f.page f.next next → IsAtStep usable kind levels fs f next
   at_step a has =
       let m = open_front usable kind levels 0 fs f a in
@@ -191,9 +195,12 @@ module _ (usable : ℕ) (kind : TreeKind) (levels : List (List ℕ)) (fs : List 
         stands = has.stands m.1.bytes m.1.view there m.1.viewed;
       }
 
-  -- the frame a step on
-  pub step_on : (g : Frame) → g.page ≡ f.page → g.next ≡ suc f.next → (next ≡ Behind → ⊥) → IsAtStep usable kind levels fs f next → AreOpen usable kind levels 0 (fs ++ (g ∷ []))
-  step_on g page on other s = open_push usable kind levels 0 fs g s.front (open_on usable kind levels (0 + length fs) f g page on s.last (step_within s.last.view f.next next other s.stands))
+  -- the frame a step on, where the bytes at the levels stay
+  pub step_on : IsAtStep usable kind levels fs f next → (g : Frame) → g.page ≡ f.page → g.next ≡ suc f.next → (next ≡ Behind → ⊥) → {items : List Frame} → items ≡ fs ++ (g ∷ []) → (usable' : ℕ) (kind' : TreeKind) (levels' : List (List ℕ)) → usable' ≡ usable → kind' ≡ kind
+      → ((n : ℕ) → n < length (fs ++ (g ∷ [])) → slice_get levels' n ≡ slice_get levels n) → AreOpen usable' kind' levels' 0 items
+  step_on s g page on other are usable' kind' levels' usables kinds same = subst (λ l. AreOpen usable' kind' levels' 0 l) (sym are)
+      (open_kept usable kind levels usable' kind' levels' usables kinds 0 (fs ++ (g ∷ [])) (λ n l. same n (omega arith))
+      (open_push usable kind levels 0 fs g s.front (open_on usable kind levels (0 + length fs) f g page on s.last (step_within s.last.view f.next next other s.stands))))
 
 -- the way to a child of the last frame's page
 module _ (fs : List Frame) (f g : Frame) (on : g.next ≡ suc f.next) (children : List ℕ) (ways : children ≡ path_of fs ++ (cell_of_step f.next ∷ [])) where

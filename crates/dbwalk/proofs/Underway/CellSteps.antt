@@ -43,7 +43,7 @@ use Rattle.dbwalk.proofs.Trees.Stacking.{cells_in}
 use Rattle.std.proofs.lemmas.Bool.Decides.{nat_tests}
 use Rattle.dbsource.specs.declared.error.RunError.{RunError}
 use Rattle.dbwalk.specs.Underway.{IsAt, HasDone, done_below}
-use Rattle.dbwalk.specs.declared.marks.Mark.{Mark}
+use Rattle.dbmarks.specs.declared.marks.Mark.{Mark}
 use Rattle.dbwalk.specs.declared.state.Tree.{Tree}
 use Rattle.dbwalk.proofs.Leaves.LeafErrands.{leaf_errands_are}
 

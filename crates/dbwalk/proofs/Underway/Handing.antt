@@ -21,9 +21,9 @@ use Rattle.dbformat.specs.Reference.{Way}
 use Rattle.dbformat.specs.Story.{Event, own_visit, story_of}
 use Rattle.dbtrace.specs.Walk.{Walk, machine, bare, run_below}
 use Rattle.dbtrace.proofs.Stepping.{has_steps}
-use Rattle.dbwalk.specs.Marking.{AreMarksOf}
+use Rattle.dbmarks.specs.Marking.{AreMarksOf}
 use Rattle.dbwalk.specs.Underway.{IsAt, HasDone, done_below}
-use Rattle.dbwalk.specs.declared.marks.Mark.{Mark}
+use Rattle.dbmarks.specs.declared.marks.Mark.{Mark}
 use Rattle.dbwalk.specs.declared.state.Tree.{Tree}
 
 -- items that give no row
@@ -31,6 +31,15 @@ pub only_found : (items : List Item) → given_rows items ≡ [] → items ≡ m
 only_found [] e = refl
 only_found (found f ∷ items) e = ap (λ l. found f ∷ l) (only_found items e)
 only_found (given row ∷ items) e = cc
+
+-- what a call that answers nothing has done
+abbrev pub HasEnded : {P : Type 0} → (P → Item → P → Type 0) → (RunError → P → Item → P → Type 0) → List ℕ → Walk → Result (Unit {0}) RunError → List Mark × Tree → P → P → Type 0
+HasEnded moves stops file done r now w x = HasDone moves stops file done r now w x
+
+-- what a call that failed has done, by what was handed out
+pub stopped_as : {P A : Type 0} {moves : P → Item → P → Type 0} {stops : RunError → P → Item → P → Type 0} {file : List ℕ} {done : Walk} {now : List Mark × Tree} {w x : P} {r : Result A RunError} {e : RunError}
+    → r ≡ Err e → StopsAt moves stops e w done.items x → HasDone moves stops file done r now w x
+stopped_as {moves = moves} {stops = stops} {file = file} {done = done} {now = now} {w = w} {x = x} q h = subst (λ r. HasDone moves stops file done r now w x) (sym q) (record { at = tt; handed = h })
 
 -- no memory is asked for where only reading and writing can fail
 pub no_memory : {A : Type 0} (r : Result A RunError) → IfErr r IsReadOrWrite → r ≡ Err OutOfMemory → ⊥
@@ -58,10 +67,18 @@ module _ {P : Type 0} (moves : P → Item → P → Type 0) (stops : RunError �
   handed_after (Ok a) w m x L M h k = Moves-append moves w m x L M h k
   handed_after (Err e) w m x L M h k = stop_after e w m x L M h k
 
-module _ {S T : Type 0} (takes drops : S → Finding → S → Type 0) (keeps : T → SchemaRow → Taken → T → Type 0) (refuses : T → SchemaRow → T → Type 0) where
-  abbrev moves : (S × T) → Item → (S × T) → Type 0
-  moves w i x = watches takes keeps w i x
+-- One list of items is both stories: of a sink and of a taker.
+module _ {S T : Type 0} (takes : S → Finding → S → Type 0) (keeps : T → SchemaRow → Taken → T → Type 0) where
+  pub moves_both : (items : List Item) (w x : S × T) → Moves (watches takes keeps) w items x → Moves takes w.0 (findings items) x.0 × Moves (gives keeps) w.1 (given_rows items) x.1
+  moves_both [] w x e = (ap (λ p. p.0) e, ap (λ p. p.1) e)
+  moves_both (found f ∷ items) w x h =
+      let k = moves_both items h.0 x h.2 in
+      ((h.0.0, h.1.0, k.0), subst (λ t. Moves (gives keeps) t (given_rows items) x.1) (sym h.1.1) k.1)
+  moves_both (given row ∷ items) w x h =
+      let k = moves_both items h.0 x h.2 in
+      (subst (λ t. Moves takes t (findings items) x.0) (sym h.1.1) k.0, (h.0.1, h.1.0, k.1))
 
+module _ {S T : Type 0} (takes drops : S → Finding → S → Type 0) (keeps : T → SchemaRow → Taken → T → Type 0) (refuses : T → SchemaRow → T → Type 0) where
   -- findings alone, to the sink
   pub found_moves : (fs : List Finding) (s s' : S) (t : T) → Moves takes s fs s' → Moves (watches takes keeps) (s, t) (map found fs) (s', t)
   found_moves [] s s' t e = ap (λ m. (m, t)) e
@@ -84,17 +101,6 @@ module _ {S T : Type 0} (takes drops : S → Finding → S → Type 0) (keeps : 
   found_handed (Err ReadFailed) fs s s' t quiet h = found_some fs s s' t h
   found_handed (Err OutOfMemory) fs s s' t quiet h = absurd (quiet refl)
   found_handed (Err WriteFailed) fs s s' t quiet h = found_stops fs s s' t h
-
-  -- One list of items is both stories.
-
-  pub moves_both : (items : List Item) (w x : S × T) → Moves (watches takes keeps) w items x → Moves takes w.0 (findings items) x.0 × Moves (gives keeps) w.1 (given_rows items) x.1
-  moves_both [] w x e = (ap (λ p. p.0) e, ap (λ p. p.1) e)
-  moves_both (found f ∷ items) w x h =
-      let k = moves_both items h.0 x h.2 in
-      ((h.0.0, h.1.0, k.0), subst (λ t. Moves (gives keeps) t (given_rows items) x.1) (sym h.1.1) k.1)
-  moves_both (given row ∷ items) w x h =
-      let k = moves_both items h.0 x h.2 in
-      (subst (λ t. Moves takes t (findings items) x.0) (sym h.1.1) k.0, (h.0.1, h.1.0, k.1))
 
   some_both : (items : List Item) (w x : S × T) → MovesBySome (watches takes keeps) w items x → MovesBySome takes w.0 (findings items) x.0 × MovesBySome (gives keeps) w.1 (given_rows items) x.1
   some_both [] w x e = (ap (λ p. p.0) e, ap (λ p. p.1) e)
@@ -131,7 +137,7 @@ module _ {S T : Type 0} (takes drops : S → Finding → S → Type 0) (keeps : 
 
   pub handed_both : {A : Type 0} (r : Result A RunError) (items : List Item) (w x : S × T) → Handed (watches takes keeps) (fails drops refuses) r w items x
       → Tells takes drops r w.0 (findings items) x.0 × Gives keeps refuses r w.1 (given_rows items) x.1
-  handed_both (Ok a) items w x h = moves_both items w x h
+  handed_both (Ok a) items w x h = moves_both takes keeps items w x h
   handed_both (Err (Refused e)) items w x h = some_both items w x h
   handed_both (Err ReadFailed) items w x h = some_both items w x h
   handed_both (Err WriteFailed) items w x h = write_both items w x h

@@ -28,19 +28,19 @@ use Rattle.dbtrace.proofs.Asides.{are_aside}
 use Rattle.dbtrace.proofs.Stepping.{has_steps}
 use Rattle.dbwalk.specs.Done.{IsDone}
 use Rattle.dbwalk.specs.LeafCells.{overflow_errands, late_faults, top_after, AreBefore}
-use Rattle.dbwalk.specs.Marking.{AreMarksOf}
+use Rattle.dbmarks.specs.Marking.{AreMarksOf}
 use Rattle.dbwalk.specs.Telling.{IsReadOrWrite, findings}
 use Rattle.dbwalk.specs.Taking.{HasRoom, place_of, TellsRow, HasFed, HoldsCell, FeedsPayload}
-use Rattle.dbwalk.specs.Underway.{IsAt, HasDone, done_below}
+use Rattle.dbwalk.specs.Underway.{IsAt, done_below}
 use Rattle.dbwalk.specs.Watching.{watches, fails, StopsAt, Handed}
-use Rattle.dbwalk.specs.declared.marks.Mark.{Mark}
+use Rattle.dbmarks.specs.declared.marks.Mark.{Mark}
 use Rattle.dbwalk.specs.declared.schema_row.RowPlace.{RowPlace}
 use Rattle.dbwalk.specs.declared.state.Tree.{Tree}
 use Rattle.dbwalk.specs.declared.taker.Taken.{Taken}
 use Rattle.dbwalk.proofs.Leaves.LeafErrands.{own_errands, read_overflow, errands_split, quiet_overflow}
 use Rattle.dbwalk.proofs.Telling.Belows.{told_none}
 use Rattle.dbwalk.proofs.Underway.CellSteps.{row_items, order_faults_of, cell_items, greatest_behind, no_row_elsewhere}
-use Rattle.dbwalk.proofs.Underway.Handing.{bare_visits, done_then, done_stops, found_handed, no_memory, only_found, handed_after, stop_first}
+use Rattle.dbwalk.proofs.Underway.Handing.{HasEnded, bare_visits, done_then, done_stops, found_handed, no_memory, only_found, handed_after, stop_first}
 use Rattle.dbwalk.proofs.RootTakings.{row_handed}
 
 -- the row of a readable cell of the schema's tree, by these visits
@@ -121,15 +121,12 @@ module _ (file : List ℕ) (from : Walk) (c : Reference) (kind : TreeKind) (v : 
   cell_visits = ap (λ es. (done_below file from es).visits) split ∙ ap (λ w. w.visits) ((has_steps file).join (bare from) chain own (quiet_overflow c i overflow)) ∙ bare_visits file m own ∙ behind.visits ∙ visited
 
   module _ {S T : Type 0} (takes drops : S → Finding → S → Type 0) (keeps : T → SchemaRow → Taken → T → Type 0) (refuses : T → SchemaRow → T → Type 0) where
-    abbrev Does : Walk → Result (Unit {0}) RunError → List Mark × Tree → (S × T) → (S × T) → Type 0
-    Does done r now w x = HasDone (watches takes keeps) (fails drops refuses) file done r now w x
-
     abbrev pub Whole : Result (Unit {0}) RunError → List Mark × Tree → (S × T) → (S × T) → Type 0
-    Whole r now w x = Does (done_below file from (cell_errands c kind v i)) r now w x
+    Whole r now w x = HasEnded (watches takes keeps) (fails drops refuses) file (done_below file from (cell_errands c kind v i)) r now w x
 
     -- what the chain's call has done
     chain_done : (r : Result (Unit {0}) RunError) (marks : List Mark) (tree : Tree) (s s' : S) (t : T) → IfErr r IsReadOrWrite → tree.greatest ≡ from.state.greatest → tree.leaf ≡ from.state.leaf
-        → IsDone takes drops file from.visits chain r marks s s' → Does m r (marks, tree) (s, t) (s', t)
+        → IsDone takes drops file from.visits chain r marks s s' → HasEnded (watches takes keeps) (fails drops refuses) file m r (marks, tree) (s, t) (s', t)
     chain_done r marks tree s s' t only top depth done = record {
       at = by_ok r done.marked;
       handed = subst (λ l. Handed (watches takes keeps) (fails drops refuses) r (s, t) l (s', t)) (sym chained.1) (found_handed takes drops keeps refuses r (told_below file from.visits chain) s s' t (no_memory r only) done.told);
@@ -142,14 +139,14 @@ module _ (file : List ℕ) (from : Walk) (c : Reference) (kind : TreeKind) (v : 
     -- it could not be walked to its end
     pub chain_stops : (e : RunError) (marks : List Mark) (now : List Mark × Tree) (s s' : S) (t : T) → IsReadOrWrite e → (tree : Tree) → tree.greatest ≡ from.state.greatest → tree.leaf ≡ from.state.leaf
         → IsDone {A = Unit {0}} takes drops file from.visits chain (Err e) marks s s' → Whole (Err e) now (s, t) (s', t)
-    chain_stops e marks now s s' t only tree top depth done = subst (λ es. Does (done_below file from es) (Err e) now (s, t) (s', t)) (sym split)
+    chain_stops e marks now s s' t only tree top depth done = subst (λ es. HasEnded (watches takes keeps) (fails drops refuses) file (done_below file from es) (Err e) now (s, t) (s', t)) (sym split)
         (done_stops (watches takes keeps) (fails drops refuses) file from e chain own (marks, tree) now (s, t) (s', t) (quiet_overflow c i overflow) (chain_done (Err e) marks tree s s' t only top depth done))
 
     -- it was, and then row and key were handed out, or not
     pub own_done : (r : Result (Unit {0}) RunError) (marks : List Mark) (old new : Tree) (s s' : S) (t : T) (x : S × T) → old.greatest ≡ from.state.greatest → old.leaf ≡ from.state.leaf → IsDone {A = Unit {0}} takes drops file from.visits chain (Ok tt) marks s s'
         → Handed (watches takes keeps) (fails drops refuses) r (s', t) (row_items from.state.roots rows ++ key_items) x
         → OnOk r ((new.greatest ≡ top_after old.greatest key) × (new.leaf ≡ old.leaf)) → Whole r (marks, new) (s, t) x
-    own_done r marks old new s s' t x top depth done handed tree_is = subst (λ es. Does (done_below file from es) r (marks, new) (s, t) x) (sym split)
+    own_done r marks old new s s' t x top depth done handed tree_is = subst (λ es. HasEnded (watches takes keeps) (fails drops refuses) file (done_below file from es) r (marks, new) (s, t) x) (sym split)
         (done_then (watches takes keeps) (fails drops refuses) file from tt r chain own (marks, old) (marks, new) (s, t) (s', t) x (quiet_overflow c i overflow) (chain_done (Ok tt) marks old s s' t tt top depth done) (record {
           at = by_ok r tree_is;
           handed = subst (λ l. Handed (watches takes keeps) (fails drops refuses) r (s', t) l x) (sym behind.items) handed;
@@ -177,7 +174,7 @@ module _ (file : List ℕ) (from : Walk) (c : Reference) (kind : TreeKind) (v : 
           by_cell (Some x) = no_row_elsewhere file m.visits c v (i, x) other
 
       cell_row_handed : (start_of c.address == schema_start) ≡ true → HasRoom keeps held from.state.roots t → (old : Option RowSieve) → HoldsCell old e (result_ok (cell v i)) → AreBefore from.visits (then_step c.address (overflow_step i)) → FeedsPayload file from.visits c i overflow old new
-          → is_some new ≡ is_some old → ((size : ℕ) (e : Encoding) (bytes : List ℕ) → HasFed new size e bytes → TellsRow takes drops keeps refuses place (schema_row bytes size e) r s s' t t') → Rows rows
+          → is_some new ≡ is_some old → ((size : ℕ) (e : Encoding) (bytes : List ℕ) → HasFed new size e bytes → TellsRow takes drops keeps refuses (place, schema_row bytes size e) r (s, t) (s', t')) → Rows rows
       cell_row_handed schema room old holds before fed kept told = by_cell (result_ok (cell v i)) key_is holds
         where
           gone : (o : Option RowSieve) → is_some o ≡ false → o ≡ None
@@ -191,14 +188,14 @@ module _ (file : List ℕ) (from : Walk) (c : Reference) (kind : TreeKind) (v : 
               let one : rows_of file m.visits c v (i, x) ≡ schema_cell file m.visits c (i, x) ∷ [] = rw (schema, leaf) refl in
               let here : place ≡ place_of c.page i x.key = place_is ∙ ap (λ q. place_of q i key) (sym page) ∙ ap (place_of c.page i) key_is in
               subst Rows (sym one) (row_handed takes drops keeps refuses held from.state.roots (schema_cell file m.visits c (i, x)) s s' t t' room r
-              (subst (λ q. TellsRow takes drops keeps refuses q (schema_row (payload file m.visits c.address i x) x.size (encoding file)) r s s' t t') here
-              (subst (λ e. TellsRow takes drops keeps refuses place (schema_row (payload file m.visits c.address i x) x.size e) r s s' t t') coded
-              (subst (λ b. TellsRow takes drops keeps refuses place (schema_row b x.size e) r s s' t t') bytes (told x.size e _ (fed.fed x e before h))))))
+              (subst (λ q. TellsRow takes drops keeps refuses (q, schema_row (payload file m.visits c.address i x) x.size (encoding file)) r (s, t) (s', t')) here
+              (subst (λ e. TellsRow takes drops keeps refuses (place, schema_row (payload file m.visits c.address i x) x.size e) r (s, t) (s', t')) coded
+              (subst (λ b. TellsRow takes drops keeps refuses (place, schema_row b x.size e) r (s, t) (s', t')) bytes (told x.size e _ (fed.fed x e before h))))))
 
       -- by the start of the tree
       pub row_told : (k : ℕ) → start_of c.address ≡ k → (k ≡ schema_start → HasRoom keeps held from.state.roots t) → (old : Option RowSieve) → (k ≡ schema_start → HoldsCell old e (result_ok (cell v i))) → (1 ≤ k → old ≡ None)
           → AreBefore from.visits (then_step c.address (overflow_step i)) → FeedsPayload file from.visits c i overflow old new → is_some new ≡ is_some old
-          → ((size : ℕ) (e : Encoding) (bytes : List ℕ) → HasFed new size e bytes → TellsRow takes drops keeps refuses place (schema_row bytes size e) r s s' t t') → Rows rows
+          → ((size : ℕ) (e : Encoding) (bytes : List ℕ) → HasFed new size e bytes → TellsRow takes drops keeps refuses (place, schema_row bytes size e) r (s, t) (s', t')) → Rows rows
       row_told k start room old holds other before fed kept told = elim (cases_Bool (start_of c.address == schema_start)) [
         | inl f ↦ (let z : k ≡ schema_start = sym start ∙ eqb-true (start_of c.address) schema_start f in cell_row_handed f (room z) old (holds z) before fed kept told)
         | inr f ↦ no_row_handed f (gone new (kept ∙ ap is_some (other (later start f))))

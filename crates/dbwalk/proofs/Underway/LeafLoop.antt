@@ -19,20 +19,21 @@ use Rattle.dbformat.specs.declared.TreeKind.{TreeKind}
 use Rattle.dbformat.proofs.Looping.{all_quiet, one_cell_more, range-parts}
 use Rattle.dbsource.specs.declared.error.RunError.{RunError}
 use Rattle.dbtrace.specs.Finding.{Finding, visited_below}
+use Rattle.dbtrace.specs.Item.{Item}
 use Rattle.dbtrace.specs.Walk.{Walk, bare}
 use Rattle.dbtrace.proofs.Stepping.{has_steps}
 use Rattle.dbwalk.specs.LeafCells.{AreRisingFrom, ArePassedAt, overflow_errands, AreBefore}
 use Rattle.dbwalk.specs.Taking.{HasRoom}
-use Rattle.dbwalk.specs.Underway.{IsAt, HasDone, done_below}
+use Rattle.dbwalk.specs.Underway.{IsAt, done_below}
 use Rattle.dbwalk.specs.Walking.{IsLeafAt}
-use Rattle.dbwalk.specs.Watching.{watches, fails}
-use Rattle.dbwalk.specs.declared.marks.Mark.{Mark}
+use Rattle.dbwalk.specs.Watching.{watches}
+use Rattle.dbmarks.specs.declared.marks.Mark.{Mark}
 use Rattle.dbwalk.specs.declared.state.Tree.{Tree}
 use Rattle.dbwalk.specs.declared.taker.Taken.{Taken}
 use Rattle.dbwalk.proofs.Leaves.LeafErrands.{read_overflow}
 use Rattle.dbwalk.proofs.Underway.Visits.{before_next, before_later}
 use Rattle.dbwalk.proofs.Telling.Belows.{visited_none, below_begins}
-use Rattle.dbwalk.proofs.Underway.Handing.{bare_visits, done_none, done_then, done_stops}
+use Rattle.dbwalk.proofs.Underway.Handing.{HasEnded, bare_visits, done_none, done_then, done_stops}
 use Rattle.dbwalk.proofs.Underway.LeafCellRuns.{cell_visits}
 use Rattle.dbwalk.proofs.Underway.CellSteps.{with_greatest, passed}
 use Rattle.dbwalk.proofs.RootTakings.{room_on}
@@ -90,36 +91,33 @@ module _ (file : List ℕ) (from : Walk) (c : Reference) (kind : TreeKind) (v : 
   pass_is other i n l after rising = ap (done_below file from) (cells_after c kind v i n)
       ∙ (has_steps file).join (bare from) (errands_before c kind v i) (flat_map (cell_errands c kind v) (range_with_len i n)) (quiet_before i) ∙ passed file c kind v leaf other n i (D i) after l rising
 
-  module _ {S T : Type 0} (takes drops : S → Finding → S → Type 0) (keeps : T → SchemaRow → Taken → T → Type 0) (refuses : T → SchemaRow → T → Type 0) (w : S × T) where
-    abbrev Does : Walk → Result (Unit {0}) RunError → List Mark × Tree → (S × T) → (S × T) → Type 0
-    Does done r now x y = HasDone (watches takes keeps) (fails drops refuses) file done r now x y
-
+  module _ {S T : Type 0} (takes : S → Finding → S → Type 0) (keeps : T → SchemaRow → Taken → T → Type 0) (stops : RunError → (S × T) → Item → (S × T) → Type 0) (w : S × T) where
     -- at the first cell
-    pub cells_start : (now : List Mark × Tree) → IsAt file from now.0 now.1 → Does (D 0) (Ok tt) now w w
-    cells_start now at = done_none (watches takes keeps) (fails drops refuses) file from tt now w at
+    pub cells_start : (now : List Mark × Tree) → IsAt file from now.0 now.1 → HasEnded (watches takes keeps) stops file (D 0) (Ok tt) now w w
+    cells_start now at = done_none (watches takes keeps) stops file from tt now w at
 
     -- a cell more
-    pub cells_more : (r : Result (Unit {0}) RunError) (i : ℕ) (mid now : List Mark × Tree) (x y : S × T) → Does (D i) (Ok tt) mid w x → Does (done_below file (D i) (cell_errands c kind v i)) r now x y → Does (D (i + 1)) r now w y
-    cells_more r i mid now x y h k = subst (λ es. Does (done_below file from es) r now w y) (sym (one_cell_more c kind v i))
-        (done_then (watches takes keeps) (fails drops refuses) file from tt r (errands_before c kind v i) (cell_errands c kind v i) mid now w x y (quiet_before i) h k)
+    pub cells_more : (r : Result (Unit {0}) RunError) (i : ℕ) (mid now : List Mark × Tree) (x y : S × T) → HasEnded (watches takes keeps) stops file (D i) (Ok tt) mid w x → HasEnded (watches takes keeps) stops file (done_below file (D i) (cell_errands c kind v i)) r now x y → HasEnded (watches takes keeps) stops file (D (i + 1)) r now w y
+    cells_more r i mid now x y h k = subst (λ es. HasEnded (watches takes keeps) stops file (done_below file from es) r now w y) (sym (one_cell_more c kind v i))
+        (done_then (watches takes keeps) stops file from tt r (errands_before c kind v i) (cell_errands c kind v i) mid now w x y (quiet_before i) h k)
 
     -- an error in the first cells
-    pub cells_stop : (e : RunError) (i : ℕ) (mid now : List Mark × Tree) (x : S × T) → i ≤ count v → Does (D i) (Err e) mid w x → Does (D (count v)) (Err e) now w x
+    pub cells_stop : (e : RunError) (i : ℕ) (mid now : List Mark × Tree) (x : S × T) → i ≤ count v → HasEnded (watches takes keeps) stops file (D i) (Err e) mid w x → HasEnded (watches takes keeps) stops file (D (count v)) (Err e) now w x
     cells_stop e i mid now x l h =
         let n : i + (count v - i) ≡ count v = omega arith in
-        subst (λ es. Does (done_below file from es) (Err e) now w x) (sym (cells_after c kind v i (count v - i)) ∙ ap (errands_before c kind v) n)
-        (done_stops (watches takes keeps) (fails drops refuses) file from e (errands_before c kind v i) (flat_map (cell_errands c kind v) (range_with_len i (count v - i))) mid now w x (quiet_before i) h)
+        subst (λ es. HasEnded (watches takes keeps) stops file (done_below file from es) (Err e) now w x) (sym (cells_after c kind v i (count v - i)) ∙ ap (errands_before c kind v) n)
+        (done_stops (watches takes keeps) stops file from e (errands_before c kind v i) (flat_map (cell_errands c kind v) (range_with_len i (count v - i))) mid now w x (quiet_before i) h)
 
     -- the taker's room
-    pub room_more : (held : T → ℕ) (i : ℕ) (mid now : List Mark × Tree) (x y : S × T) → HasRoom keeps held (D i).state.roots x.1 → Does (done_below file (D i) (cell_errands c kind v i)) (Ok tt) now x y → HasRoom keeps held (D (i + 1)).state.roots y.1
+    pub room_more : (held : T → ℕ) (i : ℕ) (mid now : List Mark × Tree) (x y : S × T) → HasRoom keeps held (D i).state.roots x.1 → HasEnded (watches takes keeps) stops file (done_below file (D i) (cell_errands c kind v i)) (Ok tt) now x y → HasRoom keeps held (D (i + 1)).state.roots y.1
     room_more held i mid now x y room k =
         let roots = ap (λ es. (done_below file from es).state.roots) (one_cell_more c kind v i) ∙ ap (λ w. w.state.roots) ((has_steps file).join (bare from) (errands_before c kind v i) (cell_errands c kind v i) (quiet_before i)) ∙ (has_steps file).roots (D i) (cell_errands c kind v i) in
-        room_on takes drops keeps refuses held (done_below file (D i) (cell_errands c kind v i)).items x y (D i).state.roots (D (i + 1)).state.roots roots room k.handed
+        room_on takes keeps held (done_below file (D i) (cell_errands c kind v i)).items x y (D i).state.roots (D (i + 1)).state.roots roots room k.handed
 
     -- The first cells are done, all visits stand before the next, and the taker of the schema's tree has its room.
     module _ (held : T → ℕ) (k : ℕ) where
       abbrev OnCells : ℕ → List Mark × Tree → (S × T) → Type 0
-      OnCells i now x = Does (D i) (Ok tt) now w x × AreBefore (D i).visits (then_step c.address (overflow_step i)) × (k ≡ schema_start → HasRoom keeps held (D i).state.roots x.1) × (i ≤ count v)
+      OnCells i now x = HasEnded (watches takes keeps) stops file (D i) (Ok tt) now w x × AreBefore (D i).visits (then_step c.address (overflow_step i)) × (k ≡ schema_start → HasRoom keeps held (D i).state.roots x.1) × (i ≤ count v)
 
       pub on_start : (now : List Mark × Tree) → IsAt file from now.0 now.1 → AreBefore from.visits (then_step c.address 0) → (k ≡ schema_start → HasRoom keeps held from.state.roots w.1) → OnCells 0 now w
       on_start now at before room =
@@ -130,7 +128,7 @@ module _ (file : List ℕ) (from : Walk) (c : Reference) (kind : TreeKind) (v : 
             omega arith,
           )
 
-      pub on_more : (i : ℕ) (mid now : List Mark × Tree) (x y : S × T) → i < count v → OnCells i mid x → Does (done_below file (D i) (cell_errands c kind v i)) (Ok tt) now x y → OnCells (i + 1) now y
+      pub on_more : (i : ℕ) (mid now : List Mark × Tree) (x y : S × T) → i < count v → OnCells i mid x → HasEnded (watches takes keeps) stops file (done_below file (D i) (cell_errands c kind v i)) (Ok tt) now x y → OnCells (i + 1) now y
       on_more i mid now x y l on k = (
         cells_more (Ok tt) i mid now x y on.0 k,
         next_before i on.1,
@@ -138,7 +136,7 @@ module _ (file : List ℕ) (from : Walk) (c : Reference) (kind : TreeKind) (v : 
         omega arith,
       )
 
-      pub on_stop : (e : RunError) (i : ℕ) (mid now : List Mark × Tree) (x y : S × T) → i < count v → OnCells i mid x → Does (done_below file (D i) (cell_errands c kind v i)) (Err e) now x y → Does (D (count v)) (Err e) now w y
+      pub on_stop : (e : RunError) (i : ℕ) (mid now : List Mark × Tree) (x y : S × T) → i < count v → OnCells i mid x → HasEnded (watches takes keeps) stops file (done_below file (D i) (cell_errands c kind v i)) (Err e) now x y → HasEnded (watches takes keeps) stops file (D (count v)) (Err e) now w y
       on_stop e i mid now x y l on k = cells_stop e (i + 1) now now y (omega arith) (cells_more (Err e) i mid now x y on.0 k)
 
       -- cells that are passed over
@@ -153,7 +151,7 @@ module _ (file : List ℕ) (from : Walk) (c : Reference) (kind : TreeKind) (v : 
           moved f rising =
               let n : i + (end - i) ≡ end = omega arith in
               let all : D end ≡ with_greatest (D i) new.greatest = ap D (sym n) ∙ pass_is f i (end - i) (omega arith) new.greatest (subst (λ top. AreRisingFrom v i (end - i) top new.greatest) on.0.at.1 rising) in (
-                subst (λ m. Does m (Ok tt) (marks, new) w x) (sym all) (record { at = (on.0.at.0, refl, deep ∙ on.0.at.2); handed = on.0.handed }),
+                subst (λ m. HasEnded (watches takes keeps) stops file m (Ok tt) (marks, new) w x) (sym all) (record { at = (on.0.at.0, refl, deep ∙ on.0.at.2); handed = on.0.handed }),
                 subst (λ m. AreBefore m.visits (then_step c.address (overflow_step end))) (sym all) (λ u j. by_end (overflow_step i) (overflow_step end) (omega arith) u (on.1 u j)),
                 λ e. subst (λ m. HasRoom keeps held m.state.roots x.1) (sym all) (on.2 e),
                 within,
@@ -169,5 +167,5 @@ module _ (file : List ℕ) (from : Walk) (c : Reference) (kind : TreeKind) (v : 
           by_gap zero e rising = same end (omega arith) (subst (λ n. AreRisingFrom v i n old.greatest new.greatest) e rising)
           by_gap (suc n) e rising = moved (other (omega arith)) rising
 
-      pub on_end : (now : List Mark × Tree) (x : S × T) (i : ℕ) → i ≡ count v → OnCells i now x → Does (D (count v)) (Ok tt) now w x
-      on_end now x i e on = subst (λ n. Does (D n) (Ok tt) now w x) e on.0
+      pub on_end : (now : List Mark × Tree) (x : S × T) (i : ℕ) → i ≡ count v → OnCells i now x → HasEnded (watches takes keeps) stops file (D (count v)) (Ok tt) now w x
+      on_end now x i e on = subst (λ n. HasEnded (watches takes keeps) stops file (D n) (Ok tt) now w x) e on.0

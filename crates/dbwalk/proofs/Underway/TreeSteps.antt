@@ -19,13 +19,13 @@ use Rattle.dbtrace.specs.Walk.{Walk, advance, run_below, bare}
 use Rattle.dbtrace.proofs.Stepping.{has_steps, roots_at, more_roots}
 use Rattle.dbwalk.specs.Entered.{IsNext}
 use Rattle.dbwalk.specs.LeafCells.{top_after}
-use Rattle.dbwalk.specs.Marking.{AreMarksOf}
+use Rattle.dbmarks.specs.Marking.{AreMarksOf}
 use Rattle.dbwalk.specs.Walking.{errands_from, child_at, top_visit, left_over, IsOpenFrame, AreOpenFrames, AreRead}
 use Rattle.dbwalk.specs.Telling.{findings, IsReadOrWrite}
 use Rattle.dbwalk.specs.Underway.{IsUnderway, HasDone, IsInterior, done_below, entered, IsAt, IsWalkingOn, tree_walk}
 use Rattle.dbwalk.specs.Watching.{StopsAt, watches, fails, Handed}
 use Rattle.dbwalk.specs.declared.steps.Frame.{Frame}
-use Rattle.dbwalk.specs.declared.marks.Mark.{Mark}
+use Rattle.dbmarks.specs.declared.marks.Mark.{Mark}
 use Rattle.dbwalk.specs.declared.state.Tree.{Tree}
 use Rattle.dbwalk.proofs.Trees.Stacking.{left-push, top-push, from_first}
 use Rattle.dbwalk.proofs.Trees.Frames.{read_front, read_push, read_kept, calls_front, calls_on, calls_push}
@@ -67,12 +67,12 @@ pub quiet_go : (d : Reference) → AreQuiet {E = Event} own_visit (Go d ∷ [])
 quiet_go d e (inl h) = cc
 quiet_go d e (inr h) = absurd h
 
--- the same by another state of the tree, and other buffers
-pub by_other : {P : Type 0} (moves : P → Item → P → Type 0) (file : List ℕ) (W : List Reference) (c : Reference) (before : P) (frames : List Frame) (levels levels' : List (List ℕ)) (marks : List Mark) (tree tree' : Tree) (w : P)
-    → tree'.kind ≡ tree.kind → tree'.greatest ≡ tree.greatest → tree'.leaf ≡ tree.leaf → ((n : ℕ) → n < length frames → slice_get levels' n ≡ slice_get levels n)
-    → IsWalkingOn moves file W c before (frames, levels) (marks, tree) w → IsWalkingOn moves file W c before (frames, levels') (marks, tree') w
-by_other moves file W c before frames levels levels' marks tree tree' w kinds tops leafs same on =
-    let u = on.under in record {
+-- the same by another state of the tree, other buffers, and another name of the frames
+pub by_other : {P : Type 0} {moves : P → Item → P → Type 0} {file : List ℕ} {W : List Reference} {c : Reference} {before : P} {frames items : List Frame} {levels levels' : List (List ℕ)} {marks : List Mark} {tree tree' : Tree} {w : P}
+    → IsWalkingOn moves file W c before (frames, levels) (marks, tree) w → items ≡ frames → tree'.kind ≡ tree.kind → tree'.greatest ≡ tree.greatest → tree'.leaf ≡ tree.leaf → ((n : ℕ) → n < length frames → slice_get levels' n ≡ slice_get levels n)
+    → IsWalkingOn moves file W c before (items, levels') (marks, tree') w
+by_other {moves = moves} {file = file} {W = W} {c = c} {before = before} {frames = frames} {levels = levels} {levels' = levels'} {marks = marks} {tree' = tree'} {w = w} on are kinds tops leafs same =
+    let u = on.under in subst (λ l. IsWalkingOn moves file W c before (l, levels') (marks, tree') w) (sym are) (record {
       now = on.now;
       under = subst (λ k. IsUnderway moves file (tree_walk file W c) before on.now (left_over file k c frames) (marks, tree') w) (sym kinds)
           (record { rest = u.rest; at = (u.at.0, tops ∙ u.at.1, leafs ∙ u.at.2); past = u.past; apart = u.apart; handed = u.handed });
@@ -80,9 +80,9 @@ by_other moves file W c before frames levels levels' marks tree tree' w kinds to
       frames_are = subst (λ k. AreOpenFrames file k c frames) (sym kinds) on.frames_are;
       calls = on.calls;
       read = read_kept file levels levels' 0 frames (λ n l. same n (omega arith)) on.read;
-    }
+    })
 
-module _ {P : Type 0} (moves : P → Item → P → Type 0) (file : List ℕ) (W : List Reference) (c : Reference) (before : P) (levels : List (List ℕ)) (fs : List Frame) (f : Frame) (marks : List Mark) (tree : Tree) (w : P)
+module _ {P : Type 0} {moves : P → Item → P → Type 0} {file : List ℕ} {W : List Reference} {c : Reference} {before : P} {levels : List (List ℕ)} (fs : List Frame) (f : Frame) {marks : List Mark} {tree : Tree} {w : P}
     (on : IsWalkingOn moves file W c before (fs ++ (f ∷ []), levels) (marks, tree) w) where
   abbrev pub top : Reference
   top = top_visit file tree.kind c fs

@@ -1,5 +1,5 @@
 -- One turn of the loop over the interior pages of a tree, by what the last frame's page has at its step.
-use Rattle.std.proofs.Common.{◌≡◌, ℕ, suc, ◌+◌, ◌-◌, ◌*◌, ◌/◌, ◌<◌, ◌≤◌, false, true, List, [], ◌∷◌, ◌++◌, map, length, Some, Ok, Err, Result, ℤ, refl, sym, ap, subst, arith, ◌∙◌}
+use Rattle.std.proofs.Common.{◌≡◌, ℕ, suc, ◌+◌, ◌-◌, ◌*◌, ◌/◌, ◌<◌, ◌≤◌, false, true, List, [], ◌∷◌, ◌++◌, map, length, Some, Ok, Err, Result, ℤ, refl, sym, ap, subst, arith, ◌∙◌, Bool}
 use Rattle.std.specs.Prelude.{slice_get, unwrap_or, OnOk, IfErr}
 use Rattle.std.specs.Option.{option_map_or}
 use Rattle.std.proofs.lemmas.List.{length-append}
@@ -21,11 +21,11 @@ use Rattle.dbwalk.specs.LeafCells.{order_faults, top_after, greater_key}
 use Rattle.dbwalk.specs.Walking.{errands_from, child_at, top_visit, IsCandidate, IsLeafAt, path_of}
 use Rattle.dbwalk.specs.Steps.{IsChainAt, IsChildAt, IsKeyAt, IsEmptyAt, no_chain, no_child, unreadable, without_key, IsNextStep, HasNext}
 use Rattle.dbwalk.specs.Telling.{findings}
-use Rattle.dbwalk.specs.Underway.{IsAt, HasDone, IsInterior, done_below, entered, IsWalkingOn, tree_walk}
+use Rattle.dbwalk.specs.Underway.{IsAt, HasDone, IsEntered, done_below, entered, IsWalkingOn, HasTurned, tree_walk}
 use Rattle.dbwalk.specs.Watching.{StopsAt}
 use Rattle.dbwalk.specs.declared.chain.Chain.{Chain}
 use Rattle.dbwalk.specs.declared.steps.Frame.{Frame}
-use Rattle.dbwalk.specs.declared.marks.Mark.{Mark}
+use Rattle.dbmarks.specs.declared.marks.Mark.{Mark}
 use Rattle.dbwalk.specs.declared.state.Tree.{Tree}
 use Rattle.dbwalk.specs.declared.steps.Next.{Next}
 use Rattle.dbwalk.specs.declared.steps.Next.TheVariants.{Behind, Nothing}
@@ -38,34 +38,35 @@ use Rattle.dbwalk.proofs.Trees.Stacking.{top_kind, step_no_chain, step_no_child,
 use Rattle.dbwalk.proofs.Trees.TreeWays.{IsOnWay, child_candidate, top_candidate}
 use Rattle.dbwalk.proofs.Underway.CellSteps.{order_faults_of}
 use Rattle.dbwalk.proofs.Underway.TreeSteps as steps
+use Rattle.dbwalk.proofs.Underway.TreeSteps.{by_other}
 
-module _ {P : Type 0} (moves : P → Item → P → Type 0) (file : List ℕ) (W : List Reference) (c : Reference) (before : P) (levels : List (List ℕ)) (fs : List Frame) (f : Frame) (marks : List Mark) (tree : Tree) (w : P)
+module _ {P : Type 0} {moves : P → Item → P → Type 0} {file : List ℕ} {W : List Reference} {c : Reference} {before : P} {levels : List (List ℕ)} (fs : List Frame) (f : Frame) {marks : List Mark} {tree : Tree} {w : P}
     (on : IsWalkingOn moves file W c before (fs ++ (f ∷ []), levels) (marks, tree) w) (candidate : IsCandidate tree.kind tree.start [] c.page 0 tree.start c) where
   abbrev pub top : Reference
   top = top_visit file tree.kind c fs
 
   abbrev pub v : View
-  v = (steps.frames moves file W c before levels fs f marks tree w on).1.view
+  v = (steps.frames fs f on).1.view
 
   viewed : tree_view file top ≡ Some v
-  viewed = (steps.frames moves file W c before levels fs f marks tree w on).1.viewed
+  viewed = (steps.frames fs f on).1.viewed
 
   on_page : f.page ≡ top.page
-  on_page = (steps.frames moves file W c before levels fs f marks tree w on).1.page
+  on_page = (steps.frames fs f on).1.page
 
   role : tree_kind (role_of top) ≡ Some tree.kind
   role = top_kind file tree.kind c fs (kind_is file tree.kind tree.start [] c.page 0 tree.start c candidate)
 
   -- what the page is known to have at the step
-  pub next_here : (usable : ℕ) → usable ≡ usable_size file → (next : Next) → HasNext usable tree.kind levels (length fs) f.page f.next next → IsNextStep v f.next next
-  next_here usable usables next has = has.stands (page_bytes file f.page) v
+  pub next_here : {usable : ℕ} {next : Next} → usable ≡ usable_size file → HasNext usable tree.kind levels (length fs) f.page f.next next → IsNextStep v f.next next
+  next_here usables has = has.stands (page_bytes file f.page) v
       (ap (slice_get levels) (let e : length fs ≡ 0 + length fs = omega arith in e) ∙ read_last file levels 0 fs f on.read)
       (ap (λ u. undamaged tree.kind f.page u (page_bytes file f.page)) usables ∙ ap (λ p. undamaged tree.kind p (usable_size file) (page_bytes file p)) on_page
       ∙ sym (view_is file top tree.kind role) ∙ viewed)
 
   -- a frame that is left
   pub turned_behind : child_step (count v) < f.next → IsWalkingOn moves file W c before (fs, levels) (marks, tree) w
-  turned_behind past = steps.on_end moves file W c before levels fs f marks tree w on (step_end file top tree.kind v role viewed f.next past)
+  turned_behind past = steps.on_end fs f on (step_end file top tree.kind v role viewed f.next past)
 
   way : IsOnWay file tree.kind tree.start [] fs c
   way = top_candidate file tree.kind tree.start fs f [] c.page 0 tree.start c candidate on.calls
@@ -94,13 +95,13 @@ module _ {P : Type 0} (moves : P → Item → P → Type 0) (file : List ℕ) (W
             other e = cc
 
         by_case : IsEmptyAt v f.next → IsWalkingOn moves file W c before (fs ++ (g ∷ []), levels) (marks, tree) w
-        by_case (no_chain n step l none) = steps.on_skip moves file W c before levels fs f marks tree w on g page next within
+        by_case (no_chain n step l none) = steps.on_skip fs f on g page next within
             (subst (λ s. errands_from file top s ≡ errands_from file top (suc s)) (sym step) (step_no_chain file top tree.kind v role viewed n none))
-        by_case (no_child n step l none) = steps.on_skip moves file W c before levels fs f marks tree w on g page next within
+        by_case (no_child n step l none) = steps.on_skip fs f on g page next within
             (subst (λ s. errands_from file top s ≡ errands_from file top (suc s)) (sym step) (step_no_child file top tree.kind v role viewed n l none))
-        by_case (unreadable n b step l bad) = steps.on_skip moves file W c before levels fs f marks tree w on g page next within
+        by_case (unreadable n b step l bad) = steps.on_skip fs f on g page next within
             (subst (λ s. errands_from file top s ≡ errands_from file top (suc s)) (sym step) (step_no_key file top tree.kind v role viewed n b bad))
-        by_case (without_key n x step l read none) = steps.on_cell moves file W c before levels fs f marks tree w on g page next within n x w
+        by_case (without_key n x step l read none) = steps.on_cell fs f on g page next within n x w
             (subst (λ s. errands_from file top s ≡ tell_cell top v n x ∷ errands_from file top (suc s)) (sym step) (step_key file top tree.kind v role viewed n x l read))
             tree refl (ap (λ o. top_after tree.greatest o) (sym none)) refl
             (subst (λ o. Moves moves w (map found (findings (order_faults_of false tree.greatest top.page n o))) w) (sym none) refl)
@@ -125,13 +126,13 @@ module _ {P : Type 0} (moves : P → Item → P → Type 0) (file : List ℕ) (W
 
       pub turned_key : (tree' : Tree) → tree'.kind ≡ tree.kind → tree'.greatest ≡ greater_key tree.greatest value → tree'.leaf ≡ tree.leaf → Moves moves w (map found (findings (order_faults false tree.greatest f.page (f.next / 3) value))) x
           → IsWalkingOn moves file W c before (fs ++ (g ∷ []), levels) (marks, tree') x
-      turned_key tree' kinds tops leafs m = steps.on_cell moves file W c before levels fs f marks tree w on g page next within_key h.n h.x x key_errand tree' kinds (tops ∙ ap (top_after tree.greatest) (sym h.key)) leafs
+      turned_key tree' kinds tops leafs m = steps.on_cell fs f on g page next within_key h.n h.x x key_errand tree' kinds (tops ∙ ap (top_after tree.greatest) (sym h.key)) leafs
           (subst (λ l. Moves moves w (map found (findings l)) x) told_key m)
 
       -- its fault could not be told
       pub stopped_key : (stops : RunError → P → Item → P → Type 0) (e : RunError) → StopsAt moves stops e w (map found (findings (order_faults false tree.greatest f.page (f.next / 3) value))) x
           → StopsAt moves stops e before (tree_walk file W c).items x
-      stopped_key stops e k = steps.cell_stopped moves file W c before levels fs f marks tree w on g page next within_key h.n h.x x key_errand stops e
+      stopped_key stops e k = steps.cell_stopped fs f on g page next within_key h.n h.x x key_errand stops e
           (subst (λ l. StopsAt moves stops e w (map found (findings l)) x) told_key k)
 
     -- an overflow chain
@@ -158,20 +159,13 @@ module _ {P : Type 0} (moves : P → Item → P → Type 0) (file : List ℕ) (W
           third n = omega arith
 
       pub chain_next : IsNext on.now.visits chained
-      chain_next = steps.next_is moves file W c before levels fs f marks tree w on g page next within_chain chained chain_errand
+      chain_next = steps.next_is fs f on g page next within_chain chained chain_errand
 
-      module _ (stops : RunError → P → Item → P → Type 0) (marks' : List Mark) (x : P) where
-        turned_chain : {A : Type 0} (a : A) → HasDone moves stops file (done_below file on.now (Go chained ∷ [])) (Ok a) (marks', tree) w x → IsWalkingOn moves file W c before (fs ++ (g ∷ []), levels) (marks', tree) x
-        turned_chain a done = steps.on_call moves file W c before levels fs f marks tree w on g page next within_chain chained chain_errand stops marks' tree x a refl done
-
-        stopped_chain : {A : Type 0} (e : RunError) → HasDone {A = A} moves stops file (done_below file on.now (Go chained ∷ [])) (Err e) (marks', tree) w x → StopsAt moves stops e before (tree_walk file W c).items x
-        stopped_chain e done = steps.call_stopped moves file W c before levels fs f marks tree w on g page next within_chain chained chain_errand stops marks' tree x e done
-
-        -- the walk goes on behind it, or not all of it could be done
-        pub past_chain : {A : Type 0} (r : Result A RunError) → HasDone moves stops file (done_below file on.now (Go chained ∷ [])) r (marks', tree) w x
-            → OnOk r (IsWalkingOn moves file W c before (fs ++ (g ∷ []), levels) (marks', tree) x) × IfErr r (λ e. StopsAt moves stops e before (tree_walk file W c).items x)
-        past_chain (Ok a) done = (turned_chain a done, tt)
-        past_chain (Err e) done = (tt, stopped_chain e done)
+      -- a call walks along it: the walk goes on behind it, or not all of it could be done
+      module _ (stops : RunError → P → Item → P → Type 0) (marks' : List Mark) (x : P) {items : List Frame} {levels' : List (List ℕ)} (are : items ≡ fs ++ (g ∷ [])) (same : levels' ≡ levels) where
+        pub turned_chain : (r : Result (Unit {0}) RunError) → HasDone moves stops file (done_below file on.now (Go chained ∷ [])) r (marks', tree) w x → HasTurned moves stops file (W, c, before) r (items, levels') (marks', tree) x
+        turned_chain (Ok a) done = (by_other (steps.on_call fs f on g page next within_chain chained chain_errand stops marks' tree x a refl done) are refl refl refl (λ n l. ap (λ ls. slice_get ls n) same), tt)
+        turned_chain (Err e) done = (tt, steps.call_stopped fs f on g page next within_chain chained chain_errand stops marks' tree x e done)
 
     -- a child
     module _ (number : ℕ) (h : IsChildAt v f.next number) where
@@ -198,31 +192,38 @@ module _ {P : Type 0} (moves : P → Item → P → Type 0) (file : List ℕ) (W
       child_is = child_candidate file tree.kind tree.start (path_of fs) way.p way.from way.item top way.candidate f.next h.n h.step
 
       -- what is promised of it
-      pub child_asked : (children : List ℕ) → children ≡ path_of fs ++ (cell_of_step f.next ∷ []) → (X : Walk → Reference → Type 0)
+      pub child_asked : {children : List ℕ} → children ≡ path_of fs ++ (cell_of_step f.next ∷ []) → {X : Walk → Reference → Type 0}
           → ((at : Walk) (e : Reference) → IsCandidate tree.kind tree.start children number f.page (f.next / 3) e → IsNext at.visits e → IsAt file at marks tree → X at e) → X on.now d
-      child_asked children ways X promised = promised on.now d
+      child_asked ways promised = promised on.now d
           (subst (λ l. IsCandidate tree.kind tree.start l number f.page (f.next / 3) d) (sym ways)
           (subst (λ p. IsCandidate tree.kind tree.start (path_of fs ++ (cell_of_step f.next ∷ [])) number p (f.next / 3) d) (sym on_page)
           (subst (λ q. IsCandidate tree.kind tree.start (path_of fs ++ (cell_of_step f.next ∷ [])) q top.page (f.next / 3) d) number_is child_is)))
-          (steps.next_is moves file W c before levels fs f marks tree w on g page next within_child d child_errand) on.under.at
+          (steps.next_is fs f on g page next within_child d child_errand) on.under.at
 
-      module _ (stops : RunError → P → Item → P → Type 0) (marks' : List Mark) (tree' : Tree) (x : P) (kinds : tree'.kind ≡ tree.kind) where
+      -- a call entered it
+      abbrev Entered : (RunError → P → Item → P → Type 0) → List (List ℕ) → List Mark × Tree → P → Result Bool RunError → Type 0
+      Entered stops levels' now x r = HasDone moves stops file (entered file on.now d r) r now w x × IsEntered file on.now d r levels'
+
+      module _ (stops : RunError → P → Item → P → Type 0) {marks' : List Mark} {tree' : Tree} {x : P} (kinds : tree'.kind ≡ tree.kind) where
         -- it is refused, damaged, or a leaf
-        pub child_passed : HasDone moves stops file (done_below file on.now (Go d ∷ [])) (Ok false) (marks', tree') w x → IsWalkingOn moves file W c before (fs ++ (g ∷ []), levels) (marks', tree') x
-        child_passed done = steps.on_call moves file W c before levels fs f marks tree w on g page next within_child d child_errand stops marks' tree' x false kinds done
+        pub child_passed : {levels' : List (List ℕ)} {yes : Bool} → yes ≡ false → Entered stops levels' (marks', tree') x (Ok yes) → IsWalkingOn moves file W c before (fs ++ (g ∷ []), levels) (marks', tree') x
+        child_passed {levels' = levels'} is done = steps.on_call fs f on g page next within_child d child_errand stops marks' tree' x false kinds (subst (λ y. Entered stops levels' (marks', tree') x (Ok y)) is done).0
 
         -- not all of it could be read and told
-        pub child_stopped : {A : Type 0} (e : RunError) → HasDone {A = A} moves stops file (done_below file on.now (Go d ∷ [])) (Err e) (marks', tree') w x → StopsAt moves stops e before (tree_walk file W c).items x
-        child_stopped e done = steps.call_stopped moves file W c before levels fs f marks tree w on g page next within_child d child_errand stops marks' tree' x e done
+        pub child_stopped : (e : RunError) → HasDone {A = Bool} moves stops file (entered file on.now d (Err e)) (Err e) (marks', tree') w x → StopsAt moves stops e before (tree_walk file W c).items x
+        child_stopped e done = steps.call_stopped fs f on g page next within_child d child_errand stops marks' tree' x e done
 
         -- it is an undamaged interior page
-        pub child_entered : (levels' : List (List ℕ)) (frame : Frame) → frame.page ≡ number → frame.next ≡ 0 → ((n : ℕ) → n < length (fs ++ (g ∷ [])) → slice_get levels' n ≡ slice_get levels n)
-            → HasDone moves stops file (entered file on.now d (Ok true)) (Ok true) (marks', tree') w x → IsInterior file on.now d levels'
-            → IsWalkingOn moves file W c before ((fs ++ (g ∷ [])) ++ (frame ∷ []), levels') (marks', tree') x
-        child_entered levels' frame pages start kept done inside = steps.on_enter moves file W c before levels fs f marks tree w on g page next within_child d child_errand stops marks' tree' x h.n frame levels' kinds h.step refl
-            (pages ∙ sym number_is) start
-            (let e = child_is.depth in let q = path_length fs in let m = length-append (path_of fs) (cell_of_step f.next ∷ []) in let n = length-append fs (g ∷ []) in
-            let o : length d.address - 1 ≡ length (fs ++ (g ∷ [])) = omega arith in o) kept done inside
+        pub child_entered : {levels' : List (List ℕ)} (frame : Frame) → frame.page ≡ number → frame.next ≡ 0 → ((n : ℕ) → n < length (fs ++ (g ∷ [])) → slice_get levels' n ≡ slice_get levels n)
+            → {yes : Bool} → yes ≡ true → Entered stops levels' (marks', tree') x (Ok yes) → IsWalkingOn moves file W c before ((fs ++ (g ∷ [])) ++ (frame ∷ []), levels') (marks', tree') x
+        child_entered {levels' = levels'} frame pages start kept is done =
+            let e = child_is.depth in
+            let q = path_length fs in
+            let m = length-append (path_of fs) (cell_of_step f.next ∷ []) in
+            let n = length-append fs (g ∷ []) in
+            let deep : length d.address - 1 ≡ length (fs ++ (g ∷ [])) = omega arith in
+            let entry = subst (λ y. Entered stops levels' (marks', tree') x (Ok y)) is done in
+            steps.on_enter fs f on g page next within_child d child_errand stops marks' tree' x h.n frame levels' kinds h.step refl (pages ∙ sym number_is) start deep kept entry.0 (entry.1 refl)
 
 -- what a turn leaves where it failed
 pub turn_failed : {A E : Type 0} (Q : Type 0) (R : E → Type 0) (r : Result A E) (e : E) → r ≡ Err e → R e → OnOk r Q × IfErr r R

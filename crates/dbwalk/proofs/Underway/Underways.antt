@@ -19,10 +19,10 @@ use Rattle.dbsource.specs.declared.error.RunError.{RunError}
 use Rattle.dbtrace.specs.Item.{Item, items_at}
 use Rattle.dbtrace.specs.Walk.{Walk, bare, advance, run_below}
 use Rattle.dbtrace.proofs.Stepping.{has_steps}
-use Rattle.dbwalk.specs.Marking.{AreMarksOf}
+use Rattle.dbmarks.specs.Marking.{AreMarksOf}
 use Rattle.dbwalk.specs.Underway.{IsAt, IsUnderway, HasDone, done_below}
 use Rattle.dbwalk.specs.Watching.{StopsAt}
-use Rattle.dbwalk.specs.declared.marks.Mark.{Mark}
+use Rattle.dbmarks.specs.declared.marks.Mark.{Mark}
 use Rattle.dbwalk.specs.declared.state.Tree.{Tree}
 use Rattle.dbwalk.proofs.Telling.Lefts.{visit_apart, past_visit_all}
 use Rattle.dbwalk.proofs.Underway.Handing.{stop_first, stop_after}

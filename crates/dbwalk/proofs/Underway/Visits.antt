@@ -22,12 +22,12 @@ use Rattle.dbtrace.specs.Progress.{leaf_after}
 use Rattle.dbtrace.specs.Walk.{Walk, bare, advance, run_below}
 use Rattle.dbtrace.proofs.Stepping.{has_steps}
 use Rattle.dbwalk.specs.Entered.{IsNext}
-use Rattle.dbwalk.specs.Marking.{AreMarksOf}
+use Rattle.dbmarks.specs.Marking.{AreMarksOf}
 use Rattle.dbwalk.specs.Telling.{Tells}
 use Rattle.dbwalk.specs.Found.{page_findings}
 use Rattle.dbwalk.specs.Underway.{IsAt, HasDone, done_below, entered, IsEntered}
 use Rattle.dbwalk.specs.Watching.{watches, fails, StopsAt, Handed}
-use Rattle.dbwalk.specs.declared.marks.Mark.{Mark}
+use Rattle.dbmarks.specs.declared.marks.Mark.{Mark}
 use Rattle.dbwalk.specs.declared.state.Tree.{Tree}
 use Rattle.dbwalk.specs.declared.taker.Taken.{Taken}
 use Rattle.dbwalk.proofs.Underway.Handing.{done_none, done_on, stops_on, found_moves, found_stops, found_handed}
@@ -101,6 +101,13 @@ module _ {P : Type 0} (moves : P → Item → P → Type 0) (stops : RunError �
       → HasDone moves stops file (entered file from c r) r now w x × IsEntered file from c r levels
   entered_err r e now w x q h = subst (λ r. HasDone moves stops file (entered file from c r) r now w x × IsEntered file from c r levels) (sym q) (record { at = tt; handed = h.handed }, tt)
 
+-- all below the reference was done, where the answer is false
+pub entered_done : {P A : Type 0} {moves : P → Item → P → Type 0} {stops : RunError → P → Item → P → Type 0} {file : List ℕ} (from : Walk) (c : Reference) {now : List Mark × Tree} {w x : P} {yes : Bool} (a : A)
+    → yes ≡ false → HasDone moves stops file (entered file from c (Ok yes)) (Ok yes) now w x → HasDone moves stops file (done_below file from (Go c ∷ [])) (Ok a) now w x
+entered_done {moves = moves} {stops = stops} {file = file} from c {now = now} {w = w} {x = x} a is h =
+    let k = subst (λ y. HasDone moves stops file (entered file from c (Ok y)) (Ok y) now w x) is h in
+    record { at = k.at; handed = k.handed }
+
 -- a page that could not be read
 pub unread : {P A : Type 0} (moves : P → Item → P → Type 0) (stops : RunError → P → Item → P → Type 0) (file : List ℕ) (done : Walk) (now : List Mark × Tree) (w : P) → HasDone {A = A} moves stops file done (Err ReadFailed) now w w
 unread moves stops file done now w = record { at = tt; handed = some_none moves w done.items }
@@ -118,15 +125,16 @@ refused_handed takes drops keeps refuses file from c r s s' t quiet h = subst (�
 pub visited_before : (file : List ℕ) (from : Walk) (c : Reference) → IsNext from.visits c → AreBefore (visited file from c).visits (then_step c.address 0)
 visited_before file from c next = before_more from.visits c (then_step c.address 0) (IsBefore-beginning c.address 0 []) (λ u i. next u (Go c) i (inl refl))
 
-module _ {S T : Type 0} (takes drops : S → Finding → S → Type 0) (keeps : T → SchemaRow → Taken → T → Type 0) (refuses : T → SchemaRow → T → Type 0) (file : List ℕ) (from : Walk) (c : Reference)
-    (leaf : Option ℕ) (leaf_is : leaf ≡ from.state.leaf) (s s' : S) (t : T) where
-  -- the findings of a page are its items
-  pub page_moves : Moves takes s (page_findings file leaf c) s' → Moves (watches takes keeps) (s, t) (visited file from c).items (s', t)
-  page_moves h = found_moves takes drops keeps refuses (page_findings file from.state.leaf c) s s' t (subst (λ l. Moves takes s (page_findings file l c) s') leaf_is h)
+-- a page that was visited, by the depth of the first leaf that a program keeps
+module _ (file : List ℕ) (from : Walk) (c : Reference) {leaf : Option ℕ} (leaf_is : leaf ≡ from.state.leaf) where
+  -- its findings are its items
+  pub page_moves : {S T : Type 0} (takes drops : S → Finding → S → Type 0) (keeps : T → SchemaRow → Taken → T → Type 0) (refuses : T → SchemaRow → T → Type 0) (s s' : S) (t : T) → Moves takes s (page_findings file leaf c) s' → Moves (watches takes keeps) (s, t) (visited file from c).items (s', t)
+  page_moves takes drops keeps refuses s s' t h = found_moves takes drops keeps refuses (page_findings file from.state.leaf c) s s' t (subst (λ l. Moves takes s (page_findings file l c) s') leaf_is h)
 
-  pub page_stops : Stops takes drops s (page_findings file leaf c) s' → Stops (watches takes keeps) (fails drops refuses WriteFailed) (s, t) (visited file from c).items (s', t)
-  page_stops h = found_stops takes drops keeps refuses (page_findings file from.state.leaf c) s s' t (subst (λ l. Stops takes drops s (page_findings file l c) s') leaf_is h)
+  pub page_stops : {S T : Type 0} (takes drops : S → Finding → S → Type 0) (keeps : T → SchemaRow → Taken → T → Type 0) (refuses : T → SchemaRow → T → Type 0) (s s' : S) (t : T) → Stops takes drops s (page_findings file leaf c) s'
+      → Stops (watches takes keeps) (fails drops refuses WriteFailed) (s, t) (visited file from c).items (s', t)
+  page_stops takes drops keeps refuses s s' t h = found_stops takes drops keeps refuses (page_findings file from.state.leaf c) s s' t (subst (λ l. Stops takes drops s (page_findings file l c) s') leaf_is h)
 
   -- and this is where the walk stands behind it
-  pub visited_at : (marks : List Mark) (tree : Tree) → AreMarksOf file (from.visits ++ (c ∷ [])) marks → tree.greatest ≡ from.state.greatest → tree.leaf ≡ leaf_after file leaf c → IsAt file (visited file from c) marks tree
-  visited_at marks tree m top first = (m, top, first ∙ ap (λ l. leaf_after file l c) leaf_is)
+  pub visited_at : {marks : List Mark} (tree : Tree) → AreMarksOf file (from.visits ++ (c ∷ [])) marks → tree.greatest ≡ from.state.greatest → tree.leaf ≡ leaf_after file leaf c → IsAt file (visited file from c) marks tree
+  visited_at tree m top first = (m, top, first ∙ ap (λ l. leaf_after file l c) leaf_is)

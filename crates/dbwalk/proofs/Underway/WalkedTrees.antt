@@ -2,7 +2,7 @@
 use Rattle.std.proofs.Common.{◌≡◌, ℕ, [], ◌∷◌, length, ap, arith, ◌<◌, true, false, inl, inr, List, Option, Some, None, refl, sym, subst, ◌↔◌, ◌-◌, cond, ◌++◌, map, Result, Ok, Err, ◌∙◌}
 use Rattle.dbsurvey.specs.Address.{Address, IsIn, IsBefore}
 use Rattle.dbformat.specs.Address.{start_of, schema_start}
-use Rattle.std.specs.Prelude.{IsSome, OnOk, IfErr, slice_get}
+use Rattle.std.specs.Prelude.{Bool, IsSome, OnOk, IfErr, slice_get}
 use Rattle.dbsurvey.specs.Story.{errand_key, Go, errands_of}
 use Rattle.dbformat.specs.Reference.{Reference, role_of, tree_kind}
 use Rattle.dbformat.specs.declared.TreeKind.{TreeKind}
@@ -24,14 +24,14 @@ use Rattle.dbtrace.specs.Item.{Item, found}
 use Rattle.dbtrace.specs.Walk.{begin, advance}
 use Rattle.dbtrace.proofs.Folding.{is_fold}
 use Rattle.dbtrace.proofs.Stepping.{has_steps}
-use Rattle.dbwalk.specs.Marking.{AreMarksOf, marks_of}
+use Rattle.dbmarks.specs.Marking.{AreMarksOf, marks_of}
 use Rattle.dbwalk.specs.Telling.{Tells, IsReadOrWrite}
 use Rattle.dbwalk.specs.Taking.{Gives, readable_rows}
-use Rattle.dbwalk.specs.Underway.{IsAt, HasDone, IsUnderway, IsInterior, entered, IsWalkingOn, tree_walk}
+use Rattle.dbwalk.specs.Underway.{IsAt, HasDone, IsUnderway, IsEntered, entered, IsWalkingOn, tree_walk}
 use Rattle.dbwalk.specs.Done.{IsTreeDone}
 use Rattle.dbwalk.specs.Watching.{watches, fails, Handed}
 use Rattle.dbwalk.specs.declared.steps.Frame.{Frame}
-use Rattle.dbwalk.specs.declared.marks.Mark.{Mark}
+use Rattle.dbmarks.specs.declared.marks.Mark.{Mark}
 use Rattle.dbwalk.specs.declared.state.Tree.{Tree}
 use Rattle.dbwalk.specs.declared.taker.Taken.{Taken}
 use Rattle.dbwalk.proofs.Trees.Stacking.{from_first}
@@ -124,15 +124,18 @@ module _ {S T : Type 0} (takes drops : S → Finding → S → Type 0) (keeps : 
   pub tree_unread : (marks : List Mark) (s : S) (t : T) → IsTreeDone takes drops keeps refuses file W c (Err ReadFailed) marks s s t t
   tree_unread marks s t = tree_handed (Err ReadFailed) marks (s, t) (s, t) tt (some_none (watches takes keeps) (s, t) (tree_walk file W c).items)
 
-module _ {P : Type 0} (moves : P → Item → P → Type 0) (stops : RunError → P → Item → P → Type 0) (file : List ℕ) (W : List Reference) (c : Reference) (w : P) where
+module _ {P : Type 0} {moves : P → Item → P → Type 0} {stops : RunError → P → Item → P → Type 0} {file : List ℕ} (W : List Reference) (c : Reference) {w : P} where
   -- the root is an undamaged interior page: the first frame
-  pub tree_started : (levels : List (List ℕ)) (marks : List Mark) (tree : Tree) (f : Frame) (x : P) → f.page ≡ c.page → f.next ≡ 0 → IsNext W c → tree_kind (role_of c) ≡ Some tree.kind → length c.address ≡ 1
-      → HasDone moves stops file (entered file (begin W) c (Ok true)) (Ok true) (marks, tree) w x → IsInterior file (begin W) c levels → IsWalkingOn moves file W c w (f ∷ [], levels) (marks, tree) x
-  tree_started levels marks tree f x page start next role one done inside =
+  pub tree_started : {levels : List (List ℕ)} {marks : List Mark} {tree : Tree} {x : P} {items : List Frame} (f : Frame) → items ≡ f ∷ [] → f.page ≡ c.page → f.next ≡ 0 → IsNext W c → tree_kind (role_of c) ≡ Some tree.kind → length c.address ≡ 1
+      → {yes : Bool} → yes ≡ true → HasDone moves stops file (entered file (begin W) c (Ok yes)) (Ok yes) (marks, tree) w x × IsEntered file (begin W) c (Ok yes) levels → IsWalkingOn moves file W c w (items, levels) (marks, tree) x
+  tree_started {levels = levels} {marks = marks} {tree = tree} {x = x} f are page start next role one is entry =
+      let first = subst (λ y. HasDone moves stops file (entered file (begin W) c (Ok y)) (Ok y) (marks, tree) w x × IsEntered file (begin W) c (Ok y) levels) is entry in
+      let done = first.0 in
+      let inside = first.1 refl in
       let none : Tree = record tree { greatest = None; leaf = None } in
       let all : errands_of (story_of file) c ++ [] ≡ left_over file tree.kind c (f ∷ []) = append-nil (errands_of (story_of file) c)
       ∙ sym (from_first file c tree.kind inside.frame.view role inside.frame.viewed) ∙ ap (λ n. left_over file tree.kind c (record f { next = n } ∷ [])) (sym start) in
-      record {
+      subst (λ l. IsWalkingOn moves file W c w (l, levels) (marks, tree) x) (sym are) (record {
         now = advance file (begin W) (at_page c);
         under = subst (λ es. IsUnderway moves file (tree_walk file W c) w (advance file (begin W) (at_page c)) es (marks, tree) x) all
             (under_visit moves file (tree_walk file W c) w (begin W) (marks_of (geometry file) W, none) (marks, tree) w x c []
@@ -141,10 +144,10 @@ module _ {P : Type 0} (moves : P → Item → P → Type 0) (stops : RunError �
         frames_are = (record { page = page; view = inside.frame.view; viewed = inside.frame.viewed; interior = inside.frame.interior; within = omega arith }, tt);
         calls = tt;
         read = (ap (slice_get levels) (let e : 0 ≡ length c.address - 1 = omega arith in e) ∙ inside.bytes ∙ ap (λ q. Some (page_bytes file q)) (sym page), tt);
-      }
+      })
 
   -- no frame is left
-  pub tree_ended : (levels : List (List ℕ)) (marks : List Mark) (tree : Tree) (frames : List Frame) (x : P) → frames ≡ [] → IsWalkingOn moves file W c w (frames, levels) (marks, tree) x
+  pub tree_ended : {levels : List (List ℕ)} {marks : List Mark} {tree : Tree} {frames : List Frame} {x : P} → frames ≡ [] → IsWalkingOn moves file W c w (frames, levels) (marks, tree) x
       → HasDone {A = Unit {0}} moves stops file (tree_walk file W c) (Ok tt) (marks, tree) w x
-  tree_ended levels marks tree frames x empty on = under_end moves stops file (tree_walk file W c) w tt on.now (marks, tree) x
+  tree_ended {marks = marks} {tree = tree} {x = x} empty on = under_end moves stops file (tree_walk file W c) w tt on.now (marks, tree) x
       (subst (λ l. IsUnderway moves file (tree_walk file W c) w on.now (left_over file tree.kind c l) (marks, tree) x) empty on.under)

@@ -4,7 +4,7 @@ use Rattle.dbsurvey.specs.Story.{Go}
 use Rattle.dbformat.specs.Header.{usable_size}
 use Rattle.dbwalk.specs.Entered.{Enters}
 use Rattle.dbwalk.specs.Chains.{Turns}
-use Rattle.dbwalk.proofs.Marking.Readings.{log_none, log_page}
+use Rattle.dbmarks.proofs.Readings.{log_none, log_page}
 use Rattle.dbwalk.proofs.Chaining.ChainTurns.{turn_refused, turn_stopped, turn_last, turn_more_by}
 use Rattle.dbwalk.proofs.Telling.Lefts.{left_untold}
 use Rattle.dbwalk.proofs.chain.turn.Goals as goal

@@ -11,7 +11,7 @@ use Rattle.dbwalk.proofs.Chaining.Feedings.{held_is}
 use Rattle.dbtrace.specs.Finding.{told_at}
 use Rattle.dbwalk.specs.Telling.{Tells}
 use Rattle.dbwalk.proofs.Chaining.Overflows.{page_read, told_is, moves_none}
-use Rattle.dbwalk.proofs.Marking.Readings.{log_load}
+use Rattle.dbmarks.proofs.Readings.{log_load}
 use Rattle.dbwalk.proofs.chain.visit_overflow.Goals as goal
 
 pub returns-in_err-load-clause-log : goal.returns-in_err-load-clause-log

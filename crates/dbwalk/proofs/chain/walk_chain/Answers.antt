@@ -5,7 +5,7 @@ use Rattle.dbsurvey.specs.Story.{Go}
 use Rattle.dbsource.specs.Bench.{Pages}
 use Rattle.dbwalk.specs.Chains.{Turns, FeedsChain, IsPlace}
 use Rattle.dbwalk.specs.Done.{IsDone}
-use Rattle.dbwalk.proofs.Marking.Readings.{log_none, log_then}
+use Rattle.dbmarks.proofs.Readings.{log_none, log_then}
 use Rattle.dbwalk.proofs.Chaining.ChainTurns.{way_start}
 use Rattle.dbwalk.proofs.chain.walk_chain.Goals as goal
 

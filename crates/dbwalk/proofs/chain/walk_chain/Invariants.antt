@@ -5,8 +5,8 @@ use Rattle.dbformat.specs.Reference.{Reference}
 use Rattle.dbsource.specs.Sources.{HasLog}
 use Rattle.dbwalk.specs.Chains.{IsChainOf, IsOnWay, IsPlace}
 use Rattle.dbwalk.specs.Entered.{IsNext}
-use Rattle.dbwalk.specs.Marking.{AreMarksOf}
-use Rattle.dbwalk.specs.Reads.{Reads}
+use Rattle.dbmarks.specs.Marking.{AreMarksOf}
+use Rattle.dbmarks.specs.Reads.{Reads}
 use Rattle.dbwalk.proofs.chain.walk_chain.Given as goal
 
 abbrev pub decreases-loop-next : goal.decreases-loop-next

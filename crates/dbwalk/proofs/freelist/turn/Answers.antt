@@ -5,13 +5,13 @@ use Rattle.dbformat.specs.Numbers.{u32_at}
 use Rattle.dbsource.specs.declared.error.RunError.TheVariants.{ReadFailed}
 use Rattle.dbwalk.specs.Entered.{Enters}
 use Rattle.dbwalk.specs.Done.{IsLeft}
-use Rattle.dbwalk.specs.Marking.{IsUse, is_none, unmarked_pages}
+use Rattle.dbmarks.specs.Marking.{IsUse, is_none, unmarked_pages}
 use Rattle.dbwalk.specs.Trunks.{TrunkTurns, next_step}
 use Rattle.dbwalk.proofs.Chaining.ChainTurns.{if_some_all}
 use Rattle.dbwalk.proofs.FreeTrunks.{trunk_refused, trunk_unread, next_turned}
 use Rattle.dbwalk.proofs.Telling.Lefts.{left_untold}
 use Rattle.dbwalk.proofs.Chaining.Overflows.{page_read}
-use Rattle.dbwalk.proofs.Marking.Readings.{put_count, log_load, log_none, log_opened, log_page}
+use Rattle.dbmarks.proofs.Readings.{put_count, log_load, log_none, log_opened, log_page}
 use Rattle.dbwalk.proofs.freelist.turn.Goals as goal
 
 pub returns-clause-less : goal.returns-clause-less
@@ -60,7 +60,7 @@ returns-in_err-item-clause-log g c =
     let n = subst (λ b. Enters g.K.Sink.takes g.K.Sink.drops file on.visited on.d (Ok b) c.enter.new.marks c.args.sink.now c.enter.new.sink) c.if-not-branch.false
     (c.in_ok-enter.ensures.entered file on.visited on.d on.step on.rest.past on.rest.marked) in
     let o = c.in_err-item.ensures.opened file W d before on.visited on.d c.args.marks.now on.step.page on.role b u n.0 n.1
-    (subst (λ s. IsLeft g.K.Sink.takes file W (Go d ∷ []) before on.visited (Go on.d ∷ []) c.args.marks.now s) n.2 on.rest) in
+    (subst (λ s. IsLeft g.K.Sink.takes file W (Go d ∷ []) before on.visited (Go on.d ∷ []) (c.args.marks.now, s)) n.2 on.rest) in
     let q = err_from_is_err_and c.from_residual-in_err-item.result c.from_residual-in_err-item.ensures.1 in
     subst (λ r. TrunkTurns g.K.Sink.takes g.K.Sink.drops file W d before r c.open_trunk.new.marks c.open_trunk.new.sink) (sym (q.1 ∙ ap Err q.2)) o)
 
@@ -77,6 +77,6 @@ returns-clause-log g c =
     let n = subst (λ b. Enters g.K.Sink.takes g.K.Sink.drops file on.visited on.d (Ok b) c.enter.new.marks c.args.sink.now c.enter.new.sink) c.if-not-branch.false
     (c.in_ok-enter.ensures.entered file on.visited on.d on.step on.rest.past on.rest.marked) in
     let o = c.in_ok-item.ensures.opened file W d before on.visited on.d c.args.marks.now on.step.page on.role b u n.0 n.1
-    (subst (λ s. IsLeft g.K.Sink.takes file W (Go d ∷ []) before on.visited (Go on.d ∷ []) c.args.marks.now s) n.2 on.rest) in
+    (subst (λ s. IsLeft g.K.Sink.takes file W (Go d ∷ []) before on.visited (Go on.d ∷ []) (c.args.marks.now, s)) n.2 on.rest) in
     subst (λ o. TrunkTurns g.K.Sink.takes g.K.Sink.drops file W d before (Ok o) c.open_trunk.new.marks c.open_trunk.new.sink) (sym (c.next_trunk.ensures ∙ ap (λ b. next_step (u32_at 0 b) c.args.step.page c.in_ok-item.item) b))
     (next_turned g.K.Sink.takes g.K.Sink.drops file W d before on.d c.args.step.page c.in_ok-item.item o.0 c.open_trunk.new.marks c.open_trunk.new.sink on.step.page o.1))

@@ -7,8 +7,8 @@ use Rattle.dbsource.specs.Errors.{is_read_failed}
 use Rattle.dbsource.specs.Failures.{failures_after}
 use Rattle.dbwalk.specs.Trunks.{TrunkTurns}
 use Rattle.dbwalk.specs.Done.{IsDone}
-use Rattle.dbwalk.specs.declared.marks.Mark.TheVariants.{Trunk}
-use Rattle.dbwalk.proofs.Marking.Readings.{log_none, log_then}
+use Rattle.dbmarks.specs.declared.marks.Mark.TheVariants.{Trunk}
+use Rattle.dbmarks.proofs.Readings.{log_none, log_then}
 use Rattle.dbwalk.proofs.FreeTrunks.{trunks_start}
 use Rattle.dbwalk.proofs.freelist.walk_freelist.Goals as goal
 

@@ -3,10 +3,10 @@ use Rattle.dbformat.specs.File.{geometry}
 use Rattle.dbformat.specs.Reference.{Reference}
 use Rattle.dbsource.specs.Sources.{HasLog}
 use Rattle.dbwalk.specs.Entered.{IsNext}
-use Rattle.dbwalk.specs.Marking.{AreMarksOf, unmarked_pages}
-use Rattle.dbwalk.specs.Reads.{Reads}
+use Rattle.dbmarks.specs.Marking.{AreMarksOf, unmarked_pages}
+use Rattle.dbmarks.specs.Reads.{Reads}
 use Rattle.dbwalk.specs.Trunks.{IsFirstTrunk, IsOnTrunks}
-use Rattle.dbwalk.specs.declared.marks.Mark.TheVariants.{Trunk}
+use Rattle.dbmarks.specs.declared.marks.Mark.TheVariants.{Trunk}
 use Rattle.dbwalk.proofs.freelist.walk_freelist.Given as goal
 
 abbrev pub decreases-loop-next : goal.decreases-loop-next

@@ -3,24 +3,24 @@ use Rattle.std.proofs.lemmas.Bool.{cases_Bool}
 use Rattle.std.proofs.lemmas.Result.{err_from_is_err_and}
 use Rattle.dbwalk.specs.Trunks.{Leaves, leaves_from}
 use Rattle.dbwalk.specs.Done.{IsLeft}
-use Rattle.dbwalk.specs.Marking.{Keeps, unmarked_pages}
-use Rattle.dbwalk.specs.declared.marks.Mark.TheVariants.{FreeLeaf}
+use Rattle.dbmarks.specs.Marking.{Keeps, unmarked_pages}
+use Rattle.dbmarks.specs.declared.marks.Mark.TheVariants.{FreeLeaf}
 use Rattle.dbwalk.proofs.FreeTrunks.{leaf_of, leaves_more, next_of_left, leaf_entered}
 use Rattle.dbwalk.proofs.Telling.Lefts.{left_untold}
-use Rattle.dbwalk.proofs.Marking.Readings.{keeps_same, keeps_then, keeps_put, put_count}
+use Rattle.dbmarks.proofs.Readings.{keeps_same, keeps_then, keeps_put, put_count}
 use Rattle.dbwalk.proofs.freelist.walk_leaves.Goals as goal
 
 pub returns-clause-done : goal.returns-clause-done
 returns-clause-done g c = λ file W errands before U d tail p h.
     let k = c.loop-index.invariant.left file W errands before U d tail p h in
     let z : c.args.count - c.loop-index.index ≡ 0 = omega arith in
-    (k.0, subst (λ n. IsLeft g.K.Sink.takes file W errands before k.0 (leaves_from d c.args.bytes.now c.loop-index.index n ++ tail) c.loop-index.marks c.loop-index.sink) z k.1)
+    (k.0, subst (λ n. IsLeft g.K.Sink.takes file W errands before k.0 (leaves_from d c.args.bytes.now c.loop-index.index n ++ tail) (c.loop-index.marks, c.loop-index.sink)) z k.1)
 
 pub returns-in_err-enter-clause-done : goal.returns-in_err-enter-clause-done
 returns-in_err-enter-clause-done g c = λ file W errands before U d tail p h.
     let k = c.loop-index.invariant.left file W errands before U d tail p h in
     let n : 0 < c.args.count - c.loop-index.index = omega arith in
-    let l = subst (λ es. IsLeft g.K.Sink.takes file W errands before k.0 (es ++ tail) c.loop-index.marks c.loop-index.sink) (leaves_more d c.args.bytes.now c.loop-index.index (c.args.count - c.loop-index.index) n) k.1 in
+    let l = subst (λ es. IsLeft g.K.Sink.takes file W errands before k.0 (es ++ tail) (c.loop-index.marks, c.loop-index.sink)) (leaves_more d c.args.bytes.now c.loop-index.index (c.args.count - c.loop-index.index) n) k.1 in
     let q = err_from_is_err_and c.from_residual.result c.from_residual.ensures.1 in
     let e = leaf_of d c.args.bytes.now c.loop-index.index in
     let es = leaves_from d c.args.bytes.now (c.loop-index.index + 1) (c.args.count - c.loop-index.index - 1) ++ tail in
@@ -48,12 +48,12 @@ loop-index-preserved g c = record {
   left = λ file W errands before U d tail p h.
       let k = c.loop-index.invariant.left file W errands before U d tail p h in
       let n : 0 < c.args.count - c.loop-index.index = omega arith in
-      let l = subst (λ es. IsLeft g.K.Sink.takes file W errands before k.0 (es ++ tail) c.loop-index.marks c.loop-index.sink) (leaves_more d c.args.bytes.now c.loop-index.index (c.args.count - c.loop-index.index) n) k.1 in
+      let l = subst (λ es. IsLeft g.K.Sink.takes file W errands before k.0 (es ++ tail) (c.loop-index.marks, c.loop-index.sink)) (leaves_more d c.args.bytes.now c.loop-index.index (c.args.count - c.loop-index.index) n) k.1 in
       let e = leaf_of d c.args.bytes.now c.loop-index.index in
       let es = leaves_from d c.args.bytes.now (c.loop-index.index + 1) (c.args.count - c.loop-index.index - 1) ++ tail in
       let m : c.args.count - c.loop-index.index - 1 ≡ c.args.count - (c.loop-index.index + 1) = omega arith in
       let r = leaf_entered g.K.Sink.takes g.K.Sink.drops file W errands before k.0 e es c.loop-index.marks c.enter.new.marks c.loop-index.sink c.enter.new.sink l c.in_ok-enter.field-0 refl
       (c.in_ok-enter.ensures.entered file k.0 e (record { page = sym c.u32_at.ensures; mark = refl; from = p; item = refl; deep = refl })
       (next_of_left g.K.Sink.takes g.K.Sink.drops file W errands before k.0 e es c.loop-index.marks c.enter.new.marks c.loop-index.sink c.enter.new.sink l) l.marked) in
-      (r.0, subst (λ n. IsLeft g.K.Sink.takes file W errands before r.0 (leaves_from d c.args.bytes.now (c.loop-index.index + 1) n ++ tail) c.enter.new.marks c.enter.new.sink) m r.1);
+      (r.0, subst (λ n. IsLeft g.K.Sink.takes file W errands before r.0 (leaves_from d c.args.bytes.now (c.loop-index.index + 1) n ++ tail) (c.enter.new.marks, c.enter.new.sink)) m r.1);
 }

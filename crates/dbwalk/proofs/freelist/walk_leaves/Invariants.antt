@@ -5,7 +5,7 @@ use Rattle.dbformat.specs.Reference.{Way, Reference}
 use Rattle.dbformat.specs.Story.{Event}
 use Rattle.dbwalk.specs.Trunks.{leaves_from}
 use Rattle.dbwalk.specs.Done.{IsLeft}
-use Rattle.dbwalk.specs.Marking.{Keeps, unmarked_pages}
+use Rattle.dbmarks.specs.Marking.{Keeps, unmarked_pages}
 use Rattle.dbwalk.proofs.freelist.walk_leaves.Given as goal
 
 abbrev pub invariant-loop-index : goal.invariant-loop-index
@@ -14,6 +14,6 @@ invariant-loop-index g l = record {
   fewer : unmarked_pages l.marks ≤ unmarked_pages l.initial.marks;
   writes : g.K.Sink.held l.sink ≡ g.K.Sink.held l.initial.sink;
   left : (file : List ℕ) (W : List Reference) (errands : List (Errand Way Event)) (before : g.row.K.Denot) (U : List Reference) (d : Reference) (tail : List (Errand Way Event))
-      → d.page ≡ l.page → IsLeft g.K.Sink.takes file W errands before U (leaf_errands d l.bytes l.count ++ tail) l.initial.marks l.initial.sink
-      → (T : List Reference) × IsLeft g.K.Sink.takes file W errands before T (leaves_from d l.bytes l.index (l.count - l.index) ++ tail) l.marks l.sink;
+      → d.page ≡ l.page → IsLeft g.K.Sink.takes file W errands before U (leaf_errands d l.bytes l.count ++ tail) (l.initial.marks, l.initial.sink)
+      → (T : List Reference) × IsLeft g.K.Sink.takes file W errands before T (leaves_from d l.bytes l.index (l.count - l.index) ++ tail) (l.marks, l.sink);
 }

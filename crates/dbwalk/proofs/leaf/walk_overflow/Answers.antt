@@ -2,7 +2,7 @@ use Rattle.std.proofs.Common.{refl, sym, subst}
 use Rattle.dbsource.proofs.Logs.{has_weaker}
 use Rattle.dbsurvey.specs.InOrder.{IsPast}
 use Rattle.dbwalk.specs.Done.{IsDone}
-use Rattle.dbwalk.proofs.Marking.Readings.{log_none}
+use Rattle.dbmarks.proofs.Readings.{log_none}
 use Rattle.dbwalk.specs.LeafCells.{overflow_errands}
 use Rattle.dbwalk.proofs.Leaves.LeafErrands.{none_done, chain_start}
 use Rattle.dbwalk.proofs.Chaining.Feedings.{on_ok, feeds_nothing, feeds_chain}

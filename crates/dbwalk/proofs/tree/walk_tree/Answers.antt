@@ -11,17 +11,17 @@ use Rattle.dbsource.specs.Sources.{Asks}
 use Rattle.dbsource.specs.declared.error.RunError.TheVariants.{ReadFailed}
 use Rattle.dbwalk.specs.Entered.{Enters}
 use Rattle.dbwalk.specs.Found.{StandsAt}
-use Rattle.dbwalk.specs.Marking.{page_mark}
+use Rattle.dbmarks.specs.Marking.{page_mark}
 use Rattle.dbwalk.specs.Telling.{IsReadOrWrite}
-use Rattle.dbwalk.specs.Reads.{Reads}
+use Rattle.dbmarks.specs.Reads.{Reads}
 use Rattle.dbwalk.specs.Taking.{StartsEmpty}
 use Rattle.dbwalk.specs.Roots.{IsRootAfter, kind_of, kind_in}
 use Rattle.dbwalk.specs.Done.{IsTreeDone}
-use Rattle.dbwalk.specs.declared.marks.Mark.{Mark}
-use Rattle.dbwalk.specs.declared.marks.Mark.TheVariants.{Unmarked}
+use Rattle.dbmarks.specs.declared.marks.Mark.{Mark}
+use Rattle.dbmarks.specs.declared.marks.Mark.TheVariants.{Unmarked}
 use Rattle.dbwalk.specs.declared.root.RootKind.TheVariants.{Schema}
 use Rattle.dbwalk.proofs.Chaining.Overflows.{page_read}
-use Rattle.dbwalk.proofs.Marking.Readings.{log_load, log_none, log_page, log_then}
+use Rattle.dbmarks.proofs.Readings.{log_load, log_none, log_page, log_then}
 use Rattle.dbwalk.proofs.Pages.Levels.{geometry_kept, read_there}
 use Rattle.dbwalk.proofs.Underway.WalkedTrees.{root_address, candidate_as, root_next, tree_done, tree_refused, tree_unread}
 use Rattle.dbwalk.proofs.Underway.Walks.{with_memory, without_memory}

@@ -10,9 +10,9 @@ use Rattle.dbsource.specs.declared.error.RunError.TheVariants.{ReadFailed}
 use Rattle.dbsource.specs.declared.source.ReadFailed as source_error
 use Rattle.dbsource.proofs.Logs.{has_one}
 use Rattle.dbwalk.specs.Entered.{Enters}
-use Rattle.dbwalk.specs.Marking.{unmarked_pages}
+use Rattle.dbmarks.specs.Marking.{unmarked_pages}
 use Rattle.dbwalk.proofs.Chaining.Overflows.{page_read}
-use Rattle.dbwalk.proofs.Marking.Readings.{log_none, log_page, log_then, put_count}
+use Rattle.dbmarks.proofs.Readings.{log_none, log_page, log_then, put_count}
 use Rattle.dbwalk.specs.Found.{StandsAt}
 use Rattle.dbwalk.specs.Underway.{HasDone, IsEntered, done_below, entered}
 use Rattle.dbwalk.specs.Watching.{watches, fails}

@@ -1,17 +1,14 @@
-use Rattle.std.proofs.Common.{rules, ◌≡◌, ◌+◌, ◌<◌, ◌≤◌, length, Ok, Err, refl, sym, ap, subst, ◌∙◌, arith}
-use Rattle.std.specs.Prelude.{slice_get}
+use Rattle.std.proofs.Common.{rules, ◌≡◌, ◌+◌, ◌<◌, ◌≤◌, length, None, Ok, Err, refl, sym, ap, subst, ◌∙◌, arith}
 use Rattle.std.proofs.lemmas.Result.{err_from_is_err_and}
-use Rattle.dbsurvey.specs.Story.{errands_of}
 use Rattle.dbformat.specs.Cell.{count}
 use Rattle.dbformat.specs.Errands.{cell_errands}
 use Rattle.dbformat.specs.File.{page_bytes}
-use Rattle.dbformat.specs.Head.{undamaged}
-use Rattle.dbformat.specs.Story.{story_of}
 use Rattle.dbsource.proofs.Logs.{has_weaker}
 use Rattle.dbwalk.specs.Underway.{HasDone, done_below}
 use Rattle.dbwalk.specs.Watching.{fails, watches}
-use Rattle.dbwalk.proofs.Leaves.LeafErrands.{view_back, leaf_errands_are}
-use Rattle.dbwalk.proofs.Marking.Readings.{log_none, log_then}
+use Rattle.dbwalk.proofs.Leaves.LeafErrands.{seen_here, cells_here, leaf_errands_are}
+use Rattle.dbmarks.proofs.Readings.{log_none, log_then}
+use Rattle.dbwalk.proofs.Underway.Handing.{stopped_as}
 use Rattle.dbwalk.proofs.Underway.LeafLoop.{cells_done, leaf_as, passed_same, on_start, on_more, on_stop, on_pass, on_end}
 use Rattle.dbwalk.proofs.Underway.CellSteps.{other_start}
 use Rattle.dbwalk.proofs.Underway.Walks.{walked_as, walked_behind, walked_by, walked_tree}
@@ -22,14 +19,15 @@ loop-i-init g c = record {
   walked = walked_by g.S.Source.held g.K.Sink.held g.T.Taker.refusals (refl, refl, refl, refl, refl, c.pass_cells-i.ensures.others.0, c.pass_cells-i.ensures.others.1) refl refl refl refl tt (λ l. refl);
   levels = refl;
   tree = c.pass_cells-i.ensures.others;
+  empty = λ later. refl;
   log = log_none c.args.bench.now.geometry.page_size c.args.self.now.marks.now c.args.self.now.marks.now (g.S.Source.held c.args.self.now.source.now) refl
       (λ file e coded from d v at viewed leaf before isat held room.
       let t = c.args.self.now.tree in
       let p = c.pass_cells-i.ensures in
-      let seen = ap (λ s. undamaged t.kind c.args.page s.usable (page_bytes file c.args.page)) e ∙ view_back file t.kind t.start t.path.items d c.args.bench.now.levels c.args.page v at viewed in
+      let seen = seen_here file at viewed (ap (λ s. s.usable) e) in
       let rise = p.passed.rising (page_bytes file c.args.page) v at.bytes seen (omega arith) in
-      on_pass file from d t.kind v leaf g.K.Sink.takes g.K.Sink.drops g.T.Taker.takes g.T.Taker.refuses (c.args.self.now.sink.now, c.args.self.now.taker.now) held t.start 0 c.pass_cells-i.result c.args.self.now.marks.now t c.pass_cells-i.new.tree (c.args.self.now.sink.now, c.args.self.now.taker.now) p.passed.ahead rise.0 (λ l. other_start d.address t.start at.start (p.other l)) rise.1 p.others.2
-      (on_start file from d t.kind v leaf g.K.Sink.takes g.K.Sink.drops g.T.Taker.takes g.T.Taker.refuses (c.args.self.now.sink.now, c.args.self.now.taker.now) held t.start (c.args.self.now.marks.now, t) isat before room));
+      on_pass file from d t.kind v leaf g.K.Sink.takes g.T.Taker.takes (fails g.K.Sink.drops g.T.Taker.refuses) (c.args.self.now.sink.now, c.args.self.now.taker.now) held t.start 0 c.pass_cells-i.result c.args.self.now.marks.now t c.pass_cells-i.new.tree (c.args.self.now.sink.now, c.args.self.now.taker.now) p.passed.ahead rise.0 (λ l. other_start d.address t.start at.start (p.other l)) rise.1 p.others.2
+      (on_start file from d t.kind v leaf g.K.Sink.takes g.T.Taker.takes (fails g.K.Sink.drops g.T.Taker.refuses) (c.args.self.now.sink.now, c.args.self.now.taker.now) held t.start (c.args.self.now.marks.now, t) isat before room));
 }
 
 pub loop-i-preserved : goal.loop-i-preserved
@@ -41,11 +39,11 @@ loop-i-preserved g c =
       walked = walked_tree g.S.Source.held g.K.Sink.held g.T.Taker.refusals p.others.0 p.others.1 (walked_behind g.S.Source.held g.K.Sink.held g.T.Taker.refusals n.walked w.walked);
       levels = n.levels ∙ w.levels;
       tree = (p.others.0 ∙ n.tree.0 ∙ w.tree.0, p.others.1 ∙ n.tree.1 ∙ w.tree.1, p.others.2 ∙ n.tree.2 ∙ w.tree.2, p.others.3 ∙ n.tree.3 ∙ w.tree.3);
+      empty = λ later. n.empty (subst (λ k. 1 ≤ k) (sym w.tree.0) later);
       log = log_then _ _ (ap (λ s. s.page_size) w.walked.shape) w.log n.log (λ file on done e coded from d v at viewed leaf before isat held room.
           let t = c.args.self.now.tree in
-          let there = ap (slice_get c.args.bench.now.levels) c.len-level.ensures.value ∙ at.bytes in
-          let seen = ap (λ s. undamaged t.kind c.args.page s.usable (page_bytes file c.args.page)) e ∙ view_back file t.kind t.start t.path.items d c.args.bench.now.levels c.args.page v at viewed in
-          let cells = c.leaf_cells-cells.ensures.count_is (page_bytes file c.args.page) v there seen in
+          let seen = seen_here file at viewed (ap (λ s. s.usable) e) in
+          let cells = cells_here file at viewed (ap (λ s. s.usable) e) c.len-level.ensures.value c.leaf_cells-cells.ensures in
           let low : c.loop-i.i < count v = omega arith in
           let s = on e coded from d v at viewed leaf before isat held room in
           let new = c.walk_leaf_cell.new in
@@ -55,8 +53,8 @@ loop-i-preserved g c =
           (ap (λ s. s.usable) (n.walked.shape ∙ w.walked.shape)) (n.tree.1 ∙ w.tree.1) (n.levels ∙ w.levels) (ap (λ p. length p.items) (n.tree.3 ∙ w.tree.3)) p.passed in
           let rise = passed.rising (page_bytes file c.args.page) v at.bytes seen (omega arith) in
           let cell = done (w.walked.shape ∙ e) (w.walked.coded ∙ coded) (cells_done file from d t.kind v c.loop-i.i) d v (leaf_as file t.kind c.loop-i.self.tree.kind t.start c.loop-i.self.tree.start t.path.items c.loop-i.self.tree.path.items c.args.bench.now.levels c.loop-i.bench.levels c.args.page d w.tree.1 w.tree.0 (ap (λ p. p.items) w.tree.3) w.levels at) viewed leaf low s.1 s.0.at held (λ z. s.2 (sym w.tree.0 ∙ z)) in
-          on_pass file from d t.kind v leaf g.K.Sink.takes g.K.Sink.drops g.T.Taker.takes g.T.Taker.refuses (c.args.self.now.sink.now, c.args.self.now.taker.now) held t.start (c.loop-i.i + 1) end new.self.marks.now new.self.tree after (new.self.sink.now, new.self.taker.now) passed.ahead rise.0 (λ l. other_start d.address t.start at.start (subst (λ k. 1 ≤ k) (n.tree.0 ∙ w.tree.0) (p.other l))) rise.1 p.others.2
-          (on_more file from d t.kind v leaf g.K.Sink.takes g.K.Sink.drops g.T.Taker.takes g.T.Taker.refuses (c.args.self.now.sink.now, c.args.self.now.taker.now) held t.start c.loop-i.i (c.loop-i.self.marks.now, c.loop-i.self.tree) (new.self.marks.now, new.self.tree) (c.loop-i.self.sink.now, c.loop-i.self.taker.now) (new.self.sink.now, new.self.taker.now) low s
+          on_pass file from d t.kind v leaf g.K.Sink.takes g.T.Taker.takes (fails g.K.Sink.drops g.T.Taker.refuses) (c.args.self.now.sink.now, c.args.self.now.taker.now) held t.start (c.loop-i.i + 1) end new.self.marks.now new.self.tree after (new.self.sink.now, new.self.taker.now) passed.ahead rise.0 (λ l. other_start d.address t.start at.start (subst (λ k. 1 ≤ k) (n.tree.0 ∙ w.tree.0) (p.other l))) rise.1 p.others.2
+          (on_more file from d t.kind v leaf g.K.Sink.takes g.T.Taker.takes (fails g.K.Sink.drops g.T.Taker.refuses) (c.args.self.now.sink.now, c.args.self.now.taker.now) held t.start c.loop-i.i (c.loop-i.self.marks.now, c.loop-i.self.tree) (new.self.marks.now, new.self.tree) (c.loop-i.self.sink.now, c.loop-i.self.taker.now) (new.self.sink.now, new.self.taker.now) low s
           (subst (λ k. HasDone (watches g.K.Sink.takes g.T.Taker.takes) (fails g.K.Sink.drops g.T.Taker.refuses) file (done_below file (cells_done file from d t.kind v c.loop-i.i) (cell_errands d k v c.loop-i.i)) (Ok tt) (new.self.marks.now, new.self.tree) (c.loop-i.self.sink.now, c.loop-i.self.taker.now) (new.self.sink.now, new.self.taker.now)) w.tree.1 cell)));
     }
 
@@ -66,35 +64,33 @@ returns-in_err-walk_leaf_cell-clause-log g c =
     log_then _ _ (ap (λ s. s.page_size) w.walked.shape) w.log c.in_err-walk_leaf_cell.ensures.log (λ file on done e coded from d v at viewed leaf before isat held room.
     let t = c.args.self.now.tree in
     let q = err_from_is_err_and c.from_residual.result c.from_residual.ensures.1 in
-    let there = ap (slice_get c.args.bench.now.levels) c.len-level.ensures.value ∙ at.bytes in
-    let seen = ap (λ s. undamaged t.kind c.args.page s.usable (page_bytes file c.args.page)) e ∙ view_back file t.kind t.start t.path.items d c.args.bench.now.levels c.args.page v at viewed in
-    let cells = c.leaf_cells-cells.ensures.count_is (page_bytes file c.args.page) v there seen in
+    let cells = cells_here file at viewed (ap (λ s. s.usable) e) c.len-level.ensures.value c.leaf_cells-cells.ensures in
     let low : c.loop-i.i < count v = omega arith in
     let s = on e coded from d v at viewed leaf before isat held room in
     let new = c.walk_leaf_cell.new in
     let cell = done (w.walked.shape ∙ e) (w.walked.coded ∙ coded) (cells_done file from d t.kind v c.loop-i.i) d v (leaf_as file t.kind c.loop-i.self.tree.kind t.start c.loop-i.self.tree.start t.path.items c.loop-i.self.tree.path.items c.args.bench.now.levels c.loop-i.bench.levels c.args.page d w.tree.1 w.tree.0 (ap (λ p. p.items) w.tree.3) w.levels at) viewed leaf low s.1 s.0.at held (λ z. s.2 (sym w.tree.0 ∙ z)) in
-    subst (λ r. HasDone {A = Unit {0}} (watches g.K.Sink.takes g.T.Taker.takes) (fails g.K.Sink.drops g.T.Taker.refuses) file (done_below file from (errands_of (story_of file) d)) r (new.self.marks.now, new.self.tree) (c.args.self.now.sink.now, c.args.self.now.taker.now) (new.self.sink.now, new.self.taker.now)) (sym (q.1 ∙ ap Err q.2))
+    stopped_as (q.1 ∙ ap Err q.2)
     (subst (λ es. HasDone {A = Unit {0}} (watches g.K.Sink.takes g.T.Taker.takes) (fails g.K.Sink.drops g.T.Taker.refuses) file (done_below file from es) (Err c.in_err-walk_leaf_cell.field-0.0) (new.self.marks.now, new.self.tree) (c.args.self.now.sink.now, c.args.self.now.taker.now) (new.self.sink.now, new.self.taker.now)) (sym (leaf_errands_are file d t.kind v at.kind_is viewed leaf))
-    (on_stop file from d t.kind v leaf g.K.Sink.takes g.K.Sink.drops g.T.Taker.takes g.T.Taker.refuses (c.args.self.now.sink.now, c.args.self.now.taker.now) held t.start c.in_err-walk_leaf_cell.field-0.0 c.loop-i.i (c.loop-i.self.marks.now, c.loop-i.self.tree) (new.self.marks.now, new.self.tree) (c.loop-i.self.sink.now, c.loop-i.self.taker.now) (new.self.sink.now, new.self.taker.now) low s
-    (subst (λ k. HasDone {A = Unit {0}} (watches g.K.Sink.takes g.T.Taker.takes) (fails g.K.Sink.drops g.T.Taker.refuses) file (done_below file (cells_done file from d t.kind v c.loop-i.i) (cell_errands d k v c.loop-i.i)) (Err c.in_err-walk_leaf_cell.field-0.0) (new.self.marks.now, new.self.tree) (c.loop-i.self.sink.now, c.loop-i.self.taker.now) (new.self.sink.now, new.self.taker.now)) w.tree.1 cell))))
+    (on_stop file from d t.kind v leaf g.K.Sink.takes g.T.Taker.takes (fails g.K.Sink.drops g.T.Taker.refuses) (c.args.self.now.sink.now, c.args.self.now.taker.now) held t.start c.in_err-walk_leaf_cell.field-0.0 c.loop-i.i (c.loop-i.self.marks.now, c.loop-i.self.tree) (new.self.marks.now, new.self.tree) (c.loop-i.self.sink.now, c.loop-i.self.taker.now) (new.self.sink.now, new.self.taker.now) low s
+    (subst (λ k. HasDone {A = Unit {0}} (watches g.K.Sink.takes g.T.Taker.takes) (fails g.K.Sink.drops g.T.Taker.refuses) file (done_below file (cells_done file from d t.kind v c.loop-i.i) (cell_errands d k v c.loop-i.i)) (Err c.in_err-walk_leaf_cell.field-0.0) (new.self.marks.now, new.self.tree) (c.loop-i.self.sink.now, c.loop-i.self.taker.now) (new.self.sink.now, new.self.taker.now)) w.tree.1 cell))).handed)
 
 pub returns-clause-log : goal.returns-clause-log
 returns-clause-log g c =
     let w = c.loop-i.invariant in
     has_weaker _ _ w.log (λ log r. r) (λ file on e coded from d v at viewed leaf before isat held room.
     let t = c.args.self.now.tree in
-    let there = ap (slice_get c.args.bench.now.levels) c.len-level.ensures.value ∙ at.bytes in
-    let seen = ap (λ s. undamaged t.kind c.args.page s.usable (page_bytes file c.args.page)) e ∙ view_back file t.kind t.start t.path.items d c.args.bench.now.levels c.args.page v at viewed in
-    let cells = c.leaf_cells-cells.ensures.count_is (page_bytes file c.args.page) v there seen in
+    let cells = cells_here file at viewed (ap (λ s. s.usable) e) c.len-level.ensures.value c.leaf_cells-cells.ensures in
     let s = on e coded from d v at viewed leaf before isat held room in
     let within = s.3 in
     let end : c.loop-i.i ≡ count v = omega arith in
     subst (λ es. HasDone (watches g.K.Sink.takes g.T.Taker.takes) (fails g.K.Sink.drops g.T.Taker.refuses) file (done_below file from es) (Ok tt) (c.loop-i.self.marks.now, c.loop-i.self.tree) (c.args.self.now.sink.now, c.args.self.now.taker.now) (c.loop-i.self.sink.now, c.loop-i.self.taker.now)) (sym (leaf_errands_are file d t.kind v at.kind_is viewed leaf))
-    (on_end file from d t.kind v leaf g.K.Sink.takes g.K.Sink.drops g.T.Taker.takes g.T.Taker.refuses (c.args.self.now.sink.now, c.args.self.now.taker.now) held t.start (c.loop-i.self.marks.now, c.loop-i.self.tree) (c.loop-i.self.sink.now, c.loop-i.self.taker.now) c.loop-i.i end s))
+    (on_end file from d t.kind v leaf g.K.Sink.takes g.T.Taker.takes (fails g.K.Sink.drops g.T.Taker.refuses) (c.args.self.now.sink.now, c.args.self.now.taker.now) held t.start (c.loop-i.self.marks.now, c.loop-i.self.tree) (c.loop-i.self.sink.now, c.loop-i.self.taker.now) c.loop-i.i end s))
 
 pub walk_leaf_cell-requires : goal.walk_leaf_cell-requires
 walk_leaf_cell-requires g c =
-    let low : length c.loop-i.self.tree.path.items < 20 = subst (λ p. length p.items < 20) (sym c.loop-i.invariant.tree.3) c.requires.level in
+    let w = c.loop-i.invariant in
+    let low : length c.loop-i.self.tree.path.items < 20 = subst (λ p. length p.items < 20) (sym w.tree.3) c.requires.level in
+    let none : 1 ≤ c.loop-i.self.tree.start → c.loop-i.sieve ≡ None = λ later. w.empty (subst (λ k. 1 ≤ k) w.tree.0 later) in
     search rules
 
 pub returns-in_err-walk_leaf_cell-clause-walked : goal.returns-in_err-walk_leaf_cell-clause-walked

@@ -1,4 +1,4 @@
-use Rattle.std.proofs.Common.{◌≡◌, ℕ, ◌-◌, ◌≤◌, false, Some, Ok}
+use Rattle.std.proofs.Common.{◌≡◌, ℕ, ◌-◌, ◌≤◌, false, Some, None, Ok}
 use Rattle.dbformat.specs.Address.{then_step, overflow_step, schema_start}
 use Rattle.dbformat.specs.Cell.{count}
 use Rattle.dbformat.specs.Head.{View, is_interior}
@@ -19,6 +19,7 @@ invariant-loop-i g l = record {
   walked : Walked {R = Unit {0}} g.S.Source.held g.K.Sink.held g.T.Taker.refusals (Ok tt) l.fn.bench.geometry l.bench.geometry l.fn.self l.self;
   levels : l.bench.levels ≡ l.fn.bench.levels;
   tree : IsSameButGreatest l.fn.self.tree l.self.tree;
+  empty : 1 ≤ l.fn.self.tree.start → l.sieve ≡ None;
   log : SaysOfFiles g.S.Source.step g.S.Source.held l.fn.bench.geometry l.fn.self l.self (λ file. (from : Walk) (c : Reference) (v : View) → IsLeafAt file l.fn.self.tree.kind l.fn.self.tree.start l.fn.self.tree.path.items c l.fn.bench.levels l.page
       → tree_view file c ≡ Some v → is_interior v.kind ≡ false → AreBefore from.visits (then_step c.address 0) → IsAt file from l.fn.self.marks.now l.fn.self.tree
       → (held : g.row.T.Denot → ℕ) → (l.fn.self.tree.start ≡ schema_start → HasRoom g.T.Taker.takes held from.state.roots l.fn.self.taker.now)

@@ -1,18 +1,19 @@
-use Rattle.std.proofs.Common.{rules, ◌≡◌, ◌<◌, ◌++◌, [], ◌∷◌, length, Some, Ok, Err, refl, sym, ap, subst, arith, ◌∙◌}
+use Rattle.std.proofs.Common.{rules, ◌≡◌, ◌<◌, ◌++◌, [], ◌∷◌, length, Some, Err, refl, sym, ap, subst, arith, ◌∙◌}
 use Rattle.std.specs.Prelude.{option_to_list}
 use Rattle.std.proofs.lemmas.Result.{err_from_is_err_and}
 use Rattle.dbformat.specs.File.{page_bytes}
 use Rattle.dbwalk.specs.Found.{StandsAt}
 use Rattle.dbwalk.specs.Walking.{IsCandidate, IsOpen, AreOpen, path_of, cost}
 use Rattle.dbsource.proofs.Logs.{has_weaker}
-use Rattle.dbwalk.proofs.Marking.Readings.{log_then}
+use Rattle.dbmarks.proofs.Readings.{log_then}
 use Rattle.dbwalk.proofs.Trees.Frames.{path_last}
 use Rattle.dbtrace.specs.Walk.{begin}
-use Rattle.dbwalk.specs.Underway.{HasDone, IsEntered, entered, IsWalkingOn, tree_walk}
-use Rattle.dbwalk.specs.Watching.{fails, watches}
 use Rattle.dbwalk.proofs.Pages.PageVisits.{kind_is}
 use Rattle.dbwalk.proofs.Underway.WalkedTrees.{candidate_as, none_left, tree_started, tree_ended}
 use Rattle.dbwalk.proofs.RootTakings.{empty_room}
+use Rattle.dbwalk.proofs.Underway.Handing.{stopped_as}
+use Rattle.dbwalk.proofs.Underway.TreeSteps.{by_other}
+use Rattle.dbwalk.proofs.Underway.Visits.{entered_done}
 use Rattle.dbwalk.proofs.Underway.Walks.{walked_as, walked_as_ok, walked_behind}
 use Rattle.dbwalk.proofs.tree_walk.TreeWalk.walk_pages.Goals as goal
 
@@ -23,35 +24,21 @@ visit_page-requires g c =
 
 pub returns-in_err-visit_page-clause-log : goal.returns-in_err-visit_page-clause-log
 returns-in_err-visit_page-clause-log g c = has_weaker _ _ c.in_err-visit_page.ensures.log (λ log r. r) (λ file h e coded W d candidate there followed next m held empty.
-    let t = c.args.self.now.tree in
-    let w : g.row.K.Denot × g.row.T.Denot = (c.args.self.now.sink.now, c.args.self.now.taker.now) in
-    let moves = watches g.K.Sink.takes g.T.Taker.takes in
-    let stops = fails g.K.Sink.drops g.T.Taker.refuses in
-    let n = c.visit_page.new in
-    let x : g.row.K.Denot × g.row.T.Denot = (n.self.sink.now, n.self.taker.now) in
-    let entry = h e coded (begin W) d 0 t.start (subst (λ l. IsCandidate t.kind t.start l c.args.page 0 t.start d) (sym c.requires.fresh.2) candidate)
+    let entry = h e coded (begin W) d 0 c.args.self.now.tree.start (subst (λ l. IsCandidate c.args.self.now.tree.kind c.args.self.now.tree.start l c.args.page 0 c.args.self.now.tree.start d) (sym c.requires.fresh.2) candidate)
     (subst (λ l. StandsAt c.args.bench.now.levels (length l) (page_bytes file c.args.page)) (sym c.requires.fresh.2) there) next followed m c.requires.fresh.0 c.requires.fresh.1 held
     (λ z. empty_room g.T.Taker.takes held c.args.self.now.taker.now (empty z)) in
     let q = err_from_is_err_and c.from_residual.result c.from_residual.ensures.1 in
-    subst (λ r. HasDone moves stops file (tree_walk file W d) r (n.self.marks.now, n.self.tree) w x) (sym (q.1 ∙ ap Err q.2)) (record { at = tt; handed = entry.0.handed }))
+    stopped_as (q.1 ∙ ap Err q.2) entry.0.handed)
 
 pub returns-then-not-branch-clause-log : goal.returns-then-not-branch-clause-log
 returns-then-not-branch-clause-log g c = has_weaker _ _ c.in_ok-visit_page.ensures.log (λ log r. r) (λ file h e coded W d candidate there followed next m held empty.
-    let t = c.args.self.now.tree in
-    let w : g.row.K.Denot × g.row.T.Denot = (c.args.self.now.sink.now, c.args.self.now.taker.now) in
-    let moves = watches g.K.Sink.takes g.T.Taker.takes in
-    let stops = fails g.K.Sink.drops g.T.Taker.refuses in
-    let n = c.visit_page.new in
-    let x : g.row.K.Denot × g.row.T.Denot = (n.self.sink.now, n.self.taker.now) in
-    let entry = h e coded (begin W) d 0 t.start (subst (λ l. IsCandidate t.kind t.start l c.args.page 0 t.start d) (sym c.requires.fresh.2) candidate)
+    let entry = h e coded (begin W) d 0 c.args.self.now.tree.start (subst (λ l. IsCandidate c.args.self.now.tree.kind c.args.self.now.tree.start l c.args.page 0 c.args.self.now.tree.start d) (sym c.requires.fresh.2) candidate)
     (subst (λ l. StandsAt c.args.bench.now.levels (length l) (page_bytes file c.args.page)) (sym c.requires.fresh.2) there) next followed m c.requires.fresh.0 c.requires.fresh.1 held
     (λ z. empty_room g.T.Taker.takes held c.args.self.now.taker.now (empty z)) in
-    let passed = subst (λ y. HasDone moves stops file (entered file (begin W) d (Ok y)) (Ok y) (n.self.marks.now, n.self.tree) w x) c.if-not-branch.true entry.0 in
-    record { at = passed.at; handed = passed.handed })
+    entered_done (begin W) d tt c.if-not-branch.true entry.0)
 
 pub loop-frame-init : goal.loop-frame-init
 loop-frame-init g c =
-    let t = c.args.self.now.tree in
     let n = c.visit_page.new in
     let items = c.push.ensures.items ∙ ap (λ l. l ++ (record { page = c.args.page; next = 0 } ∷ [])) c.new-frames.ensures in
     record {
@@ -61,19 +48,11 @@ loop-frame-init g c =
           (subst (λ l. IsOpen n.bench.geometry.usable n.self.tree.kind n.bench.levels (length l) (record { page = c.args.page; next = 0 })) c.requires.fresh.2 (c.in_ok-visit_page.ensures.«open» (search rules)), tt);
       path = path_last c.push.new.self.items [] (record { page = c.args.page; next = 0 }) n.self.tree.path.items items (ap (λ p. p.items) c.visit_page.ensures.path ∙ c.requires.fresh.2);
       log = has_weaker _ _ c.in_ok-visit_page.ensures.log (λ log r. r) (λ file h e coded W d candidate there followed next m held empty.
-          let t = c.args.self.now.tree in
-          let w : g.row.K.Denot × g.row.T.Denot = (c.args.self.now.sink.now, c.args.self.now.taker.now) in
-          let moves = watches g.K.Sink.takes g.T.Taker.takes in
-          let stops = fails g.K.Sink.drops g.T.Taker.refuses in
-          let n = c.visit_page.new in
-          let x : g.row.K.Denot × g.row.T.Denot = (n.self.sink.now, n.self.taker.now) in
-          let entry = h e coded (begin W) d 0 t.start (subst (λ l. IsCandidate t.kind t.start l c.args.page 0 t.start d) (sym c.requires.fresh.2) candidate)
+          let entry = h e coded (begin W) d 0 c.args.self.now.tree.start (subst (λ l. IsCandidate c.args.self.now.tree.kind c.args.self.now.tree.start l c.args.page 0 c.args.self.now.tree.start d) (sym c.requires.fresh.2) candidate)
           (subst (λ l. StandsAt c.args.bench.now.levels (length l) (page_bytes file c.args.page)) (sym c.requires.fresh.2) there) next followed m c.requires.fresh.0 c.requires.fresh.1 held
           (λ z. empty_room g.T.Taker.takes held c.args.self.now.taker.now (empty z)) in
-          let first = subst (λ y. HasDone moves stops file (entered file (begin W) d (Ok y)) (Ok y) (n.self.marks.now, n.self.tree) w x × IsEntered file (begin W) d (Ok y) n.bench.levels) c.if-not-branch.false entry in
-          subst (λ l. IsWalkingOn moves file W d w (l, n.bench.levels) (n.self.marks.now, n.self.tree) x) (sym items)
-          (tree_started moves stops file W d w n.bench.levels n.self.marks.now n.self.tree (record { page = c.args.page; next = 0 }) x (sym candidate.page) refl next
-          (kind_is file t.kind t.start [] c.args.page 0 t.start d candidate ∙ ap Some (sym c.visit_page.ensures.walked.kind)) candidate.depth first.0 (first.1 (search rules))));
+          let role = kind_is file c.args.self.now.tree.kind c.args.self.now.tree.start [] c.args.page 0 c.args.self.now.tree.start d candidate ∙ ap Some (sym c.visit_page.ensures.walked.kind) in
+          tree_started W d (record { page = c.args.page; next = 0 }) items (sym candidate.page) refl next role candidate.depth c.if-not-branch.false entry);
     }
 
 pub turn-requires : goal.turn-requires
@@ -95,7 +74,6 @@ loop-frame-preserved g c =
     let inv = c.loop-frame.invariant in
     let t = c.args.self.now.tree in
     let s = c.loop-frame in
-    let n = c.turn.new in
     let popped = c.pop.ensures.items ∙ ap (λ o. c.pop.new.self.items ++ option_to_list o) c.in-Some.is in
     record {
       walked = walked_behind g.S.Source.held g.K.Sink.held g.T.Taker.refusals c.in_ok-turn.ensures.walked inv.walked;
@@ -103,10 +81,8 @@ loop-frame-preserved g c =
       opened = c.in_ok-turn.ensures.«open»;
       path = c.in_ok-turn.ensures.path;
       log = log_then _ _ (ap (λ x. x.page_size) inv.walked.shape) inv.log c.in_ok-turn.ensures.log (λ file walking turned e coded W d candidate there followed next m held empty.
-          let w : g.row.K.Denot × g.row.T.Denot = (c.args.self.now.sink.now, c.args.self.now.taker.now) in
-          let moves = watches g.K.Sink.takes g.T.Taker.takes in
-          (turned (inv.walked.shape ∙ e) (inv.walked.coded ∙ coded) W d w (candidate_as t.kind s.self.tree.kind t.start s.self.tree.start [] [] c.args.page d.page 0 t.start s.self.tree.start d inv.walked.kind inv.walked.start refl candidate.page inv.walked.start candidate)
-          (subst (λ l. IsWalkingOn moves file W d w (l, s.bench.levels) (s.self.marks.now, s.self.tree) (s.self.sink.now, s.self.taker.now)) popped (walking e coded W d candidate there followed next m held empty)) held (λ z. empty (sym inv.walked.start ∙ z))).0);
+          (turned (inv.walked.shape ∙ e) (inv.walked.coded ∙ coded) W d _ (candidate_as t.kind s.self.tree.kind t.start s.self.tree.start [] [] c.args.page d.page 0 t.start s.self.tree.start d inv.walked.kind inv.walked.start refl candidate.page inv.walked.start candidate)
+          (by_other (walking e coded W d candidate there followed next m held empty) (sym popped) refl refl refl (λ n l. refl)) held (λ z. empty (sym inv.walked.start ∙ z))).0);
     }
 
 pub returns-in_err-turn-clause-log : goal.returns-in_err-turn-clause-log
@@ -114,26 +90,17 @@ returns-in_err-turn-clause-log g c =
     let inv = c.loop-frame.invariant in
     let t = c.args.self.now.tree in
     let s = c.loop-frame in
-    let n = c.turn.new in
     let popped = c.pop.ensures.items ∙ ap (λ o. c.pop.new.self.items ++ option_to_list o) c.in-Some.is in
     log_then _ _ (ap (λ x. x.page_size) inv.walked.shape) inv.log c.in_err-turn.ensures.log (λ file walking turned e coded W d candidate there followed next m held empty.
-    let w : g.row.K.Denot × g.row.T.Denot = (c.args.self.now.sink.now, c.args.self.now.taker.now) in
-    let moves = watches g.K.Sink.takes g.T.Taker.takes in
-    let stops = fails g.K.Sink.drops g.T.Taker.refuses in
     let q = err_from_is_err_and c.from_residual-in_err-turn.result c.from_residual-in_err-turn.ensures.1 in
-    let stopped = turned (inv.walked.shape ∙ e) (inv.walked.coded ∙ coded) W d w (candidate_as t.kind s.self.tree.kind t.start s.self.tree.start [] [] c.args.page d.page 0 t.start s.self.tree.start d inv.walked.kind inv.walked.start refl candidate.page inv.walked.start candidate)
-    (subst (λ l. IsWalkingOn moves file W d w (l, s.bench.levels) (s.self.marks.now, s.self.tree) (s.self.sink.now, s.self.taker.now)) popped (walking e coded W d candidate there followed next m held empty)) held (λ z. empty (sym inv.walked.start ∙ z)) in
-    subst (λ r. HasDone moves stops file (tree_walk file W d) r (n.self.marks.now, n.self.tree) w (n.self.sink.now, n.self.taker.now)) (sym (q.1 ∙ ap Err q.2)) (record { at = tt; handed = stopped.1 }))
+    let stopped = turned (inv.walked.shape ∙ e) (inv.walked.coded ∙ coded) W d _ (candidate_as t.kind s.self.tree.kind t.start s.self.tree.start [] [] c.args.page d.page 0 t.start s.self.tree.start d inv.walked.kind inv.walked.start refl candidate.page inv.walked.start candidate)
+    (by_other (walking e coded W d candidate there followed next m held empty) (sym popped) refl refl refl (λ n l. refl)) held (λ z. empty (sym inv.walked.start ∙ z)) in
+    stopped_as (q.1 ∙ ap Err q.2) stopped.1)
 
 pub returns-clause-log : goal.returns-clause-log
 returns-clause-log g c =
-    let inv = c.loop-frame.invariant in
-    let t = c.args.self.now.tree in
-    let s = c.loop-frame in
-    let empty = none_left s.frames.items c.pop.result c.in_default.is c.pop.ensures.variant in
-    has_weaker _ _ inv.log (λ log r. r) (λ file walking e coded W d candidate there followed next m held starts.
-    tree_ended (watches g.K.Sink.takes g.T.Taker.takes) (fails g.K.Sink.drops g.T.Taker.refuses) file W d (c.args.self.now.sink.now, c.args.self.now.taker.now) s.bench.levels s.self.marks.now s.self.tree s.frames.items (s.self.sink.now, s.self.taker.now) empty
-    (walking e coded W d candidate there followed next m held starts))
+    let empty = none_left c.loop-frame.frames.items c.pop.result c.in_default.is c.pop.ensures.variant in
+    has_weaker _ _ c.loop-frame.invariant.log (λ log r. r) (λ file walking e coded W d candidate there followed next m held starts. tree_ended W d empty (walking e coded W d candidate there followed next m held starts))
 
 pub returns-in_err-visit_page-clause-walked : goal.returns-in_err-visit_page-clause-walked
 returns-in_err-visit_page-clause-walked g c =

@@ -1,0 +1,3 @@
+pub mod EndMarks
+pub mod Marking
+pub mod Reads

@@ -1,0 +1,42 @@
+-- What a sink is lent after an answer, and what its Outs count.
+use Rattle.std.proofs.Common.{◌≡◌, ℕ, inl, inr, List, [], ◌∷◌, Ok, Err, Result, ap, ◌∙◌}
+use Rattle.dbsource.specs.Errors.{is_write_failed}
+use Rattle.dbsource.specs.Failures.{CountsAfter, failures_after}
+use Rattle.dbsource.specs.Outs.{OutState}
+use Rattle.dbsource.specs.declared.error.RunError.{RunError}
+use Rattle.dbsource.specs.declared.error.RunError.TheVariants.{ReadFailed, WriteFailed, OutOfMemory, Refused}
+use Rattle.dbwalk.specs.Telling.{SinkAfter, SinkState}
+
+-- the first of some numbers, and the second
+abbrev pub first : List ℕ → ℕ
+first [] = 0
+first (x ∷ xs) = x
+
+abbrev pub second : List ℕ → ℕ
+second [] = 0
+second (x ∷ xs) = first xs
+
+-- it is lent the same
+pub lent_same : {A : Type 0} (r : Result A RunError) (s t : SinkState) → SinkAfter is_write_failed r s t → t.lent ≡ s.lent
+lent_same (Ok a) s t h = ap (λ (x : SinkState). x.lent) h
+lent_same (Err (Refused r)) s t h = ap (λ (x : SinkState). x.lent) h
+lent_same (Err ReadFailed) s t h = ap (λ (x : SinkState). x.lent) h
+lent_same (Err OutOfMemory) s t h = ap (λ (x : SinkState). x.lent) h
+lent_same (Err WriteFailed) s t h = h.lent
+
+-- where it is lent one Out, that failed once more exactly at a failed write
+pub one_failed : {A : Type 0} (r : Result A RunError) (a b : List ℕ) (m n : ℕ) → SinkAfter is_write_failed r (record { lent = a; failures = m ∷ [] }) (record { lent = b; failures = n ∷ [] })
+    → n ≡ failures_after is_write_failed r m
+one_failed (Ok x) a b m n h = ap (λ (s : SinkState). first s.failures) h
+one_failed (Err (Refused r)) a b m n h = ap (λ (s : SinkState). first s.failures) h
+one_failed (Err ReadFailed) a b m n h = ap (λ (s : SinkState). first s.failures) h
+one_failed (Err OutOfMemory) a b m n h = ap (λ (s : SinkState). first s.failures) h
+one_failed (Err WriteFailed) a b m n h = by_once h.failures
+  where
+    by_once : CountsAfter {A = Unit {0}} is_write_failed (Err WriteFailed) (m ∷ []) (n ∷ []) → n ≡ failures_after {A = Unit {0}} is_write_failed (Err WriteFailed) m
+    by_once (inl k) = k.0
+    by_once (inr k) = absurd k.1
+
+-- the failures of an Out that ends as some other that is equal
+pub as_other : {O : Type 0} (held : O → OutState) (t u : O) (n : ℕ) → u ≡ t → (held t).failures ≡ n → (held u).failures ≡ n
+as_other held t u n same h = ap (λ x. (held x).failures) same ∙ h

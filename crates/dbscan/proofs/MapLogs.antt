@@ -1,0 +1,110 @@
+-- What is read of the pointer map: page after page, and behind what walks read.
+use Rattle.std.proofs.Common.{◌≡◌, ◌≢◌, ℕ, ◌+◌, ◌<◌, Bool, true, false, cond, ◌&&◌, inl, inr, List, [], ◌∷◌, ◌++◌, Some, None, Result, Ok, Err, refl, sym, ap, ap₂, ◌∙◌, subst, arith}
+use Rattle.std.specs.Prelude.{IfErr, is_some, ◌==◌}
+use Rattle.std.proofs.lemmas.Bool.{both_ways, eq-eqb}
+use Rattle.std.proofs.lemmas.List.{append-nil, map-append}
+use Rattle.dbsurvey.proofs.Elements.{each_weaker}
+use Rattle.dbsurvey.proofs.Order.{IsIn-cases, EachPair-append}
+use Rattle.dbformat.specs.FixedPages.{fixed_use, is_fixed, is_map_position, is_page, lock_page}
+use Rattle.dbformat.specs.Log.{page_range, IsPageLog, IsReadable}
+use Rattle.dbformat.specs.declared.ByteRange.{ByteRange}
+use Rattle.dbformat.specs.declared.Fixed.TheVariants.{Lock, Map}
+use Rattle.dbformat.specs.declared.Geometry.{Geometry}
+use Rattle.dbsource.specs.Answers.{Step}
+use Rattle.dbsource.specs.Errors.{is_read_failed}
+use Rattle.dbsource.specs.Failures.{failures_after}
+use Rattle.dbsource.specs.Sources.{Asks, SourceState}
+use Rattle.dbsource.specs.declared.error.RunError.{RunError}
+use Rattle.dbsource.specs.declared.error.RunError.TheVariants.{WriteFailed}
+use Rattle.dbsource.proofs.Logs.{has_none}
+use Rattle.dbmarks.specs.Marking.{AreMarksFor}
+use Rattle.dbmarks.specs.Reads.{Reads}
+use Rattle.dbmarks.specs.declared.marks.Mark.{Mark}
+use Rattle.dbmarks.proofs.Unfixed.{unmarked_unfixed, readable}
+use Rattle.dbscan.specs.MapReads.{IsMapInUse, IsMapTurn, MapReads, MapReadsBefore}
+use Rattle.dbscan.proofs.MapPlaces.{at_position}
+
+-- ---- page after page
+
+pub reads_none : (g : Geometry) → MapReadsBefore g 1 []
+reads_none g = record { reads = record { pages = []; ranges = refl; rising = tt; maps = λ p i. absurd i }; before = λ p i. absurd i }
+
+pub reads_more : (g : Geometry) (p : ℕ) (log turn : List ByteRange) → MapReadsBefore g p log → IsMapTurn g p turn → MapReadsBefore g (p + 1) (log ++ turn)
+reads_more g p log turn h (inl e) = record {
+  reads = record {
+    pages = h.reads.pages;
+    ranges = ap (λ l. log ++ l) e ∙ append-nil log ∙ h.reads.ranges;
+    rising = h.reads.rising;
+    maps = h.reads.maps;
+  };
+  before = λ q i. let k = h.before q i in omega arith;
+}
+reads_more g p log turn h (inr e) = record {
+  reads = record {
+    pages = h.reads.pages ++ (p ∷ []);
+    ranges = ap₂ (λ a b. a ++ b) h.reads.ranges e.0 ∙ sym (map-append (page_range g.page_size) h.reads.pages (p ∷ []));
+    rising = EachPair-append (λ a b. a < b) h.reads.pages (p ∷ []) h.reads.rising ((λ q i. absurd i), tt)
+        (λ q r i j. elim j [ inl k ↦ subst (λ y. q < y) (sym k) (h.before q i) | inr z ↦ absurd z ]);
+    maps = λ q i. elim (IsIn-cases q h.reads.pages (p ∷ []) i) [
+      | inl j ↦ h.reads.maps q j
+      | inr j ↦ elim j [ inl k ↦ subst (IsMapInUse g) (sym k) e.1 | inr z ↦ absurd z ]
+    ];
+  };
+  before = λ q i. elim (IsIn-cases q h.reads.pages (p ∷ []) i) [
+    | inl j ↦ (let k = h.before q j in omega arith)
+    | inr j ↦ elim j [ inl k ↦ omega arith | inr z ↦ absurd z ]
+  ];
+}
+
+-- where only a write failed, nothing was asked for
+pub asks_nothing : {A : Type 0} (step : Step) (P : List ByteRange → Type 0) {Q : List ℕ → Type 0} (r : Result A RunError) (s : SourceState)
+    → IfErr r (λ e. e ≡ WriteFailed) → P [] → ((file : List ℕ) → Q file) → Asks step P Q is_read_failed r s s
+asks_nothing {A} step P r s only holds q = record { log = has_none s s refl refl holds q; count = uncounted r only }
+  where
+    uncounted : (r : Result A RunError) → IfErr r (λ e. e ≡ WriteFailed) → s.failures ≡ failures_after is_read_failed r s.failures
+    uncounted (Ok u) h = refl
+    uncounted (Err e) h = subst (λ (x : RunError). s.failures ≡ failures_after {A = A} is_read_failed (Err x) s.failures) (sym h) refl
+
+-- ---- the pages that are read
+
+-- such a page is of fixed use, and may be read
+pub map_is_fixed : (g : Geometry) (p : ℕ) → IsMapInUse g p → is_fixed g p ≡ true
+map_is_fixed g p h = ap is_some h.0
+
+unlocked : (g : Geometry) (p : ℕ) → fixed_use g p ≡ Some Map → p ≢ lock_page g.page_size
+unfolding fixed_use
+unlocked g p h e = by_case (is_page g p) (p == lock_page g.page_size) (g.has_map && is_map_position g p) (eq-eqb p (lock_page g.page_size) e) h
+  where
+    by_case : (a l b : Bool) → l ≡ true → cond a (cond l (Some Lock) (cond b (Some Map) None)) None ≡ Some Map → ⊥
+    by_case false l b t f = cc
+    by_case true true b t f = absurd (let k : Lock ≡ Map = cc in cc)
+    by_case true false b t f = cc
+
+pub map_is_readable : (g : Geometry) (p : ℕ) → IsMapInUse g p → IsReadable g p
+map_is_readable g p h = record { from_one = let k = (at_position g p h.0).0 in omega arith; within = let k = h.1 in omega arith; unlocked = unlocked g p h.0 }
+
+apart : (p q : ℕ) → p < q → p ≢ q
+apart p q l e = omega arith
+
+-- so what is read of the map is a log of pages of the file
+pub map_log : (g : Geometry) (log : List ByteRange) → MapReads g log → IsPageLog g log
+map_log g log h = record {
+  pages = h.pages;
+  ranges = h.ranges;
+  readable = λ p i. map_is_readable g p (h.maps p i);
+  distinct = each_weaker (λ p q. p < q) (λ p q. p ≢ q) h.pages apart h.rising;
+}
+
+-- and behind what walks read it is one with that: no page of fixed use is read by a walk
+pub walk_then_map_log : (g : Geometry) (old new : List Mark) (walked mapped : List ByteRange) → AreMarksFor g old
+    → Reads g.page_size old new walked → MapReads g mapped → IsPageLog g (walked ++ mapped)
+walk_then_map_log g old new walked mapped m h k = record {
+  pages = h.pages ++ k.pages;
+  ranges = ap₂ (λ a b. a ++ b) h.ranges k.ranges ∙ sym (map-append (page_range g.page_size) h.pages k.pages);
+  readable = λ p i. elim (IsIn-cases p h.pages k.pages i) [
+    | inl j ↦ readable g old p m (h.fresh p j)
+    | inr j ↦ map_is_readable g p (k.maps p j)
+  ];
+  distinct = EachPair-append (λ p q. p ≢ q) h.pages k.pages h.distinct (each_weaker (λ p q. p < q) (λ p q. p ≢ q) k.pages apart k.rising)
+      (λ p q i j e. both_ways (is_fixed g q) (subst (λ x. is_fixed g x ≡ false) e (unmarked_unfixed g old p m (h.fresh p i)).1) (map_is_fixed g q (k.maps q j)));
+}

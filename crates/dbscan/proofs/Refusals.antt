@@ -1,0 +1,13 @@
+-- The refusals that a list of roots counts, where memory was not refused.
+use Rattle.std.proofs.Common.{◌≡◌, ℕ, Ok, Err, Result, inl, inr, refl, sym, subst}
+use Rattle.std.specs.Prelude.{IfErr}
+use Rattle.dbsource.specs.Errors.{is_out_of_memory}
+use Rattle.dbsource.specs.Failures.{failures_after}
+use Rattle.dbsource.specs.declared.error.RunError.{RunError}
+use Rattle.dbwalk.specs.Telling.{IsReadOrWrite}
+
+-- no refusal is counted
+pub memory_kept : (r : Result (Unit {0}) RunError) (n : ℕ) → IfErr r IsReadOrWrite → n ≡ failures_after is_out_of_memory r n
+memory_kept (Ok u) n only = refl
+memory_kept (Err e) n (inl h) = subst (λ (x : RunError). n ≡ failures_after {A = Unit {0}} is_out_of_memory (Err x) n) (sym h) refl
+memory_kept (Err e) n (inr h) = subst (λ (x : RunError). n ≡ failures_after {A = Unit {0}} is_out_of_memory (Err x) n) (sym h) refl

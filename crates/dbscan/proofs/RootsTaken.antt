@@ -1,0 +1,72 @@
+-- What a list of roots holds by the rows that it was given, and the starts that this makes.
+use Rattle.std.proofs.Common.{◌≡◌, ℕ, Bool, true, false, cond, not, List, [], ◌∷◌, ◌++◌, length, take, map, filter_map, None, Some, Result, Ok, Err, refl, sym, ap, ◌∙◌, append_assoc}
+use Rattle.std.specs.Prelude.{◌==◌}
+use Rattle.std.specs.Result.{result_ok}
+use Rattle.std.specs.List.{enumerate_from, cons_option, take-map}
+use Rattle.std.proofs.lemmas.List.{append-nil}
+use Rattle.dbsurvey.specs.Moves.{Moves}
+use Rattle.dbformat.specs.Address.{last_root_start}
+use Rattle.dbformat.specs.Reference.{Reference}
+use Rattle.dbformat.specs.Schema.{SchemaCell, schema, rooted, rooted_rows, root_start, freelist_starts, later_starts}
+use Rattle.dbformat.specs.SchemaRow.{SchemaRow}
+use Rattle.dbformat.specs.Sound.{with_root}
+use Rattle.dbformat.specs.declared.RowFault.{RowFault}
+use Rattle.dbwalk.specs.Taking.{HasRootRoom, StartsEmpty, roots_after, first_roots, gives, readable_rows}
+use Rattle.dbwalk.proofs.RootTakings.{list_has_room, first_more}
+use Rattle.dbowner.specs.Roots.{Listed, kept_row, TakesRow}
+use Rattle.dbscan.proofs.ShortNames.{roots_are_kept}
+
+roots_have_room : HasRootRoom TakesRow (λ l. length l.rows)
+roots_have_room = record {
+  answers = λ s t row a h. (list_has_room kept_row).answers s.rows t.rows row a h.0;
+  counts = λ s t row a h. (list_has_room kept_row).counts s.rows t.rows row a h.0;
+}
+
+-- an empty list has room for 65536 roots
+pub roots_start_empty : (first : Listed) → first.rows ≡ [] → StartsEmpty TakesRow (λ l. length l.rows) first
+roots_start_empty first e = record { room = roots_have_room; none = ap length e }
+
+-- row after row, behind those that have come
+rows_after : (rows came : List SchemaRow) (s t : Listed) → s.rows ≡ first_roots kept_row came → Moves (gives TakesRow) s rows t → t.rows ≡ first_roots kept_row (came ++ with_root rows)
+rows_after [] came s t h e = ap (λ (l : Listed). l.rows) (sym e) ∙ h ∙ ap (first_roots kept_row) (sym (append-nil came))
+rows_after (row ∷ rows) came s t h m =
+    let one : m.0.rows ≡ first_roots kept_row (came ++ cond (row.root == 0) [] (row ∷ [])) = m.1.1.0.1 ∙ ap (λ l. roots_after kept_row l row) h ∙ first_more kept_row came row in
+    rows_after rows (came ++ cond (row.root == 0) [] (row ∷ [])) m.0 t one m.2
+    ∙ ap (first_roots kept_row) (append_assoc came (cond (row.root == 0) [] (row ∷ [])) (with_root rows) ∙ ap (λ l. came ++ l) (by_root (row.root == 0)))
+  where
+    by_root : (b : Bool) → cond b [] (row ∷ []) ++ with_root rows ≡ cond (not b) (row ∷ with_root rows) (with_root rows)
+    by_root true = refl
+    by_root false = refl
+
+-- it holds the first 65536 that have a root page
+pub roots_taken : (rows : List SchemaRow) (s t : Listed) → s.rows ≡ [] → Moves (gives TakesRow) s rows t → t.rows ≡ first_roots kept_row (with_root rows)
+roots_taken rows s t e m = rows_after rows [] s t e m
+
+-- those of the schema
+rooted_are : (cells : List SchemaCell) → with_root (filter_map (λ c. result_ok c.row) cells) ≡ rooted_rows cells
+rooted_are [] = refl
+rooted_are (c ∷ cells) = by_row c.row (rooted_are cells)
+  where
+    by_root : (r : SchemaRow) (xs ys : List SchemaRow) (b : Bool) → xs ≡ ys → cond (not b) (r ∷ xs) xs ≡ cons_option (cond b None (Some r)) ys
+    by_root r xs ys true e = e
+    by_root r xs ys false e = ap (λ l. r ∷ l) e
+
+    by_row : (o : Result SchemaRow RowFault) → with_root (filter_map (λ c. result_ok c.row) cells) ≡ rooted_rows cells
+        → with_root (cons_option (result_ok o) (filter_map (λ c. result_ok c.row) cells)) ≡ cons_option (rooted o) (rooted_rows cells)
+    by_row (Err e) h = h
+    by_row (Ok r) h = by_root r (with_root (filter_map (λ c. result_ok c.row) cells)) (rooted_rows cells) (r.root == 0) h
+
+-- of the schema it holds each row as it is read
+pub schema_roots : (file : List ℕ) (V : List Reference) (s t : Listed) → s.rows ≡ [] → Moves (gives TakesRow) s (readable_rows file V) t
+    → t.rows ≡ take last_root_start (rooted_rows (schema file V))
+schema_roots file V s t e m =
+    roots_taken (readable_rows file V) s t e m
+    ∙ ap (first_roots kept_row) (rooted_are (schema file V))
+    ∙ sym (take-map kept_row last_root_start (rooted_rows (schema file V)))
+    ∙ ap (take last_root_start) (roots_are_kept file V)
+
+-- The starts behind the first are those of the rows that it holds, and the freelist's.
+pub starts_listed : (file : List ℕ) (V : List Reference) (rows : List SchemaRow) → rows ≡ take last_root_start (rooted_rows (schema file V))
+    → later_starts file V ≡ map (root_start file) (enumerate_from 1 rows) ++ freelist_starts file
+unfolding later_starts
+starts_listed file V rows e = ap (λ l. map (root_start file) (enumerate_from 1 l) ++ freelist_starts file) (sym e)

@@ -1,0 +1,61 @@
+-- What a run comes by in the walks from all starts: the survey, and its faults.
+use Rattle.std.proofs.Common.{◌≡◌, ℕ, List, [], ◌∷◌, ◌++◌, map, refl, sym, ap, subst, ◌∙◌}
+use Rattle.dbsurvey.specs.Address.{IsIn}
+use Rattle.dbsurvey.specs.From.{under}
+use Rattle.dbsurvey.specs.Story.{Go, Follow, errands_at, goes, AreErrandsApart}
+use Rattle.dbsurvey.specs.Survey.{Link, named_at}
+use Rattle.dbsurvey.specs.Traverse.{part_of}
+use Rattle.dbsurvey.proofs.Tellings.{errands_at-apart}
+use Rattle.dbformat.specs.Address.{schema_start}
+use Rattle.dbformat.specs.File.{geometry}
+use Rattle.dbformat.specs.Laws.{schema_part}
+use Rattle.dbformat.specs.Reference.{Way, Reference}
+use Rattle.dbformat.specs.Schema.{schema, later_starts, starts}
+use Rattle.dbformat.specs.Story.{Event, start_errands}
+use Rattle.dbformat.specs.Survey.{Survey, rules_of}
+use Rattle.dbformat.proofs.LookBack.{by_starts}
+use Rattle.dbformat.proofs.Rising.{starts_rise, follows_pairs}
+use Rattle.dbformat.proofs.SchemaStart.{schema_below}
+use Rattle.dbformat.proofs.Visited.{has_address}
+use Rattle.dbtrace.specs.Finding.{visited_below}
+use Rattle.dbmarks.specs.Marking.{AreMarksOf}
+use Rattle.dbmarks.specs.declared.marks.Mark.{Mark}
+use Rattle.dbwalk.proofs.Telling.Belows.{visited_join}
+use Rattle.dbwalk.proofs.Telling.Lefts.{left_start}
+use Rattle.dbscan.specs.Starts.{AreBelowStarts, schema_reference, later_errands}
+use Rattle.dbscan.specs.Walks.{Any, IsAt}
+
+-- starts rest on the schema alone
+later_same : (file : List ℕ) (U V : List Reference) → schema file U ≡ schema file V → later_starts file U ≡ later_starts file V
+unfolding later_starts
+later_same file U V e = rw e refl
+
+pub starts_are : (file : List ℕ) (V : List Reference) → Survey file V → start_errands file V ≡ Go schema_reference ∷ later_errands file V
+starts_are file V s = ap (λ ls. Go schema_reference ∷ errands_at [] (map Follow ls)) (later_same file (under schema_start V) V (sym (schema_below file V s)))
+
+pub starts_apart : (file : List ℕ) (V : List Reference) → AreErrandsApart (start_errands file V)
+starts_apart file V = errands_at-apart [] (map Follow (starts file V)) (follows_pairs (starts file V) (starts_rise file (under schema_start V)))
+
+pub goes_named : (a : List ℕ) (ls : List (Link Way)) → goes (errands_at {E = Event} a (map Follow ls)) ≡ named_at a ls
+goes_named a [] = refl
+goes_named a (l ∷ ls) = ap (λ cs. record { address = a ++ (l.step ∷ []); page = l.page; role = l.role } ∷ cs) (goes_named a ls)
+
+-- the pages that are visited from the starts are those of the survey
+pub all_visited : (file : List ℕ) (V : List Reference) → Survey file V → visited_below file [] (start_errands file V) ≡ V
+all_visited file V s =
+    let P = schema_part file in
+    let by = by_starts file V s in
+    let later : later_starts file V ≡ later_starts file P = later_same file V P by.1 in
+    ap (visited_below file []) (starts_are file V s)
+    ∙ visited_join file [] (Go schema_reference ∷ []) (later_errands file V)
+    ∙ ap (λ cs. P ++ part_of (rules_of file) (geometry file).pages P cs) (goes_named [] (later_starts file V) ∙ ap (named_at []) later)
+    ∙ sym by.0
+
+pub survey_below_starts : (file : List ℕ) (V : List Reference) → Survey file V → AreBelowStarts ([] ++ visited_below file [] (start_errands file V))
+survey_below_starts file V s u i = has_address file V s u (subst (λ W. IsIn u W) (all_visited file V s) i)
+
+-- at the start all is left
+pub starts_left : (file : List ℕ) (V : List Reference) → Survey file V → (marks : List Mark) → AreMarksOf file [] marks
+    → IsAt file V [] ((Go schema_reference ∷ []) ++ later_errands file V) marks
+starts_left file V s marks fresh = subst (λ es. IsAt file V [] es marks) (starts_are file V s)
+    (left_start Any file [] (start_errands file V) tt marks fresh (λ u e i. absurd i) (starts_apart file V))

@@ -1,0 +1,24 @@
+-- What holds of the notices of the starts behind the schema's, one start after another.
+use Rattle.std.proofs.Common.{ℕ, ◌+◌, List, [], ◌∷◌, ◌++◌, map}
+use Rattle.std.specs.List.{enumerate_from}
+use Rattle.dbsurvey.specs.Story.{Errand, Go}
+use Rattle.dbformat.specs.Reference.{Way, Reference}
+use Rattle.dbformat.specs.SchemaRow.{SchemaRow}
+use Rattle.dbformat.specs.Story.{Event}
+use Rattle.dbtrace.specs.Finding.{told_below, visited_below}
+use Rattle.dbscan.specs.Notices.{Notice, begun, found, errands_left, root_reference, tree_notices, later_notices}
+
+-- Behind the visits of W, of the rows from start k on: it holds of what is told along the freelist, and of the tree of a row and
+-- what is told behind it, where it holds of that.
+module _ (file : List ℕ) (Holds : ℕ → List SchemaRow → List Reference → List Notice → List (Errand Way Event) → Type 0)
+    (of_freelist : (k : ℕ) (W : List Reference) → Holds k [] W (map found (told_below file W (errands_left file []))) (errands_left file []))
+    (of_tree : (k : ℕ) (row : SchemaRow) (rows : List SchemaRow) (W : List Reference) (ns : List Notice) (es : List (Errand Way Event))
+    → Holds (k + 1) rows (W ++ visited_below file W (Go (root_reference file k row) ∷ [])) ns es
+    → Holds k (row ∷ rows) W (begun row.name ∷ tree_notices file W (root_reference file k row) ++ ns) (Go (root_reference file k row) ∷ es)) where
+  -- then it holds of all
+  pub of_later : (k : ℕ) (rows : List SchemaRow) (W : List Reference) → Holds k rows W (later_notices file W (enumerate_from k rows)) (errands_left file (enumerate_from k rows))
+  of_later k [] W = of_freelist k W
+  of_later k (row ∷ rows) W =
+      let U = W ++ visited_below file W (Go (root_reference file k row) ∷ []) in
+      let left = enumerate_from (k + 1) rows in
+      of_tree k row rows W (later_notices file U left) (errands_left file left) (of_later (k + 1) rows U)

@@ -1,0 +1,18 @@
+use Rattle.std.proofs.Common.{◌+◌, ◌≤◌, cond, max, ap, ap₂, ◌∙◌, sym, arith, Some, None}
+use Rattle.std.specs.Option.{option_or}
+use Rattle.dbmarks.specs.EndMarks.{is_free_mark, is_root_mark, is_other_mark}
+use Rattle.dbscan.proofs.CountedMarks.{bit_most, count_more, greatest_more, least_more}
+use Rattle.dbscan.proofs.counts.count_marks.Goals as goal
+
+pub loop-index-preserved : goal.loop-index-preserved
+loop-index-preserved g c =
+    let marks = c.args.marks.now in
+    let i = c.loop-index.index in
+    let mark = c.get-mark.result in
+    let one = c.free_page-free.ensures in
+    let most : c.free_page-free.result ≤ 1 = bit_most (is_free_mark mark) c.free_page-free.result one in record {
+      free = ap₂ (λ a b. a + b) c.loop-index.invariant.free one ∙ sym (count_more is_free_mark marks i mark c.get-mark.ensures);
+      most = let k = c.loop-index.invariant.most in omega arith;
+      greatest = c.greater_root-greatest_root.ensures ∙ ap (λ n. cond (is_root_mark mark) (max n (i + 1)) n) c.loop-index.invariant.greatest ∙ greatest_more is_root_mark marks i mark c.get-mark.ensures;
+      least = c.first_other-least_other.ensures ∙ ap (λ o. option_or o (cond (is_other_mark mark) (Some (i + 1)) None)) c.loop-index.invariant.least ∙ least_more is_other_mark marks i mark c.get-mark.ensures;
+    }

@@ -1,0 +1,20 @@
+use Rattle.std.proofs.Common.{◌≡◌, ◌+◌, List, None, Ok}
+use Rattle.dbsurvey.specs.Moves.{Moves}
+use Rattle.dbformat.specs.File.{geometry, refusal}
+use Rattle.dbformat.specs.Reference.{Reference}
+use Rattle.dbsource.specs.Errors.{is_read_failed}
+use Rattle.dbsource.specs.Sources.{Asks}
+use Rattle.dbmarks.specs.Marking.{AreMarksOf}
+use Rattle.dbscan.specs.EndPass.{pages_items}
+use Rattle.dbscan.specs.MapReads.{HasMapFor, MapReadsBefore}
+use Rattle.dbscan.proofs.end_pass.end_pages.Given as goal
+
+abbrev pub invariant-loop-index : goal.invariant-loop-index
+invariant-loop-index g l = record {
+  asks : Asks {A = Unit {0}} g.S.Source.step (MapReadsBefore l.initial.bench.geometry (l.index + 1)) (λ file. l.initial.bench.geometry ≡ geometry file → refusal file ≡ None
+      → (V : List Reference) → AreMarksOf file V l.marks
+      → Moves g.K.Sink.takes l.initial.sink (pages_items file V l.least_other l.index) l.sink × HasMapFor file (geometry file) (l.index + 1) l.bench.chain)
+      is_read_failed (Ok tt) (g.S.Source.held l.initial.source) (g.S.Source.held l.source);
+  writes : g.K.Sink.held l.sink ≡ g.K.Sink.held l.initial.sink;
+  bench : l.bench ≡ record l.initial.bench { chain = l.bench.chain };
+}

@@ -1,0 +1,34 @@
+use Rattle.std.proofs.Common.{sym, ap, ◌∙◌, subst, arith}
+use Rattle.dbformat.specs.FixedPages.{map_page_of}
+use Rattle.dbformat.specs.declared.Geometry.{Geometry}
+use Rattle.dbscan.specs.MapReads.{HasMapFor}
+use Rattle.dbscan.proofs.MapPlaces.{place_of, no_entry, entry_read}
+use Rattle.dbscan.proofs.end_pass.entry_of.Goals as goal
+
+pub overflow_sub-page : goal.overflow_sub-page
+overflow_sub-page g c =
+    let k = place_of c.geometry.result c.args.page c.in-Some.map_page (sym c.map_page_of.ensures ∙ c.in-Some.is) in
+    let b = k.before in omega arith
+
+pub stored_entry-requires-clause-first : goal.stored_entry-requires-clause-first
+stored_entry-requires-clause-first g c =
+    let k = place_of c.geometry.result c.args.page c.in-Some.map_page (sym c.map_page_of.ensures ∙ c.in-Some.is) in
+    let b = k.before in omega arith
+
+pub stored_entry-requires-clause-room : goal.stored_entry-requires-clause-room
+stored_entry-requires-clause-room g c =
+    let k = place_of c.geometry.result c.args.page c.in-Some.map_page (sym c.map_page_of.ensures ∙ c.in-Some.is) in
+    let r = k.room in
+    let u = c.geometry.ensures.range.usable.1 in
+    let s = ap (λ (g : Geometry). g.page_size) c.geometry.ensures.value in
+    let l = c.page.ensures.len in omega arith
+
+pub returns-in-None : goal.returns-in-None
+returns-in-None g c = λ file e h. no_entry file c.args.page
+    (ap (λ g. map_page_of g c.args.page) (sym (c.geometry.ensures.value ∙ e)) ∙ sym c.map_page_of.ensures ∙ c.in-None.is)
+
+pub returns-in-Some : goal.returns-in-Some
+returns-in-Some g c = λ file e h. entry_read file c.args.bench.now.chain c.args.page c.in-Some.map_page _
+    (ap (λ g. map_page_of g c.args.page) (sym (c.geometry.ensures.value ∙ e)) ∙ sym c.map_page_of.ensures ∙ c.in-Some.is)
+    (subst (λ g. HasMapFor file g c.args.page c.args.bench.now.chain) e h)
+    (rw c.page.ensures.bytes at c.stored_entry.ensures.kind) (rw c.page.ensures.bytes at c.stored_entry.ensures.number)

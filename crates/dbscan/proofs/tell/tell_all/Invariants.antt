@@ -1,0 +1,10 @@
+use Rattle.std.proofs.Common.{◌≡◌, take}
+use Rattle.dbsurvey.specs.Moves.{Moves}
+use Rattle.dbscan.specs.Telling.{items_of}
+use Rattle.dbscan.proofs.tell.tell_all.Given as goal
+
+abbrev pub invariant-loop-fault : goal.invariant-loop-fault
+invariant-loop-fault g l = record {
+  told : Moves g.K.Sink.takes l.initial.sink (items_of (take l.fault-index l.faults)) l.sink;
+  writes : g.K.Sink.held l.sink ≡ g.K.Sink.held l.initial.sink;
+}

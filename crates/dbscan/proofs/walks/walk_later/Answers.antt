@@ -1,0 +1,20 @@
+use Rattle.std.proofs.Common.{Err, refl, sym, ap, subst}
+use Rattle.std.proofs.lemmas.Result.{err_from_is_err_and}
+use Rattle.dbformat.specs.FixedPages.{geometry_of}
+use Rattle.dbsource.proofs.Logs.{asks_weaker}
+use Rattle.dbsource.specs.HeaderBytes.{HeaderBytes}
+use Rattle.dbsource.specs.Headers.{IsHeaderOf}
+use Rattle.dbmarks.proofs.Readings.{asks_then}
+use Rattle.dbscan.proofs.walks.walk_later.Goals as goal
+
+pub returns-in_err-walk_roots-clause-asks : goal.returns-in_err-walk_roots-clause-asks
+returns-in_err-walk_roots-clause-asks g c =
+    let q = err_from_is_err_and c.from_residual.result c.from_residual.ensures.1 in
+    rw q.1 (rw q.2 (asks_weaker _ _ (Err c.in_err-walk_roots.field-0.0) (λ n. refl) c.in_err-walk_roots.ensures.asks (λ log reads. reads)
+    (λ file done is V s before h. record { marked = tt; told = done is V s before h })))
+
+pub returns-clause-asks : goal.returns-clause-asks
+returns-clause-asks g c =
+    let same = c.in_ok-walk_roots.ensures.kept.0 in
+    asks_then _ _ (ap (λ (h : HeaderBytes). (geometry_of h.bytes h.file_len).page_size) same) c.in_ok-walk_roots.ensures.asks c.walk_trunks.ensures.asks
+    (λ file done walked is V s before h. walked (subst (λ (h : HeaderBytes). IsHeaderOf h file) (sym same) is) V s before (done is V s before h))

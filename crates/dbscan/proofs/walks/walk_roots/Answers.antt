@@ -1,0 +1,66 @@
+use Rattle.std.proofs.Common.{◌≡◌, ◌+◌, [], drop, length, Err, Ok, refl, sym, ap, subst, ◌∙◌, arith}
+use Rattle.std.specs.List.{enumerate_from}
+use Rattle.std.proofs.lemmas.Result.{err_from_is_err_and}
+use Rattle.dbformat.specs.FixedPages.{geometry_of}
+use Rattle.dbformat.specs.Header.{encoding}
+use Rattle.dbformat.proofs.HeaderPrefix.{encoding_within}
+use Rattle.dbsource.proofs.Logs.{asks_weaker}
+use Rattle.dbsource.specs.HeaderBytes.{HeaderBytes}
+use Rattle.dbsource.specs.Headers.{IsHeaderOf}
+use Rattle.dbmarks.proofs.Readings.{asks_then, log_none}
+use Rattle.dbscan.specs.Notices.{Hears, hearing}
+use Rattle.dbscan.specs.Walks.{BeginsAt, IsTelling}
+use Rattle.dbscan.proofs.Starts.{drop_none}
+use Rattle.dbscan.proofs.TreeWalks.{root_told, begun_encoding}
+use Rattle.dbscan.proofs.walks.walk_roots.Goals as goal
+
+pub loop-index-init : goal.loop-index-init
+loop-index-init g c = record {
+  header = refl;
+  roots = refl;
+  asks = record {
+    log = log_none (geometry_of c.args.desk.now.header.bytes c.args.desk.now.header.file_len).page_size c.args.desk.now.marks c.args.desk.now.marks (g.S.Source.held c.args.source.now) refl (λ file is V s before h. h);
+    count = refl;
+  };
+  writes = refl;
+}
+
+pub returns-in_err-walk_root-clause-asks : goal.returns-in_err-walk_root-clause-asks
+returns-in_err-walk_root-clause-asks g c =
+    let q = err_from_is_err_and c.from_residual.result c.from_residual.ensures.1 in
+    let same = c.loop-index.invariant.header in
+    rw q.1 (rw q.2 (asks_then _ _ (ap (λ (h : HeaderBytes). (geometry_of h.bytes h.file_len).page_size) same) c.loop-index.invariant.asks c.in_err-walk_root.ensures.asks
+    (λ file left walked is V s before h.
+    let rows = c.args.desk.now.roots.rows in
+    let i = c.loop-index.index in
+    let code = c.loop-index.desk.header in
+    let begins = subst (λ l. BeginsAt g.K.TreeSink.begins l.rows (encoding code.bytes) (i + 1) c.begin_at-root.result c.loop-index.sink c.begin_at-root.new.sink) c.loop-index.invariant.roots c.begin_at-root.ensures.begins in
+    let header = subst (λ (h : HeaderBytes). IsHeaderOf h file) (sym same) is in
+    root_told (hearing g.K.Sink g.K.TreeSink) file V s before c.loop-index.desk.marks c.walk_root.new.desk.marks c.loop-index.sink c.begin_at-root.new.sink c.walk_root.new.sink
+    (encoding code.bytes) rows i c.begin_at-root.result (Err c.in_err-walk_root.field-0.0) begins (left is V s before h)
+    (λ U d after. walked header (begun_encoding g.K.TreeSink.begins rows (encoding code.bytes) (i + 1) c.begin_at-root.result c.loop-index.sink c.begin_at-root.new.sink begins ∙ ap encoding header.begins ∙ encoding_within file) U d after))))
+
+pub loop-index-preserved : goal.loop-index-preserved
+loop-index-preserved g c =
+    let same = c.loop-index.invariant.header in record {
+      header = c.in_ok-walk_root.ensures.kept.0 ∙ same;
+      roots = c.in_ok-walk_root.ensures.kept.1 ∙ c.loop-index.invariant.roots;
+      asks = asks_then _ _ (ap (λ (h : HeaderBytes). (geometry_of h.bytes h.file_len).page_size) same) c.loop-index.invariant.asks c.in_ok-walk_root.ensures.asks
+          (λ file left walked is V s before h.
+          let rows = c.args.desk.now.roots.rows in
+          let i = c.loop-index.index in
+          let code = c.loop-index.desk.header in
+          let begins = subst (λ l. BeginsAt g.K.TreeSink.begins l.rows (encoding code.bytes) (i + 1) c.begin_at-root.result c.loop-index.sink c.begin_at-root.new.sink) c.loop-index.invariant.roots c.begin_at-root.ensures.begins in
+          let header = subst (λ (h : HeaderBytes). IsHeaderOf h file) (sym same) is in
+          root_told (hearing g.K.Sink g.K.TreeSink) file V s before c.loop-index.desk.marks c.walk_root.new.desk.marks c.loop-index.sink c.begin_at-root.new.sink c.walk_root.new.sink
+          (encoding code.bytes) rows i c.begin_at-root.result (Ok tt) begins (left is V s before h)
+          (λ U d after. walked header (begun_encoding g.K.TreeSink.begins rows (encoding code.bytes) (i + 1) c.begin_at-root.result c.loop-index.sink c.begin_at-root.new.sink begins ∙ ap encoding header.begins ∙ encoding_within file) U d after));
+      writes = c.in_ok-walk_root.ensures.writes ∙ c.begin_at-root.ensures.same ∙ c.loop-index.invariant.writes;
+    }
+
+pub returns-clause-asks : goal.returns-clause-asks
+returns-clause-asks g c = asks_weaker _ _ (Ok tt) (λ n. refl) c.loop-index.invariant.asks (λ log reads. reads) (λ file left is V s before h.
+    let rows = c.args.desk.now.roots.rows in
+    let count : c.loop-index.index ≡ length rows = omega arith in
+    let none : drop c.loop-index.index rows ≡ [] = drop_none rows c.loop-index.index (omega (arith, count)) in
+    subst (λ l. IsTelling (Hears (hearing g.K.Sink g.K.TreeSink)) file V before (enumerate_from (c.loop-index.index + 1) l) c.loop-index.desk.marks c.loop-index.sink) none (left is V s before h))

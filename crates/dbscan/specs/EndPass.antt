@@ -1,0 +1,35 @@
+-- What is told at the end of a run, by the header and the marks: of the whole, and then page by page.
+use Rattle.std.specs.Prelude.{ℕ, Bool, true, false, not, ◌&&◌, ◌||◌, ◌==◌, List, ◌++◌, map, flat_map, Option, pos}
+use Rattle.std.specs.List.{range_with_len}
+use Rattle.dbformat.specs.Faults.{fault}
+use Rattle.dbformat.specs.File.{geometry, map_entry}
+use Rattle.dbformat.specs.Header.{schema_format, encoding_number, greatest_root, freelist_count, has_pointer_map}
+use Rattle.dbformat.specs.Reference.{Reference}
+use Rattle.dbformat.specs.Tests.{told_if}
+use Rattle.dbformat.specs.declared.Fault.{Fault}
+use Rattle.dbformat.specs.declared.FaultCode.TheVariants.{H08, H09, H10}
+use Rattle.dbmarks.specs.EndMarks.{mark_fault, late_fault}
+use Rattle.dbtrace.specs.Finding.{Finding, told_fault}
+use Rattle.dbmarks.specs.Marking.{mark_of}
+use Rattle.dbmarks.specs.declared.marks.Mark.{Mark}
+use Rattle.dbmarks.specs.declared.marks.Mark.TheVariants.{Fixed}
+
+-- the faults of the whole, by the header, whether the schema has rows, the greatest root and the count of the freelist
+abbrev pub counted_faults : List ℕ → Bool → ℕ → ℕ → List Fault
+counted_faults header rows greatest free =
+    told_if (((schema_format header == 0) || (encoding_number header == 0)) && rows) (fault H08 1 (schema_format header) (pos (encoding_number header)))
+    ++ told_if (has_pointer_map header && not (greatest_root header == greatest)) (fault H09 1 0 (pos greatest))
+    ++ told_if (not (freelist_count header == free)) (fault H10 1 0 (pos free))
+
+-- whether a mark is that of a page of fixed use
+abbrev pub is_fixed_mark : Mark → Bool
+is_fixed_mark Fixed = true
+is_fixed_mark _ = false
+
+-- what is told of page p, by its mark and the least page that is no root
+abbrev pub page_items : List ℕ → Option ℕ → ℕ → Mark → List Finding
+page_items file least p mark = map told_fault (mark_fault p (map_entry file p) mark ++ late_fault (geometry file).has_map p mark least)
+
+-- what is told of the first n pages, after the visits of V
+abbrev pub pages_items : List ℕ → List Reference → Option ℕ → ℕ → List Finding
+pages_items file V least n = flat_map (λ p. page_items file least p (mark_of (geometry file) V p)) (range_with_len 1 n)

@@ -1,0 +1,12 @@
+pub mod DeskSizes
+pub mod Desks
+pub mod EndPass
+pub mod Findings
+pub mod MapReads
+pub mod Notices
+pub mod Placed
+pub mod RunItems
+pub mod SchemaWatch
+pub mod Starts
+pub mod Telling
+pub mod Walks

@@ -1,0 +1,145 @@
+// What is told at the end of a run: of the whole, and then of each page.
+ghost use Rattle.std.specs.Prelude.{◌≡◌, ◌↔◌, ℕ, ◌+◌, List, ◌≤◌, true, Some, None, length, map, option_map, IfErr, OnOk};
+ghost use Rattle.dbformat.specs.EndFaults.{end_faults, has_rows};
+ghost use Rattle.dbformat.specs.File.{geometry, map_entry, refusal};
+ghost use Rattle.dbformat.specs.FixedPages.{IsInRange, is_fixed};
+ghost use Rattle.dbformat.specs.Reference.{Reference};
+ghost use Rattle.dbformat.specs.Survey.{Survey};
+ghost use Rattle.dbsource.specs.Errors.{is_read_failed, is_write_failed};
+ghost use Rattle.dbsource.specs.Headers.{IsHeaderOf};
+ghost use Rattle.dbsource.specs.Sources.{Asks};
+ghost use Rattle.dbtrace.specs.Finding.{told_fault};
+ghost use Rattle.dbmarks.specs.Marking.{AreMarksOf, page_mark};
+ghost use Rattle.dbwalk.specs.Telling.{Tells, IsReadOrWrite, SinkAfter};
+ghost use Rattle.dbmarks.specs.declared.marks.Mark as marking;
+ghost use Rattle.dbscan.specs.Desks.{shape_of};
+ghost use Rattle.dbscan.specs.EndPass.{is_fixed_mark, page_items, pages_items};
+ghost use Rattle.dbscan.specs.MapReads.{entry_value, HasMapFor, IsMapInUse, IsMapTurn, MapReads};
+
+use crate::Desk;
+use crate::counts::count_marks;
+use crate::end_faults::{counted_faults, late_fault, use_fault};
+use crate::map_entry::{MapEntry, stored_entry};
+use crate::tell::tell_all;
+use dbsource::{Bench, Fixed, Geometry, RunError, Source};
+use dbwalk::{Mark, Marks, Sink};
+use std::alloc::Allocator;
+
+// The level of a bench that map pages are read to: its chain buffer.
+const MAP: usize = 20;
+
+// Whether this is a map page with pages behind it.
+fn is_map_in_use(geometry: Geometry, page: u32) -> bool
+    requires { IsInRange geometry }
+    ensures { result ≡ true ↔ IsMapInUse geometry page }
+{
+    match geometry.fixed(page) {
+        Some(Fixed::Map) => page < geometry.pages,
+        _ => false,
+    }
+}
+
+fn is_fixed(mark: Mark) -> bool
+    ensures { result ≡ is_fixed_mark mark }
+{
+    matches!(&mark, Mark::Fixed)
+}
+
+// The entry of a page in the map page that was read last.
+fn entry_of<A: Allocator>(bench: &Bench<A>, page: u32) -> Option<MapEntry>
+    ensures { (file : List ℕ) → bench.now.geometry ≡ geometry file → HasMapFor file bench.now.geometry page bench.now.chain
+        → option_map entry_value result ≡ map_entry file page }
+{
+    match bench.geometry().map_page_of(page) {
+        Some(map_page) => Some(stored_entry(bench.page(MAP), page - map_page)),
+        None => None,
+    }
+}
+
+// Reads a page, where it is a map page with pages behind it, or tells what is to be told of it.
+fn end_page<S: Source, K: Sink, A: Allocator, B: Allocator>(
+    source: &mut S,
+    bench: &mut Bench<A>,
+    marks: &Marks<B>,
+    page: u32,
+    least_other: Option<u32>,
+    sink: &mut K,
+) -> Result<(), RunError>
+    requires page { (1 ≤ page) × (page ≤ length marks.now) }
+    // The bytes are those of the map page that the next page asks for, where they were those of the one that this page asks for.
+    ensures asks { Asks S.step (IsMapTurn bench.old.geometry page)
+        (λ file. (mark : marking.Mark) → page_mark marks.now page ≡ Some mark → bench.old.geometry ≡ geometry file → refusal file ≡ None
+        → is_fixed_mark mark ≡ is_fixed (geometry file) page → HasMapFor file (geometry file) page bench.old.chain
+        → Tells K.takes K.drops result sink.old (page_items file least_other page mark) sink.new
+        × OnOk result (HasMapFor file (geometry file) (page + 1) bench.new.chain))
+        is_read_failed result (S.held source.old) (S.held source.new) }
+    ensures writes { SinkAfter is_write_failed result (K.held sink.old) (K.held sink.new) }
+    ensures only { IfErr result IsReadOrWrite }
+    ensures bench { bench.new ≡ record bench.old { chain = bench.new.chain } }
+{
+    let mark = marks.get(page);
+    if is_fixed(mark) {
+        if is_map_in_use(bench.geometry(), page) {
+            bench.load(MAP, source, page)?;
+        }
+        return Ok(());
+    }
+    let entry = entry_of(bench, page);
+    let has_map = bench.geometry().has_map;
+    let faults = [
+        use_fault(page, entry, mark),
+        late_fault(has_map, page, mark, least_other),
+    ];
+    tell_all(&faults, sink)
+}
+
+// Does so for all pages, by number.
+fn end_pages<S: Source, K: Sink, A: Allocator, B: Allocator>(
+    source: &mut S,
+    bench: &mut Bench<A>,
+    marks: &Marks<B>,
+    least_other: Option<u32>,
+    sink: &mut K,
+) -> Result<(), RunError>
+    ensures asks { Asks S.step (MapReads bench.old.geometry) (λ file. bench.old.geometry ≡ geometry file → refusal file ≡ None
+        → (V : List Reference) → AreMarksOf file V marks.now
+        → Tells K.takes K.drops result sink.old (pages_items file V least_other (geometry file).pages) sink.new)
+        is_read_failed result (S.held source.old) (S.held source.new) }
+    ensures writes { SinkAfter is_write_failed result (K.held sink.old) (K.held sink.new) }
+    ensures only { IfErr result IsReadOrWrite }
+    ensures bench { bench.new ≡ record bench.old { chain = bench.new.chain } }
+{
+    for index in 0..marks.pages() {
+        end_page(source, bench, marks, index + 1, least_other, sink)?;
+    }
+    Ok(())
+}
+
+/// Tells what is to be told when all pages have been visited, by the header and the marks: first of the whole, and then of
+/// each page. `any_rows` says whether the schema has rows. Each map page with pages behind it is read once, to the chain
+/// buffer, when its number has its turn.
+///
+/// # Errors
+///
+/// [`RunError::ReadFailed`] exactly where the source failed, [`RunError::WriteFailed`] exactly where the sink failed: the
+/// sink was told a beginning then.
+pub fn tell_end<S: Source, K: Sink, A: Allocator>(
+    desk: &mut Desk<A>,
+    source: &mut S,
+    any_rows: bool,
+    sink: &mut K,
+) -> Result<(), RunError>
+    ensures desk { desk.new ≡ record desk.old { pages = desk.new.pages } }
+    ensures asks { Asks S.step (MapReads (shape_of desk.old)) (λ file. IsHeaderOf desk.old.header file
+        → (V : List Reference) → Survey file V → AreMarksOf file V desk.old.marks → any_rows ≡ has_rows file V
+        → Tells K.takes K.drops result sink.old (map told_fault (end_faults file V)) sink.new)
+        is_read_failed result (S.held source.old) (S.held source.new) }
+    ensures writes { SinkAfter is_write_failed result (K.held sink.old) (K.held sink.new) }
+    ensures only { IfErr result IsReadOrWrite }
+{
+    let counts = count_marks(&desk.marks);
+    let faults = counted_faults(&desk.header, any_rows, counts);
+    tell_all(&faults, sink)?;
+    let least = counts.least_other;
+    end_pages(source, &mut desk.bench, &desk.marks, least, sink)
+}

@@ -1,0 +1,33 @@
+//! A scan of a file: what its header, the walks over all its starts and its end tell a sink, in the order of the report.
+//!
+//! A [`Desk`] has what a run keeps of a file: its header, page buffers, a mark for each page, and the list of roots. [`tell_header`]
+//! tells the faults of the header. [`walk_starts`] walks over the schema, then over each root that the schema names, and along the
+//! freelist; its sink ([`TreeSink`]) is also told where each tree begins and ends. [`SchemaWatch`] notes whether the schema has a row.
+//! [`tell_end`] tells what is left when all pages have been visited: by the marks, the header and the pages of the pointer map.
+//!
+//! What is told of a file stands in specs/RunItems; specs/Desks says what a desk holds, specs/Walks how far a walk over the starts has
+//! come, and specs/Notices what a sink hears of it.
+#![tactic(auto)]
+
+mod counts;
+mod desk;
+mod end_faults;
+mod end_pass;
+mod header_faults;
+mod map_entry;
+mod placed;
+mod schema_watch;
+mod tell;
+mod tree_sink;
+mod walks;
+
+pub use dbowner::RootList;
+pub use dbsource::{Bench, Header, RunError, Source};
+pub use dbwalk::{Marks, Sink};
+pub use desk::Desk;
+pub use end_pass::tell_end;
+pub use placed::faults_are_told_at_their_starts;
+pub use schema_watch::SchemaWatch;
+pub use tell::tell_header;
+pub use tree_sink::TreeSink;
+pub use walks::walk_starts;

@@ -1,0 +1,40 @@
+// Telling faults to a sink, and those of the header.
+ghost use Rattle.std.specs.Prelude.{◌≡◌, IfErr};
+ghost use Rattle.dbformat.specs.HeaderFaults.{header_faults};
+ghost use Rattle.dbsource.specs.Errors.{is_write_failed};
+ghost use Rattle.dbsource.specs.declared.error.RunError.TheVariants.{WriteFailed};
+ghost use Rattle.dbwalk.specs.Telling.{Tells, SinkAfter, findings};
+ghost use Rattle.dbscan.specs.Telling.{items_of};
+
+use crate::header_faults::header_faults as faults_of;
+use dbformat::Fault;
+use dbsource::{Header, RunError};
+use dbwalk::Sink;
+
+// Tells those that are faults.
+pub(crate) fn tell_all<K: Sink>(faults: &[Option<Fault>], sink: &mut K) -> Result<(), RunError>
+    ensures told { Tells K.takes K.drops result sink.old (items_of faults.now) sink.new }
+    ensures writes { SinkAfter is_write_failed result (K.held sink.old) (K.held sink.new) }
+    ensures only { IfErr result (λ e. e ≡ WriteFailed) }
+{
+    for fault in faults {
+        if let Some(fault) = fault {
+            sink.fault(fault)?;
+        }
+    }
+    Ok(())
+}
+
+/// Tells the faults of the header.
+///
+/// # Errors
+///
+/// [`RunError::WriteFailed`] exactly where the sink failed.
+pub fn tell_header<K: Sink>(header: &Header, sink: &mut K) -> Result<(), RunError>
+    ensures told { Tells K.takes K.drops result sink.old (findings (header_faults header.now.bytes header.now.file_len)) sink.new }
+    ensures writes { SinkAfter is_write_failed result (K.held sink.old) (K.held sink.new) }
+    ensures only { IfErr result (λ e. e ≡ WriteFailed) }
+{
+    let faults = faults_of(header);
+    tell_all(&faults, sink)
+}
