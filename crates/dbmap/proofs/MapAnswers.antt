@@ -1,0 +1,37 @@
+-- What the answer of a map says.
+use Rattle.std.proofs.Common.{◌≡◌, ℕ, List, Result, Ok, Err, None}
+use Rattle.std.specs.Prelude.{IfErr, IfOk, ◌↔◌}
+use Rattle.dbformat.specs.File.{refusal}
+use Rattle.dbformat.specs.Reference.{Reference}
+use Rattle.dbformat.specs.Report.{faults, verdict}
+use Rattle.dbformat.specs.Sound.{Sound}
+use Rattle.dbformat.specs.Survey.{Survey, survey}
+use Rattle.dbformat.specs.declared.Command.TheVariants.{Check}
+use Rattle.dbformat.specs.declared.Verdict.{Verdict}
+use Rattle.dbformat.specs.declared.Verdict.TheVariants.{Clean}
+use Rattle.dbformat.proofs.Theory.{one_survey}
+use Rattle.dbsound.proofs.Soundness.{sound_by_verdict}
+use Rattle.dbsource.specs.declared.error.RunError.{RunError}
+use Rattle.dbwalk.specs.Telling.{IsReadWriteOrMemory}
+use Rattle.dbreport.specs.Runs.{IsAnswerOf}
+use Rattle.dbreport.proofs.RunAnswers.{read_answer}
+use Rattle.dbreport.proofs.RunReports.{check_answer}
+use Rattle.dbmap.specs.Maps.{IsMapOf}
+
+-- the file was read
+pub map_of : (file : List ℕ) (r : Result Verdict RunError) → IfErr r IsReadWriteOrMemory → refusal file ≡ None
+    → ((V : List Reference) → Survey file V → IfOk r (λ v. v ≡ verdict (faults file V))) → IsMapOf file r
+map_of file r only read found = record {
+  survey = (one_survey file).0;
+  verdict = found;
+  answer = read_answer file r only read;
+  sound = by_answer r (found (survey file) (one_survey file).0);
+}
+  where
+    by_answer : (r : Result Verdict RunError) → IfOk r (λ v. v ≡ verdict (faults file (survey file))) → IfOk r (λ v. v ≡ Clean ↔ Sound file)
+    by_answer (Ok v) h = sound_by_verdict file (Check 0) (survey file) (one_survey file).0 v (check_answer 0 file (survey file) read v h)
+    by_answer (Err e) h = tt
+
+-- no verdict was found
+pub no_map : (file : List ℕ) (e : RunError) → IsAnswerOf {A = Verdict} (Err e) file → IsMapOf file (Err e)
+no_map file e answer = record { survey = (one_survey file).0; verdict = λ V s. tt; answer = answer; sound = tt }

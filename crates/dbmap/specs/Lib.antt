@@ -1,0 +1,4 @@
+pub mod MapSink
+pub mod Maps
+pub mod Puts
+pub mod Xml

@@ -1,0 +1,32 @@
+//! A picture of where the pages of a database went: one self-contained SVG, with a square for each page, or for a run of pages, in
+//! the colour of the tree that owns it.
+//!
+//! ```
+//! let mut source = MemSource::new(bytes);
+//! let mut out = MemOut::new(alloc);
+//! let verdict = map(alloc, "shop.db", &mut source, &mut out)?;
+//! ```
+//!
+//! [`map`] reads the file as a check does, and writes no line of a fault: its sink counts the faults, and notes the pages that they
+//! are told at. When the walks and the end are done, the marks and the list of roots say which tree each page belongs to
+//! (`dbowner`); a first pass over the pages counts those of each tree, and a second one writes the squares.
+//!
+//! What is proved is that the file is read as a check reads it, and that the verdict is the check's. Of the picture it is proved
+//! that no text of the file or of the command line comes into it but escaped (specs/Xml); its bytes are tested.
+#![tactic(auto)]
+
+mod cell;
+mod colours;
+mod grid;
+mod legend;
+mod map_sink;
+mod maps;
+mod page_set;
+mod picture;
+mod pieces;
+mod shown;
+mod squares;
+mod tally;
+mod xml;
+
+pub use maps::map;

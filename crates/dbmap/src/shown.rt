@@ -1,0 +1,113 @@
+// Texts of the file and of the command line as the picture shows them.
+ghost use Rattle.std.specs.Prelude.{◌≡◌, ◌≤◌, length};
+ghost use Rattle.dbsource.specs.Outs.{Puts};
+ghost use Rattle.dbmap.specs.Xml.{PutsEscaped};
+
+use crate::xml::put_escaped;
+use arrayvec::ArrayVec;
+use dbbytes::name_text;
+use dbformat::Encoding;
+use dbowner::TreeNames;
+use dbsource::{Out, WriteFailed};
+use std::alloc::Allocator;
+
+// How many bytes of a text are kept: more than the widest that is shown.
+const KEPT: usize = 320;
+
+/// The beginning of a text. It is UTF-8 without control characters, as names are shown, and without the two numbers at the end
+/// of the first plane that are no characters, which XML forbids.
+#[derive(Drop)]
+pub(crate) struct Shown {
+    bytes: ArrayVec<u8, KEPT>,
+}
+
+impl Shown {
+    fn new() -> Shown {
+        Shown {
+            bytes: ArrayVec::new(),
+        }
+    }
+
+    // Adds a byte, if there is room. U+FFFE and U+FFFF, which are EF BF BE and EF BF BF, become U+FFFD.
+    fn add(&mut self, byte: u8) {
+        let before = self.bytes.as_slice();
+        let is_last = before.ends_with(&[0xEF, 0xBF]);
+        let byte = if is_last && byte >= 0xBE { 0xBD } else { byte };
+        let _ = self.bytes.try_push(byte);
+    }
+}
+
+// Texts are put to it. It takes what there is room for, and tells nothing.
+impl Out for Shown {
+    ghost use Rattle.std.specs.Prelude.{[], None};
+
+    ghost held = { λ s. record { bytes = None; pending = []; failures = 0 } };
+
+    fn put(&mut self, piece: &[u8]) -> Result<(), WriteFailed> {
+        for byte in piece {
+            self.add(*byte);
+        }
+        Ok(())
+    }
+
+    fn flush(&mut self) -> Result<(), WriteFailed> {
+        Ok(())
+    }
+}
+
+/// The name of a file.
+pub(crate) fn shown_file(name: &str) -> Shown {
+    let mut shown = Shown::new();
+    let _ = name_text(name.as_bytes(), Encoding::Utf8, &mut shown);
+    shown
+}
+
+/// The tree of a start.
+pub(crate) fn shown_tree<A: Allocator>(names: &TreeNames<'_, A>, start: u32) -> Shown {
+    let mut shown = Shown::new();
+    let _ = names.put_tree(&mut shown, start);
+    shown
+}
+
+// How many columns a character takes, by its first byte: those that are written in three or four bytes are mostly wide.
+fn columns(byte: u8) -> u32
+    ensures { result ≤ 2 }
+{
+    match byte {
+        0x80..=0xBF => 0,
+        0xE0..=0xFF => 2,
+        _ => 1,
+    }
+}
+
+// How many bytes of a text fit in so many columns.
+fn fitting(text: &[u8], width: u32) -> usize
+    ensures { result ≤ length text.now }
+{
+    let mut taken = 0u32;
+    for (at, byte) in text.iter().enumerate() {
+        taken = taken.saturating_add(columns(*byte));
+        if taken > width {
+            return at;
+        }
+    }
+    text.len()
+}
+
+/// Puts a text, in so many columns at most: a longer one is cut at a character, and ends with an ellipsis.
+///
+/// # Errors
+///
+/// [`WriteFailed`] where the Out failed.
+pub(crate) fn put_shown<O: Out>(out: &mut O, shown: &Shown, width: u32) -> Result<(), WriteFailed>
+    // Whatever the text is.
+    ensures { PutsEscaped result (O.held out.old) (O.held out.new) }
+{
+    let text = shown.bytes.as_slice();
+    let fitting = fitting(text, width);
+    if fitting == text.len() {
+        return put_escaped(out, text);
+    }
+    put_escaped(out, &text[..fitting])?;
+    put_escaped(out, "…".as_bytes())
+}

@@ -1,0 +1,8 @@
+//! Tests of the picture of a file's pages: of each kind of page, of names that would be markup, of squares that stand for runs of
+//! pages, and of reads and writes that fail.
+#![tactic(auto)]
+
+#[cfg(test)]
+mod pictures;
+#[cfg(test)]
+mod room;
