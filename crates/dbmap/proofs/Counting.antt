@@ -25,15 +25,6 @@ use Rattle.dbscan.proofs.EndItems.{tells_then}
 use Rattle.dbmap.specs.MapSink.{Notes, quiet, verdict_of}
 use Rattle.dbmap.specs.declared.map_sink.MapSink.{MapSink}
 
-counted_none : (n : ℕ) → n ≤ 2 ^ 64 - 1 → n ≡ counted (n + 0)
-counted_none n h = omega arith
-
-counted_more : (m k : ℕ) → counted (counted (m + 1) + k) ≡ counted (m + suc k)
-counted_more m k = omega arith
-
-counted_most : (n : ℕ) → counted n ≤ 2 ^ 64 - 1
-counted_most n = omega arith
-
 verdict_counted : (fs : List Fault) → verdict_of (counted (0 + length fs)) ≡ verdict fs
 verdict_counted [] = refl
 verdict_counted (f ∷ fs) =
@@ -45,14 +36,17 @@ verdict_counted (f ∷ fs) =
 module _ {A : Type 0} where
   -- finding after finding
   counts : (items : List Finding) (s t : MapSink A) → s.faults ≤ 2 ^ 64 - 1 → Moves Notes s items t → t.faults ≡ counted (s.faults + length (faults_in items))
-  counts [] s t m h = ap (λ (u : MapSink A). u.faults) (sym h) ∙ counted_none s.faults m
+  counts [] s t m h =
+      let few : s.faults ≡ counted (s.faults + 0) = omega (arith, m) in
+      ap (λ (u : MapSink A). u.faults) (sym h) ∙ few
   counts (told_row r ∷ items) s t m h =
       let same : h.0.faults ≡ s.faults = h.1 in
       counts items h.0 t (subst (λ n. n ≤ 2 ^ 64 - 1) (sym same) m) h.2 ∙ ap (λ n. counted (n + length (faults_in items))) same
   counts (told_fault f ∷ items) s t m h =
       let more : h.0.faults ≡ counted (s.faults + 1) = h.1 in
-      counts items h.0 t (subst (λ n. n ≤ 2 ^ 64 - 1) (sym more) (counted_most (s.faults + 1))) h.2
-      ∙ ap (λ n. counted (n + length (faults_in items))) more ∙ counted_more s.faults (length (faults_in items))
+      let most : h.0.faults ≤ 2 ^ 64 - 1 = omega (arith, more) in
+      let joined : counted (counted (s.faults + 1) + length (faults_in items)) ≡ counted (s.faults + suc (length (faults_in items))) = omega arith in
+      counts items h.0 t most h.2 ∙ ap (λ n. counted (n + length (faults_in items))) more ∙ joined
 
   -- all of a run was told, and nothing before it
   pub map_finds : (file : List ℕ) (V : List Reference) → Survey file V → (s t : MapSink A) → s.faults ≡ 0 → Moves Notes s (run_items file V) t → verdict_of t.faults ≡ verdict (faults file V)

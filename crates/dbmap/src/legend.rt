@@ -6,9 +6,9 @@ use crate::colours::fill;
 use crate::picture::tenths_of_mib;
 use crate::pieces::{Piece, put_all};
 use crate::shown::shown_tree;
-use crate::tally::{COLOURED, FREELIST_START, Tally, Tree};
+use crate::tally::{COLOURED, Tally, Tree};
 use arrayvec::ArrayVec;
-use dbowner::TreeNames;
+use dbowner::{FREELIST_START, TreeNames};
 use dbsource::{Geometry, Out, WriteFailed};
 use std::alloc::Allocator;
 

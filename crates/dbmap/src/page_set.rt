@@ -1,7 +1,4 @@
 // Pages that are noted.
-ghost use Rattle.std.specs.Prelude.{◌≡◌, ◌+◌, ◌<◌, true, false, length, replicate, slice_set, slice_get, Some, IfOk};
-ghost use Rattle.std.specs.Option.{option_or};
-
 use std::alloc::{AllocError, Allocator, Global};
 
 /// Some pages of a file: a byte a page.

@@ -1,17 +1,14 @@
 // How many pages each tree has.
-ghost use Rattle.std.specs.Prelude.{◌≡◌, ◌≤◌};
+ghost use Rattle.std.specs.Prelude.{◌≤◌};
 
 use crate::cell::{Share, is_overflow};
 use arrayvec::ArrayVec;
-use dbowner::{PageTrees, Place, place_of};
+use dbowner::{FREELIST_START, PageTrees, Place, place_of};
 use dbwalk::Marks;
 use std::alloc::{AllocError, Allocator, Global};
 
 /// How many trees have a colour of their own.
 pub(crate) const COLOURED: usize = 12;
-
-/// The start of the freelist.
-pub(crate) const FREELIST_START: u32 = 65537;
 
 /// A tree, by its start.
 #[derive(Clone, Copy, Debug, Default, PartialEq, Eq)]
@@ -32,6 +29,8 @@ impl Tree {
 #[derive(Drop)]
 pub(crate) struct Tally<A: Allocator = Global> {
     starts: Vec<Share, A>,
+    // One more than the greatest start of a tree that has a page.
+    trees: u32,
     pub(crate) fixed: u32,
     pub(crate) nobody: u32,
 }
@@ -46,6 +45,7 @@ impl<A: Allocator> Tally<A> {
         let starts = Vec::from_elem(alloc, Share::default(), FREELIST_START as usize + 1)?;
         Ok(Tally {
             starts,
+            trees: 0,
             fixed: 0,
             nobody: 0,
         })
@@ -73,6 +73,9 @@ impl<A: Allocator> Tally<A> {
         if let Some(share) = self.starts.get_mut(start as usize) {
             share.add(is_overflow);
         }
+        if start < FREELIST_START {
+            self.trees = self.trees.max(start + 1);
+        }
     }
 
     /// What a start has.
@@ -86,7 +89,7 @@ impl<A: Allocator> Tally<A> {
     // The tree that comes next behind another one, or the first.
     fn next(&self, behind: Option<Tree>) -> Option<Tree> {
         let mut next: Option<Tree> = None;
-        for start in 0..FREELIST_START {
+        for start in 0..self.trees {
             let tree = Tree {
                 start,
                 share: self.share(start),
@@ -120,7 +123,7 @@ impl<A: Allocator> Tally<A> {
     pub(crate) fn others(&self, largest: &[Tree]) -> (u32, Share) {
         let mut count = 0u32;
         let mut all = Share::default();
-        for start in 0..FREELIST_START {
+        for start in 0..self.trees {
             let share = self.share(start);
             if share.pages != 0 && rank_of(largest, Some(start)) == COLOURED {
                 count = count.saturating_add(1);

@@ -25,6 +25,6 @@ mod roots;
 pub use explain::{CodeCount, Counts, Owners, Tally, TreeNames, place_front, place_tree};
 pub use explained::summary_counts_all_faults;
 pub use owner::visited_pages_are_owned;
-pub use page_trees::PageTrees;
+pub use page_trees::{FREELIST_START, PageTrees};
 pub use place::{Place, place_of};
 pub use roots::{MAX_NAME, RootList};

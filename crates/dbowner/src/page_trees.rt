@@ -21,8 +21,8 @@ use std::marker::Model;
 
 const SCHEMA_START: u32 = 0;
 
-// The start of the freelist, behind the schema's and those of 65536 rows.
-pub(crate) const FREELIST_START: u32 = 65537;
+/// The start of the freelist, behind the schema's and those of 65536 rows.
+pub const FREELIST_START: u32 = 65537;
 
 /// Of each page the start of its tree, as far as it is known, in four bytes.
 #[derive(Drop)]

@@ -1,10 +1,11 @@
 // The tally of the faults that were told.
 ghost use Rattle.std.specs.Prelude.{◌≡◌, ℕ, ◌+◌, ◌≤◌, [], ◌∷◌, ◌++◌, List, Option, IfOk, length, map};
-ghost use Rattle.dbformat.specs.Address.{freelist_start, last_root_start};
-ghost use Rattle.dbformat.specs.Header.{first_trunk};
+ghost use Rattle.dbformat.specs.Address.{last_root_start};
+ghost use Rattle.dbformat.specs.Reference.{Reference};
+ghost use Rattle.dbformat.specs.Survey.{Survey};
 ghost use Rattle.dbformat.specs.declared.Fault.{Fault};
-ghost use Rattle.dbowner.specs.Explained.{all_codes};
-ghost use Rattle.dbowner.specs.Sums.{counted_code, start_count, AreCounts};
+ghost use Rattle.dbowner.specs.Explained.{all_codes, placed_faults};
+ghost use Rattle.dbowner.specs.Sums.{counted_code, AreCounts};
 ghost use Rattle.dbowner.specs.Tallies.{counted_at, kept_in, recounted, taken_in, IsStart, IsTallyOf};
 
 use crate::explain::summary::Counts;
@@ -212,9 +213,9 @@ impl<A: Allocator> Tally<A> {
     /// the freelist, and of the whole file.
     pub fn counts(&self, rows: u32) -> Counts<'_>
         requires { rows ≤ last_root_start }
-        // Of a file in which no fault is told of the freelist, if there is none.
-        ensures counts { (file : List ℕ) (fs : List (Option ℕ × Fault)) → IsTallyOf fs self.now → (first_trunk file ≡ 0 → start_count fs freelist_start ≡ 0)
-            → AreCounts file fs rows result }
+        // Where all faults of a file were told, each at its start.
+        ensures counts { (file : List ℕ) (V : List Reference) → Survey file V → IsTallyOf (placed_faults file V) self.now
+            → AreCounts file (placed_faults file V) rows result }
         ensures starts { length result.starts.now ≡ rows + 1 }
     {
         Counts {
