@@ -1,12 +1,14 @@
 -- What `dbck explain` writes of a file with survey V (own): what `check` writes, and below each fault the lines that say where
 -- its pages are; and then how many faults there are, by code and by start.
-use Rattle.std.specs.Prelude.{◌≡◌, ℕ, zero, suc, ◌-◌, ◌*◌, ℤ, pos, Bool, true, false, List, [], ◌∷◌, ◌++◌, length, replicate, take, drop, map, flat_map, count_by, Option, Some, None, Ok, slice_get, codes, decimal, ◌==◌, if◌then◌else◌}
+use Rattle.std.specs.Prelude.{◌≡◌, ℕ, zero, suc, ◌-◌, ◌*◌, ℤ, pos, Bool, true, false, ◌&&◌, List, [], ◌∷◌, ◌++◌, length, replicate, take, drop, map, flat_map, count_by, Option, Some, None, Result, Ok, Err, slice_get, codes, decimal, nat_lt, ◌==◌, if◌then◌else◌}
 use Rattle.std.specs.Option.{option_map_or}
 use Rattle.std.specs.Str.{bytes_eq}
+use Rattle.dbformat.specs.Cell.{count}
 use Rattle.dbformat.specs.Address.{start_of, last_root_start, freelist_start}
 use Rattle.dbformat.specs.EndFaults.{visit_of, end_faults}
-use Rattle.dbformat.specs.File.{MapEntry, geometry, refusal}
+use Rattle.dbformat.specs.File.{MapEntry, geometry, page_bytes, refusal}
 use Rattle.dbformat.specs.FixedPages.{is_page, fixed_use}
+use Rattle.dbformat.specs.Head.{View, view}
 use Rattle.dbformat.specs.Header.{encoding, stated_pages, greatest_root, freelist_count}
 use Rattle.dbformat.specs.HeaderFaults.{header_faults}
 use Rattle.dbformat.specs.Lines.{line_feed, code_text, code_words, fault_line, ok_line, counted}
@@ -22,10 +24,14 @@ use Rattle.dbformat.specs.declared.FaultCode.{FaultCode}
 use Rattle.dbformat.specs.declared.FaultCode.TheVariants.{H01, H02, H03, H04, H05, H06, H07, H08, H09, H10, P01, P02, P03, P04, P05, P06, P07, P08, P09, P10, R01, R02, R03, T04, T05, T06, O01, L01, S01, S02, S03, S04, N01, M01, M02}
 use Rattle.dbformat.specs.declared.Fixed.{Fixed}
 use Rattle.dbformat.specs.declared.Geometry.{Geometry}
+use Rattle.dbformat.specs.declared.HeadFault.{HeadFault}
+use Rattle.dbformat.specs.declared.PageKind.{PageKind}
+use Rattle.dbformat.specs.declared.PageKind.TheVariants.{InteriorIndex, InteriorTable, LeafIndex, LeafTable}
 use Rattle.dbformat.specs.declared.Fixed.TheVariants.{Lock}
 use Rattle.dbformat.specs.declared.RowKind.{RowKind}
 use Rattle.dbformat.specs.declared.RowKind.TheVariants as row
 use Rattle.dbowner.specs.Owners.{start_at, place_of}
+use Rattle.dbowner.specs.declared.explain.look.Look.{Look}
 use Rattle.dbowner.specs.declared.place.Place.{Place}
 use Rattle.dbowner.specs.declared.place.Place.TheVariants as place
 
@@ -143,6 +149,56 @@ lines_below file V f _ = own_line file V f
 abbrev pub explanation : List ℕ → List Reference → Fault → List ℕ
 explanation file V f = fault_line f ++ lines_below file V f f.code
 
+-- what a page looks like that nothing refers to
+
+-- a page of a tree, by its kind
+abbrev pub page_kind_text : PageKind → List ℕ
+page_kind_text LeafTable = codes "a leaf of a table"
+page_kind_text InteriorTable = codes "an interior page of a table"
+page_kind_text LeafIndex = codes "a leaf of an index"
+page_kind_text InteriorIndex = codes "an interior page of an index"
+
+-- the line of it
+abbrev pub look_text : Look → List ℕ
+look_text l =
+    indented (codes "looks like " ++ page_kind_text l.kind ++ codes " with " ++ decimal l.cells ++ (if l.cells == 1 then codes " cell" else codes " cells"))
+
+-- a page whose head is not that of a page of a tree gets none
+abbrev pub look_line : Option Look → List ℕ
+look_line look = option_map_or look_text look []
+
+-- the head of a page, where it is sound
+abbrev pub look_of : Result View HeadFault → Option Look
+look_of (Err e) = None
+look_of (Ok v) = Some (record { kind = v.kind; cells = count v })
+
+-- what page p of a file looks like
+abbrev pub look_at : List ℕ → ℕ → Option Look
+look_at file p = look_of (view p (geometry file).usable (page_bytes file p))
+
+-- in no tree, overflow chain or freelist
+abbrev pub is_nowhere : Place → Bool
+is_nowhere place.Nowhere = true
+is_nowhere _ = false
+
+-- Whether nothing refers to page p, and it is behind page `last`. Faults of such pages come in their order, so each of them is.
+abbrev pub is_lost : List ℕ → List Reference → ℕ → ℕ → Bool
+is_lost file V last p = is_page (geometry file) p && (nat_lt last p && is_nowhere (place_of file V p))
+
+-- then it is looked at
+abbrev pub lost_line : List ℕ → List Reference → ℕ → ℕ → List ℕ
+lost_line file V last p = if is_lost file V last p then look_line (look_at file p) else []
+
+-- the last page that was looked at
+abbrev pub last_lost : List ℕ → List Reference → ℕ → ℕ → ℕ
+last_lost file V last p = if is_lost file V last p then p else last
+
+-- the explanations of some faults, where page `last` was looked at before
+unfoldable pub explanations : List ℕ → List Reference → ℕ → List Fault → List ℕ
+explanations file V last [] = []
+explanations file V last (f ∷ fs) =
+    explanation file V f ++ lost_line file V last f.page ++ explanations file V (last_lost file V last f.page) fs
+
 -- the summary
 
 -- faults that are told at addresses of a start, or of none
@@ -208,7 +264,7 @@ summary file V fs =
 abbrev pub explain_text : ℕ → List ℕ → List Reference → List Fault → List ℕ
 explain_text limit file V [] = ok_line
 explain_text limit file V (f ∷ fs) =
-    flat_map (explanation file V) (take limit (f ∷ fs)) ++ more_text (length (drop limit (f ∷ fs))) ++ summary file V (placed_faults file V)
+    explanations file V 0 (take limit (f ∷ fs)) ++ more_text (length (drop limit (f ∷ fs))) ++ summary file V (placed_faults file V)
 
 -- the report of `explain` that shows so many faults at most: its verdict is that of `check`
 unfoldable pub explain_report : ℕ → List ℕ → List Reference → Report

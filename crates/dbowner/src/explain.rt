@@ -1,4 +1,5 @@
 // What `explain` writes below the line of a fault, and behind the last.
+mod look;
 mod notes;
 mod owners;
 mod page_line;
@@ -7,6 +8,7 @@ mod sums;
 mod tally;
 mod tree_line;
 
+pub use look::{Look, put_look};
 pub use owners::Owners;
 pub use page_line::{place_front, place_tree};
 pub use summary::Counts;

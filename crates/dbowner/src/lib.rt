@@ -22,7 +22,9 @@ mod page_trees;
 mod place;
 mod roots;
 
-pub use explain::{CodeCount, Counts, Owners, Tally, TreeNames, place_front, place_tree};
+pub use explain::{
+    CodeCount, Counts, Look, Owners, Tally, TreeNames, place_front, place_tree, put_look,
+};
 pub use explained::summary_counts_all_faults;
 pub use owner::visited_pages_are_owned;
 pub use page_trees::{FREELIST_START, PageTrees};

@@ -1,7 +1,7 @@
 -- What is read of the pointer map: page after page, and behind what walks read.
-use Rattle.std.proofs.Common.{◌≡◌, ◌≢◌, ℕ, ◌+◌, ◌<◌, Bool, true, false, cond, ◌&&◌, inl, inr, List, [], ◌∷◌, ◌++◌, Some, None, Result, Ok, Err, refl, sym, ap, ap₂, ◌∙◌, subst, arith}
+use Rattle.std.proofs.Common.{◌≡◌, ◌≢◌, ℕ, ◌+◌, ◌<◌, ◌≤◌, Bool, true, false, cond, ◌&&◌, inl, inr, List, [], ◌∷◌, ◌++◌, Some, None, Result, Ok, Err, refl, sym, ap, ap₂, ◌∙◌, subst, arith}
 use Rattle.std.specs.Prelude.{IfErr, is_some, ◌==◌}
-use Rattle.std.proofs.lemmas.Bool.{both_ways, eq-eqb}
+use Rattle.std.proofs.lemmas.Bool.{both_ways, cases_Bool, eq-eqb}
 use Rattle.std.proofs.lemmas.List.{append-nil, map-append}
 use Rattle.dbsurvey.proofs.Elements.{each_weaker}
 use Rattle.dbsurvey.proofs.Order.{IsIn-cases, EachPair-append}
@@ -17,37 +17,39 @@ use Rattle.dbsource.specs.Sources.{Asks, SourceState}
 use Rattle.dbsource.specs.declared.error.RunError.{RunError}
 use Rattle.dbsource.specs.declared.error.RunError.TheVariants.{WriteFailed}
 use Rattle.dbsource.proofs.Logs.{has_none}
-use Rattle.dbmarks.specs.Marking.{AreMarksFor}
+use Rattle.dbmarks.specs.Marking.{is_unmarked, AreMarksFor}
 use Rattle.dbmarks.specs.Reads.{Reads}
 use Rattle.dbmarks.specs.declared.marks.Mark.{Mark}
-use Rattle.dbmarks.proofs.Unfixed.{unmarked_unfixed, readable}
-use Rattle.dbscan.specs.MapReads.{IsMapInUse, IsMapTurn, MapReads, MapReadsBefore}
+use Rattle.dbmarks.proofs.Unfixed.{marks_for-kept, readable, unmarked_unfixed}
+use Rattle.dbscan.specs.Looks.{IsUnmarked, ReadsMarked, ReadsOrNot, ReadsRising, ReadsRisingBefore}
+use Rattle.dbscan.specs.MapReads.{IsMapInUse, MapReads}
 use Rattle.dbscan.proofs.MapPlaces.{at_position}
 
 -- ---- page after page
 
-pub reads_none : (g : Geometry) → MapReadsBefore g 1 []
-reads_none g = record { reads = record { pages = []; ranges = refl; rising = tt; maps = λ p i. absurd i }; before = λ p i. absurd i }
+pub reads_none : (size : ℕ) (Q : ℕ → Type 0) (next : ℕ) → ReadsRisingBefore size Q next []
+reads_none size Q next = record { reads = record { pages = []; ranges = refl; rising = tt; each = λ p i. absurd i }; before = λ p i. absurd i }
 
-pub reads_more : (g : Geometry) (p : ℕ) (log turn : List ByteRange) → MapReadsBefore g p log → IsMapTurn g p turn → MapReadsBefore g (p + 1) (log ++ turn)
-reads_more g p log turn h (inl e) = record {
+pub reads_more : (size : ℕ) (Q : ℕ → Type 0) (next p : ℕ) (log turn : List ByteRange) → next ≤ p → ReadsRisingBefore size Q next log → ReadsOrNot size Q p turn
+    → ReadsRisingBefore size Q (p + 1) (log ++ turn)
+reads_more size Q next p log turn n h (inl e) = record {
   reads = record {
     pages = h.reads.pages;
     ranges = ap (λ l. log ++ l) e ∙ append-nil log ∙ h.reads.ranges;
     rising = h.reads.rising;
-    maps = h.reads.maps;
+    each = h.reads.each;
   };
   before = λ q i. let k = h.before q i in omega arith;
 }
-reads_more g p log turn h (inr e) = record {
+reads_more size Q next p log turn n h (inr e) = record {
   reads = record {
     pages = h.reads.pages ++ (p ∷ []);
-    ranges = ap₂ (λ a b. a ++ b) h.reads.ranges e.0 ∙ sym (map-append (page_range g.page_size) h.reads.pages (p ∷ []));
+    ranges = ap₂ (λ a b. a ++ b) h.reads.ranges e.0 ∙ sym (map-append (page_range size) h.reads.pages (p ∷ []));
     rising = EachPair-append (λ a b. a < b) h.reads.pages (p ∷ []) h.reads.rising ((λ q i. absurd i), tt)
-        (λ q r i j. elim j [ inl k ↦ subst (λ y. q < y) (sym k) (h.before q i) | inr z ↦ absurd z ]);
-    maps = λ q i. elim (IsIn-cases q h.reads.pages (p ∷ []) i) [
-      | inl j ↦ h.reads.maps q j
-      | inr j ↦ elim j [ inl k ↦ subst (IsMapInUse g) (sym k) e.1 | inr z ↦ absurd z ]
+        (λ q r i j. elim j [ inl k ↦ (let m = h.before q i in let l : q < p = omega arith in subst (λ y. q < y) (sym k) l) | inr z ↦ absurd z ]);
+    each = λ q i. elim (IsIn-cases q h.reads.pages (p ∷ []) i) [
+      | inl j ↦ h.reads.each q j
+      | inr j ↦ elim j [ inl k ↦ subst Q (sym k) e.1 | inr z ↦ absurd z ]
     ];
   };
   before = λ q i. elim (IsIn-cases q h.reads.pages (p ∷ []) i) [
@@ -86,25 +88,55 @@ map_is_readable g p h = record { from_one = let k = (at_position g p h.0).0 in o
 apart : (p q : ℕ) → p < q → p ≢ q
 apart p q l e = omega arith
 
--- so what is read of the map is a log of pages of the file
-pub map_log : (g : Geometry) (log : List ByteRange) → MapReads g log → IsPageLog g log
-map_log g log h = record {
-  pages = h.pages;
-  ranges = h.ranges;
-  readable = λ p i. map_is_readable g p (h.maps p i);
-  distinct = each_weaker (λ p q. p < q) (λ p q. p ≢ q) h.pages apart h.rising;
-}
+-- nothing is a log of pages of the file
+pub empty_log : (g : Geometry) → IsPageLog g []
+empty_log g = record { pages = []; ranges = refl; readable = λ p i. absurd i; distinct = tt }
 
--- and behind what walks read it is one with that: no page of fixed use is read by a walk
+-- what walks read is one with what is read of the map behind it: no page of fixed use is read by a walk, and each page has a mark then
 pub walk_then_map_log : (g : Geometry) (old new : List Mark) (walked mapped : List ByteRange) → AreMarksFor g old
-    → Reads g.page_size old new walked → MapReads g mapped → IsPageLog g (walked ++ mapped)
+    → Reads g.page_size old new walked → MapReads g mapped → ReadsMarked g new (walked ++ mapped)
 walk_then_map_log g old new walked mapped m h k = record {
-  pages = h.pages ++ k.pages;
-  ranges = ap₂ (λ a b. a ++ b) h.ranges k.ranges ∙ sym (map-append (page_range g.page_size) h.pages k.pages);
-  readable = λ p i. elim (IsIn-cases p h.pages k.pages i) [
-    | inl j ↦ readable g old p m (h.fresh p j)
-    | inr j ↦ map_is_readable g p (k.maps p j)
+  whole = after;
+  pages = record {
+    pages = h.pages ++ k.pages;
+    ranges = ap₂ (λ a b. a ++ b) h.ranges k.ranges ∙ sym (map-append (page_range g.page_size) h.pages k.pages);
+    readable = λ p i. elim (IsIn-cases p h.pages k.pages i) [
+      | inl j ↦ readable g old p m (h.fresh p j)
+      | inr j ↦ map_is_readable g p (k.each p j)
+    ];
+    distinct = EachPair-append (λ p q. p ≢ q) h.pages k.pages h.distinct (each_weaker (λ p q. p < q) (λ p q. p ≢ q) k.pages apart k.rising)
+        (λ p q i j e. both_ways (is_fixed g q) (subst (λ x. is_fixed g x ≡ false) e (unmarked_unfixed g old p m (h.fresh p i)).1) (map_is_fixed g q (k.each q j)));
+  };
+  marked = λ p i. elim (IsIn-cases p h.pages k.pages i) [
+    | inl j ↦ h.marked p j
+    | inr j ↦ fixed_marked p (map_is_fixed g p (k.each p j))
   ];
-  distinct = EachPair-append (λ p q. p ≢ q) h.pages k.pages h.distinct (each_weaker (λ p q. p < q) (λ p q. p ≢ q) k.pages apart k.rising)
-      (λ p q i j e. both_ways (is_fixed g q) (subst (λ x. is_fixed g x ≡ false) e (unmarked_unfixed g old p m (h.fresh p i)).1) (map_is_fixed g q (k.maps q j)));
+}
+  where
+    after : AreMarksFor g new
+    after = marks_for-kept g old new m h.kept
+
+    fixed_marked : (p : ℕ) → is_fixed g p ≡ true → is_unmarked new p ≡ false
+    fixed_marked p f = elim (cases_Bool (is_unmarked new p)) [
+      | inl e ↦ absurd (both_ways (is_fixed g p) (unmarked_unfixed g new p after e).1 f)
+      | inr e ↦ e
+    ]
+
+-- of the walks alone
+pub walk_log : (g : Geometry) (old new : List Mark) (walked : List ByteRange) → AreMarksFor g old → Reads g.page_size old new walked → ReadsMarked g new walked
+walk_log g old new walked m h =
+    subst (ReadsMarked g new) (append-nil walked) (walk_then_map_log g old new walked [] m h (reads_none g.page_size (IsMapInUse g) 1).reads)
+
+-- and behind these pages that have no mark
+pub looks_log : (g : Geometry) (marks : List Mark) (log looks : List ByteRange)
+    → ReadsMarked g marks log → ReadsRising g.page_size (IsUnmarked marks) looks → IsPageLog g (log ++ looks)
+looks_log g marks log looks h k = record {
+  pages = h.pages.pages ++ k.pages;
+  ranges = ap₂ (λ a b. a ++ b) h.pages.ranges k.ranges ∙ sym (map-append (page_range g.page_size) h.pages.pages k.pages);
+  readable = λ p i. elim (IsIn-cases p h.pages.pages k.pages i) [
+    | inl j ↦ h.pages.readable p j
+    | inr j ↦ readable g marks p h.whole (k.each p j)
+  ];
+  distinct = EachPair-append (λ p q. p ≢ q) h.pages.pages k.pages h.pages.distinct (each_weaker (λ p q. p < q) (λ p q. p ≢ q) k.pages apart k.rising)
+      (λ p q i j e. both_ways (is_unmarked marks q) (subst (λ x. is_unmarked marks x ≡ false) e (h.marked p i)) (k.each q j));
 }

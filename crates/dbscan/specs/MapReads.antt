@@ -1,13 +1,12 @@
 -- Which pages of the pointer map are read at the end of a run, and when (Database File Format, section 1.8).
-use Rattle.std.specs.Prelude.{◌≡◌, ◌⊎◌, ℕ, ◌+◌, ◌-◌, ◌*◌, ◌/◌, ◌<◌, ◌≤◌, true, List, [], ◌∷◌, map, Some}
-use Rattle.dbsurvey.specs.Address.{IsIn, EachPair}
+use Rattle.std.specs.Prelude.{◌≡◌, ℕ, ◌+◌, ◌-◌, ◌*◌, ◌/◌, ◌<◌, ◌≤◌, true, List, Some}
 use Rattle.dbformat.specs.File as format
 use Rattle.dbformat.specs.File.{page_bytes}
 use Rattle.dbformat.specs.FixedPages.{fixed_use, entries_per_map}
-use Rattle.dbformat.specs.Log.{page_range}
 use Rattle.dbformat.specs.declared.ByteRange.{ByteRange}
 use Rattle.dbformat.specs.declared.Geometry.{Geometry}
 use Rattle.dbformat.specs.declared.Fixed.TheVariants.{Map}
+use Rattle.dbscan.specs.Looks.{ReadsOrNot, ReadsRising, ReadsRisingBefore}
 use Rattle.dbscan.specs.declared.map_entry.MapEntry.{MapEntry}
 
 -- an entry of the format
@@ -18,21 +17,17 @@ entry_value e = record { type = e.kind; number = e.number }
 abbrev pub IsMapInUse : Geometry → ℕ → Type 0
 IsMapInUse g p = (fixed_use g p ≡ Some Map) × (p < g.pages)
 
--- Such pages were read, each once, by rising numbers.
-pub record MapReads (g : Geometry) (log : List ByteRange) : Type 0 where
-  pub pages : List ℕ
-  pub ranges : log ≡ map (page_range g.page_size) pages
-  pub rising : EachPair (λ p q. p < q) pages
-  pub maps : (p : ℕ) → IsIn p pages → IsMapInUse g p
+-- such pages were read, each once, by rising numbers
+abbrev pub MapReads : Geometry → List ByteRange → Type 0
+MapReads g log = ReadsRising g.page_size (IsMapInUse g) log
 
 -- the same, where all are before page `next`
-pub record MapReadsBefore (g : Geometry) (next : ℕ) (log : List ByteRange) : Type 0 where
-  pub reads : MapReads g log
-  pub before : (p : ℕ) → IsIn p reads.pages → p < next
+abbrev pub MapReadsBefore : Geometry → ℕ → List ByteRange → Type 0
+MapReadsBefore g next log = ReadsRisingBefore g.page_size (IsMapInUse g) next log
 
 -- at page p nothing was read, or it is such a page, and was read
 abbrev pub IsMapTurn : Geometry → ℕ → List ByteRange → Type 0
-IsMapTurn g p log = (log ≡ []) ⊎ ((log ≡ page_range g.page_size p ∷ []) × IsMapInUse g p)
+IsMapTurn g p log = ReadsOrNot g.page_size (IsMapInUse g) p log
 
 -- the last position of a map page at or before page p
 abbrev pub last_map : Geometry → ℕ → ℕ

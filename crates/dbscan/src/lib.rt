@@ -14,6 +14,7 @@ mod desk;
 mod end_faults;
 mod end_pass;
 mod header_faults;
+mod looks;
 mod map_entry;
 mod placed;
 mod schema_watch;

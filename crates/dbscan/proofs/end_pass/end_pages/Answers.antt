@@ -11,14 +11,14 @@ use Rattle.dbmarks.specs.Marking.{mark_of, page_mark}
 use Rattle.dbmarks.proofs.Markings.{page_mark-in, marks_of-length}
 use Rattle.dbwalk.proofs.Telling.Belows.{stops_by_first, stops_by_after}
 use Rattle.dbscan.specs.EndPass.{page_items, pages_items}
-use Rattle.dbscan.specs.MapReads.{MapReadsBefore, IsMapTurn}
+use Rattle.dbscan.specs.MapReads.{IsMapInUse, IsMapTurn, MapReadsBefore}
 use Rattle.dbscan.proofs.EndItems.{items_one_more, items_begin, fixed_by_mark}
 use Rattle.dbscan.proofs.MapLogs.{reads_none, reads_more}
 use Rattle.dbscan.proofs.end_pass.end_pages.Goals as goal
 
 pub loop-index-init : goal.loop-index-init
 loop-index-init g c = record {
-  asks = record { log = has_none _ _ refl refl (reads_none c.args.bench.now.geometry) (λ file e ok V m. (refl, λ has low high. absurd (omega arith))); count = refl };
+  asks = record { log = has_none _ _ refl refl (reads_none c.args.bench.now.geometry.page_size (IsMapInUse c.args.bench.now.geometry) 1) (λ file e ok V m. (refl, λ has low high. absurd (omega arith))); count = refl };
   writes = refl;
   bench = refl;
 }
@@ -31,7 +31,7 @@ returns-in_err-end_page-clause-asks g c =
     let q = err_from_is_err_and c.from_residual.result c.from_residual.ensures.1 in
     rw q.1 (rw q.2 (asks_then (MapReadsBefore shape (i + 1)) (IsMapTurn c.loop-index.bench.geometry (i + 1)) _ _ (Err c.in_err-end_page.field-0.0) (λ n. refl) (λ n. refl)
     c.loop-index.invariant.asks c.in_err-end_page.ensures.asks
-    (λ a b e f. (reads_more shape (i + 1) a b e (subst (λ (s : Geometry). IsMapTurn s (i + 1) b) same f)).reads)
+    (λ a b e f. (reads_more shape.page_size (IsMapInUse shape) (i + 1) (i + 1) a b (omega arith) e (subst (λ (s : Geometry). IsMapTurn s (i + 1) b) same f)).reads)
     (λ file way turn e ok V m.
     let k = way e ok V m in
     let len : length c.args.marks.now ≡ (geometry file).pages = ap length m ∙ marks_of-length (geometry file) V in
@@ -52,7 +52,7 @@ loop-index-preserved g c =
     let same = ap (λ (b : Pages). b.geometry) c.loop-index.invariant.bench in record {
       asks = asks_then (MapReadsBefore shape (i + 1)) (IsMapTurn c.loop-index.bench.geometry (i + 1)) _ _ (Ok tt) (λ n. refl) (λ n. refl)
           c.loop-index.invariant.asks c.in_ok-end_page.ensures.asks
-          (λ a b e f. reads_more shape (i + 1) a b e (subst (λ (s : Geometry). IsMapTurn s (i + 1) b) same f))
+          (λ a b e f. reads_more shape.page_size (IsMapInUse shape) (i + 1) (i + 1) a b (omega arith) e (subst (λ (s : Geometry). IsMapTurn s (i + 1) b) same f))
           (λ file way turn e ok V m.
           let k = way e ok V m in
           let len : length c.args.marks.now ≡ (geometry file).pages = ap length m ∙ marks_of-length (geometry file) V in

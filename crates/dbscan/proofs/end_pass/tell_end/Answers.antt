@@ -16,7 +16,7 @@ use Rattle.dbwalk.specs.Telling.{Tells, StopsBy}
 use Rattle.dbwalk.proofs.Telling.Belows.{stops_by_first}
 use Rattle.dbscan.specs.Desks.{Things}
 use Rattle.dbscan.specs.EndPass.{pages_items}
-use Rattle.dbscan.specs.MapReads.{MapReads}
+use Rattle.dbscan.specs.MapReads.{IsMapInUse, MapReads}
 use Rattle.dbscan.specs.Telling.{items_of}
 use Rattle.dbscan.proofs.EndItems.{all_items, tells_then}
 use Rattle.dbscan.proofs.MapLogs.{asks_nothing, reads_none}
@@ -28,7 +28,7 @@ returns-in_err-tell_all-clause-asks g c =
     let shape = geometry_of c.args.desk.now.header.bytes c.args.desk.now.header.file_len in
     let header = ap (λ (d : Things). d.header) c.desk.view_is in
     let marks = ap (λ (d : Things). d.marks) c.desk.view_is in
-    rw q.1 (rw q.2 (asks_nothing g.S.Source.step _ (Err c.in_err-tell_all.field-0.0) _ c.in_err-tell_all.ensures.only (reads_none shape).reads (λ file is V s m rows.
+    rw q.1 (rw q.2 (asks_nothing g.S.Source.step _ (Err c.in_err-tell_all.field-0.0) _ c.in_err-tell_all.ensures.only (reads_none shape.page_size (IsMapInUse shape) 1).reads (λ file is V s m rows.
     let counts = c.count_marks-counts.result in
     let pages = pages_items file V (least_other_marked (marks_of (geometry file) V)) (geometry file).pages in
     let items = all_items file V s c.desk.inside.header c.args.any_rows c.desk.inside.marks counts.greatest_root counts.free_pages c.counted_faults-faults.result (subst (λ h. IsHeaderOf h file) (sym header) is) (marks ∙ m) rows
