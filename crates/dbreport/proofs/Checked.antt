@@ -17,7 +17,7 @@ use Rattle.dbwalk.proofs.Telling.Belows.{stops_by_after}
 use Rattle.dbreport.specs.CheckSink.{Shows, Cuts, end_text, verdict_of}
 use Rattle.dbscan.specs.Findings.{faults_in}
 use Rattle.dbscan.specs.RunItems.{run_items, walk_items}
-use Rattle.dbreport.specs.declared.check_sink.CheckSink.{CheckSink}
+use Rattle.dbreport.specs.declared.checking.sink.CheckSink.{CheckSink}
 use Rattle.dbreport.proofs.Checks.{check_writes, check_finds, check_begins}
 use Rattle.dbscan.proofs.RunTold.{run_faults, header_items}
 

@@ -20,7 +20,7 @@ use Rattle.dbwalk.specs.Telling.{StopsBy}
 use Rattle.dbwalk.proofs.Telling.Belows.{stops_by_first}
 use Rattle.dbreport.specs.CheckSink.{PutsAll, ShowsFault, Shows, Cuts, end_text, verdict_of}
 use Rattle.dbscan.specs.Findings.{faults_in}
-use Rattle.dbreport.specs.declared.check_sink.CheckSink.{CheckSink}
+use Rattle.dbreport.specs.declared.checking.sink.CheckSink.{CheckSink}
 use Rattle.dbsource.proofs.Beginnings.{begins_nothing, begins_more, begins_after}
 
 counted_is : (n : ℕ) → n ≤ 2 ^ 64 - 1 → n ≡ counted (n + 0)

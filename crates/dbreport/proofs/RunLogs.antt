@@ -78,7 +78,7 @@ behind_weaker h T k q = record {
 }
 
 -- nothing was asked for behind the header
-pub behind_none : {step : Step} {T : List ℕ → Type 0} (h : HeaderBytes) (s : SourceState) (file : List ℕ) → IsHeaderOf h file
+behind_none : {step : Step} {T : List ℕ → Type 0} (h : HeaderBytes) (s : SourceState) (file : List ℕ) → IsHeaderOf h file
     → ((file : List ℕ) → IsHeaderOf h file → T file) → HasReadBehind step (IsPageLog (geometry_of h.bytes h.file_len)) h T s s
 behind_none h s file is q = record {
   log = [];
@@ -98,6 +98,14 @@ whole_run {step} {lengths} {T} h {old} {mid} {new} opens first accepted range be
     let g = geometry_of h.bytes h.file_len in
     read_weaker (IsRunLog g) _ (ran step lengths h T old mid new accepted.0 accepted.1 opens first behind)
     (λ ranges p. (g, range, p)) (λ file ranges p t. (subst (λ s. IsRunLog s ranges) t.0.shape p, t.1))
+
+-- a run that asked for nothing behind the header
+pub header_run : {step : Step} {lengths : Lengths} {T : List ℕ → Type 0} (h : HeaderBytes) {old mid : SourceState} → Opens step lengths (Ok h) old mid → step old.trail (given 0 h.bytes) mid.trail
+    → (refusal_of h.bytes h.file_len ≡ None) × (length h.bytes ≡ 100) → IsInRange (geometry_of h.bytes h.file_len)
+    → ((file : List ℕ) → IsHeaderOf h file → T file) → HasRead step lengths IsSomeRunLog (λ file ranges. IsRunLog (geometry file) ranges × T file) old mid
+header_run h {mid = mid} opens first accepted range q =
+    let here = opens.there_is in
+    whole_run h opens first accepted range (behind_none h mid here.0 (opens.asks.log.files here.0 here.2 here.1) q)
 
 -- a run whose header was not read, or is refused
 pub opened_run : {step : Step} {lengths : Lengths} {T : List ℕ → Type 0} (e : OpenError) {old new : SourceState} → Opens step lengths (Err e) old new → ((file : List ℕ) → IsRefusalOf e file → T file)

@@ -20,7 +20,7 @@ use Rattle.dbreport.specs.Statistics.{form_of}
 use Rattle.dbreport.specs.declared.statistics.Form.{Form}
 
 -- at an error nothing is a beginning, and to no bytes nothing is added
-writes_nothing : (r : Result Verdict RunError) (held : Option (List ℕ)) → Writes r held held []
+pub writes_nothing : (r : Result Verdict RunError) (held : Option (List ℕ)) → Writes r held held []
 writes_nothing (Ok v) held = appends_nothing held
 writes_nothing (Err e) held = begins_nothing held []
 

@@ -6,7 +6,7 @@ use Rattle.dbformat.specs.Lines.{chain_text, columns, counted, line_feed, no_tex
 use Rattle.dbformat.specs.Rows.{StatRow, OtherPage}
 use Rattle.dbreport.specs.Columns.{column, counts_text, place_text, child_text, page_end, tree_end}
 use Rattle.dbreport.specs.Sums.{sums_of}
-use Rattle.dbreport.specs.declared.sums.Sums.{Sums}
+use Rattle.dbreport.specs.declared.statistics.sums.Sums.{Sums}
 use Rattle.dbreport.proofs.SumLemmas.{counted-mul}
 
 -- columns behind others, and the end of the line

@@ -28,9 +28,9 @@ use Rattle.dbreport.specs.StatStarts.{IsForSchema, rows_text, walk_faults_told, 
 use Rattle.dbreport.specs.Statistics.{form_of}
 use Rattle.dbreport.specs.Sums.{sums_of}
 use Rattle.dbreport.specs.TreeNames.{label_text}
-use Rattle.dbreport.specs.declared.stat_sink.StatSink.{StatSink}
+use Rattle.dbreport.specs.declared.statistics.sink.StatSink.{StatSink}
 use Rattle.dbreport.specs.declared.statistics.Form.{Form}
-use Rattle.dbreport.specs.declared.tree_name.Label.{Label}
+use Rattle.dbreport.specs.declared.statistics.tree_name.Label.{Label}
 use Rattle.dbscan.proofs.RunTold.{faults_told}
 use Rattle.dbreport.proofs.StatTexts.{trees_written}
 use Rattle.dbreport.proofs.StatWrites.{both_then, begun_first}

@@ -22,8 +22,8 @@ use Rattle.dbscan.specs.Notices.{Notice, begun, found, ended, Hearing, Hears}
 use Rattle.dbreport.specs.StatSink.{end_text, pages_text, BeginsTree, Breaks, Counts, CutsEnd, CutsFault, EndsTree, HasBegun, HasWritten, IsSameSink, TakesFault, WritesBoth}
 use Rattle.dbreport.specs.Sums.{sums_of}
 use Rattle.dbreport.specs.TreeNames.{label_text}
-use Rattle.dbreport.specs.declared.stat_sink.StatSink.{StatSink}
-use Rattle.dbreport.specs.declared.tree_name.Label.{Label}
+use Rattle.dbreport.specs.declared.statistics.sink.StatSink.{StatSink}
+use Rattle.dbreport.specs.declared.statistics.tree_name.Label.{Label}
 use Rattle.dbreport.proofs.Flushed.{keeps_begins, kept_appends, kept_if}
 use Rattle.dbreport.proofs.StatWrites.{begun_first, begun_none, begun_then, written_none, written_then}
 use Rattle.dbscan.proofs.ToldStarts.{findings_in}

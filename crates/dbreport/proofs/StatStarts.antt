@@ -29,7 +29,7 @@ use Rattle.dbreport.specs.StatSink.{end_text, pages_text, WritesBoth}
 use Rattle.dbreport.specs.StatStarts.{IsForSchema, IsSurveyed, faults_told}
 use Rattle.dbscan.specs.Walks.{AreWalked}
 use Rattle.dbscan.specs.declared.schema_watch.SchemaWatch.{SchemaWatch}
-use Rattle.dbreport.specs.declared.stat_sink.StatSink.{StatSink}
+use Rattle.dbreport.specs.declared.statistics.sink.StatSink.{StatSink}
 use Rattle.dbreport.proofs.ListedNames.{listed_name}
 use Rattle.dbreport.proofs.StatSinks.{Sheet, all_lines, hearing, notices_written}
 use Rattle.dbreport.proofs.StatTexts.{rows_below}

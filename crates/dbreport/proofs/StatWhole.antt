@@ -20,7 +20,7 @@ use Rattle.dbreport.specs.OtherMarks.{marked_lines}
 use Rattle.dbreport.specs.StatLines.{starts_text}
 use Rattle.dbreport.specs.StatSink.{Counts, Breaks, HasWritten, HasBegun, PutsOthers, WritesBoth}
 use Rattle.dbreport.specs.StatStarts.{faults_told, rows_text, walk_faults_told}
-use Rattle.dbreport.specs.declared.stat_sink.StatSink.{StatSink}
+use Rattle.dbreport.specs.declared.statistics.sink.StatSink.{StatSink}
 use Rattle.dbsource.proofs.Puts.{appends_append, appends_kept}
 use Rattle.dbsource.proofs.Beginnings.{all_begun, begins_after}
 use Rattle.dbreport.proofs.OtherRows.{others_text}

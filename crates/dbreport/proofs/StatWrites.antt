@@ -9,7 +9,7 @@ use Rattle.dbsource.specs.Outs.{OutState}
 use Rattle.dbsource.proofs.Puts.{appends_append, appends_nothing}
 use Rattle.dbsource.proofs.Beginnings.{begins_nothing, begins_more, begins_after}
 use Rattle.dbreport.specs.StatSink.{HasWritten, HasBegun, WritesBoth}
-use Rattle.dbreport.specs.declared.stat_sink.StatSink.{StatSink}
+use Rattle.dbreport.specs.declared.statistics.sink.StatSink.{StatSink}
 
 lines_more : (xs ys : List Fault) → flat_map fault_line xs ++ flat_map fault_line ys ≡ flat_map fault_line (xs ++ ys)
 lines_more xs ys = sym (flat_map-append fault_line xs ys)

@@ -7,7 +7,7 @@ use Rattle.dbformat.specs.declared.Verdict.{Verdict}
 use Rattle.dbformat.specs.declared.Verdict.TheVariants.{Clean, Faulty}
 use Rattle.dbsource.specs.Outs.{OutState, Puts}
 use Rattle.dbtrace.specs.Finding.{Finding, told_row, told_fault}
-use Rattle.dbreport.specs.declared.check_sink.CheckSink.{CheckSink}
+use Rattle.dbreport.specs.declared.checking.sink.CheckSink.{CheckSink}
 
 -- these bytes were put whole
 abbrev pub PutsAll : OutState → OutState → List ℕ → Type 0

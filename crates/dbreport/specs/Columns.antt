@@ -4,9 +4,9 @@ use Rattle.dbformat.specs.Lines.{chain_text, counted, line_feed, no_text, pagety
 use Rattle.dbformat.specs.Rows as format
 use Rattle.dbformat.specs.Rows.{StatRow}
 use Rattle.dbformat.specs.Text.{hex_text}
-use Rattle.dbreport.specs.declared.page_texts.OtherPage.{OtherPage}
-use Rattle.dbreport.specs.declared.page_texts.OtherPage.TheVariants.{Trunk, FreeLeaf, Map, Lock, Unowned}
-use Rattle.dbreport.specs.declared.sums.Sums.{Sums}
+use Rattle.dbreport.specs.declared.statistics.page_texts.OtherPage.{OtherPage}
+use Rattle.dbreport.specs.declared.statistics.page_texts.OtherPage.TheVariants.{Trunk, FreeLeaf, Map, Lock, Unowned}
+use Rattle.dbreport.specs.declared.statistics.sums.Sums.{Sums}
 
 -- a column
 abbrev pub column : List ℕ → List ℕ

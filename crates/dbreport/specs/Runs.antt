@@ -84,7 +84,28 @@ pub record IsRunOf (command : Command) (file : List ℕ) (r : Result Verdict Run
   pub run : IsRunBy (report command) file r out_old out_new err_old err_new
   pub counts : (V : List Reference) → Survey file V → CountsPages command file V
 
--- ---- a run from a source and two Outs to what these have become, by what their traits say of them
+-- ---- a run from a source and an Out to what these have become, by what their traits say of them
+
+module _ {S O : Type 0} (source : SourceWords S) (out : OutWords O) where
+  -- Whatever the source answered: there is a file, of the length that it answered, that agrees with every byte that the run used;
+  -- and of each such file this was the run, what it asked for is what a run over that file asks for, and no other Out was used.
+  abbrev pub HasRunBy : (List ℕ → List Reference → Report) → Result Verdict RunError → S × O → S × O → Type 0
+  HasRunBy rep r old new = HasRead source.step source.lengths IsSomeRunLog
+      (λ file ranges. IsRunLog (geometry file) ranges × ((err : Option (List ℕ)) → IsRunBy rep file r (out.held old.1).bytes (out.held new.1).bytes err err))
+      (source.held old.0) (source.held new.0)
+
+  -- Who failed is what was answered: the source failed, once, exactly at a failed read, and the Out, once, exactly at a failed
+  -- write.
+  pub record FailsOnce (r : Result Verdict RunError) (old new : S × O) : Type 0 where
+    pub reads : (source.held new.0).failures ≡ failures_after is_read_failed r (source.held old.0).failures
+    pub writes : (out.held new.1).failures ≡ failures_after is_write_failed r (out.held old.1).failures
+
+  -- At a refusal nothing but the header was asked for, and nothing was done to the Out.
+  pub record IsUntouched (r : Result Verdict RunError) (old new : S × O) : Type 0 where
+    pub asked : AsksHeaderAlone source.step r (source.held old.0).trail (source.held new.0).trail
+    pub unwritten : IsUnwritten r old.1 new.1
+
+-- ---- and from a source and two Outs
 
 module _ {S O E : Type 0} (source : SourceWords S) (out : OutWords O) (err : OutWords E) where
   -- Whatever the source answered: there is a file, of the length that it answered, that agrees with every byte that the run used;

@@ -20,7 +20,7 @@ use Rattle.dbreport.specs.CheckSink.{PutsAll}
 use Rattle.dbreport.specs.TreeNames.{label_text}
 use Rattle.dbreport.specs.OtherMarks.{marked_lines}
 use Rattle.dbreport.specs.Sums.{sums_of}
-use Rattle.dbreport.specs.declared.stat_sink.StatSink.{StatSink}
+use Rattle.dbreport.specs.declared.statistics.sink.StatSink.{StatSink}
 
 -- what is written of rows as they come
 abbrev pub pages_text : Bool → List ℕ → ℕ → List StatRow → List ℕ

@@ -16,7 +16,7 @@ use Rattle.dbscan.specs.Findings.{faults_in}
 use Rattle.dbreport.specs.TreeNames.{label_text}
 use Rattle.dbreport.specs.StatLines.{starts_text}
 use Rattle.dbreport.specs.Sums.{sums_of}
-use Rattle.dbreport.specs.declared.stat_sink.StatSink.{StatSink}
+use Rattle.dbreport.specs.declared.statistics.sink.StatSink.{StatSink}
 
 -- what is found below some errands
 abbrev pub faults_told : List ℕ → List Reference → List (Errand Way Event) → List Fault

@@ -2,7 +2,7 @@
 use Rattle.std.specs.Prelude.{List, length, map, fold, max, sum_by}
 use Rattle.dbformat.specs.Lines.{counted}
 use Rattle.dbformat.specs.Rows.{StatRow}
-use Rattle.dbreport.specs.declared.sums.Sums.{Sums}
+use Rattle.dbreport.specs.declared.statistics.sums.Sums.{Sums}
 
 -- the sums of some rows, each of which stops at the greatest number of 64 bits
 abbrev pub sums_of : List StatRow → Sums

@@ -2,9 +2,9 @@
 use Rattle.std.specs.Prelude.{ℕ, List, codes}
 use Rattle.dbformat.specs.Text.{shown_name}
 use Rattle.dbformat.specs.declared.Encoding.{Encoding}
-use Rattle.dbreport.specs.declared.tree_name.TreeName.{TreeName}
-use Rattle.dbreport.specs.declared.tree_name.TreeName.TheVariants.{Schema, Unknown, Kept}
-use Rattle.dbreport.specs.declared.tree_name.Label.{Label}
+use Rattle.dbreport.specs.declared.statistics.tree_name.TreeName.{TreeName}
+use Rattle.dbreport.specs.declared.statistics.tree_name.TreeName.TheVariants.{Schema, Unknown, Kept}
+use Rattle.dbreport.specs.declared.statistics.tree_name.Label.{Label}
 
 -- the text of a name, whose bytes are of this encoding
 abbrev pub shown_tree : Encoding → TreeName → List ℕ

@@ -16,10 +16,13 @@ ghost use Rattle.dbreport.specs.CheckSink.{Cuts, Shows};
 ghost use Rattle.dbscan.specs.Desks.{IsFresh, shape_of};
 ghost use Rattle.dbscan.specs.RunItems.{walk_items};
 
-use crate::check_sink::CheckSink;
+mod sink;
+
+use crate::checking::sink::CheckSink;
 use dbformat::Verdict;
 use dbscan::{Desk, SchemaWatch, tell_end, tell_header, walk_starts};
 use dbsource::{Header, Out, RunError, Source};
+pub use sink::put_rest;
 use std::alloc::Allocator;
 
 // Tells the header's faults to the sink of a check, which keeps its Out.

@@ -7,19 +7,11 @@
 //! ```
 #![tactic(auto)]
 
-mod check_sink;
 mod checking;
-mod columns;
-mod hex;
-mod other_pages;
-mod page_texts;
 mod runs;
-mod stat_lines;
-mod stat_sink;
 mod statistics;
-mod sums;
-mod tree_name;
 
+pub use checking::put_rest;
 pub use dbformat::{Command, Verdict};
 pub use dbscan::Desk;
 pub use dbsource::{Header, Out, RunError, Source};

@@ -23,8 +23,17 @@ ghost use Rattle.dbreport.specs.StatStarts.{IsForSchema, IsSurveyed, faults_told
 ghost use Rattle.dbreport.specs.Sums.{sums_of};
 ghost use Rattle.dbreport.specs.TreeNames.{label_text};
 
-use crate::stat_sink::StatSink;
-use crate::tree_name::Label;
+mod columns;
+mod hex;
+mod lines;
+mod other_pages;
+mod page_texts;
+mod sink;
+mod sums;
+mod tree_name;
+
+use crate::statistics::sink::StatSink;
+use crate::statistics::tree_name::Label;
 use dbformat::Verdict;
 use dbscan::{Desk, SchemaWatch, tell_end, tell_header, walk_starts};
 use dbsource::{Header, Out, RunError, Source};

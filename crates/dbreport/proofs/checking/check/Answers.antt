@@ -1,4 +1,4 @@
-use Rattle.std.proofs.Common.{rules, [], Err, Ok, refl, sym, ap, ◌∙◌, subst}
+use Rattle.std.proofs.Common.{rules, Err, Ok, refl, sym, ap, ◌∙◌, subst}
 use Rattle.std.proofs.lemmas.Result.{err_from_is_err_and}
 use Rattle.std.specs.Io.KnownBytes.{Appends}
 use Rattle.dbformat.specs.FixedPages.{geometry_of}
@@ -10,9 +10,9 @@ use Rattle.dbsource.specs.Headers.{IsHeaderOf}
 use Rattle.dbsource.proofs.Logs.{asks_weaker}
 use Rattle.dbsource.specs.declared.error.RunError.TheVariants.{WriteFailed}
 use Rattle.dbreport.proofs.Checked.{at_error, stopped_at_header, stopped_in_walks, all_written, all_found}
-use Rattle.dbscan.proofs.MapLogs.{asks_nothing, map_log, reads_none}
+use Rattle.dbscan.proofs.MapLogs.{asks_nothing, empty_log}
 use Rattle.dbreport.proofs.SinkStates.{as_other}
-use Rattle.dbreport.specs.declared.check_sink.CheckSink.{CheckSink}
+use Rattle.dbreport.specs.declared.checking.sink.CheckSink.{CheckSink}
 use Rattle.dbreport.proofs.checking.check.Goals as goal
 
 pub returns-in_err-tell_check_header-clause-asks : goal.returns-in_err-tell_check_header-clause-asks
@@ -20,7 +20,7 @@ returns-in_err-tell_check_header-clause-asks g c =
     let q = err_from_is_err_and c.from_residual.result c.from_residual.ensures.1 in
     let new = c.new-sink.ensures in
     let geo = geometry_of c.args.desk.now.header.bytes c.args.desk.now.header.file_len in
-    rw q.1 (rw q.2 (asks_nothing g.S.Source.step _ (Err c.in_err-tell_check_header.field-0.0) _ c.in_err-tell_check_header.ensures.only (map_log geo [] (reads_none geo).reads) (λ file is V s. (
+    rw q.1 (rw q.2 (asks_nothing g.S.Source.step _ (Err c.in_err-tell_check_header.field-0.0) _ c.in_err-tell_check_header.ensures.only (empty_log geo) (λ file is V s. (
       at_error {A = Verdict} g.O.Out.held (Err c.in_err-tell_check_header.field-0.0) c.in_err-tell_check_header.field-0.0 (g.O.Out.held c.args.out.now).bytes c.tell_check_header.new.sink.out.now _ (check_text c.args.limit (faults file V)) refl
           (stopped_at_header g.O.Out.held file V s c.header.result.now (subst (λ (h : HeaderBytes). IsHeaderOf h file) (sym c.header.ensures.value) is) c.args.limit c.args.out.now c.new-sink.result new.out new.limit new.shown new.more
           c.in_err-tell_check_header.field-0.0 c.tell_check_header.new.sink c.in_err-tell_check_header.ensures.told)

@@ -42,7 +42,7 @@ returns-clause-asks g c =
     let shape = ap (λ (h : HeaderBytes). geometry_of h.bytes h.file_len) same in
     asks_then (Reads geo.page_size c.args.desk.now.marks c.walk_starts.new.desk.marks) (MapReads (geometry_of c.walk_starts.new.desk.header.bytes c.walk_starts.new.desk.header.file_len)) _ _ c.tell_end.result (λ n. refl) (λ n. refl)
     c.in_ok-walk_starts.ensures.asks c.tell_end.ensures.asks
-    (λ l m r k. walk_then_map_log geo c.args.desk.now.marks c.walk_starts.new.desk.marks l m (fresh_marks geo c.args.desk.now.marks c.requires.fresh.marks) r (subst (λ g. MapReads g m) shape k))
+    (λ l m r k. (walk_then_map_log geo c.args.desk.now.marks c.walk_starts.new.desk.marks l m (fresh_marks geo c.args.desk.now.marks c.requires.fresh.marks) r (subst (λ g. MapReads g m) shape k)).pages)
     (λ file walked ended is V s.
     let w = walked is V s in
     tells_then (Shows g.O.Out.held) (Cuts g.O.Out.held) c.tell_end.result c.args.watch.now.sink c.walk_starts.new.watch.sink c.tell_end.new.sink (told_below file [] (start_errands file V)) (findings (end_faults file V))

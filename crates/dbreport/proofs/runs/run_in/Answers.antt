@@ -11,7 +11,7 @@ use Rattle.dbsource.proofs.Logs.{has_ranges, open_failures}
 use Rattle.dbreport.specs.Runs.{IsRunOf}
 use Rattle.dbreport.specs.StatSink.{failures_of_each}
 use Rattle.dbreport.proofs.RunAnswers.{none_of, read_refused, read_unwritten, refused_answer, refused_counts, refused_failures, refused_log, refused_unwritten}
-use Rattle.dbreport.proofs.RunLogs.{behind_none, opened_run, whole_run}
+use Rattle.dbreport.proofs.RunLogs.{header_run, opened_run, whole_run}
 use Rattle.dbreport.proofs.runs.run_in.Goals as goal
 
 -- ---- the header was not read
@@ -48,9 +48,8 @@ returns-in_err-desk-clause-read g c =
     let q = err_from_is_err_and c.from_residual-in_err-desk.result c.from_residual-in_err-desk.ensures.1 in
     let h = c.in_ok-header.header in
     let opens = c.in_ok-header.ensures.opens in
-    rw q.1 (rw q.2 (whole_run h opens c.in_ok-header.ensures.read c.in_ok-header.ensures.accepted c.in_err-desk.ensures.range
-    (behind_none h (g.S.Source.held c.read.new.source) opens.there_is.0 (opens.asks.log.files opens.there_is.0 opens.there_is.2 opens.there_is.1)
-    (λ file is. none_of c.args.command file OutOfMemory (g.O.Out.held c.args.out.now).bytes (g.E.Out.held c.args.err.now).bytes is.is_read))))
+    rw q.1 (rw q.2 (header_run h opens c.in_ok-header.ensures.read c.in_ok-header.ensures.accepted c.in_err-desk.ensures.range
+    (λ file is. none_of c.args.command file OutOfMemory (g.O.Out.held c.args.out.now).bytes (g.E.Out.held c.args.err.now).bytes is.is_read)))
 
 pub returns-in_err-desk-clause-failed : goal.returns-in_err-desk-clause-failed
 returns-in_err-desk-clause-failed g c =

@@ -1,4 +1,4 @@
-use Rattle.std.proofs.Common.{rules, [], Ok, Err, refl, sym, ◌∙◌, ap, subst}
+use Rattle.std.proofs.Common.{rules, Ok, Err, refl, sym, ◌∙◌, ap, subst}
 use Rattle.std.specs.Prelude.{flat_map}
 use Rattle.std.proofs.lemmas.Result.{err_from_is_err_and}
 use Rattle.dbformat.specs.FixedPages.{geometry_of}
@@ -12,9 +12,9 @@ use Rattle.dbsource.specs.Outs.{Writes}
 use Rattle.dbsource.specs.declared.error.RunError.{RunError}
 use Rattle.dbsource.proofs.Logs.{asks_weaker}
 use Rattle.dbreport.specs.Statistics.{form_of}
-use Rattle.dbreport.specs.declared.stat_sink.StatSink.{StatSink}
+use Rattle.dbreport.specs.declared.statistics.sink.StatSink.{StatSink}
 use Rattle.dbreport.proofs.Checked.{at_error}
-use Rattle.dbscan.proofs.MapLogs.{asks_nothing, map_log, reads_none}
+use Rattle.dbscan.proofs.MapLogs.{asks_nothing, empty_log}
 use Rattle.dbreport.proofs.StatReports.{for_schema, stopped_at_header, all_parts, verdict_found}
 use Rattle.dbreport.proofs.statistics.stat.Goals as goal
 
@@ -24,7 +24,7 @@ returns-in_err-stat_header-clause-asks g c =
     let new = c.new-sink.ensures in
     let geo = geometry_of c.args.desk.now.header.bytes c.args.desk.now.header.file_len in
     let error = c.in_err-stat_header.field-0.0 in
-    rw q.1 (rw q.2 (asks_nothing g.S.Source.step _ (Err error) _ c.in_err-stat_header.ensures.only (map_log geo [] (reads_none geo).reads) (λ file is V s.
+    rw q.1 (rw q.2 (asks_nothing g.S.Source.step _ (Err error) _ c.in_err-stat_header.ensures.only (empty_log geo) (λ file is V s.
     let parts = stopped_at_header g.O.Out.held g.E.Out.held file V s c.header.result.now (subst (λ (h : HeaderBytes). IsHeaderOf h file) (sym c.header.ensures.value) is) c.args.form c.args.out.now c.args.err.now c.new-sink.result new.out new.err new.aggregate
     Verdict error c.stat_header.new.sink c.in_err-stat_header.ensures.done in (
       at_error {A = Verdict} g.O.Out.held (Err error) error (g.O.Out.held c.args.out.now).bytes c.stat_header.new.sink.out.now _ (flat_map (form_line file V) (form_rows (form_of c.args.form) file V)) refl

@@ -30,7 +30,7 @@ returns-clause-asks g c =
     let shape = ap (λ (h : HeaderBytes). geometry_of h.bytes h.file_len) same in
     asks_then (Reads geo.page_size c.args.desk.now.marks c.stat_pages.new.desk.marks) (MapReads (geometry_of c.stat_pages.new.desk.header.bytes c.stat_pages.new.desk.header.file_len)) _ _ c.tell_end.result (λ n. refl) (λ n. refl)
     c.in_ok-stat_pages.ensures.asks c.tell_end.ensures.asks
-    (λ l m r k. walk_then_map_log geo c.args.desk.now.marks c.stat_pages.new.desk.marks l m (fresh_marks geo c.args.desk.now.marks c.requires.fresh.marks) r (subst (λ g. MapReads g m) shape k))
+    (λ l m r k. (walk_then_map_log geo c.args.desk.now.marks c.stat_pages.new.desk.marks l m (fresh_marks geo c.args.desk.now.marks c.requires.fresh.marks) r (subst (λ g. MapReads g m) shape k)).pages)
     (λ file pages ended is for V s.
     let w = pages is for V s in
     walks_ended g.O.Out.held g.E.Out.held file V s c.args.watch.now.sink c.args.all c.stat_pages.new.watch.sink c.tell_end.new.sink c.tell_end.result w.1

@@ -4,7 +4,7 @@ ghost use Rattle.std.specs.Prelude.{◌≡◌, ◌+◌, ◌-◌, ◌*◌, ◌≤
 ghost use Rattle.dbformat.specs.Lines.{tab, chain_text};
 ghost use Rattle.dbreport.specs.Columns.{counts_text, place_text};
 
-use crate::hex::append_hex;
+use crate::statistics::hex::append_hex;
 use arrayvec::ArrayVec;
 use dblines::append;
 use itoa::Buffer;

@@ -3,7 +3,7 @@ use Rattle.dbsource.proofs.Puts.{puts_then, puts_stop}
 use Rattle.dbreport.specs.Columns.{tree_end}
 use Rattle.dbreport.specs.TreeNames.{label_text}
 use Rattle.dbreport.proofs.StatPieces.{tree_pieces}
-use Rattle.dbreport.proofs.stat_lines.put_tree_row.Goals as goal
+use Rattle.dbreport.proofs.statistics.lines.put_tree_row.Goals as goal
 
 pub returns-in_err-put_name-clause-text : goal.returns-in_err-put_name-clause-text
 returns-in_err-put_name-clause-text g c rows e =

@@ -1,5 +1,5 @@
 use Rattle.dbreport.proofs.Hexes.{HasDigits}
-use Rattle.dbreport.proofs.hex.write_hex.Given as goal
+use Rattle.dbreport.proofs.statistics.hex.write_hex.Given as goal
 
 abbrev pub invariant-loop-rest : goal.invariant-loop-rest
 invariant-loop-rest l = HasDigits l.number l.rest l.at l.fn.text l.text

@@ -1,6 +1,6 @@
 use Rattle.dbreport.specs.Columns.{other_of}
 use Rattle.dbreport.proofs.StatPieces.{other_pieces}
-use Rattle.dbreport.proofs.stat_lines.other_line.Goals as goal
+use Rattle.dbreport.proofs.statistics.lines.other_line.Goals as goal
 
 pub returns : goal.returns
 returns c =

@@ -1,6 +1,6 @@
 use Rattle.std.proofs.Common.{arith}
 use Rattle.dbreport.proofs.Hexes.{digits_start, digits_more, digits_written, digits_before}
-use Rattle.dbreport.proofs.hex.write_hex.Goals as goal
+use Rattle.dbreport.proofs.statistics.hex.write_hex.Goals as goal
 
 pub loop-rest-init : goal.loop-rest-init
 loop-rest-init c = digits_start c.args.number c.args.text.now c.ranges.number.fits (omega arith)

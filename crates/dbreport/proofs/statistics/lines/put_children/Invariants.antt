@@ -2,7 +2,7 @@ use Rattle.std.proofs.Common.{drop}
 use Rattle.std.specs.List.{flat_map}
 use Rattle.dbbytes.proofs.NameLemmas.{HasPut}
 use Rattle.dbreport.specs.Columns.{child_text}
-use Rattle.dbreport.proofs.stat_lines.put_children.Given as goal
+use Rattle.dbreport.proofs.statistics.lines.put_children.Given as goal
 
 abbrev pub invariant-loop-child : goal.invariant-loop-child
 invariant-loop-child g l =

@@ -7,7 +7,7 @@ use Rattle.dbwalk.specs.Rows.{row_of}
 use Rattle.dbreport.specs.Columns.{child_text, page_end}
 use Rattle.dbreport.specs.TreeNames.{label_text}
 use Rattle.dbreport.proofs.StatPieces.{page_pieces}
-use Rattle.dbreport.proofs.stat_lines.put_page_row.Goals as goal
+use Rattle.dbreport.proofs.statistics.lines.put_page_row.Goals as goal
 
 pub returns-in_err-put_name : goal.returns-in_err-put_name
 returns-in_err-put_name g c =

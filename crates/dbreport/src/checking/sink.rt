@@ -93,8 +93,8 @@ impl<O: Out> TreeSink for CheckSink<'_, O> {
     }
 }
 
-// Puts the line that counts the faults that are not shown, if there are any.
-fn put_rest<O: Out>(out: &mut O, count: u64) -> Result<(), WriteFailed>
+/// Puts the line that counts the faults that are not shown, if there are any.
+pub fn put_rest<O: Out>(out: &mut O, count: u64) -> Result<(), WriteFailed>
     ensures { Puts result (O.held out.old) (O.held out.new) (more_text count) }
 {
     if count == 0 {

@@ -10,11 +10,13 @@ ghost use Rattle.dbformat.specs.Lines.{other_line, page_line, tree_line};
 ghost use Rattle.dbreport.specs.Sums.{sums_of};
 ghost use Rattle.dbreport.specs.TreeNames.{label_text};
 
-use crate::columns::{append_chain, append_counts, append_number, append_place, append_text};
-use crate::hex::append_hex;
-use crate::page_texts::{OtherPage, other_text, pagetype_text};
-use crate::sums::Sums;
-use crate::tree_name::Label;
+use crate::statistics::columns::{
+    append_chain, append_counts, append_number, append_place, append_text,
+};
+use crate::statistics::hex::append_hex;
+use crate::statistics::page_texts::{OtherPage, other_text, pagetype_text};
+use crate::statistics::sums::Sums;
+use crate::statistics::tree_name::Label;
 use arrayvec::ArrayVec;
 use dblines::append;
 use dbsource::{Out, WriteFailed};

@@ -6,8 +6,8 @@ ghost use Rattle.dbsource.specs.Outs.{Puts};
 ghost use Rattle.dbreport.specs.Columns.{other_of};
 ghost use Rattle.dbreport.specs.OtherMarks.{marked_line, marked_lines, marked_other};
 
-use crate::page_texts::OtherPage;
-use crate::stat_lines::put_other_row;
+use crate::statistics::lines::put_other_row;
+use crate::statistics::page_texts::OtherPage;
 use dbsource::{Fixed, Geometry, Out, WriteFailed};
 use dbwalk::{Mark, Marks};
 use std::alloc::Allocator;

@@ -1,7 +1,7 @@
 use Rattle.std.proofs.Common.{arith}
 use Rattle.std.proofs.lemmas.Result.{err_from_is_err_and}
 use Rattle.dbreport.proofs.OtherRows.{put_none, put_next, put_failed, put_each}
-use Rattle.dbreport.proofs.other_pages.put_others.Goals as goal
+use Rattle.dbreport.proofs.statistics.other_pages.put_others.Goals as goal
 
 pub loop-index-init : goal.loop-index-init
 loop-index-init g c = put_none (g.O.Out.held c.args.out.now) c.args.shape c.args.marks.now

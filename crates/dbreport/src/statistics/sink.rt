@@ -8,10 +8,10 @@ ghost use Rattle.dbreport.specs.StatSink.{PutsOthers, end_text, failures_of_each
 ghost use Rattle.dbreport.specs.Sums.{sums_of};
 ghost use Rattle.dbreport.specs.TreeNames.{label_text};
 
-use crate::other_pages::put_others;
-use crate::stat_lines::{put_page_row, put_tree_row};
-use crate::sums::Sums;
-use crate::tree_name::Label;
+use crate::statistics::lines::{put_page_row, put_tree_row};
+use crate::statistics::other_pages::put_others;
+use crate::statistics::sums::Sums;
+use crate::statistics::tree_name::Label;
 use dbformat::Verdict;
 use dblines::put_fault;
 use dbscan::TreeSink;

@@ -4,7 +4,7 @@ use Rattle.std.proofs.lemmas.Result.{err_from_is_err_and}
 use Rattle.dbbytes.proofs.NameLemmas.{put_more, put_stop}
 use Rattle.dbreport.specs.Columns.{child_text}
 use Rattle.dbreport.proofs.StatPieces.{next_child}
-use Rattle.dbreport.proofs.stat_lines.put_children.Goals as goal
+use Rattle.dbreport.proofs.statistics.lines.put_children.Goals as goal
 
 pub returns-in_err-put : goal.returns-in_err-put
 returns-in_err-put g c =
