@@ -1,0 +1,4 @@
+pub mod Pieces
+pub mod LostPages
+pub mod Gathered
+pub mod Reports
