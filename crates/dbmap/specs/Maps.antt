@@ -8,13 +8,11 @@ use Rattle.dbformat.specs.Sound.{Sound}
 use Rattle.dbformat.specs.Survey.{Survey, survey}
 use Rattle.dbformat.specs.declared.Verdict.{Verdict}
 use Rattle.dbformat.specs.declared.Verdict.TheVariants.{Clean}
-use Rattle.dbsource.specs.Errors.{is_read_failed, is_write_failed}
-use Rattle.dbsource.specs.Failures.{failures_after}
 use Rattle.dbsource.specs.Snapshots.{HasRead}
 use Rattle.dbsource.specs.declared.error.RunError.{RunError}
 use Rattle.dbsource.specs.declared.out.Out.{Ghosts as OutWords}
 use Rattle.dbsource.specs.declared.source.Source.{Ghosts as SourceWords}
-use Rattle.dbreport.specs.Runs.{AsksHeaderAlone, IsAnswerOf, IsUnwritten}
+use Rattle.dbreport.specs.Runs.{IsAnswerOf}
 
 -- What is answered is so of a file: it has a survey, and by any survey of it this is the verdict on its faults; `Clean` is what
 -- a sound file is answered, and no other; a refused file is answered its refusal or a failed read, and no other a refusal.
@@ -31,13 +29,3 @@ module _ {S O : Type 0} (source : SourceWords S) (out : OutWords O) where
   -- and of each such file the answer is so, and what was asked for is what a run over that file asks for.
   abbrev pub HasMap : Result Verdict RunError → S × O → S × O → Type 0
   HasMap r old new = HasRead source.step source.lengths IsSomeRunLog (λ file ranges. IsRunLog (geometry file) ranges × IsMapOf file r) (source.held old.0) (source.held new.0)
-
-  -- Who failed is what was answered: the source failed, once, exactly at a failed read, and the Out exactly at a failed write.
-  pub record FailsAsMapped (r : Result Verdict RunError) (old new : S × O) : Type 0 where
-    pub reads : (source.held new.0).failures ≡ failures_after is_read_failed r (source.held old.0).failures
-    pub writes : (out.held new.1).failures ≡ failures_after is_write_failed r (out.held old.1).failures
-
-  -- At a refusal nothing but the header was asked for, and nothing was done to the Out.
-  pub record IsLeftUnmapped (r : Result Verdict RunError) (old new : S × O) : Type 0 where
-    pub asked : AsksHeaderAlone source.step r (source.held old.0).trail (source.held new.0).trail
-    pub unwritten : IsUnwritten r old.1 new.1

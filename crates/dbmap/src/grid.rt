@@ -45,7 +45,7 @@ impl Grid {
 
     // How many squares stand in a row.
     fn columns(&self) -> u32
-        ensures { 1 ≤ result }
+        ensures { (1 ≤ result) × (result ≤ 128) }
     {
         match self.width {
             Width::Few => 32,
@@ -56,7 +56,7 @@ impl Grid {
 
     /// How many pixels a square takes with the room behind it.
     pub(crate) fn side(&self) -> u32
-        ensures { 7 ≤ result }
+        ensures { (7 ≤ result) × (result ≤ 28) }
     {
         match self.width {
             Width::Few => 28,
@@ -65,15 +65,32 @@ impl Grid {
         }
     }
 
+    /// How the square of a page goes on behind its place in the row.
+    pub(crate) fn page_tail(&self) -> &'static str {
+        match self.width {
+            Width::Few => "\" width=\"27\" height=\"27\"><title>page ",
+            Width::Some => "\" width=\"13\" height=\"13\"><title>page ",
+            Width::Many => "\" width=\"6\" height=\"6\"><title>page ",
+        }
+    }
+
     /// How many rows there are.
     pub(crate) fn rows(&self) -> u32 {
         self.cells.div_ceil(self.columns())
     }
 
-    /// The column and the row of a square, from 0.
-    pub(crate) fn place_of(&self, cell: u32) -> (u32, u32) {
-        let columns = self.columns();
-        (cell % columns, cell / columns)
+    /// The column of a square, from 0.
+    pub(crate) fn column_of(&self, cell: u32) -> u32
+        ensures { result ≤ 127 }
+    {
+        cell % self.columns()
+    }
+
+    /// The squares of a row, the first and the last.
+    pub(crate) fn cells_of_row(&self, row: u32) -> (u32, u32) {
+        let first = row.saturating_mul(self.columns());
+        let last = first.saturating_add(self.columns() - 1);
+        (first, last.min(self.cells.saturating_sub(1)))
     }
 
     /// The pages of a square, the first and the last.

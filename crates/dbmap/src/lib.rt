@@ -29,4 +29,4 @@ mod squares;
 mod tally;
 mod xml;
 
-pub use maps::map;
+pub use maps::{map, map_in};

@@ -1,6 +1,5 @@
 // A map: from the bytes of a database to its picture.
 ghost use Rattle.std.specs.Prelude.{◌≡◌, false, List, IfErr, IfOk, OnOk};
-ghost use Rattle.dbformat.specs.FixedPages.{IsInRange, geometry_of};
 ghost use Rattle.dbformat.specs.Log.{IsPageLog};
 ghost use Rattle.dbformat.specs.Reference.{Reference};
 ghost use Rattle.dbformat.specs.Report.{faults, verdict};
@@ -12,48 +11,32 @@ ghost use Rattle.dbsource.specs.Snapshots.{HasReadBehind};
 ghost use Rattle.dbsource.specs.Sources.{Asks};
 ghost use Rattle.dbsurvey.specs.Moves.{Moves};
 ghost use Rattle.dbwalk.specs.Telling.{IsReadWriteOrMemory, SinkAfter};
+ghost use Rattle.dbscan.specs.DeskSizes.{DeskFitsInMemory};
 ghost use Rattle.dbscan.specs.Desks.{IsFresh, shape_of};
 ghost use Rattle.dbscan.specs.RunItems.{run_items};
+ghost use Rattle.dbreport.specs.Runs.{FailsOnce, IsUntouched};
 ghost use Rattle.dbmap.specs.MapSink.{Notes, quiet};
-ghost use Rattle.dbmap.specs.Maps.{FailsAsMapped, HasMap, IsLeftUnmapped};
+ghost use Rattle.dbmap.specs.Maps.{HasMap};
 ghost use Rattle.dbmap.specs.Puts.{PutsSome};
 
 use crate::legend::Legend;
 use crate::map_sink::MapSink;
 use crate::page_set::PageSet;
 use crate::picture::{Heading, put_picture};
+use crate::shown::Shown;
 use crate::squares::Squares;
 use crate::tally::Tally;
 use dbformat::Verdict;
 use dbowner::{PageTrees, TreeNames};
 use dbscan::{Desk, SchemaWatch, tell_end, tell_header, walk_starts};
 use dbsource::{HeadedSource, Header, Out, RunError, Source, WriteFailed};
-use std::alloc::{AllocError, Allocator, Global};
+use std::alloc::{Allocator, Global};
 
-// What a map keeps of a file: what a check does, and the tree of each page, the pages of each tree, and the pages with a fault.
+// Whose the pages are: the tree of each page, and the pages of each tree.
 #[derive(Drop)]
-struct Room<A: Allocator = Global> {
-    desk: Desk<A>,
+struct Owners<A: Allocator = Global> {
     trees: PageTrees<A>,
     tally: Tally<A>,
-    faulty: PageSet<A>,
-}
-
-// Room for the file of this header. All grows here but the list of roots.
-fn make_room<A: Allocator + Copy>(alloc: A, header: Header) -> Result<Room<A>, AllocError>
-    ensures header { IfOk result (λ room. room.desk.header ≡ header) }
-    ensures fresh { IfOk result (λ room. IsFresh room.desk) }
-    ensures range { IsInRange (geometry_of header.bytes header.file_len) }
-{
-    let mut desk = Desk::new_in(alloc, header)?;
-    desk.renew();
-    let geometry = desk.geometry();
-    Ok(Room {
-        desk,
-        trees: PageTrees::new_in(alloc, &geometry)?,
-        tally: Tally::new_in(alloc)?,
-        faulty: PageSet::new_in(alloc, geometry.pages)?,
-    })
 }
 
 // Tells all that a run tells.
@@ -79,18 +62,20 @@ fn tell_map<A: Allocator, S: Source>(
 fn put_map<A: Allocator, O: Out>(
     name: &str,
     desk: &Desk<A>,
-    trees: PageTrees<A>,
-    tally: &mut Tally<A>,
+    owners: Owners<A>,
     sink: &MapSink<A>,
     out: &mut O,
 ) -> Result<(), WriteFailed>
     ensures { PutsSome result (O.held out.old) (O.held out.new) }
 {
-    let mut trees = trees;
+    let Owners {
+        mut trees,
+        mut tally,
+    } = owners;
     trees.enter_roots(desk.marks(), desk.roots());
     tally.count(desk.marks(), &mut trees);
     let largest = tally.largest();
-    let legend = Legend::new(tally, largest.as_slice(), sink.faulty.count());
+    let legend = Legend::new(&tally, largest.as_slice(), sink.faulty.count());
     let heading = Heading {
         name,
         geometry: desk.geometry(),
@@ -107,6 +92,8 @@ fn put_map<A: Allocator, O: Out>(
         trees,
         faulty: &sink.faulty,
         largest,
+        name: Shown::new(),
+        named: None,
     };
     put_picture(out, &heading, &mut squares, &legend)
 }
@@ -114,47 +101,72 @@ fn put_map<A: Allocator, O: Out>(
 // Puts the picture of a file, by its header, and answers what was found.
 fn map_file<A: Allocator, S: Source, O: Out>(
     name: &str,
+    desk: &mut Desk<A>,
+    owners: Owners<A>,
+    faulty: PageSet<A>,
     source: &mut S,
-    room: Room<A>,
     out: &mut O,
 ) -> Result<Verdict, RunError>
-    requires fresh { IsFresh room.desk }
-    ensures asks { Asks S.step (IsPageLog (shape_of room.desk)) (λ file. IsHeaderOf room.desk.header file
+    requires fresh { IsFresh desk.old }
+    ensures asks { Asks S.step (IsPageLog (shape_of desk.old)) (λ file. IsHeaderOf desk.old.header file
         → (V : List Reference) → Survey file V → IfOk result (λ v. v ≡ verdict (faults file V)))
         is_read_failed result (S.held source.old) (S.held source.new) }
     ensures writes { (O.held out.new).failures ≡ failures_after is_write_failed result (O.held out.old).failures }
     ensures only { IfErr result IsReadWriteOrMemory }
 {
-    let Room {
-        mut desk,
-        trees,
-        mut tally,
-        faulty,
-    } = room;
     let mut watch = SchemaWatch::new(MapSink::new(faulty));
-    tell_map(&mut desk, source, &mut watch)?;
-    put_map(name, &desk, trees, &mut tally, &watch.sink, out)?;
+    tell_map(desk, source, &mut watch)?;
+    put_map(name, desk, owners, &watch.sink, out)?;
     Ok(watch.sink.verdict())
 }
 
-// The same of a source of which the header was read.
-fn map_behind<A: Allocator, S: Source, O: Out>(
+// The same of the file whose header is on the desk.
+fn map_on<A: Allocator, S: Source, O: Out>(
     name: &str,
+    desk: &mut Desk<A>,
+    owners: Owners<A>,
+    faulty: PageSet<A>,
     source: &mut S,
-    room: Room<A>,
     out: &mut O,
 ) -> Result<Verdict, RunError>
-    requires fresh { IsFresh room.desk }
-    ensures read { HasReadBehind S.step (IsPageLog (shape_of room.desk)) room.desk.header
+    ensures read { HasReadBehind S.step (IsPageLog (shape_of desk.old)) desk.old.header
         (λ file. (V : List Reference) → Survey file V → IfOk result (λ v. v ≡ verdict (faults file V)))
         (S.held source.old) (S.held source.new) }
     ensures reads { (S.held source.new).failures ≡ failures_after is_read_failed result (S.held source.old).failures }
     ensures writes { (O.held out.new).failures ≡ failures_after is_write_failed result (O.held out.old).failures }
     ensures only { IfErr result IsReadWriteOrMemory }
 {
-    let header = *room.desk.header();
+    desk.renew();
+    let header = *desk.header();
     let mut headed = HeadedSource::new(&header, source);
-    map_file(name, &mut headed, room, out)
+    map_file(name, desk, owners, faulty, &mut headed, out)
+}
+
+/// Does what [`map`] does, in memory from any allocator: the clauses are the same.
+///
+/// # Errors
+///
+/// As of [`map`].
+pub fn map_in<A: Allocator + Copy, S: Source, O: Out>(
+    alloc: A,
+    name: &str,
+    source: &mut S,
+    out: &mut O,
+) -> Result<Verdict, RunError>
+    // What is kept of the file is no larger than memory, as is so unless the allocator itself is about that large.
+    requires fits { DeskFitsInMemory A.row A.Allocator }
+    ensures read { HasMap S.Source O.Out result (source.old, out.old) (source.new, out.new) }
+    ensures failed { FailsOnce S.Source O.Out result (source.old, out.old) (source.new, out.new) }
+    ensures refused { IsUntouched S.Source O.Out result (source.old, out.old) (source.new, out.new) }
+{
+    let header = Header::read(source)?;
+    let geometry = header.geometry();
+    let mut desk = Desk::new_in(alloc, header)?;
+    let trees = PageTrees::new_in(alloc, &geometry)?;
+    let tally = Tally::new_in(alloc)?;
+    let faulty = PageSet::new_in(alloc, geometry.pages)?;
+    let owners = Owners { trees, tally };
+    map_on(name, &mut desk, owners, faulty, source, out)
 }
 
 /// Reads the database that `source` gives, and puts a picture of its pages to `out`, an SVG with `name` as the file's name. It
@@ -177,10 +189,8 @@ pub fn map<S: Source, O: Out>(
     // Whatever the source answers: there is a file, of the length that it answered, that agrees with every byte that was used,
     // and of each such file the verdict is that on its faults.
     ensures read { HasMap S.Source O.Out result (source.old, out.old) (source.new, out.new) }
-    ensures failed { FailsAsMapped S.Source O.Out result (source.old, out.old) (source.new, out.new) }
-    ensures refused { IsLeftUnmapped S.Source O.Out result (source.old, out.old) (source.new, out.new) }
+    ensures failed { FailsOnce S.Source O.Out result (source.old, out.old) (source.new, out.new) }
+    ensures refused { IsUntouched S.Source O.Out result (source.old, out.old) (source.new, out.new) }
 {
-    let header = Header::read(source)?;
-    let room = make_room(alloc, header)?;
-    map_behind(name, source, room, out)
+    map_in(alloc, name, source, out)
 }

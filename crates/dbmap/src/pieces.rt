@@ -2,6 +2,7 @@
 ghost use Rattle.dbmap.specs.Puts.{PutsSome};
 
 use crate::shown::{Shown, put_shown};
+use arrayvec::ArrayVec;
 use dbsource::{Out, WriteFailed};
 use itoa::Buffer;
 
@@ -18,36 +19,72 @@ pub(crate) enum Piece<'a> {
     Shown(&'a Shown, u32),
 }
 
-// Puts a number in decimal.
-fn put_number<O: Out>(out: &mut O, number: u64) -> Result<(), WriteFailed>
+// How many bytes are put at a time.
+const ROOM: usize = 192;
+
+// Bytes that wait to be put together.
+type Waiting = ArrayVec<u8, ROOM>;
+
+// Puts what waits.
+fn hand_on<O: Out>(out: &mut O, waiting: &mut Waiting) -> Result<(), WriteFailed>
+    ensures { PutsSome result (O.held out.old) (O.held out.new) }
+{
+    out.put(waiting.as_slice())?;
+    waiting.clear();
+    Ok(())
+}
+
+// Adds bytes to those that wait, which are put where there is no room for more.
+fn add<O: Out>(out: &mut O, waiting: &mut Waiting, bytes: &[u8]) -> Result<(), WriteFailed>
+    ensures { PutsSome result (O.held out.old) (O.held out.new) }
+{
+    if waiting.try_extend_from_slice(bytes).is_ok() {
+        return Ok(());
+    }
+    hand_on(out, waiting)?;
+    out.put(bytes)
+}
+
+// Adds a number in decimal.
+fn add_number<O: Out>(out: &mut O, waiting: &mut Waiting, number: u64) -> Result<(), WriteFailed>
     ensures { PutsSome result (O.held out.old) (O.held out.new) }
 {
     let mut buffer = Buffer::new();
-    out.put(buffer.format(number).as_bytes())
+    add(out, waiting, buffer.format(number).as_bytes())
 }
 
-// Puts a number of tenths.
-fn put_tenths<O: Out>(out: &mut O, tenths: u64) -> Result<(), WriteFailed>
+// Adds a number of tenths.
+fn add_tenths<O: Out>(out: &mut O, waiting: &mut Waiting, tenths: u64) -> Result<(), WriteFailed>
     ensures { PutsSome result (O.held out.old) (O.held out.new) }
 {
-    put_number(out, tenths / 10)?;
-    out.put(b".")?;
-    put_number(out, tenths % 10)
+    add_number(out, waiting, tenths / 10)?;
+    add(out, waiting, b".")?;
+    add_number(out, waiting, tenths % 10)
 }
 
-// Puts a piece.
-fn put_piece<O: Out>(out: &mut O, piece: &Piece<'_>) -> Result<(), WriteFailed>
+// Adds a piece.
+fn add_piece<O: Out>(
+    out: &mut O,
+    waiting: &mut Waiting,
+    piece: &Piece<'_>,
+) -> Result<(), WriteFailed>
     ensures { PutsSome result (O.held out.old) (O.held out.new) }
 {
     match piece {
-        Piece::Markup(text) => out.put(text.as_bytes()),
-        Piece::Number(number) => put_number(out, *number),
-        Piece::Tenths(tenths) => put_tenths(out, *tenths),
-        Piece::Shown(shown, width) => put_shown(out, shown, *width),
+        Piece::Markup(text) => add(out, waiting, text.as_bytes()),
+        Piece::Number(number) => add_number(out, waiting, *number),
+        Piece::Tenths(tenths) => add_tenths(out, waiting, *tenths),
+        Piece::Shown(shown, width) => match shown.plain(*width) {
+            Some(text) => add(out, waiting, text),
+            None => {
+                hand_on(out, waiting)?;
+                put_shown(out, shown, *width)
+            }
+        },
     }
 }
 
-/// Puts some pieces, one after another.
+/// Puts some pieces, one after another, many at a time.
 ///
 /// # Errors
 ///
@@ -55,8 +92,9 @@ fn put_piece<O: Out>(out: &mut O, piece: &Piece<'_>) -> Result<(), WriteFailed>
 pub(crate) fn put_all<O: Out>(out: &mut O, pieces: &[Piece<'_>]) -> Result<(), WriteFailed>
     ensures { PutsSome result (O.held out.old) (O.held out.new) }
 {
+    let mut waiting = ArrayVec::new();
     for piece in pieces {
-        put_piece(out, piece)?;
+        add_piece(out, &mut waiting, piece)?;
     }
-    Ok(())
+    hand_on(out, &mut waiting)
 }

@@ -1,9 +1,9 @@
 // Texts of the file and of the command line as the picture shows them.
-ghost use Rattle.std.specs.Prelude.{◌≡◌, ◌≤◌, length};
+ghost use Rattle.std.specs.Prelude.{◌≡◌, ◌≤◌, length, IfSome};
 ghost use Rattle.dbsource.specs.Outs.{Puts};
-ghost use Rattle.dbmap.specs.Xml.{PutsEscaped};
+ghost use Rattle.dbmap.specs.Xml.{escaped, PutsEscaped};
 
-use crate::xml::put_escaped;
+use crate::xml::{is_plain, put_escaped};
 use arrayvec::ArrayVec;
 use dbbytes::name_text;
 use dbformat::Encoding;
@@ -22,9 +22,22 @@ pub(crate) struct Shown {
 }
 
 impl Shown {
-    fn new() -> Shown {
+    /// Nothing.
+    pub(crate) fn new() -> Shown {
         Shown {
             bytes: ArrayVec::new(),
+        }
+    }
+
+    /// The text as it is, where it fits in so many columns and nothing of it is markup.
+    pub(crate) fn plain(&self, width: u32) -> Option<&[u8]>
+        ensures { IfSome result (λ text. escaped text.now ≡ text.now) }
+    {
+        let text = self.bytes.as_slice();
+        if fitting(text, width) == text.len() && is_plain(text) {
+            Some(text)
+        } else {
+            None
         }
     }
 

@@ -7,7 +7,7 @@ use crate::grid::Grid;
 use crate::page_set::PageSet;
 use crate::picture::{LEFT, TOP};
 use crate::pieces::{Piece, put_all};
-use crate::shown::shown_tree;
+use crate::shown::{Shown, shown_tree};
 use crate::tally::{COLOURED, Tree, rank_of};
 use arrayvec::ArrayVec;
 use dbowner::{PageTrees, Place, TreeNames, place_front, place_of, place_tree};
@@ -27,15 +27,20 @@ pub(crate) struct Squares<'a, A: Allocator> {
     pub(crate) trees: PageTrees<A>,
     pub(crate) faulty: &'a PageSet<A>,
     pub(crate) largest: ArrayVec<Tree, COLOURED>,
+    // The name of the tree of this start, or nothing.
+    pub(crate) name: Shown,
+    pub(crate) named: Option<u32>,
 }
 
-/// Where a square stands, and what it is filled with.
+// Whose a square is, and whether it has the shade of overflow pages.
+type Shade = (Owner, bool);
+
+/// Where a square stands in its row, and how large it is.
 #[derive(Clone, Copy)]
 struct Square {
-    x: u64,
-    y: u64,
+    x: u32,
+    y: u32,
     side: u32,
-    fill: &'static str,
 }
 
 impl<'a, A: Allocator> Squares<'a, A> {
@@ -44,27 +49,25 @@ impl<'a, A: Allocator> Squares<'a, A> {
         &self.names
     }
 
-    // Whose a page is, and whether it is an overflow page.
-    fn owner(&mut self, page: u32) -> (Owner, bool) {
-        let place = place_of(self.marks, page);
-        let owner = match place {
+    // Whose a page is that is this and belongs to this start.
+    fn owner(&self, place: Place, start: Option<u32>) -> Owner {
+        match place {
             Place::Fixed => Owner::Fixed,
             Place::Nowhere => Owner::Nobody,
             Place::Trunk | Place::FreeLeaf => Owner::Freelist,
             Place::Root | Place::ChildOf(_) | Place::OverflowOf(_) | Place::OverflowAfter(_) => {
-                let start = self.trees.start_of(self.marks, page);
                 Owner::Tree(rank_of(self.largest.as_slice(), start))
             }
-        };
-        (owner, is_overflow(place))
+        }
     }
 
     // Who owns most of some pages.
     fn most(&mut self, first: u32, last: u32) -> Most {
         let mut cell = Cell::new();
         for page in first..=last {
-            let (owner, is_overflow) = self.owner(page);
-            cell.add(owner, is_overflow);
+            let place = place_of(self.marks, page);
+            let start = self.trees.start_of(self.marks, page);
+            cell.add(self.owner(place, start), is_overflow(place));
         }
         cell.most()
     }
@@ -98,47 +101,86 @@ impl<'a, A: Allocator> Squares<'a, A> {
     ) -> Result<(), WriteFailed>
         ensures { PutsSome result (O.held out.old) (O.held out.new) }
     {
-        for cell in 0..grid.cells {
-            self.put_square(out, grid, cell)?;
+        for row in 0..grid.rows() {
+            self.put_row(out, grid, row)?;
         }
         Ok(())
     }
 
-    // Puts a square.
-    fn put_square<O: Out>(&mut self, out: &mut O, grid: &Grid, cell: u32) -> Result<(), WriteFailed>
+    // Puts the squares of a row. Those of one fill that stand side by side have it from their group.
+    fn put_row<O: Out>(&mut self, out: &mut O, grid: &Grid, row: u32) -> Result<(), WriteFailed>
         ensures { PutsSome result (O.held out.old) (O.held out.new) }
     {
-        let (first, last) = grid.pages_of(cell);
-        let most = self.most(first, last);
-        let square = square_at(grid, cell, fill(most.owner, most.is_overflow()));
-        let is_faulty = self.faulty.any(first, last);
-        put_front(out, &square, is_faulty)?;
-        if grid.run == 1 {
-            self.put_page(out, first)?;
-        } else {
-            self.put_run(out, first, last, &most)?;
-        }
-        put_back(out, &square, is_faulty)
-    }
-
-    // Puts what a page is.
-    fn put_page<O: Out>(&mut self, out: &mut O, page: u32) -> Result<(), WriteFailed>
-        ensures { PutsSome result (O.held out.old) (O.held out.new) }
-    {
-        let place = place_of(self.marks, page);
-        let front = place_front(self.header.geometry().fixed(page), place);
-        let start = self.trees.start_of(self.marks, page);
+        let top = TOP + u64::from(row) * u64::from(grid.side());
         put_all(
             out,
             &[
-                Piece::Markup("page "),
-                Piece::Number(u64::from(page)),
-                Piece::Markup(": "),
-                Piece::Markup(front),
+                Piece::Markup("<g transform=\"translate("),
+                Piece::Number(LEFT),
+                Piece::Markup(","),
+                Piece::Number(top),
+                Piece::Markup(")\">\n"),
             ],
         )?;
-        self.put_tree(out, place_tree(place, start))?;
-        put_referrer(out, place)
+        let mut group = None;
+        let (first, last) = grid.cells_of_row(row);
+        for cell in first..=last {
+            group = Some(self.put_square(out, grid, cell, group)?);
+        }
+        out.put(b"</g>\n</g>\n")
+    }
+
+    // Puts a square behind those of a group, and answers what its own is filled for.
+    fn put_square<O: Out>(
+        &mut self,
+        out: &mut O,
+        grid: &Grid,
+        cell: u32,
+        group: Option<Shade>,
+    ) -> Result<Shade, WriteFailed>
+        ensures { PutsSome result (O.held out.old) (O.held out.new) }
+    {
+        let square = square_at(grid, cell);
+        let (first, last) = grid.pages_of(cell);
+        if grid.run == 1 {
+            return self.put_page(out, grid, &square, first, group);
+        }
+        let most = self.most(first, last);
+        let shade = (most.owner, most.is_overflow());
+        put_group(out, group, shade)?;
+        let is_faulty = self.faulty.any(first, last);
+        put_front(out, &square, is_faulty)?;
+        self.put_run(out, first, last, &most)?;
+        put_back(out, &square, is_faulty)?;
+        Ok(shade)
+    }
+
+    // Puts the square of a page.
+    fn put_page<O: Out>(
+        &mut self,
+        out: &mut O,
+        grid: &Grid,
+        square: &Square,
+        page: u32,
+        group: Option<Shade>,
+    ) -> Result<Shade, WriteFailed>
+        ensures { PutsSome result (O.held out.old) (O.held out.new) }
+    {
+        let place = place_of(self.marks, page);
+        let start = self.trees.start_of(self.marks, page);
+        let shade = (self.owner(place, start), is_overflow(place));
+        put_group(out, group, shade)?;
+        self.name(place_tree(place, start));
+        let fixed = self.header.geometry().fixed(page);
+        let words = page_words(page, place_front(fixed, place), &self.name, place);
+        if self.faulty.has(page) {
+            out.put(b"<g><title>page ")?;
+            put_all(out, &words)?;
+            put_back(out, square, true)?;
+        } else {
+            put_plain(out, square.x, grid.page_tail(), &words)?;
+        }
+        Ok(shade)
     }
 
     // Puts whose most of some pages are.
@@ -163,7 +205,8 @@ impl<'a, A: Allocator> Squares<'a, A> {
                 Piece::Markup(owner_words(most.owner)),
             ],
         )?;
-        self.put_tree(out, self.start_of(most.owner))
+        self.name(self.start_of(most.owner));
+        put_all(out, &[Piece::Shown(&self.name, NAME_WIDTH)])
     }
 
     // The start of one of the largest trees.
@@ -174,30 +217,49 @@ impl<'a, A: Allocator> Squares<'a, A> {
         }
     }
 
-    // Puts the tree of a start, if there is one.
-    fn put_tree<O: Out>(&self, out: &mut O, start: Option<u32>) -> Result<(), WriteFailed>
-        ensures { PutsSome result (O.held out.old) (O.held out.new) }
-    {
-        match start {
-            Some(start) => {
-                let tree = shown_tree(&self.names, start);
-                put_all(out, &[Piece::Shown(&tree, NAME_WIDTH)])
-            }
-            None => Ok(()),
+    // Makes the name that of the tree of a start, or nothing. Pages that follow one another are mostly of one tree.
+    fn name(&mut self, start: Option<u32>) {
+        if start == self.named {
+            return;
         }
+        self.name = match start {
+            Some(start) => shown_tree(&self.names, start),
+            None => Shown::new(),
+        };
+        self.named = start;
     }
 }
 
-// The square of a grid, with its fill.
-fn square_at(grid: &Grid, cell: u32, fill: &'static str) -> Square {
-    let (column, row) = grid.place_of(cell);
+// A square of a grid.
+fn square_at(grid: &Grid, cell: u32) -> Square {
     let side = grid.side();
     Square {
-        x: LEFT + u64::from(column) * u64::from(side),
-        y: TOP + u64::from(row) * u64::from(side),
+        x: grid.column_of(cell) * side,
+        y: 0,
         side: side - 1,
-        fill,
     }
+}
+
+// What a page is, by its number: what stands before its tree, the tree, and the page that it is reached from, where it is no root.
+fn page_words<'a>(page: u32, front: &'static str, tree: &'a Shown, place: Place) -> [Piece<'a>; 6] {
+    let (words, from) = match place {
+        Place::ChildOf(from) => (", child of page ", from),
+        Place::OverflowOf(from) => (", overflow page of page ", from),
+        Place::OverflowAfter(from) => (", overflow page after page ", from),
+        _ => ("", 0),
+    };
+    [
+        Piece::Number(u64::from(page)),
+        Piece::Markup(": "),
+        Piece::Markup(front),
+        Piece::Shown(tree, NAME_WIDTH),
+        Piece::Markup(words),
+        if from == 0 {
+            Piece::Markup("")
+        } else {
+            Piece::Number(u64::from(from))
+        },
+    ]
 }
 
 // What stands behind a number of pages of an owner: for one of the largest trees, all but its name.
@@ -228,17 +290,50 @@ fn put_row_name<O: Out>(out: &mut O, grid: &Grid, row: u32) -> Result<(), WriteF
     )
 }
 
-// Puts the page that a page is reached from, where it is no root.
-fn put_referrer<O: Out>(out: &mut O, place: Place) -> Result<(), WriteFailed>
+// Ends a group, and begins one of another fill, where a square has another.
+fn put_group<O: Out>(out: &mut O, group: Option<Shade>, shade: Shade) -> Result<(), WriteFailed>
     ensures { PutsSome result (O.held out.old) (O.held out.new) }
 {
-    let (words, from) = match place {
-        Place::ChildOf(from) => (", child of page ", from),
-        Place::OverflowOf(from) => (", overflow page of page ", from),
-        Place::OverflowAfter(from) => (", overflow page after page ", from),
-        _ => return Ok(()),
-    };
-    put_all(out, &[Piece::Markup(words), Piece::Number(u64::from(from))])
+    if group == Some(shade) {
+        return Ok(());
+    }
+    let end = if group.is_none() { "" } else { "</g>\n" };
+    let (owner, is_overflow) = shade;
+    put_all(
+        out,
+        &[
+            Piece::Markup(end),
+            Piece::Markup("<g fill=\""),
+            Piece::Markup(fill(owner, is_overflow)),
+            Piece::Markup("\">\n"),
+        ],
+    )
+}
+
+// Puts the square of a page without a fault.
+fn put_plain<O: Out>(
+    out: &mut O,
+    x: u32,
+    tail: &'static str,
+    words: &[Piece<'_>; 6],
+) -> Result<(), WriteFailed>
+    ensures { PutsSome result (O.held out.old) (O.held out.new) }
+{
+    put_all(
+        out,
+        &[
+            Piece::Markup("<rect x=\""),
+            Piece::Number(u64::from(x)),
+            Piece::Markup(tail),
+            words[0],
+            words[1],
+            words[2],
+            words[3],
+            words[4],
+            words[5],
+            Piece::Markup("</title></rect>\n"),
+        ],
+    )
 }
 
 // Puts a rectangle up to its end.
@@ -249,21 +344,19 @@ fn put_rectangle<O: Out>(out: &mut O, square: &Square) -> Result<(), WriteFailed
         out,
         &[
             Piece::Markup("<rect x=\""),
-            Piece::Number(square.x),
+            Piece::Number(u64::from(square.x)),
             Piece::Markup("\" y=\""),
-            Piece::Number(square.y),
+            Piece::Number(u64::from(square.y)),
             Piece::Markup("\" width=\""),
             Piece::Number(u64::from(square.side)),
             Piece::Markup("\" height=\""),
             Piece::Number(u64::from(square.side)),
-            Piece::Markup("\" fill=\""),
-            Piece::Markup(square.fill),
             Piece::Markup("\""),
         ],
     )
 }
 
-// Puts what stands before the words on a square: the square itself, or the frame of one with a fault.
+// Puts what stands before the words on a square: the square itself, or the begin of one with a fault.
 fn put_front<O: Out>(out: &mut O, square: &Square, is_faulty: bool) -> Result<(), WriteFailed>
     ensures { PutsSome result (O.held out.old) (O.held out.new) }
 {
@@ -282,29 +375,18 @@ fn put_back<O: Out>(out: &mut O, square: &Square, is_faulty: bool) -> Result<(),
         return out.put(b"</title></rect>\n");
     }
     out.put(b", with a fault</title>")?;
-    put_rectangle(out, &frame(square))?;
-    out.put(b"/>")?;
+    put_rectangle(out, square)?;
+    out.put(b" fill=\"#DD0000\"/>")?;
     put_rectangle(out, &within(square))?;
     out.put(b" stroke=\"#FFFFFF\"/></g>\n")
-}
-
-// The frame of a square.
-fn frame(square: &Square) -> Square {
-    Square {
-        fill: "#DD0000",
-        x: square.x,
-        y: square.y,
-        side: square.side,
-    }
 }
 
 // What is seen of a square within its frame.
 fn within(square: &Square) -> Square {
     let inset = if square.side > 8 { 3 } else { 2 };
     Square {
-        x: square.x.saturating_add(u64::from(inset)),
-        y: square.y.saturating_add(u64::from(inset)),
+        x: square.x.saturating_add(inset),
+        y: square.y.saturating_add(inset),
         side: square.side.saturating_sub(2 * inset),
-        fill: square.fill,
     }
 }

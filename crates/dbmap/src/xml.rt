@@ -1,5 +1,5 @@
 // Text in the picture, with what is markup in XML escaped.
-ghost use Rattle.std.specs.Prelude.{◌≡◌};
+ghost use Rattle.std.specs.Prelude.{◌≡◌, true, false, [], ◌∷◌};
 ghost use Rattle.dbsource.specs.Outs.{Puts};
 ghost use Rattle.dbmap.specs.Xml.{byte_text, escaped};
 
@@ -19,6 +19,25 @@ fn put_byte<O: Out>(out: &mut O, byte: u8) -> Result<(), WriteFailed>
     }
 }
 
+// Whether a byte would be markup.
+fn is_markup(byte: u8) -> bool
+    ensures { result ≡ false → byte_text byte ≡ byte ∷ [] }
+{
+    matches!(byte, b'&' | b'<' | b'>' | b'"' | b'\'')
+}
+
+/// Whether nothing of a text is markup.
+pub(crate) fn is_plain(text: &[u8]) -> bool
+    ensures { result ≡ true → escaped text.now ≡ text.now }
+{
+    for byte in text {
+        if is_markup(*byte) {
+            return false;
+        }
+    }
+    true
+}
+
 /// Puts a text, escaped.
 ///
 /// # Errors
@@ -27,6 +46,9 @@ fn put_byte<O: Out>(out: &mut O, byte: u8) -> Result<(), WriteFailed>
 pub(crate) fn put_escaped<O: Out>(out: &mut O, text: &[u8]) -> Result<(), WriteFailed>
     ensures { Puts result (O.held out.old) (O.held out.new) (escaped text.now) }
 {
+    if is_plain(text) {
+        return out.put(text);
+    }
     for byte in text {
         put_byte(out, *byte)?;
     }

@@ -1,5 +1,5 @@
 use Rattle.std.proofs.Common.{◌≡◌}
 use Rattle.dbmap.proofs.squares.Squares.put_squares.Given as goal
 
-abbrev pub invariant-loop-cell : goal.invariant-loop-cell
-invariant-loop-cell g l = (g.O.Out.held l.out).failures ≡ (g.O.Out.held l.initial.out).failures
+abbrev pub invariant-loop-row : goal.invariant-loop-row
+invariant-loop-row g l = (g.O.Out.held l.out).failures ≡ (g.O.Out.held l.initial.out).failures
