@@ -4,14 +4,15 @@ _dbck() {
     local cur=${COMP_WORDS[COMP_CWORD]} prev=${COMP_WORDS[COMP_CWORD - 1]} command=${COMP_WORDS[1]} words
     COMPREPLY=()
     if [ "$COMP_CWORD" -eq 1 ]; then
-        words='check stat help --help --version'
+        words='check explain map stat help --help --version'
     elif [ "$prev" = --limit ]; then
         return
     else
         case $command in
-            check) words='--limit --no-progress --help' ;;
+            check | explain) words='--limit --no-progress --help' ;;
+            map) words='--no-progress --help' ;;
             stat) words='--aggregate --all --no-progress --help' ;;
-            help) words='check stat' ;;
+            help) words='check explain map stat' ;;
             *) return ;;
         esac
     fi

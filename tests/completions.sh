@@ -22,7 +22,7 @@ compare() {
     fi
 }
 
-for command in check stat; do
+for command in check explain map stat; do
     "$dbck" "$command" --help | long > "$work/help"
     # shellcheck disable=SC1091
     words=$(
@@ -41,7 +41,7 @@ done
 "$dbck" --help | sed -n '/^Commands:/,/^$/s/^  \([a-z]*\) .*/\1/p' | LC_ALL=C sort > "$work/help"
 for file in dbck.bash _dbck dbck.fish; do
     : > "$work/words"
-    for word in check stat help; do
+    for word in check explain map stat help; do
         grep -q -- "$word" "$file" && echo "$word" >> "$work/words"
     done
     LC_ALL=C sort -o "$work/words" "$work/words"

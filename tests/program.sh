@@ -73,8 +73,32 @@ expect 1 $'*\n-\t-\t8\tunowned\t0\t0\t0\t0\t3584\t512\n' "$twice$unused" stat --
 expect 1 $'sqlite_schema\t-\t*' "$twice$unused" stat --aggregate "$data/two-owners.db"
 expect 1 $'*\n-\t-\t8\tunowned\t0\t0\t0\t0\t3584\t512\n' "$twice$unused" stat --aggregate --all "$data/two-owners.db"
 
+# The same faults, explained.
+note='table note'
+twice_below="    page 2 at byte 512: root of $note"$'\n'"    page 7 at byte 3072: in $note, child of page 2"$'\n'
+unused_below=$'    page 8 at byte 3584: in no tree, overflow chain or freelist\n    looks like a leaf of a table with 6 cells\n'
+summary=$'2 faults\n    1 R03 page is already in use\n    1 N01 page is not in use\n    1 in table note\n    1 in the whole file\n'
+expect 0 $'ok\n' '' explain "$data/whole.db"
+expect 1 "$twice$twice_below$unused$unused_below$summary" '' explain "$data/two-owners.db"
+expect 1 "$twice$twice_below"$'more 1\n'"$summary" '' explain --limit 1 "$data/two-owners.db"
+expect 1 $'H10 page 1 item 0 value 3: freelist count differs from the header\n    header: *\n1 fault\n    1 H10 freelist count differs from the header\n    1 in the whole file\n' '' \
+    explain "$data/view-last.db"
+
+# Pictures, with the name of the file and no line of a fault.
+picture='<svg xmlns=*<title>Pages of'
+expect 0 "$picture"$' whole.db</title>\n*, no fault; *</svg>\n' '' map "$data/whole.db"
+expect 1 "$picture"$' two-owners.db</title>\n*, 2 faults; *<title>page 8: in no tree, *, with a fault</title>*</svg>\n' '' map "$data/two-owners.db"
+cp "$data/empty.db" "$work/<b>&.db"
+expect 0 "$picture"$' &lt;b&gt;&amp;.db</title>\n*</svg>\n' '' map "$work/<b>&.db"
+
+if command -v xmllint python3 > "$work/out"; then
+    count 'pictures are XML' tests/pictures.sh "$dbck" "$data"/*.db "$work/<b>&.db" tests/sqlite/*.db
+else
+    echo 'no pictures to look at: there is no xmllint, and no python3'
+fi
+
 # 0: help and the version stand on standard output alone.
-for words in --help -h help 'help check' 'help stat' 'check --help' 'stat --help'; do
+for words in --help -h help 'help check' 'help explain' 'help map' 'help stat' 'check --help' 'explain --help' 'map --help' 'stat --help'; do
     # shellcheck disable=SC2086
     expect 0 $'*\nUsage: dbck *' '' $words
 done
@@ -91,8 +115,9 @@ for words in --help --version help 'check --help'; do
 done
 
 # 2: nothing stands on standard output where the line is refused.
-for words in '' check stat 'repair x' 'check x y' 'check --limit 0 x' 'check --limit 1000001 x' 'check --limit x' \
-    'check --limit 1 --limit 1 x' 'check --all x' 'stat --limit 1 x' 'stat --all --all x' 'stat --all=true x' --limit; do
+for words in '' check explain map stat 'repair x' 'check x y' 'check --limit 0 x' 'check --limit 1000001 x' 'check --limit x' \
+    'check --limit 1 --limit 1 x' 'check --all x' 'explain --limit 10001 x' 'explain --all x' 'map --limit 1 x' 'map --all x' \
+    'stat --limit 1 x' 'stat --all --all x' 'stat --all=true x' --limit; do
     # shellcheck disable=SC2086
     expect 2 '' 'error: *' $words
 done
@@ -103,13 +128,13 @@ expect 2 '' "error: invalid value '5\\\\x0a' for '--limit <N>'*" check --limit $
 
 # 3: refused files.
 : > "$work/no-bytes.db"
-for command in check stat; do
+for command in check explain map stat; do
     expect 3 '' "dbck: note: $work/no-bytes.db is not checked"$'\ndbck: E1 file is shorter than 100 bytes\n' "$command" "$work/no-bytes.db"
     expect 3 '' $'dbck: note: tests/program.sh is not checked\ndbck: E2 file is not a SQLite 3 database\n' "$command" tests/program.sh
 done
 
 # 4: what cannot be read.
-for command in check stat; do
+for command in check explain map stat; do
     for path in "$work" /dev/null /dev/zero; do
         expect 4 '' "dbck: note: $path: not a regular file"$'\n'"$unread" "$command" "$path"
     done
@@ -129,7 +154,7 @@ fi
 # 5: the marks of as many pages as there may be take more than the memory that is allowed.
 cp "$data/empty.db" "$work/many-pages.db"
 if truncate -s 34359738368 "$work/many-pages.db" 2> "$work/why"; then
-    for command in check stat; do
+    for command in check explain map stat; do
         (ulimit -v 40000 && run "$command" "$work/many-pages.db" && exit "$status")
         status=$?
         count "$command in 40 MB" ended 5 '' $'dbck: E9 out of memory\n'
@@ -139,7 +164,7 @@ else
 fi
 
 # 6: an output that takes nothing.
-for words in check stat 'stat --all' 'stat --aggregate'; do
+for words in check explain map stat 'stat --all' 'stat --aggregate'; do
     # shellcheck disable=SC2086
     "$dbck" $words "$data/whole.db" > /dev/full 2> "$work/err"
     status=$?
@@ -225,6 +250,7 @@ for file in tests/sqlite/*.db; do
     count "stat --all $file" has_rows_of "$file"
     run stat --all --aggregate "$file"
     count "stat --all --aggregate $file" has_rows_of "$file"
+    expect 0 "$picture"$' '"${file##*/}"$'</title>\n*, no fault; *</svg>\n' '' map "$file"
 done
 if [ "$(sqlite3 :memory: 'SELECT count(*) FROM dbstat' 2> /dev/null)" ]; then
     count 'the rows of dbstat' tests/compare_dbstat.sh "$dbck" "$data/whole.db" "$data/by-sqlite.db" tests/sqlite/*.db

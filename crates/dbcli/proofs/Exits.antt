@@ -1,4 +1,4 @@
--- What a status says of a report, by the outcome that it stands for.
+-- What a status says of what was asked of a file, by the outcome that it stands for.
 use Rattle.std.proofs.Common.{inl, inr, ◌≡◌, ◌↔◌, ℕ, List, [], Option, Some, Result, Ok, Err, ◌≤◌, refl, sym, ap, subst, arith}
 use Rattle.std.specs.Prelude.{OnOk, IfOk}
 use Rattle.std.specs.Io.KnownBytes.{Appends}
@@ -6,13 +6,15 @@ use Rattle.std.proofs.KnownBytes.{Appends-trans}
 use Rattle.std.proofs.lemmas.List.{append-nil}
 use Rattle.dbformat.specs.File.{refusal}
 use Rattle.dbformat.specs.Reference.{Reference}
-use Rattle.dbformat.specs.Report.{Report, report}
+use Rattle.dbformat.specs.Report.{Report, faults, report, verdict}
 use Rattle.dbformat.specs.Sound.{Sound}
+use Rattle.dbformat.specs.Survey.{Survey}
 use Rattle.dbformat.specs.declared.Command.{Command}
 use Rattle.dbformat.specs.declared.Refusal.{Refusal}
+use Rattle.dbowner.specs.Explained.{explain_report}
 use Rattle.dbformat.specs.declared.Verdict.{Verdict}
 use Rattle.dbformat.specs.declared.Verdict.TheVariants.{Clean, Faulty}
-use Rattle.dbreport.specs.Runs.{AsksHeaderAlone, IsAnswerOf, IsRunOf, IsUnwritten}
+use Rattle.dbreport.specs.Runs.{AsksHeaderAlone, IsAnswerOf, IsRunBy, IsUnwritten}
 use Rattle.dbsource.proofs.Beginnings.{all_begun}
 use Rattle.dbsource.specs.Answers.{Step, Trail}
 use Rattle.dbsource.specs.Headers.{IsOpenLog}
@@ -21,13 +23,23 @@ use Rattle.dbsource.specs.Sources.{HasRanges}
 use Rattle.dbsource.specs.declared.error.OpenError.TheVariants as opening
 use Rattle.dbsource.specs.declared.error.RunError.{RunError}
 use Rattle.dbsource.specs.declared.error.RunError.TheVariants.{Refused, ReadFailed, OutOfMemory, WriteFailed}
-use Rattle.dbcli.specs.Exit.{BeginsThenLine, IsExit, IsFinishOf, IsKnown, IsOkIfSound, IsStatusOf, PutsLine}
+use Rattle.dbcli.specs.Exit.{BeginsThenLine, IsExit, IsExitOf, IsFinishOf, IsKnown, IsMapExit, IsOkIfSound, IsStatusOf, PutsLine}
+use Rattle.dbcli.specs.Requests.{IsRunFor}
 use Rattle.dbcli.specs.Status.{exit_status}
+use Rattle.dbcli.specs.declared.request.Request.{Request}
+use Rattle.dbcli.specs.declared.request.Request.TheVariants as request
 
--- the report of a refused file
-refused_answer : (command : Command) (file : List ℕ) (V : List Reference) (e : Refusal) → refusal file ≡ Some e → (report command file V).answer ≡ Err e
+-- the reports of a refused file answer its refusal
+abbrev AnswersRefusals : (List ℕ → List Reference → Report) → Type 0
+AnswersRefusals rep = (file : List ℕ) (V : List Reference) (e : Refusal) → refusal file ≡ Some e → (rep file V).answer ≡ Err e
+
+command_answers : (command : Command) → AnswersRefusals (report command)
 unfolding report
-refused_answer command file V e h = rw h refl
+command_answers command file V e h = rw h refl
+
+explain_answers : (limit : ℕ) → AnswersRefusals (explain_report limit)
+unfolding explain_report
+explain_answers limit file V e h = rw h refl
 
 -- a status that is none of 0, 1 and 3
 neither : (n : ℕ) (r : Report) (out out' err err' : OutState) → 4 ≤ n → Begins out.bytes out'.bytes r.out → BeginsThenLine err.bytes err'.bytes r.err
@@ -66,37 +78,37 @@ begins_then_line old mid new bytes b l = record {
 err_written : (err mid err' : OutState) (bytes : List ℕ) → Appends err.bytes mid.bytes bytes → err' ≡ mid → Appends err.bytes err'.bytes bytes
 err_written err mid err' bytes h e = let P : OutState → Type 0 = λ o. Appends err.bytes o.bytes bytes in subst P (sym e) h
 
-exit_by_outcome : (command : Command) (file : List ℕ) (V : List Reference) (outcome : Result Verdict RunError) (out out' err mid err' : OutState)
-    → IsAnswerOf outcome file → Writes outcome out.bytes out'.bytes (report command file V).out → Writes outcome err.bytes mid.bytes (report command file V).err
-    → IfOk outcome (λ v. (report command file V).answer ≡ Ok v) → IsUnwritten outcome out.bytes out'.bytes
-    → OnOk outcome (err' ≡ mid) → PutsLine mid err' → IsExit (exit_status outcome) (report command file V) out out' err err'
-exit_by_outcome command file V (Ok Clean) out out' err mid err' answer written second verdict unwritten quiet line = record {
-  begun = all_begun out.bytes out'.bytes (report command file V).out written;
-  told = all_then_line err.bytes err'.bytes (report command file V).err (err_written err mid err' (report command file V).err second quiet);
-  clean = λ e. (verdict, record { first = written; second = err_written err mid err' (report command file V).err second quiet });
+exit_by_outcome : (rep : Report) (file : List ℕ) → ((e : Refusal) → refusal file ≡ Some e → rep.answer ≡ Err e) → (outcome : Result Verdict RunError) (out out' err mid err' : OutState)
+    → IsAnswerOf outcome file → Writes outcome out.bytes out'.bytes rep.out → Writes outcome err.bytes mid.bytes rep.err
+    → IfOk outcome (λ v. rep.answer ≡ Ok v) → IsUnwritten outcome out.bytes out'.bytes
+    → OnOk outcome (err' ≡ mid) → PutsLine mid err' → IsExit (exit_status outcome) rep out out' err err'
+exit_by_outcome rep file refusing (Ok Clean) out out' err mid err' answer written second verdict unwritten quiet line = record {
+  begun = all_begun out.bytes out'.bytes rep.out written;
+  told = all_then_line err.bytes err'.bytes rep.err (err_written err mid err' rep.err second quiet);
+  clean = λ e. (verdict, record { first = written; second = err_written err mid err' rep.err second quiet });
   faulty = λ e. absurd (omega arith);
   refused = λ e. absurd (omega arith);
 }
-exit_by_outcome command file V (Ok (Faulty n)) out out' err mid err' answer written second verdict unwritten quiet line = record {
-  begun = all_begun out.bytes out'.bytes (report command file V).out written;
-  told = all_then_line err.bytes err'.bytes (report command file V).err (err_written err mid err' (report command file V).err second quiet);
+exit_by_outcome rep file refusing (Ok (Faulty n)) out out' err mid err' answer written second verdict unwritten quiet line = record {
+  begun = all_begun out.bytes out'.bytes rep.out written;
+  told = all_then_line err.bytes err'.bytes rep.err (err_written err mid err' rep.err second quiet);
   clean = λ e. absurd (omega arith);
-  faulty = λ e. (n, verdict, record { first = written; second = err_written err mid err' (report command file V).err second quiet });
+  faulty = λ e. (n, verdict, record { first = written; second = err_written err mid err' rep.err second quiet });
   refused = λ e. absurd (omega arith);
 }
-exit_by_outcome command file V (Err (Refused e)) out out' err mid err' answer written second verdict unwritten quiet line = record {
+exit_by_outcome rep file refusing (Err (Refused e)) out out' err mid err' answer written second verdict unwritten quiet line = record {
   begun = written;
-  told = begins_then_line err mid err' (report command file V).err second line;
+  told = begins_then_line err mid err' rep.err second line;
   clean = λ h. absurd (omega arith);
   faulty = λ h. absurd (omega arith);
-  refused = λ h. (e, refused_answer command file V e answer, unwritten);
+  refused = λ h. (e, refusing e answer, unwritten);
 }
-exit_by_outcome command file V (Err ReadFailed) out out' err mid err' answer written second verdict unwritten quiet line =
-    neither 4 (report command file V) out out' err err' (omega arith) written (begins_then_line err mid err' (report command file V).err second line)
-exit_by_outcome command file V (Err OutOfMemory) out out' err mid err' answer written second verdict unwritten quiet line =
-    neither 5 (report command file V) out out' err err' (omega arith) written (begins_then_line err mid err' (report command file V).err second line)
-exit_by_outcome command file V (Err WriteFailed) out out' err mid err' answer written second verdict unwritten quiet line =
-    neither 6 (report command file V) out out' err err' (omega arith) written (begins_then_line err mid err' (report command file V).err second line)
+exit_by_outcome rep file refusing (Err ReadFailed) out out' err mid err' answer written second verdict unwritten quiet line =
+    neither 4 rep out out' err err' (omega arith) written (begins_then_line err mid err' rep.err second line)
+exit_by_outcome rep file refusing (Err OutOfMemory) out out' err mid err' answer written second verdict unwritten quiet line =
+    neither 5 rep out out' err err' (omega arith) written (begins_then_line err mid err' rep.err second line)
+exit_by_outcome rep file refusing (Err WriteFailed) out out' err mid err' answer written second verdict unwritten quiet line =
+    neither 6 rep out out' err err' (omega arith) written (begins_then_line err mid err' rep.err second line)
 
 -- a status by its outcome
 status_by : (outcome : Result Verdict RunError) (file : List ℕ) → IsAnswerOf outcome file → IsStatusOf (exit_status outcome) file
@@ -125,15 +137,71 @@ sound_by (Err ReadFailed) file h = λ m. absurd (omega arith)
 sound_by (Err OutOfMemory) file h = λ m. absurd (omega arith)
 sound_by (Err WriteFailed) file h = λ m. absurd (omega arith)
 
--- what finishing left of a file, by what its run left of it
-pub finish_of : (command : Command) (file : List ℕ) (outcome : Result Verdict RunError) (out out' err mid err' : OutState)
-    → IsRunOf command file outcome out.bytes out'.bytes err.bytes mid.bytes → IsUnwritten outcome out.bytes out'.bytes → OnOk outcome (err' ≡ mid) → PutsLine mid err'
-    → IsFinishOf (exit_status outcome) command file out out' err err'
-finish_of command file outcome out out' err mid err' run unwritten quiet line = record {
-  exit = λ V s. let k = run.run.reported V s in exit_by_outcome command file V outcome out out' err mid err' run.run.answer k.out k.err k.verdict unwritten quiet line;
-  errors = status_by outcome file run.run.answer;
-  sound = sound_by outcome file run.run.sound;
+-- what the status says of a map
+map_neither : (n : ℕ) (file : List ℕ) (V : List Reference) (out out' : OutState) → 4 ≤ n → IsMapExit n file V out out'
+map_neither n file V out out' h = record { clean = λ e. absurd (omega arith); faulty = λ e. absurd (omega arith); refused = λ e. absurd (omega arith) }
+
+map_exit : (file : List ℕ) (V : List Reference) (outcome : Result Verdict RunError) (out out' : OutState) → IsAnswerOf outcome file
+    → IfOk outcome (λ v. v ≡ verdict (faults file V)) → IsUnwritten outcome out.bytes out'.bytes → IsMapExit (exit_status outcome) file V out out'
+map_exit file V (Ok Clean) out out' answer found unwritten = record {
+  clean = λ e. sym found;
+  faulty = λ e. absurd (omega arith);
+  refused = λ e. absurd (omega arith);
 }
+map_exit file V (Ok (Faulty n)) out out' answer found unwritten = record {
+  clean = λ e. absurd (omega arith);
+  faulty = λ e. (n, sym found);
+  refused = λ e. absurd (omega arith);
+}
+map_exit file V (Err (Refused e)) out out' answer found unwritten = record {
+  clean = λ h. absurd (omega arith);
+  faulty = λ h. absurd (omega arith);
+  refused = λ h. (e, answer, unwritten);
+}
+map_exit file V (Err ReadFailed) out out' answer found unwritten = map_neither 4 file V out out' (omega arith)
+map_exit file V (Err OutOfMemory) out out' answer found unwritten = map_neither 5 file V out out' (omega arith)
+map_exit file V (Err WriteFailed) out out' answer found unwritten = map_neither 6 file V out out' (omega arith)
+
+-- of a report, by any survey
+report_exit : (rep : List ℕ → List Reference → Report) → AnswersRefusals rep
+    → (file : List ℕ) (outcome : Result Verdict RunError) (out out' err mid err' : OutState)
+    → IsRunBy rep file outcome out.bytes out'.bytes err.bytes mid.bytes → IsUnwritten outcome out.bytes out'.bytes → OnOk outcome (err' ≡ mid) → PutsLine mid err'
+    → (V : List Reference) → Survey file V → IsExit (exit_status outcome) (rep file V) out out' err err'
+report_exit rep refusing file outcome out out' err mid err' run unwritten quiet line V s =
+    let k = run.reported V s in
+    exit_by_outcome (rep file V) file (refusing file V) outcome out out' err mid err' run.answer k.out k.err k.verdict unwritten quiet line
+
+-- and of what was asked
+exit_of : (asked : Request) (file : List ℕ) (outcome : Result Verdict RunError) (out out' err mid err' : OutState)
+    → IsRunFor asked file outcome out.bytes out'.bytes err.bytes mid.bytes
+    → IsUnwritten outcome out.bytes out'.bytes → OnOk outcome (err' ≡ mid) → PutsLine mid err'
+    → IsExitOf (exit_status outcome) asked file out out' err err'
+exit_of (request.Report command) file outcome out out' err mid err' run unwritten quiet line =
+    report_exit (report command) (command_answers command) file outcome out out' err mid err' run unwritten quiet line
+exit_of (request.Explain limit) file outcome out out' err mid err' run unwritten quiet line =
+    report_exit (explain_report limit) (explain_answers limit) file outcome out out' err mid err' run unwritten quiet line
+exit_of (request.Map name) file outcome out out' err mid err' run unwritten quiet line =
+    λ V s. map_exit file V outcome out out' run.answer (run.verdict V s) unwritten
+
+-- each run has an answer for the file, and its verdict says whether that is sound
+answer_of : (asked : Request) (file : List ℕ) (outcome : Result Verdict RunError) (out out' err mid : Option (List ℕ))
+    → IsRunFor asked file outcome out out' err mid
+    → IsAnswerOf outcome file × IfOk outcome (λ v. v ≡ Clean ↔ Sound file)
+answer_of (request.Report command) file outcome out out' err mid run = (run.answer, run.sound)
+answer_of (request.Explain limit) file outcome out out' err mid run = (run.answer, run.sound)
+answer_of (request.Map name) file outcome out out' err mid run = (run.answer, run.sound)
+
+-- what finishing left of a file, by what its run left of it
+pub finish_of : (asked : Request) (file : List ℕ) (outcome : Result Verdict RunError) (out out' err mid err' : OutState)
+    → IsRunFor asked file outcome out.bytes out'.bytes err.bytes mid.bytes
+    → IsUnwritten outcome out.bytes out'.bytes → OnOk outcome (err' ≡ mid) → PutsLine mid err'
+    → IsFinishOf (exit_status outcome) asked file out out' err err'
+finish_of asked file outcome out out' err mid err' run unwritten quiet line =
+    let k = answer_of asked file outcome out.bytes out'.bytes err.bytes mid.bytes run in record {
+      exit = exit_of asked file outcome out out' err mid err' run unwritten quiet line;
+      errors = status_by outcome file k.0;
+      sound = sound_by outcome file k.1;
+    }
 
 -- at a refusal it is as it was
 pub unwritten_at_3 : {X : Type 0} (outcome : Result Verdict RunError) (old new : X) → IsUnwritten outcome old new → exit_status outcome ≡ 3 → new ≡ old

@@ -3,12 +3,12 @@ use Rattle.std.proofs.Common.{◌≡◌, ◌↔◌, ◌∙◌, ℕ, ◌+◌, ◌
 use Rattle.std.specs.Prelude.{IfOk, OnErr, OnOk, ◌≢◌, ◌⊎◌, is_ok}
 use Rattle.std.specs.Io.KnownBytes.{Keeps}
 use Rattle.std.proofs.Math.Nat.{mod-add-mod, mod-mod}
-use Rattle.dbformat.specs.Report.{report}
+use Rattle.dbformat.specs.Reference.{Reference}
+use Rattle.dbformat.specs.Report.{Report, faults, report, verdict}
 use Rattle.dbformat.specs.Sound.{Sound}
-use Rattle.dbformat.specs.declared.Command.{Command}
 use Rattle.dbformat.specs.declared.Verdict.{Verdict}
 use Rattle.dbformat.specs.declared.Verdict.TheVariants.{Clean, Faulty}
-use Rattle.dbreport.specs.Runs.{AsksHeaderAlone, IsAnswerOf, IsRunOf, IsUnwritten}
+use Rattle.dbreport.specs.Runs.{AsksHeaderAlone, IsAnswerOf, IsRunBy, IsUnwritten}
 use Rattle.dbreport.specs.StatSink.{failures_of_each}
 use Rattle.dbsource.proofs.Beginnings.{all_begun}
 use Rattle.dbsource.proofs.Puts.{appends_kept}
@@ -20,7 +20,11 @@ use Rattle.dbsource.specs.declared.error.RunError.{RunError}
 use Rattle.dbsource.specs.declared.error.RunError.TheVariants.{Refused, ReadFailed, OutOfMemory, WriteFailed}
 use Rattle.dbcli.specs.Exit.{HasFailed, IsHandedOn, IsHandedOnOrFailed, failures_at_4, first_most, second_most}
 use Rattle.dbcli.specs.Handing.{IsHanded, StopsFlushing, TriesToFlush}
+use Rattle.dbowner.specs.Explained.{explain_report}
+use Rattle.dbcli.specs.Requests.{IsRunFor}
 use Rattle.dbcli.specs.Status.{exit_status}
+use Rattle.dbcli.specs.declared.request.Request.{Request}
+use Rattle.dbcli.specs.declared.request.Request.TheVariants as request
 
 -- a count is not the one before it
 not_same : (m n : ℕ) → n ≡ one_more m → n ≢ m
@@ -94,20 +98,29 @@ module _ (out out' err err' : OutState) where
   still_second (Err WriteFailed) r before bytes h k = rw h.0 (subst (λ g. Begins before g.bytes bytes) (sym h.2) k)
 
   -- so what a run left of a file is left of it still
-  pub still_run : (command : Command) (file : List ℕ) (o r : Result Verdict RunError) (first second : Option (List ℕ)) → IsHanded o r out out' err err'
-      → IsRunOf command file o first out.bytes second err.bytes → IsRunOf command file r first out'.bytes second err'.bytes
-  still_run command file o r first second h run = record {
-    run = record {
-      survey = run.run.survey;
-      reported = λ V s. let k = run.run.reported V s in record {
-        out = still_writes o r first (report command file V).out h k.out;
-        err = still_second o r second (report command file V).err h k.err;
-        verdict = still_of (λ v. (report command file V).answer ≡ Ok v) o r h k.verdict;
-      };
-      answer = still_answers o r file h run.run.answer;
-      sound = still_of (λ v. v ≡ Clean ↔ Sound file) o r h run.run.sound;
+  still_run : (rep : List ℕ → List Reference → Report) (file : List ℕ) (o r : Result Verdict RunError) (first second : Option (List ℕ)) → IsHanded o r out out' err err'
+      → IsRunBy rep file o first out.bytes second err.bytes → IsRunBy rep file r first out'.bytes second err'.bytes
+  still_run rep file o r first second h run = record {
+    survey = run.survey;
+    reported = λ V s. let k = run.reported V s in record {
+      out = still_writes o r first (rep file V).out h k.out;
+      err = still_second o r second (rep file V).err h k.err;
+      verdict = still_of (λ v. (rep file V).answer ≡ Ok v) o r h k.verdict;
     };
-    counts = run.counts;
+    answer = still_answers o r file h run.answer;
+    sound = still_of (λ v. v ≡ Clean ↔ Sound file) o r h run.sound;
+  }
+
+  -- for what was asked
+  pub still_for : (asked : Request) (file : List ℕ) (o r : Result Verdict RunError) (first second : Option (List ℕ)) → IsHanded o r out out' err err'
+      → IsRunFor asked file o first out.bytes second err.bytes → IsRunFor asked file r first out'.bytes second err'.bytes
+  still_for (request.Report command) file o r first second h run = still_run (report command) file o r first second h run
+  still_for (request.Explain limit) file o r first second h run = still_run (explain_report limit) file o r first second h run
+  still_for (request.Map name) file o r first second h run = record {
+    survey = run.survey;
+    verdict = λ V s. still_of (λ v. v ≡ verdict (faults file V)) o r h (run.verdict V s);
+    answer = still_answers o r file h run.answer;
+    sound = still_of (λ v. v ≡ Clean ↔ Sound file) o r h run.sound;
   }
 
   -- the source failed just where the status is 4

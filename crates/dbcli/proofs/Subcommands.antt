@@ -11,8 +11,9 @@ use Rattle.clap.specs.declared.error.Error.{Error}
 use Rattle.dbcli.specs.declared.command_line.LineError.{LineError}
 use Rattle.dbcli.specs.declared.command_line.LineError.TheVariants.{Words}
 use Rattle.clap.proofs.OnLiterals.{clap_on_literals}
-use Rattle.dbcli.specs.CommandLine.{AsksFor, HasLimit, IsErrorOf, IsFlag, IsLimitOf, IsProgressOf, dbck_app, name_of}
-use Rattle.dbformat.specs.declared.Command.{Command}
+use Rattle.dbcli.specs.CommandLine.{AsksFor, HasLimit, IsErrorOf, IsFlag, IsInRow, IsLimit, IsLimitOf, IsProgressOf, dbck_app, name_of}
+use Rattle.dbcli.specs.declared.request.Request.{Request}
+use Rattle.dbcli.specs.declared.request.Request.TheVariants.{Report, Explain, Map}
 use Rattle.dbformat.specs.declared.Command.TheVariants.{Check, Stat}
 
 -- a name and rows that were found are those of one subcommand
@@ -48,17 +49,17 @@ pub words_error : {A : Type 0} (r : Result A LineError) (e : Error) (words : Lis
 words_error (Ok a) e words h k = tt
 words_error (Err error) e words h k = let P : LineError → Type 0 = λ l. IsErrorOf l words in subst P (sym h) k
 
--- the same by the command that has this name
-pub named_command : (met : Option (Text × List Row)) (name : Text) (rows : List Row) (command : Command) → met ≡ Some (name, rows) → name ≡ name_of command
-    → met ≡ Some (name_of command, rows)
-named_command met name rows command e named = e ∙ ap (λ (n : Text). Some (n, rows)) named
+-- the same by the request that has this name
+pub named_request : (met : Option (Text × List Row)) (name : Text) (rows : List Row) (request : Request) → met ≡ Some (name, rows) → name ≡ name_of request
+    → met ≡ Some (name_of request, rows)
+named_request met name rows request e named = e ∙ ap (λ (n : Text). Some (n, rows)) named
 
 -- what a subcommand with these rows asks for has its name, and is in these rows
-pub asked_of : (met : Option (Text × List Row)) (name : Text) (rows : List Row) (command : Command) (file : Text) → met ≡ Some (name, rows)
-    → AsksFor met command file → (name ≡ name_of command) × (first_of (codes "FILE") rows ≡ Some file) × IsLimitOf command rows
-asked_of met name rows command file e asks =
-    let both : Some (name, rows) ≡ Some (name_of command, asks.rows) = sym e ∙ asks.named in
-    let pair : (name, rows) ≡ (name_of command, asks.rows) = cc in
+pub asked_of : (met : Option (Text × List Row)) (name : Text) (rows : List Row) (request : Request) (file : Text) → met ≡ Some (name, rows)
+    → AsksFor met request file → (name ≡ name_of request) × (first_of (codes "FILE") rows ≡ Some file) × IsLimitOf request rows
+asked_of met name rows request file e asks =
+    let both : Some (name, rows) ≡ Some (name_of request, asks.rows) = sym e ∙ asks.named in
+    let pair : (name, rows) ≡ (name_of request, asks.rows) = cc in
     let same : rows ≡ asks.rows = ap (λ (p : Text × List Row). p.1) pair in
     (ap (λ (p : Text × List Row). p.0) pair, rw same asks.file_given, rw same asks.limit)
 
@@ -67,14 +68,25 @@ pub none_more : {T P Q : Type 0} (o : Option T) → IfNone o P → (P → Q) →
 none_more None p f = f p
 none_more (Some x) p f = tt
 
+-- names that begin with another byte are others
+other_name : (a b name : Text) → name ≡ a → name ≡ b → (slice_index a 0 ≡ slice_index b 0 → ⊥) → ⊥
+other_name a b name e named other = other (ap (λ (l : Text). slice_index l 0) (sym e ∙ named))
+
 -- a check alone has its name
-pub only_checks : (command : Command) (name : Text) (rows : List Row) → name ≡ codes "check"
-    → ((limit : ℕ) → HasLimit (Check limit) → IsLimitOf (Check limit) rows → ⊥) → HasLimit command → name ≡ name_of command → IsLimitOf command rows → ⊥
-only_checks (Check limit) name rows e none range named value = none limit range value
-only_checks (Stat aggregate all) name rows e none range named value =
-    let P : Text → Type 0 = λ l. slice_index l 0 ≡ 99 in
-    let first : slice_index (codes "stat") 0 ≡ 99 = subst P (sym e ∙ named) refl in
-    absurd (omega arith)
+pub only_checks : (request : Request) (name : Text) (rows : List Row) → name ≡ codes "check"
+    → ((limit : ℕ) → IsLimit 1000000 limit → IsInRow limit rows → ⊥) → HasLimit request → name ≡ name_of request → IsLimitOf request rows → ⊥
+only_checks (Report (Check limit)) name rows e none range named value = none limit range value
+only_checks (Report (Stat aggregate all)) name rows e none range named value = other_name (codes "check") (codes "stat") name e named (λ h. absurd (omega (arith, h)))
+only_checks (Explain limit) name rows e none range named value = other_name (codes "check") (codes "explain") name e named (λ h. absurd (omega (arith, h)))
+only_checks (Map title) name rows e none range named value = other_name (codes "check") (codes "map") name e named (λ h. absurd (omega (arith, h)))
+
+-- and an explanation
+pub only_explains : (request : Request) (name : Text) (rows : List Row) → name ≡ codes "explain"
+    → ((limit : ℕ) → IsLimit 10000 limit → IsInRow limit rows → ⊥) → HasLimit request → name ≡ name_of request → IsLimitOf request rows → ⊥
+only_explains (Explain limit) name rows e none range named value = none limit range value
+only_explains (Report (Check limit)) name rows e none range named value = other_name (codes "explain") (codes "check") name e named (λ h. absurd (omega (arith, h)))
+only_explains (Report (Stat aggregate all)) name rows e none range named value = other_name (codes "explain") (codes "stat") name e named (λ h. absurd (omega (arith, h)))
+only_explains (Map title) name rows e none range named value = other_name (codes "explain") (codes "map") name e named (λ h. absurd (omega (arith, h)))
 
 -- the flag that turns progress off, by the rows that were met
 pub progress_of : (met : Option (Text × List Row)) (name : Text) (rows : List Row) (shown : Bool) → met ≡ Some (name, rows)

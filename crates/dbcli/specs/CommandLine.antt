@@ -1,5 +1,6 @@
 -- The command line, as `clap` sees it, and what a line that it takes says.
-use Rattle.std.specs.Prelude.{◌≡◌, ◌≤◌, ℕ, pos, Bool, true, false, not, List, [], ◌∷◌, Option, Some, None, codes, ⊤}
+use Rattle.std.specs.Prelude.{◌≡◌, ◌≤◌, ℕ, pos, Bool, true, false, not, List, [], ◌∷◌, Option, Some, None, codes, unwrap_or, ⊤}
+use Rattle.std.specs.Path.{path_file_name}
 use Rattle.std.specs.Str.Parse.{IsNumeral, digits_value, without_leading_plus}
 use Rattle.clap.specs.Words.{App, Row, Rule, Text, first_of, new_app, new_rule, one_of, with_rule, with_subcommand}
 use Rattle.clap.specs.Words.{HasKind, fault_of, subcommand_of}
@@ -7,18 +8,19 @@ use Rattle.clap.specs.declared.builder.action.ArgAction.TheVariants.{SetTrue}
 use Rattle.clap.specs.declared.builder.value_parser.ValueParser.TheVariants as parser
 use Rattle.dbcli.specs.declared.command_line.LineError.{LineError}
 use Rattle.dbcli.specs.declared.command_line.LineError.TheVariants.{Words, Limit, NotText}
-use Rattle.dbformat.specs.declared.Command.{Command}
+use Rattle.dbcli.specs.declared.request.Request.{Request}
+use Rattle.dbcli.specs.declared.request.Request.TheVariants.{Report, Explain, Map}
 use Rattle.dbformat.specs.declared.Command.TheVariants.{Check, Stat}
 
 -- the file, which is required
 abbrev pub file_rule : Rule
 file_rule = record (new_rule (codes "FILE")) { required = true }
 
--- the limit, from 1 to 1000000, and 100 where it is not given
-abbrev pub limit_rule : Rule
-limit_rule = record (new_rule (codes "N")) {
+-- the limit, from 1 to a greatest one, and 100 where it is not given
+abbrev pub limit_rule : ℕ → Rule
+limit_rule most = record (new_rule (codes "N")) {
   long = Some (codes "limit");
-  parser = Some (parser.Signed (pos 1) (pos 1000000));
+  parser = Some (parser.Signed (pos 1) (pos most));
   defaults = codes "100" ∷ [];
 }
 
@@ -30,9 +32,20 @@ flag_rule name = record (new_rule name) { long = Some name; action = Some SetTru
 abbrev pub no_progress_rule : Rule
 no_progress_rule = flag_rule (codes "no-progress")
 
--- the subcommand check, with its limit, its flag and its file
+-- a subcommand of this name with a limit, the flag that turns progress off and a file
+abbrev pub limited_app : Text → ℕ → App
+limited_app name most = with_rule (with_rule (with_rule (new_app name) (limit_rule most)) no_progress_rule) file_rule
+
+-- the subcommands check and explain, with their greatest limits
 abbrev pub check_app : App
-check_app = with_rule (with_rule (with_rule (new_app (codes "check")) limit_rule) no_progress_rule) file_rule
+check_app = limited_app (codes "check") 1000000
+
+abbrev pub explain_app : App
+explain_app = limited_app (codes "explain") 10000
+
+-- the subcommand map, with the flag that turns progress off and its file
+abbrev pub map_app : App
+map_app = with_rule (with_rule (new_app (codes "map")) no_progress_rule) file_rule
 
 -- the subcommand stat with its own flags
 abbrev pub stat_flags : App
@@ -47,26 +60,40 @@ top_app = let a = new_app (codes "dbck") in record a { top = record a.top { has_
 
 -- `dbck`, which has a version, and whose subcommand is required
 abbrev pub dbck_app : App
-dbck_app = with_subcommand (with_subcommand top_app check_app.top) stat_app.top
+dbck_app = with_subcommand (with_subcommand (with_subcommand (with_subcommand top_app check_app.top) explain_app.top) map_app.top) stat_app.top
 
 -- the subcommand that asks for this
-abbrev pub name_of : Command → Text
-name_of (Check limit) = codes "check"
-name_of (Stat aggregate all) = codes "stat"
+abbrev pub name_of : Request → Text
+name_of (Report (Check limit)) = codes "check"
+name_of (Report (Stat aggregate all)) = codes "stat"
+name_of (Explain limit) = codes "explain"
+name_of (Map name) = codes "map"
 
--- a check has a limit from 1 to 1000000
-abbrev pub HasLimit : Command → Type 0
-HasLimit (Check limit) = (1 ≤ limit) × (limit ≤ 1000000)
-HasLimit (Stat aggregate all) = ⊤
+-- a number from 1 to a greatest one
+abbrev pub IsLimit : ℕ → ℕ → Type 0
+IsLimit most limit = (1 ≤ limit) × (limit ≤ most)
+
+-- a check has a limit from 1 to 1000000, and an explanation one from 1 to 10000
+abbrev pub HasLimit : Request → Type 0
+HasLimit (Report (Check limit)) = IsLimit 1000000 limit
+HasLimit (Report (Stat aggregate all)) = ⊤
+HasLimit (Explain limit) = IsLimit 10000 limit
+HasLimit (Map name) = ⊤
 
 -- the text is this number in decimal digits, behind a plus sign or not
 abbrev pub Spells : Text → ℕ → Type 0
 Spells text n = IsNumeral 10 (without_leading_plus text) × (digits_value 10 (without_leading_plus text) ≡ n)
 
--- the limit of a check is the number that the text of its row spells
-abbrev pub IsLimitOf : Command → List Row → Type 0
-IsLimitOf (Check limit) rows = (text : Text) × (one_of (codes "N") rows ≡ Some text) × Spells text limit
-IsLimitOf (Stat aggregate all) rows = ⊤
+-- a limit is the number that the text of its row spells
+abbrev pub IsInRow : ℕ → List Row → Type 0
+IsInRow limit rows = (text : Text) × (one_of (codes "N") rows ≡ Some text) × Spells text limit
+
+-- so is the one of a request that has one
+abbrev pub IsLimitOf : Request → List Row → Type 0
+IsLimitOf (Report (Check limit)) rows = IsInRow limit rows
+IsLimitOf (Report (Stat aggregate all)) rows = ⊤
+IsLimitOf (Explain limit) rows = IsInRow limit rows
+IsLimitOf (Map name) rows = ⊤
 
 -- Whether a flag is set, by the text of its row: a flag that was given has the text `true`, and one that was not `false`.
 pub record IsFlag (set : Bool) (name : Text) (rows : List Row) : Type 0 where
@@ -75,27 +102,36 @@ pub record IsFlag (set : Bool) (name : Text) (rows : List Row) : Type 0 where
   pub absent : one_of name rows ≡ None → set ≡ false
 
 -- the statistics have the form that the two flags say
-abbrev pub HasFlags : Command → List Row → Type 0
-HasFlags (Check limit) rows = ⊤
-HasFlags (Stat aggregate all) rows = IsFlag aggregate (codes "aggregate") rows × IsFlag all (codes "all") rows
+abbrev pub HasFlags : Request → List Row → Type 0
+HasFlags (Report (Check limit)) rows = ⊤
+HasFlags (Explain limit) rows = ⊤
+HasFlags (Map name) rows = ⊤
+HasFlags (Report (Stat aggregate all)) rows = IsFlag aggregate (codes "aggregate") rows × IsFlag all (codes "all") rows
+
+-- a picture has the name of its file: the last part of the path, or all of a path that has none
+abbrev pub IsNameOf : Request → Text → Type 0
+IsNameOf (Report command) file = ⊤
+IsNameOf (Explain limit) file = ⊤
+IsNameOf (Map name) file = name.now ≡ unwrap_or (path_file_name file) file
 
 -- progress is shown unless a flag of the subcommand turns it off
 abbrev pub IsProgressOf : Bool → Option (Text × List Row) → Type 0
 IsProgressOf shown None = ⊥
 IsProgressOf shown (Some (name, rows)) = IsFlag (not shown) (codes "no-progress") rows
 
--- The subcommand that the words name, with its rows, asks for this command and this file.
-pub record AsksFor (met : Option (Text × List Row)) (command : Command) (file : Text) : Type 0 where
+-- The subcommand that the words name, with its rows, makes this request of this file.
+pub record AsksFor (met : Option (Text × List Row)) (request : Request) (file : Text) : Type 0 where
   pub rows : List Row
-  pub named : met ≡ Some (name_of command, rows)
+  pub named : met ≡ Some (name_of request, rows)
   pub file_given : first_of (codes "FILE") rows ≡ Some file
-  pub flags : HasFlags command rows
-  pub limit : IsLimitOf command rows
+  pub flags : HasFlags request rows
+  pub limit : IsLimitOf request rows
+  pub title : IsNameOf request file
 
 -- Why the words are not taken: for one of the kinds of fault that `clap` finds in them, or for want of memory. Where it finds
--- none, only words that ask for no command with a limit in range are refused.
+-- none, only words that make no request with a limit in range are refused.
 abbrev pub IsErrorOf : LineError → List Text → Type 0
 IsErrorOf (Words e) words = HasKind (fault_of dbck_app words) e
 IsErrorOf Limit words = (fault_of dbck_app words ≡ [])
-    × ((command : Command) (file : Text) → HasLimit command → AsksFor (subcommand_of dbck_app words) command file → ⊥)
+    × ((request : Request) (file : Text) → HasLimit request → AsksFor (subcommand_of dbck_app words) request file → ⊥)
 IsErrorOf NotText words = ⊥

@@ -1,16 +1,18 @@
--- What an exit status says of the report of a file, and of what was written of it.
-use Rattle.std.specs.Prelude.{◌≡◌, ◌≢◌, ◌≤◌, ◌⊎◌, ◌↔◌, ℕ, ◌+◌, ◌%◌, ◌^◌, ◌==◌, if◌then◌else◌, List, [], ◌++◌, length, Option, Ok, Err, None}
+-- What an exit status says of what was asked of a file, and of what was written of it.
+use Rattle.std.specs.Prelude.{◌≡◌, ◌≢◌, ◌≤◌, ◌⊎◌, ◌↔◌, ℕ, ◌+◌, ◌%◌, ◌^◌, ◌==◌, if◌then◌else◌, List, [], ◌++◌, length, Option, Some, Ok, Err, None}
 use Rattle.dbformat.specs.File.{refusal}
 use Rattle.std.specs.Io.KnownBytes.{Appends}
 use Rattle.dbformat.specs.Reference.{Reference}
-use Rattle.dbformat.specs.Report.{Report, report}
+use Rattle.dbformat.specs.Report.{Report, faults, report, verdict}
 use Rattle.dbformat.specs.Sound.{Sound}
 use Rattle.dbformat.specs.Survey.{Survey}
-use Rattle.dbformat.specs.declared.Command.{Command}
 use Rattle.dbformat.specs.declared.Refusal.{Refusal}
 use Rattle.dbformat.specs.declared.Verdict.TheVariants.{Clean, Faulty}
 use Rattle.dbsource.specs.Failures.{one_more}
 use Rattle.dbsource.specs.Outs.{Begins, OutState}
+use Rattle.dbowner.specs.Explained.{explain_report}
+use Rattle.dbcli.specs.declared.request.Request.{Request}
+use Rattle.dbcli.specs.declared.request.Request.TheVariants as request
 
 -- all of a report was written, to the one Out and to the other
 pub record IsWritten (r : Report) (out out' err err' : OutState) : Type 0 where
@@ -74,10 +76,21 @@ pub record IsExit (status : ℕ) (r : Report) (out out' err err' : OutState) : T
   pub faulty : status ≡ 1 → (n : ℕ) × (r.answer ≡ Ok (Faulty n)) × IsWritten r out out' err err'
   pub refused : status ≡ 3 → (e : Refusal) × (r.answer ≡ Err e) × (out'.bytes ≡ out.bytes)
 
--- by every survey of the file
-abbrev pub IsExitOf : ℕ → Command → List ℕ → OutState → OutState → OutState → OutState → Type 0
-IsExitOf status command file out out' err err' =
+-- The same of a map, of whose bytes nothing is said: 0 is answered only where the verdict on the faults is that there is none, 1 only
+-- where there are some; 3 where the file is refused, and nothing was written.
+pub record IsMapExit (status : ℕ) (file : List ℕ) (V : List Reference) (out out' : OutState) : Type 0 where
+  pub clean : status ≡ 0 → verdict (faults file V) ≡ Clean
+  pub faulty : status ≡ 1 → (n : ℕ) × (verdict (faults file V) ≡ Faulty n)
+  pub refused : status ≡ 3 → (e : Refusal) × (refusal file ≡ Some e) × (out'.bytes ≡ out.bytes)
+
+-- by what was asked, and by every survey of the file
+abbrev pub IsExitOf : ℕ → Request → List ℕ → OutState → OutState → OutState → OutState → Type 0
+IsExitOf status (request.Report command) file out out' err err' =
     (V : List Reference) → Survey file V → IsExit status (report command file V) out out' err err'
+IsExitOf status (request.Explain limit) file out out' err err' =
+    (V : List Reference) → Survey file V → IsExit status (explain_report limit file V) out out' err err'
+IsExitOf status (request.Map name) file out out' err err' =
+    (V : List Reference) → Survey file V → IsMapExit status file V out out'
 
 -- Want of memory and a failed write come only where the file is not refused.
 pub record IsStatusOf (status : ℕ) (file : List ℕ) : Type 0 where
@@ -88,9 +101,9 @@ pub record IsStatusOf (status : ℕ) (file : List ℕ) : Type 0 where
 abbrev pub IsOkIfSound : ℕ → List ℕ → Type 0
 IsOkIfSound status file = status ≤ 1 → status ≡ 0 ↔ Sound file
 
--- What finishing left is so of a file: what the status says of its report and of what was written of it; that want of memory
+-- What finishing left is so of a file: what the status says of what was asked and of what was written of it; that want of memory
 -- and a failed write end the run of a file that is read alone; and that of the statuses of a verdict 0 is a sound file's.
-pub record IsFinishOf (status : ℕ) (command : Command) (file : List ℕ) (out out' err err' : OutState) : Type 0 where
-  pub exit : IsExitOf status command file out out' err err'
+pub record IsFinishOf (status : ℕ) (asked : Request) (file : List ℕ) (out out' err err' : OutState) : Type 0 where
+  pub exit : IsExitOf status asked file out out' err err'
   pub errors : IsStatusOf status file
   pub sound : IsOkIfSound status file

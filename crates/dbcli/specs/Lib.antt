@@ -1,4 +1,5 @@
 pub mod CommandLine
 pub mod Exit
 pub mod Handing
+pub mod Requests
 pub mod Status

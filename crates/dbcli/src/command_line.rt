@@ -1,25 +1,26 @@
 // The command line of the program.
-ghost use Rattle.std.specs.Prelude.{◌≡◌, ℕ, List, [], IfOk, IfErr, IfSome, IfNone, codes, map, not, false};
-ghost use Rattle.clap.specs.Words.{app_of, fault_of, found_of, kind_of, new_app, rows_of, rule_of, subcommand_of};
+ghost use Rattle.std.specs.Prelude.{◌≡◌, ◌≤◌, ℕ, List, [], IfOk, IfErr, IfSome, IfNone, codes, map, not, false};
+ghost use Rattle.clap.specs.Words.{Row, Text, app_of, fault_of, found_of, kind_of, new_app, rows_of, rule_of, subcommand_of};
 ghost use Rattle.clap.specs.declared.error.kind.ErrorKind.TheVariants as error_kind;
 ghost use Rattle.clap.specs.declared.builder.command.Command.TheViews.{out-Command as fields_of};
-ghost use Rattle.dbcli.specs.CommandLine.{dbck_app, check_app, stat_app, file_rule, flag_rule, limit_rule, name_of};
+ghost use Rattle.dbcli.specs.CommandLine.{dbck_app, check_app, explain_app, limited_app, map_app, stat_app, file_rule, flag_rule, limit_rule, name_of};
 ghost use Rattle.dbcli.specs.Status.{line_status};
-ghost use Rattle.dbcli.specs.CommandLine.{AsksFor, HasFlags, HasLimit, IsErrorOf, IsFlag, IsLimitOf, IsProgressOf};
-ghost use Rattle.dbformat.specs.declared.Command.{Command as command_type};
-ghost use Rattle.dbformat.specs.declared.Command.TheVariants.{Check as check};
+ghost use Rattle.dbcli.specs.CommandLine.{AsksFor, HasFlags, HasLimit, IsErrorOf, IsFlag, IsInRow, IsLimit, IsLimitOf, IsNameOf, IsProgressOf};
+ghost use Rattle.dbcli.specs.declared.request.Request.{Request as request_type};
 
+use crate::request::Request;
 use crate::shown::shown;
 use clap::{Arg, ArgAction, ArgMatches, Command as Words, value_parser};
 use dbreport::Command;
 use std::alloc::{AllocError, Global};
+use std::path::Path;
 use thiserror::Error;
 
 /// What the words of a command line ask for.
 #[derive(Clone, Copy)]
 pub struct Line<'a> {
     /// What is asked of the file.
-    pub command: Command,
+    pub request: Request<'a>,
     /// Where the file is.
     pub file: &'a str,
     /// Whether progress is shown.
@@ -32,8 +33,8 @@ pub enum LineError {
     /// What the parser of the words says.
     #[error(transparent)]
     Words(clap::Error),
-    /// The limit passed the parser, and is no number from 1 to 1000000 all the same.
-    #[error("error: the limit is not a number from 1 to 1000000")]
+    /// The limit passed the parser, and is no number in its range all the same.
+    #[error("error: the limit is not a number in its range")]
     Limit,
     /// A word is not UTF-8.
     #[error("error: a word of the command line is not UTF-8")]
@@ -54,6 +55,11 @@ impl From<clap::Error> for LineError {
 /// The version of the program: it stands here alone.
 const VERSION: &str = "0.1.0";
 
+/// How many faults `check` shows at most, and how many `explain` does.
+const MOST_SHOWN: u32 = 1000000;
+
+const MOST_EXPLAINED: u32 = 10000;
+
 const ABOUT: &str = "Checks the structure of a SQLite 3 database file, which it only reads";
 
 const CHECK_ABOUT: &str = "Writes a line for each fault of the file, or 'ok'";
@@ -62,6 +68,30 @@ const CHECK_EXAMPLES: &str = "Examples:
   dbck check notes.db            The first 100 faults of notes.db, or 'ok'
   dbck check --limit 1 notes.db  The first fault, and how many more there are
   dbck check -- -notes.db        A file whose name begins with '-'
+
+'dbck --help' lists the exit statuses.";
+
+const EXPLAIN_ABOUT: &str =
+    "Writes the faults as check does, with the tree and the place of each page, and a summary";
+
+const EXPLAIN_EXAMPLES: &str =
+    "Below each fault: where its pages are, what a lost page looks like, or what the header says.
+After the last: how many faults there are, by code and by tree.
+
+Examples:
+  dbck explain notes.db             The first 100 faults of notes.db, explained, or 'ok'
+  dbck explain --limit 1 notes.db   The first fault, and the summary of all
+
+'dbck --help' lists the exit statuses.";
+
+const MAP_ABOUT: &str =
+    "Writes a picture of the pages, an SVG: each page in the colour of its tree";
+
+const MAP_EXAMPLES: &str =
+    "The picture is written to standard output, and no line of a fault. The status is that of check.
+
+Example:
+  dbck map notes.db > notes.svg  A picture for a browser
 
 'dbck --help' lists the exit statuses.";
 
@@ -95,15 +125,17 @@ fn file_arg<'a>(alloc: Global) -> Arg<'a>
         .help("The database file")
 }
 
-fn limit_arg<'a>(alloc: Global) -> Arg<'a>
-    ensures rule { rule_of result ≡ limit_rule }
+// The limit, from 1 to a greatest one.
+fn limit_arg<'a>(alloc: Global, most: u32, help: &'a str) -> Arg<'a>
+    requires { (1 ≤ most) × (most ≤ 1000000) }
+    ensures rule { rule_of result ≡ limit_rule most }
     ensures local { result.global ≡ false }
 {
     Arg::new(alloc, "N")
         .long("limit")
-        .value_parser(value_parser!(u32).range(1..1000001))
+        .value_parser(value_parser!(u32).range(1..i64::from(most) + 1))
         .default_value("100")
-        .help("How many fault lines are written at most, from 1 to 1000000")
+        .help(help)
 }
 
 // A flag, by its name behind two dashes.
@@ -133,11 +165,56 @@ fn described<'a>(alloc: Global, name: &'a str, about: &'a str, after: &'a str) -
     Words::new(alloc, name).about(about).after_help(after)
 }
 
+// A subcommand of this name that writes at most so many faults as its limit says.
+fn limited_command<'a>(
+    alloc: Global,
+    name: &'a str,
+    most: u32,
+    help: &'a str,
+    about: &'a str,
+    after: &'a str,
+) -> Result<Words<'a>, AllocError>
+    requires { (1 ≤ most) × (most ≤ 1000000) }
+    ensures { IfOk result (λ c. (app_of c ≡ limited_app name.entry.now most) × ((fields_of c).has_globals ≡ false)) }
+{
+    described(alloc, name, about, after)
+        .arg(limit_arg(alloc, most, help))?
+        .arg(no_progress_arg(alloc))?
+        .arg(file_arg(alloc))
+}
+
 fn check_command<'a>(alloc: Global) -> Result<Words<'a>, AllocError>
     ensures { IfOk result (λ c. (app_of c ≡ check_app) × ((fields_of c).has_globals ≡ false)) }
 {
-    described(alloc, "check", CHECK_ABOUT, CHECK_EXAMPLES)
-        .arg(limit_arg(alloc))?
+    let help = "How many fault lines are written at most, from 1 to 1000000";
+    limited_command(
+        alloc,
+        "check",
+        MOST_SHOWN,
+        help,
+        CHECK_ABOUT,
+        CHECK_EXAMPLES,
+    )
+}
+
+fn explain_command<'a>(alloc: Global) -> Result<Words<'a>, AllocError>
+    ensures { IfOk result (λ c. (app_of c ≡ explain_app) × ((fields_of c).has_globals ≡ false)) }
+{
+    let help = "How many faults are explained at most, from 1 to 10000";
+    limited_command(
+        alloc,
+        "explain",
+        MOST_EXPLAINED,
+        help,
+        EXPLAIN_ABOUT,
+        EXPLAIN_EXAMPLES,
+    )
+}
+
+fn map_command<'a>(alloc: Global) -> Result<Words<'a>, AllocError>
+    ensures { IfOk result (λ c. (app_of c ≡ map_app) × ((fields_of c).has_globals ≡ false)) }
+{
+    described(alloc, "map", MAP_ABOUT, MAP_EXAMPLES)
         .arg(no_progress_arg(alloc))?
         .arg(file_arg(alloc))
 }
@@ -166,36 +243,79 @@ fn dbck_command<'a>(alloc: Global) -> Result<Words<'a>, clap::Error>
         .version(VERSION)
         .subcommand_required(true)
         .subcommand(check_command(alloc)?)?
+        .subcommand(explain_command(alloc)?)?
+        .subcommand(map_command(alloc)?)?
         .subcommand(stat_command(alloc)?)?;
     Ok(command)
 }
 
-// The check that is asked for.
-fn check_of(given: &ArgMatches<'_>) -> Option<Command>
-    ensures named { IfSome result (λ command. name_of command ≡ codes "check") }
-    ensures limit { IfSome result HasLimit }
-    ensures value { IfSome result (λ command. IsLimitOf command (rows_of (found_of given.now))) }
-    ensures none { IfNone result ((limit : ℕ) → HasLimit (check limit) → IsLimitOf (check limit) (rows_of (found_of given.now)) → ⊥) }
-    ensures flags { IfSome result (λ command. HasFlags command (rows_of (found_of given.now))) }
+// The limit, from 1 to a greatest one.
+fn limit_of(given: &ArgMatches<'_>, most: u32) -> Option<u32>
+    ensures range { IfSome result (λ limit. IsLimit most limit) }
+    ensures value { IfSome result (λ limit. IsInRow limit (rows_of (found_of given.now))) }
+    ensures none { IfNone result ((limit : ℕ) → IsLimit most limit → IsInRow limit (rows_of (found_of given.now)) → ⊥) }
 {
     let limit = given.get_one::<u32>("N")?;
-    if limit < 1 || limit > 1000000 {
+    if limit < 1 || limit > most {
         return None;
     }
-    Some(Command::Check { limit })
+    Some(limit)
+}
+
+// The check that is asked for.
+fn check_of<'a>(given: &ArgMatches<'_>) -> Option<Request<'a>>
+    ensures named { IfSome result (λ request. name_of request ≡ codes "check") }
+    ensures limit { IfSome result HasLimit }
+    ensures value { IfSome result (λ request. IsLimitOf request (rows_of (found_of given.now))) }
+    ensures flags { IfSome result (λ request. HasFlags request (rows_of (found_of given.now))) }
+    ensures title { (file : Text) → IfSome result (λ request. IsNameOf request file) }
+    ensures none { IfNone result ((limit : ℕ) → IsLimit 1000000 limit → IsInRow limit (rows_of (found_of given.now)) → ⊥) }
+{
+    match limit_of(given, MOST_SHOWN) {
+        Some(limit) => Some(Request::Report(Command::Check { limit })),
+        None => None,
+    }
+}
+
+// The explanation that is asked for.
+fn explain_of<'a>(given: &ArgMatches<'_>) -> Option<Request<'a>>
+    ensures named { IfSome result (λ request. name_of request ≡ codes "explain") }
+    ensures limit { IfSome result HasLimit }
+    ensures value { IfSome result (λ request. IsLimitOf request (rows_of (found_of given.now))) }
+    ensures flags { IfSome result (λ request. HasFlags request (rows_of (found_of given.now))) }
+    ensures title { (file : Text) → IfSome result (λ request. IsNameOf request file) }
+    ensures none { IfNone result ((limit : ℕ) → IsLimit 10000 limit → IsInRow limit (rows_of (found_of given.now)) → ⊥) }
+{
+    match limit_of(given, MOST_EXPLAINED) {
+        Some(limit) => Some(Request::Explain { limit }),
+        None => None,
+    }
+}
+
+// A picture of the file at this path.
+fn map_of<'a>(file: &'a str) -> Request<'a>
+    ensures named { name_of result ≡ codes "map" }
+    ensures title { IsNameOf result file.entry.now }
+    ensures limit { HasLimit result }
+    ensures value { (rows : List Row) → IsLimitOf result rows }
+    ensures flags { (rows : List Row) → HasFlags result rows }
+{
+    let name = Path::new(file).file_name().unwrap_or(file);
+    Request::Map { name }
 }
 
 // The statistics that are asked for.
-fn stat_of(given: &ArgMatches<'_>) -> Command
+fn stat_of<'a>(given: &ArgMatches<'_>) -> Request<'a>
     ensures named { name_of result ≡ codes "stat" }
     ensures limit { HasLimit result }
     ensures value { IsLimitOf result (rows_of (found_of given.now)) }
     ensures flags { HasFlags result (rows_of (found_of given.now)) }
+    ensures title { (file : Text) → IsNameOf result file }
 {
-    Command::Stat {
+    Request::Report(Command::Stat {
         aggregate: given.get_flag("aggregate"),
         all: given.get_flag("all"),
-    }
+    })
 }
 
 // Whether progress is not turned off.
@@ -205,17 +325,20 @@ fn shows_progress(given: &ArgMatches<'_>) -> bool
     !given.get_flag("no-progress")
 }
 
-// What the subcommand that was met asks for.
-fn command_of(name: &str, given: &ArgMatches<'_>) -> Option<Command>
-    ensures named { IfSome result (λ command. name.now ≡ name_of command) }
+// What the subcommand that was met asks for, of the file at this path.
+fn request_of<'a>(name: &str, given: &ArgMatches<'_>, file: &'a str) -> Option<Request<'a>>
+    ensures named { IfSome result (λ request. name.now ≡ name_of request) }
     ensures limit { IfSome result HasLimit }
-    ensures value { IfSome result (λ command. IsLimitOf command (rows_of (found_of given.now))) }
-    ensures none { IfNone result ((command : command_type) → HasLimit command → name.now ≡ name_of command
-        → IsLimitOf command (rows_of (found_of given.now)) → ⊥) }
-    ensures flags { IfSome result (λ command. HasFlags command (rows_of (found_of given.now))) }
+    ensures value { IfSome result (λ request. IsLimitOf request (rows_of (found_of given.now))) }
+    ensures none { IfNone result ((request : request_type) → HasLimit request → name.now ≡ name_of request
+        → IsLimitOf request (rows_of (found_of given.now)) → ⊥) }
+    ensures flags { IfSome result (λ request. HasFlags request (rows_of (found_of given.now))) }
+    ensures title { IfSome result (λ request. IsNameOf request file.entry.now) }
 {
     match name {
         "check" => check_of(given),
+        "explain" => explain_of(given),
+        "map" => Some(map_of(file)),
         "stat" => Some(stat_of(given)),
         _ => None,
     }
@@ -228,8 +351,8 @@ fn command_of(name: &str, given: &ArgMatches<'_>) -> Option<Command>
 /// [`LineError::Words`] where they ask for help or the version, where they are no command line of the program, or for want
 /// of memory; its kind says which.
 pub fn line_of<'a>(alloc: Global, words: &'a [&'a str]) -> Result<Line<'a>, LineError>
-    ensures asks { IfOk result (λ line. AsksFor (subcommand_of dbck_app (map (λ word. word.now) words.entry.now)) line.command line.file.now) }
-    ensures limit { IfOk result (λ line. HasLimit line.command) }
+    ensures asks { IfOk result (λ line. AsksFor (subcommand_of dbck_app (map (λ word. word.now) words.entry.now)) line.request line.file.now) }
+    ensures limit { IfOk result (λ line. HasLimit line.request) }
     ensures progress { IfOk result (λ line. IsProgressOf line.progress (subcommand_of dbck_app (map (λ word. word.now) words.entry.now))) }
     // Only words in which the parser finds no fault are taken, and its fault is why others are not.
     ensures taken { IfOk result (λ line. fault_of dbck_app (map (λ word. word.now) words.entry.now) ≡ []) }
@@ -243,9 +366,9 @@ pub fn line_of<'a>(alloc: Global, words: &'a [&'a str]) -> Result<Line<'a>, Line
     let Some(file) = given.get_str("FILE") else {
         return Err(LineError::Limit);
     };
-    match command_of(name, given) {
-        Some(command) => Ok(Line {
-            command,
+    match request_of(name, given, file) {
+        Some(request) => Ok(Line {
+            request,
             file,
             progress: shows_progress(given),
         }),

@@ -8,16 +8,18 @@ ghost use Rattle.dbsource.specs.Headers.{IsOpenLog};
 ghost use Rattle.dbsource.specs.Snapshots.{HasRead};
 ghost use Rattle.dbsource.specs.Sources.{HasRanges};
 ghost use Rattle.dbsource.specs.declared.error.OpenError.TheVariants.{Refused};
-ghost use Rattle.dbreport.specs.Runs.{IsCheck, IsUnwritten};
+ghost use Rattle.dbreport.specs.Runs.{IsUnwritten};
 ghost use Rattle.dbcli.specs.Exit.{HasFailed, IsFinishOf, IsHandedOn, IsHandedOnOrFailed, IsKnown, PutsLine};
 ghost use Rattle.dbcli.specs.Exit.{failures_at_4, first_most, second_most};
 ghost use Rattle.dbcli.specs.Handing.{IsHanded};
+ghost use Rattle.dbcli.specs.Requests.{WritesToFirst};
 ghost use Rattle.dbcli.specs.Status.{exit_status};
 ghost use Rattle.dbsource.specs.Failures.{failures_after, is_any};
 
+use crate::request::{Request, run_request};
 use crate::status::status_of;
 use arrayvec::ArrayString;
-use dbreport::{Command, Verdict, run};
+use dbreport::Verdict;
 use dbsource::{Out, ReadFailed, RunError, Source, WriteFailed};
 use std::alloc::Global;
 use std::fmt::Write;
@@ -97,12 +99,12 @@ pub fn hand_on<O: Out, E: Out>(
     }
 }
 
-/// Runs `command` on the source, and answers the exit status. What was put to `out` and then what was put to `err` is handed
+/// Does what is asked on the source, and answers the exit status. What was put to `out` and then what was put to `err` is handed
 /// on before the status is decided. After an error that is tried of `out`, unless the file is refused; then the line of the
 /// error is put to `err`, if that can be, and handed on, if that can be.
 pub fn finish_opened<S: Source, O: Out, E: Out, N: Notes>(
     alloc: Global,
-    command: Command,
+    request: Request<'_>,
     source: &mut S,
     out: &mut O,
     err: &mut E,
@@ -112,7 +114,8 @@ pub fn finish_opened<S: Source, O: Out, E: Out, N: Notes>(
     // used; and of each such file this was the run, and the status says what became of it. No page is asked for twice, but page 1
     // behind its header.
     ensures read { HasRead S.step S.lengths IsSomeRunLog
-        (λ file ranges. IsRunLog (geometry file) ranges × IsFinishOf result command file (O.held out.old) (O.held out.new) (E.held err.old) (E.held err.new))
+        (λ file ranges. IsRunLog (geometry file) ranges
+        × IsFinishOf result request.entry file (O.held out.old) (O.held out.new) (E.held err.old) (E.held err.new))
         (S.held source.old) (S.held source.new) }
     // The source failed, once, exactly where the status is 4.
     ensures unread { (S.held source.new).failures ≡ failures_at_4 result (S.held source.old).failures }
@@ -127,20 +130,20 @@ pub fn finish_opened<S: Source, O: Out, E: Out, N: Notes>(
     ensures first { 4 ≤ result → IsHandedOnOrFailed (first_most result) (O.held out.old) (O.held out.new) }
     ensures second { 3 ≤ result → IsHandedOnOrFailed (second_most result) (E.held err.old) (E.held err.new) }
     ensures failed { result ≡ 6 → HasFailed (O.held out.old) (O.held out.new) ⊎ HasFailed (E.held err.old) (E.held err.new) }
-    // Of a check the second Out gets the line of an error at most, and nothing beside a verdict.
-    ensures line { IsCheck command → PutsLine (E.held err.old) (E.held err.new) }
-    ensures quiet { IsCheck command → result ≤ 1 → Keeps (E.held err.old).bytes (E.held err.new).bytes }
+    // Of a check, an explanation or a map the second Out gets the line of an error at most, and nothing beside a verdict.
+    ensures line { WritesToFirst request.entry → PutsLine (E.held err.old) (E.held err.new) }
+    ensures quiet { WritesToFirst request.entry → result ≤ 1 → Keeps (E.held err.old).bytes (E.held err.new).bytes }
 {
-    let outcome = run(alloc, command, source, out, err);
+    let outcome = run_request(alloc, request, source, out, err);
     let outcome = hand_on(out, err, outcome);
     end(err, outcome, notes)
 }
 
-/// Runs `command` on the file that was opened, as [`finish_opened`], or that could not be, and answers the exit status. Where
+/// Does what is asked on the file that was opened, as [`finish_opened`], or that could not be, and answers the exit status. Where
 /// it could not be opened the line of the error is put to `err`, and `out` is left alone.
 pub fn finish<S: Source + Drop, O: Out, E: Out, N: Notes>(
     alloc: Global,
-    command: Command,
+    request: Request<'_>,
     opened: Result<S, ReadFailed>,
     out: &mut O,
     err: &mut E,
@@ -148,7 +151,8 @@ pub fn finish<S: Source + Drop, O: Out, E: Out, N: Notes>(
 ) -> u8
     // What the source was left as is some state of it, in which it had failed, once, exactly where the status is 4.
     ensures opened { IfOk opened (λ source. (left : S) × HasRead S.step S.lengths IsSomeRunLog
-        (λ file ranges. IsRunLog (geometry file) ranges × IsFinishOf result command file (O.held out.old) (O.held out.new) (E.held err.old) (E.held err.new))
+        (λ file ranges. IsRunLog (geometry file) ranges
+        × IsFinishOf result request.entry file (O.held out.old) (O.held out.new) (E.held err.old) (E.held err.new))
         (S.held source) (S.held left) × ((S.held left).failures ≡ failures_at_4 result (S.held source).failures)) }
     ensures statuses { IsKnown result }
     ensures whole { result ≤ 1
@@ -157,13 +161,13 @@ pub fn finish<S: Source + Drop, O: Out, E: Out, N: Notes>(
     ensures first { IsOk opened → 4 ≤ result → IsHandedOnOrFailed (first_most result) (O.held out.old) (O.held out.new) }
     ensures second { 3 ≤ result → IsHandedOnOrFailed (second_most result) (E.held err.old) (E.held err.new) }
     ensures failed { result ≡ 6 → HasFailed (O.held out.old) (O.held out.new) ⊎ HasFailed (E.held err.old) (E.held err.new) }
-    ensures line { IsCheck command → PutsLine (E.held err.old) (E.held err.new) }
-    ensures quiet { IsCheck command → result ≤ 1 → Keeps (E.held err.old).bytes (E.held err.new).bytes }
+    ensures line { WritesToFirst request.entry → PutsLine (E.held err.old) (E.held err.new) }
+    ensures quiet { WritesToFirst request.entry → result ≤ 1 → Keeps (E.held err.old).bytes (E.held err.new).bytes }
     // Where no file was opened.
     ensures unopened { IsErr opened → (result ≡ 4) × (out.new ≡ out.old) × PutsLine (E.held err.old) (E.held err.new) }
 {
     match opened {
-        Ok(mut source) => finish_opened(alloc, command, &mut source, out, err, notes),
+        Ok(mut source) => finish_opened(alloc, request, &mut source, out, err, notes),
         Err(error) => end(err, Err(RunError::from(error)), notes),
     }
 }

@@ -2,8 +2,8 @@
 ghost use Rattle.std.specs.Prelude.{◌≡◌, ◌≤◌, ◌⊎◌, [], IfErr, IfOk, OnErr, map};
 ghost use Rattle.clap.specs.Words.{fault_of};
 ghost use Rattle.dbcli.specs.CommandLine.{IsErrorOf, dbck_app};
-ghost use Rattle.dbreport.specs.Runs.{IsCheck};
 ghost use Rattle.dbcli.specs.Exit.{IsHandedOn, IsKnown, PutsLine};
+ghost use Rattle.dbcli.specs.Requests.{WritesToFirst};
 ghost use Rattle.dbcli.specs.Status.{line_status};
 
 use crate::command_line::{Line, LineError, line_of, shown_error};
@@ -31,7 +31,7 @@ pub fn run_line<R: Files<File = File> + AllocGlobal, O: Out, E: Out, N: Out, W: 
     ensures whole { result ≤ 1
         → IsHandedOn (O.held out.old) (O.held out.new) × IsHandedOn (E.held err.old) (E.held err.new) }
     ensures unwritten { result ≡ 3 → out.new ≡ out.old }
-    ensures line { IsCheck line.entry.command → PutsLine (E.held err.old) (E.held err.new) }
+    ensures line { WritesToFirst line.entry.request → PutsLine (E.held err.old) (E.held err.new) }
 {
     let watch = Watch::new();
     let mut notes = FileNotes::new(rt, line.file, &watch, notes);
@@ -43,7 +43,7 @@ pub fn run_line<R: Files<File = File> + AllocGlobal, O: Out, E: Out, N: Out, W: 
         progress.turn_off();
     }
     let opened = opened.map(|source| Watched::new(source, &watch, progress));
-    let status = finish(rt.alloc(), line.command, opened, out, err, &mut notes);
+    let status = finish(rt.alloc(), line.request, opened, out, err, &mut notes);
     progress.wipe();
     status
 }

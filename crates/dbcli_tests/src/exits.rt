@@ -1,6 +1,6 @@
 // The exit status of a run, and what stands in the outs.
 use crate::no_notes::NoNotes;
-use dbcli::finish;
+use dbcli::{Request, finish};
 use dbfiles::{TestFile, patch};
 use dbreport::Command;
 use dbsource::{BufferedOut, Failures, MemOut, MemSource, Out, ReadFailed, Source, WriteFailed};
@@ -65,11 +65,11 @@ fn finishes(rt: HostRuntime) -> Result<(), Fail> {
         patch(file.as_mut_slice(), at, &[byte]);
         let mut out = BufferedOut::new(rt.alloc(), Vec::new(rt.alloc()))?;
         let mut err = MemOut::new(rt.alloc());
-        let command = Command::Check { limit: 100 };
+        let request = Request::Report(Command::Check { limit: 100 });
         let opened = Ok(MemSource::new(file.as_slice()));
         let found = finish(
             rt.alloc(),
-            command,
+            request,
             opened,
             &mut out,
             &mut err,
@@ -78,6 +78,38 @@ fn finishes(rt: HostRuntime) -> Result<(), Fail> {
         assert!(rt; found == status, "byte {at}");
         assert!(rt; out.writer().as_slice() == written.as_bytes(), "byte {at}");
         assert!(rt; err.bytes() == told.as_bytes(), "byte {at}");
+    }
+    Ok(())
+}
+
+// A map of each of these files has the status of its check and tells the same; what it writes is a picture, or nothing.
+#[test]
+fn finishes_maps(rt: HostRuntime) -> Result<(), Fail> {
+    for (at, byte, status, _, told) in RUNS {
+        let mut file = TestFile::new(rt.alloc(), 512, 1)?.into_bytes();
+        patch(file.as_mut_slice(), at, &[byte]);
+        let mut out = BufferedOut::new(rt.alloc(), Vec::new(rt.alloc()))?;
+        let mut err = MemOut::new(rt.alloc());
+        let request = Request::Map { name: "a.db" };
+        let opened = Ok(MemSource::new(file.as_slice()));
+        let found = finish(
+            rt.alloc(),
+            request,
+            opened,
+            &mut out,
+            &mut err,
+            &mut NoNotes,
+        );
+        assert!(rt; found == status, "byte {at}");
+        assert!(rt; err.bytes() == told.as_bytes(), "byte {at}");
+        let written = str::from_utf8(out.writer().as_slice()).unwrap_or("");
+        let is_picture = written.starts_with("<svg xmlns=") && written.ends_with("</svg>\n");
+        assert!(rt; is_picture == (status < 2), "byte {at}");
+        assert!(rt;
+            is_picture == written.contains("<title>Pages of a.db</title>"),
+            "byte {at}"
+        );
+        assert!(rt; is_picture || out.writer().is_empty(), "byte {at}");
     }
     Ok(())
 }
@@ -174,11 +206,11 @@ fn finishes_statistics(rt: HostRuntime) -> Result<(), Fail> {
         patch(file.as_mut_slice(), at, &[byte]);
         let mut out = BufferedOut::new(rt.alloc(), Vec::new(rt.alloc()))?;
         let mut err = MemOut::new(rt.alloc());
-        let command = Command::Stat { aggregate, all };
+        let request = Request::Report(Command::Stat { aggregate, all });
         let opened = Ok(MemSource::new(file.as_slice()));
         let found = finish(
             rt.alloc(),
-            command,
+            request,
             opened,
             &mut out,
             &mut err,
@@ -198,15 +230,15 @@ fn finishes_statistics_without_room(rt: HostRuntime) -> Result<(), Fail> {
         let file = TestFile::new(rt.alloc(), 512, pages)?.into_bytes();
         let mut out = BufferedOut::new(rt.alloc(), Vec::new(rt.alloc()))?;
         let mut no_room = NoRoom::new();
-        let command = Command::Stat {
+        let request = Request::Report(Command::Stat {
             aggregate: false,
             all: false,
-        };
+        });
         let opened = Ok(MemSource::new(file.as_slice()));
         assert!(rt;
             finish(
                 rt.alloc(),
-                command,
+                request,
                 opened,
                 &mut out,
                 &mut no_room,
@@ -224,14 +256,14 @@ fn finishes_statistics_without_room(rt: HostRuntime) -> Result<(), Fail> {
 // A file that is not opened, or has no bytes; a second out that takes nothing changes no status.
 #[test]
 fn finishes_without_file(rt: HostRuntime) -> Result<(), Fail> {
-    let command = Command::Check { limit: 100 };
+    let request = Request::Report(Command::Check { limit: 100 });
     let mut out = BufferedOut::new(rt.alloc(), Vec::new(rt.alloc()))?;
     let mut err = MemOut::new(rt.alloc());
     let missing: Result<MemSource<'_>, ReadFailed> = Err(ReadFailed);
     assert!(rt;
         finish(
             rt.alloc(),
-            command,
+            request,
             missing,
             &mut out,
             &mut err,
@@ -245,7 +277,7 @@ fn finishes_without_file(rt: HostRuntime) -> Result<(), Fail> {
     assert!(rt;
         finish(
             rt.alloc(),
-            command,
+            request,
             empty,
             &mut out,
             &mut NoRoom::new(),
@@ -261,11 +293,14 @@ fn finishes_without_file(rt: HostRuntime) -> Result<(), Fail> {
 fn finishes_on_a_full_disk(rt: HostRuntime) -> Result<(), Fail> {
     let file = TestFile::new(rt.alloc(), 512, 1)?.into_bytes();
     let row = "sqlite_schema\t/\t1\tleaf\t0\t0\t404\t0\t0\t512\n";
-    let rows = Command::Stat {
+    let rows = Request::Report(Command::Stat {
         aggregate: false,
         all: false,
-    };
-    for (command, text) in [(Command::Check { limit: 100 }, "ok\n"), (rows, row)] {
+    });
+    for (request, text) in [
+        (Request::Report(Command::Check { limit: 100 }), "ok\n"),
+        (rows, row),
+    ] {
         for room in 0..text.len() + 1 {
             let mut disk = [0u8; 64];
             assert!(rt; room <= disk.len());
@@ -274,7 +309,7 @@ fn finishes_on_a_full_disk(rt: HostRuntime) -> Result<(), Fail> {
             let opened = Ok(MemSource::new(file.as_slice()));
             let found = finish(
                 rt.alloc(),
-                command,
+                request,
                 opened,
                 &mut out,
                 &mut err,
@@ -338,10 +373,10 @@ fn hands_on_before_an_error(rt: HostRuntime) -> Result<(), Fail> {
         100,
         &[5, 0, 0, 0, 0, 2, 0, 0, 0, 0, 0, 2],
     );
-    let command = Command::Stat {
+    let request = Request::Report(Command::Stat {
         aggregate: false,
         all: false,
-    };
+    });
     let row = "sqlite_schema\t/\t1\tinternal\t0\t0\t400\t0\t0\t512\n";
     for (reads, written) in [(0, ""), (1, ""), (2, row)] {
         let mut out = BufferedOut::new(rt.alloc(), Vec::new(rt.alloc()))?;
@@ -351,7 +386,7 @@ fn hands_on_before_an_error(rt: HostRuntime) -> Result<(), Fail> {
             reads,
             failures: Failures::new(),
         });
-        assert!(rt; finish(rt.alloc(), command, torn, &mut out, &mut err, &mut NoNotes) == 4);
+        assert!(rt; finish(rt.alloc(), request, torn, &mut out, &mut err, &mut NoNotes) == 4);
         assert!(rt;
             out.writer().as_slice() == written.as_bytes(),
             "{reads} reads"

@@ -1,12 +1,12 @@
 // What a flush that fails makes of the exit status, and what is handed on before it is decided.
 use crate::no_notes::NoNotes;
-use dbcli::{end, finish, hand_on};
+use dbcli::{Request, end, finish, hand_on};
 use dbfiles::TestFile;
 use dbreport::Command;
 use dbsource::{BufferedOut, Failures, MemOut, MemSource, Out, ReadFailed, RunError, WriteFailed};
 use std::test::Fail;
 
-const CHECK: Command = Command::Check { limit: 100 };
+const CHECK: Request = Request::Report(Command::Check { limit: 100 });
 
 // An out that hands nothing on. It counts its flushes.
 #[derive(Drop)]

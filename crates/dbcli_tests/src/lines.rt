@@ -1,5 +1,5 @@
 // Lines that are taken, and lines that are not, with the texts of help.
-use dbcli::{LineError, line_of, line_status};
+use dbcli::{LineError, Request, line_of, line_status};
 use dbreport::Command;
 use std::test::Fail;
 
@@ -8,9 +8,11 @@ const HELP: &str = "Checks the structure of a SQLite 3 database file, which it o
 Usage: dbck <COMMAND>
 
 Commands:
-  check  Writes a line for each fault of the file, or 'ok'
-  stat   Writes a row for each page of a tree, and the faults to standard error
-  help   Print this message or the help of the given subcommand(s)
+  check    Writes a line for each fault of the file, or 'ok'
+  explain  Writes the faults as check does, with the tree and the place of each page, and a summary
+  map      Writes a picture of the pages, an SVG: each page in the colour of its tree
+  stat     Writes a row for each page of a tree, and the faults to standard error
+  help     Print this message or the help of the given subcommand(s)
 
 Options:
   -h, --help     Print help
@@ -42,6 +44,48 @@ Examples:
   dbck check notes.db            The first 100 faults of notes.db, or 'ok'
   dbck check --limit 1 notes.db  The first fault, and how many more there are
   dbck check -- -notes.db        A file whose name begins with '-'
+
+'dbck --help' lists the exit statuses.
+";
+
+const EXPLAIN_HELP: &str =
+    "Writes the faults as check does, with the tree and the place of each page, and a summary
+
+Usage: dbck explain [OPTIONS] <FILE>
+
+Arguments:
+  <FILE>  The database file
+
+Options:
+      --limit <N>    How many faults are explained at most, from 1 to 10000 [default: 100]
+      --no-progress  Show no progress where standard error is a terminal
+  -h, --help         Print help
+
+Below each fault: where its pages are, what a lost page looks like, or what the header says.
+After the last: how many faults there are, by code and by tree.
+
+Examples:
+  dbck explain notes.db             The first 100 faults of notes.db, explained, or 'ok'
+  dbck explain --limit 1 notes.db   The first fault, and the summary of all
+
+'dbck --help' lists the exit statuses.
+";
+
+const MAP_HELP: &str = "Writes a picture of the pages, an SVG: each page in the colour of its tree
+
+Usage: dbck map [OPTIONS] <FILE>
+
+Arguments:
+  <FILE>  The database file
+
+Options:
+      --no-progress  Show no progress where standard error is a terminal
+  -h, --help         Print help
+
+The picture is written to standard output, and no line of a fault. The status is that of check.
+
+Example:
+  dbck map notes.db > notes.svg  A picture for a browser
 
 'dbck --help' lists the exit statuses.
 ";
@@ -84,7 +128,7 @@ fn takes_lines(rt: HostRuntime) -> Result<(), Fail> {
     for (words, limit, file) in lines {
         match line_of(rt.alloc(), words) {
             Ok(line) => {
-                assert!(rt; line.command == Command::Check { limit });
+                assert!(rt; line.request == Request::Report(Command::Check { limit }));
                 assert!(rt; line.file == file);
                 assert!(rt; line.progress != words.contains(&"--no-progress"));
             }
@@ -130,7 +174,7 @@ fn takes_statistics(rt: HostRuntime) -> Result<(), Fail> {
     for (words, aggregate, all, file) in lines {
         match line_of(rt.alloc(), words) {
             Ok(line) => {
-                assert!(rt; line.command == Command::Stat { aggregate, all });
+                assert!(rt; line.request == Request::Report(Command::Stat { aggregate, all }));
                 assert!(rt; line.file == file);
                 assert!(rt; line.progress != words.contains(&"--no-progress"));
             }
@@ -140,13 +184,60 @@ fn takes_statistics(rt: HostRuntime) -> Result<(), Fail> {
     Ok(())
 }
 
+// Lines of explanations: the limit that they ask for.
+#[test]
+fn takes_explanations(rt: HostRuntime) -> Result<(), Fail> {
+    let lines: [(&[&str], u32); 4] = [
+        (&["dbck", "explain", "x"], 100),
+        (&["dbck", "explain", "--limit", "1", "x"], 1),
+        (&["dbck", "explain", "x", "--limit=10000"], 10000),
+        (&["dbck", "explain", "--no-progress", "x"], 100),
+    ];
+    for (words, limit) in lines {
+        match line_of(rt.alloc(), words) {
+            Ok(line) => {
+                assert!(rt; line.request == Request::Explain { limit });
+                assert!(rt; line.progress != words.contains(&"--no-progress"));
+            }
+            Err(_) => assert!(rt; false, "an explanation of limit {limit}"),
+        }
+    }
+    Ok(())
+}
+
+// Lines of pictures: the file, and the name that it has in the picture.
+#[test]
+fn takes_maps(rt: HostRuntime) -> Result<(), Fail> {
+    let lines: [(&[&str], &str, &str); 6] = [
+        (&["dbck", "map", "x"], "x", "x"),
+        (&["dbck", "map", "/srv/a b/x.db"], "/srv/a b/x.db", "x.db"),
+        (&["dbck", "map", "--no-progress", "../x"], "../x", "x"),
+        (&["dbck", "map", "--", "-x"], "-x", "-x"),
+        (&["dbck", "map", ".."], "..", ".."),
+        (&["dbck", "map", ""], "", ""),
+    ];
+    for (words, file, name) in lines {
+        match line_of(rt.alloc(), words) {
+            Ok(line) => {
+                assert!(rt; line.request == Request::Map { name });
+                assert!(rt; line.file == file);
+                assert!(rt; line.progress != words.contains(&"--no-progress"));
+            }
+            Err(_) => assert!(rt; false, "a line of a picture"),
+        }
+    }
+    Ok(())
+}
+
 // Lines that are not: the status, and how the text begins.
 #[test]
 fn refuses_lines(rt: HostRuntime) -> Result<(), Fail> {
-    let lines: [(&[&str], u8, &str); 22] = [
+    let lines: [(&[&str], u8, &str); 28] = [
         (&["dbck", "--help"], 0, HELP),
         (&["dbck", "help"], 0, HELP),
         (&["dbck", "check", "--help"], 0, CHECK_HELP),
+        (&["dbck", "explain", "--help"], 0, EXPLAIN_HELP),
+        (&["dbck", "map", "--help"], 0, MAP_HELP),
         (&["dbck", "stat", "--help"], 0, STAT_HELP),
         (&["dbck", "help", "stat"], 0, STAT_HELP),
         (&["dbck", "--version"], 0, "dbck 0.1.0\n"),
@@ -220,6 +311,26 @@ fn refuses_lines(rt: HostRuntime) -> Result<(), Fail> {
             &["dbck", "check", "--all", "x"],
             2,
             "error: unexpected argument '--all' found\n",
+        ),
+        (
+            &["dbck", "explain", "--limit", "10001", "x"],
+            2,
+            "error: invalid value '10001' for '--limit <N>'",
+        ),
+        (
+            &["dbck", "explain", "--all", "x"],
+            2,
+            "error: unexpected argument '--all' found\n",
+        ),
+        (
+            &["dbck", "map"],
+            2,
+            "error: the following required arguments were not provided:\n  <FILE>\n",
+        ),
+        (
+            &["dbck", "map", "--limit", "1", "x"],
+            2,
+            "error: unexpected argument '--limit' found\n",
         ),
         (
             &["dbck", "repair", "x"],

@@ -1,6 +1,6 @@
 // Rows and faults in one log, as of `dbck stat FILE > log 2>&1`.
 use crate::no_notes::NoNotes;
-use dbcli::finish;
+use dbcli::{Request, finish};
 use dbfiles::{TestFile, patch};
 use dbreport::Command;
 use dbsource::{BufferedOut, MemSource, StreamOut};
@@ -114,10 +114,10 @@ fn tall_text(alloc: Global) -> Result<String, AllocError> {
     Ok(text)
 }
 
-const ALL: Command = Command::Stat {
+const ALL: Request = Request::Report(Command::Stat {
     aggregate: false,
     all: true,
-};
+});
 
 // 3,979 faults, and more than 65536 bytes of rows with no fault between: each line is whole, and each in its place.
 #[test]
@@ -150,10 +150,10 @@ fn rows_and_faults_keep_their_order(rt: HostRuntime) -> Result<(), Fail> {
 fn rows_of_trees_stand_behind_their_faults(rt: HostRuntime) -> Result<(), Fail> {
     let mut file = TestFile::new(rt.alloc(), 512, 2)?.into_bytes();
     put_interior(file.as_mut_slice(), 1, 100, 2, 1);
-    let command = Command::Stat {
+    let request = Request::Report(Command::Stat {
         aggregate: true,
         all: true,
-    };
+    });
     let log = RefCell::new(Vec::new(rt.alloc()));
     let mut out = BufferedOut::new(rt.alloc(), Shared { log: &log })?;
     let mut err = BufferedOut::new(rt.alloc(), Shared { log: &log })?;
@@ -161,7 +161,7 @@ fn rows_of_trees_stand_behind_their_faults(rt: HostRuntime) -> Result<(), Fail> 
     assert!(rt;
         finish(
             rt.alloc(),
-            command,
+            request,
             opened,
             &mut out,
             &mut err,

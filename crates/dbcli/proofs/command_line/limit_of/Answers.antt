@@ -3,8 +3,8 @@ use Rattle.clap.proofs.WalkLemmas.{one_text-rows}
 use Rattle.clap.specs.Words.{found_of, one_of, rows_of}
 use Rattle.std.specs.Str.Parse.{digits_value, without_leading_plus}
 use Rattle.dbcli.proofs.Limits.{limit_of_row}
-use Rattle.dbcli.proofs.command_line.check_of.Goals as goal
-use Rattle.dbcli.proofs.command_line.check_of.Goals.{then-limit-lt1-via-then-limit-lt1, then-limit-lt1-via-else-limit-lt1+then-limit-gt1000000}
+use Rattle.dbcli.proofs.command_line.limit_of.Goals as goal
+use Rattle.dbcli.proofs.command_line.limit_of.Goals.{then-limit-lt1-via-then-limit-lt1, then-limit-lt1-via-else-limit-lt1+then-limit-most}
 
 pub returns-clause-value : goal.returns-clause-value
 returns-clause-value c =
@@ -29,5 +29,5 @@ returns-then-limit-lt1-clause-none c = λ limit range h.
     let most = range.1 in
     elim c.then-limit-lt1.branch [
       | then-limit-lt1-via-then-limit-lt1 w ↦ let less = w.if-limit-lt1 in absurd (omega arith)
-      | then-limit-lt1-via-else-limit-lt1+then-limit-gt1000000 w ↦ let more = w.if-limit-gt1000000 in absurd (omega arith)
+      | then-limit-lt1-via-else-limit-lt1+then-limit-most w ↦ let more = w.if-limit-most in absurd (omega arith)
     ]

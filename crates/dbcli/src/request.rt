@@ -1,0 +1,55 @@
+// What is asked of a file, and the run that answers it.
+ghost use Rattle.std.specs.Prelude.{◌≡◌};
+ghost use Rattle.dbformat.specs.File.{geometry};
+ghost use Rattle.dbformat.specs.Log.{IsRunLog, IsSomeRunLog};
+ghost use Rattle.dbreport.specs.Runs.{IsLeftAlone};
+ghost use Rattle.dbreport.specs.StatSink.{failures_of_each};
+ghost use Rattle.dbsource.specs.Errors.{is_read_failed, is_write_failed};
+ghost use Rattle.dbsource.specs.Failures.{CountsAfter, failures_after};
+ghost use Rattle.dbsource.specs.Snapshots.{HasRead};
+ghost use Rattle.dbcli.specs.Requests.{IsRunFor, WritesToFirst};
+
+use dbexplain::explain;
+use dbmap::map;
+use dbreport::{Command, Verdict, run};
+use dbsource::{Out, RunError, Source};
+use std::alloc::Global;
+
+/// What is asked of a file.
+#[derive(Clone, Copy, Debug, PartialEq, Eq)]
+pub enum Request<'a> {
+    /// Its faults, or its rows.
+    Report(Command),
+    /// The first so many faults, from 1 to 10000, with what is known of their pages, and how many there are of each kind.
+    Explain { limit: u32 },
+    /// A picture of its pages, under this name.
+    Map { name: &'a str },
+}
+
+/// Does what is asked of the file that `source` gives, as [`run`], [`explain`] and [`map`] do.
+///
+/// # Errors
+///
+/// As of these.
+pub(crate) fn run_request<S: Source, O: Out, E: Out>(
+    alloc: Global,
+    request: Request<'_>,
+    source: &mut S,
+    out: &mut O,
+    err: &mut E,
+) -> Result<Verdict, RunError>
+    ensures read { HasRead S.step S.lengths IsSomeRunLog
+        (λ file ranges. IsRunLog (geometry file) ranges × IsRunFor request.entry file result
+        (O.held out.old).bytes (O.held out.new).bytes (E.held err.old).bytes (E.held err.new).bytes) (S.held source.old) (S.held source.new) }
+    ensures reads { (S.held source.new).failures ≡ failures_after is_read_failed result (S.held source.old).failures }
+    ensures writes { CountsAfter is_write_failed result (failures_of_each (O.held out.old) (E.held err.old))
+        (failures_of_each (O.held out.new) (E.held err.new)) }
+    ensures refused { IsLeftAlone S.Source O.Out E.Out result (source.old, out.old, err.old) (source.new, out.new, err.new) }
+    ensures second { WritesToFirst request.entry → err.new ≡ err.old }
+{
+    match request {
+        Request::Report(command) => run(alloc, command, source, out, err),
+        Request::Explain { limit } => explain(alloc, limit, source, out),
+        Request::Map { name } => map(alloc, name, source, out),
+    }
+}
