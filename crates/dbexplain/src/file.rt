@@ -21,7 +21,7 @@ use crate::lines::put_report;
 use crate::sink::ExplainSink;
 use dbformat::Verdict;
 use dbowner::{PageTrees, Tally};
-use dbscan::{Desk, SchemaWatch, tell_end, tell_header, walk_starts};
+use dbscan::{Desk, scan};
 use dbsource::{Out, RunError, Source};
 use std::alloc::Allocator;
 
@@ -39,14 +39,9 @@ fn gather<A: Allocator, S: Source>(
         is_read_failed result (S.held source.old) (S.held source.new) }
     ensures only { IfErr result (λ e. (e ≡ ReadFailed) ⊎ (e ≡ OutOfMemory)) }
 {
-    let mut sink = ExplainSink::new(tally);
-    tell_header(desk.header(), &mut sink)?;
-    sink.begin_walks();
-    let mut watch = SchemaWatch::new(sink);
-    walk_starts(desk, source, &mut watch)?;
-    watch.sink.end_walks();
-    tell_end(desk, source, watch.has_rows, &mut watch.sink)?;
-    Ok(watch.sink.into_tally())
+    let mut sink = ExplainSink { tally };
+    scan(desk, source, &mut sink)?;
+    Ok(sink.tally)
 }
 
 /// Writes the first faults of a file, so many at most, each with what is known of its pages, how many more there are, and a

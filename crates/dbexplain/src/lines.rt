@@ -16,9 +16,8 @@ ghost use Rattle.dbscan.specs.Looks.{IsUnmarked, ReadsRising};
 ghost use Rattle.dbexplain.specs.Lines.{IsDeskOf, IsLook, is_lost_mark};
 
 use dbformat::{Fault, Verdict};
-use dblines::{put_fault, put_ok};
+use dblines::{put_fault, put_ok, put_rest};
 use dbowner::{Owners, PageTrees, Tally, put_look};
-use dbreport::put_rest;
 use dbscan::Desk;
 use dbsource::{Out, RunError, Source, WriteFailed};
 use dbwalk::Mark;

@@ -7,5 +7,5 @@ mod lines;
 mod pieces;
 
 pub use codes::{code_text, code_words};
-pub use lines::{put_fault, put_more, put_ok};
+pub use lines::{put_fault, put_ok, put_rest};
 pub use pieces::{append, append_number};

@@ -1,9 +1,8 @@
 -- What a map's sink has counted, by what it was told.
-use Rattle.std.proofs.Common.{◌≡◌, ℕ, suc, ◌+◌, ◌-◌, ◌^◌, ◌≤◌, ◌<◌, false, cond, List, [], ◌∷◌, ◌++◌, length, Result, Ok, Err, refl, sym, ap, ◌∙◌, subst, arith}
-use Rattle.std.specs.Prelude.{OnOk, ◌==◌}
+use Rattle.std.proofs.Common.{◌≡◌, ℕ, suc, ◌+◌, ◌-◌, ◌^◌, ◌≤◌, ◌<◌, false, cond, List, [], ◌∷◌, length, Err, refl, sym, ap, ◌∙◌, subst, arith}
+use Rattle.std.specs.Prelude.{◌==◌}
 use Rattle.std.proofs.lemmas.Bool.Decides.{nat_tests}
 use Rattle.dbsurvey.specs.Moves.{Moves}
-use Rattle.dbformat.specs.HeaderFaults.{header_faults}
 use Rattle.dbformat.specs.Lines.{counted}
 use Rattle.dbformat.specs.Reference.{Reference}
 use Rattle.dbformat.specs.Report.{faults, verdict}
@@ -12,16 +11,13 @@ use Rattle.dbformat.specs.declared.Fault.{Fault}
 use Rattle.dbformat.specs.declared.Verdict.TheVariants.{Clean, Faulty}
 use Rattle.dbsource.specs.Errors.{is_write_failed}
 use Rattle.dbsource.specs.Failures.{failures_after}
-use Rattle.dbsource.specs.HeaderBytes.{HeaderBytes}
-use Rattle.dbsource.specs.Headers.{IsHeaderOf}
 use Rattle.dbsource.specs.declared.error.RunError.{RunError}
 use Rattle.dbsource.specs.declared.error.RunError.TheVariants.{ReadFailed, WriteFailed, OutOfMemory, Refused}
 use Rattle.dbtrace.specs.Finding.{Finding, told_row, told_fault}
-use Rattle.dbwalk.specs.Telling.{SinkAfter, Tells, findings}
+use Rattle.dbwalk.specs.Telling.{SinkAfter}
 use Rattle.dbscan.specs.Findings.{faults_in}
-use Rattle.dbscan.specs.RunItems.{run_items, walk_items}
-use Rattle.dbscan.proofs.RunTold.{header_items, run_faults}
-use Rattle.dbscan.proofs.EndItems.{tells_then}
+use Rattle.dbscan.specs.RunItems.{run_items}
+use Rattle.dbscan.proofs.RunTold.{run_faults}
 use Rattle.dbmap.specs.MapSink.{Notes, quiet, verdict_of}
 use Rattle.dbmap.specs.declared.map_sink.MapSink.{MapSink}
 
@@ -54,21 +50,9 @@ module _ {A : Type 0} where
       ap verdict_of (counts (run_items file V) s t (omega arith) h ∙ ap (λ n. counted (n + length (faults_in (run_items file V)))) none)
       ∙ verdict_counted (faults_in (run_items file V)) ∙ ap verdict (run_faults file V survey)
 
--- what was told at Ok
-told_at_ok : {S I A : Type 0} (takes drops : S → I → S → Type 0) (r : Result A RunError) (s t : S) (items : List I) → Tells takes drops r s items t → OnOk r (Moves takes s items t)
-told_at_ok takes drops (Ok a) s t items h = h
-told_at_ok takes drops (Err e) s t items h = tt
-
 -- nothing that is lent nothing fails
 pub quiet_failures : (A B : Type 0) (e : RunError) (n : ℕ) → SinkAfter {A = A} is_write_failed (Err e) quiet quiet → n ≡ failures_after {A = B} is_write_failed (Err e) n
 quiet_failures A B WriteFailed n h = absurd h.failures
 quiet_failures A B ReadFailed n h = refl
 quiet_failures A B OutOfMemory n h = refl
 quiet_failures A B (Refused r) n h = refl
-
--- the header's faults were told, and then the rest
-pub told_run : {A : Type 0} (drops : MapSink A → Finding → MapSink A → Type 0) (file : List ℕ) (V : List Reference) (h : HeaderBytes) → IsHeaderOf h file → (r : Result (Unit {0}) RunError) (s m t : MapSink A)
-    → Moves Notes s (findings (header_faults h.bytes h.file_len)) m → Tells Notes drops r m (walk_items file V) t → OnOk r (Moves Notes s (run_items file V) t)
-told_run drops file V h is r s m t first rest = told_at_ok Notes drops r s t (run_items file V)
-    (subst (λ l. Tells Notes drops r s (l ++ walk_items file V) t) (header_items file h is)
-    (tells_then Notes drops r s m t (findings (header_faults h.bytes h.file_len)) (walk_items file V) first rest))

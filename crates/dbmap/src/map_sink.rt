@@ -4,7 +4,7 @@ ghost use Rattle.dbmap.specs.MapSink.{verdict_of};
 
 use crate::page_set::PageSet;
 use dbformat::Verdict;
-use dbscan::TreeSink;
+use dbscan::{Start, TreeSink};
 use dbsource::WriteFailed;
 use dbwalk::{Fault, Row, Sink};
 use std::alloc::Allocator;
@@ -57,19 +57,28 @@ impl<A: Allocator> Sink for MapSink<A> {
     }
 }
 
-// Where trees begin and end is nothing to a map.
+// Where a fault is found is nothing to a map.
 impl<A: Allocator> TreeSink for MapSink<A> {
     ghost use Rattle.std.specs.Prelude.{◌≡◌};
+    ghost use Rattle.dbmap.specs.MapSink.{Notes};
 
-    ghost begins = { λ s name t. t ≡ s };
+    ghost takes_at = { λ s at item t. Notes s item t };
 
-    ghost ends = { λ s t. t ≡ s };
+    ghost drops_at = { λ s at item t. ⊥ };
 
-    ghost cuts = { λ s t. ⊥ };
+    ghost ends = { λ s at t. t ≡ s };
 
-    fn begin_tree(&mut self, _name: Option<&[u8]>) {}
+    ghost cuts = { λ s at t. ⊥ };
 
-    fn end_tree(&mut self) -> Result<(), WriteFailed> {
+    fn fault_at(&mut self, _start: &Start<'_>, fault: &Fault) -> Result<(), WriteFailed> {
+        self.fault(fault)
+    }
+
+    fn row_at(&mut self, _start: &Start<'_>, _row: &Row<'_>) -> Result<(), WriteFailed> {
+        Ok(())
+    }
+
+    fn end_tree(&mut self, _start: &Start<'_>) -> Result<(), WriteFailed> {
         Ok(())
     }
 }

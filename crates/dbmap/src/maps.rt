@@ -1,5 +1,5 @@
 // A map: from the bytes of a database to its picture.
-ghost use Rattle.std.specs.Prelude.{◌≡◌, false, List, IfErr, IfOk, OnOk};
+ghost use Rattle.std.specs.Prelude.{◌≡◌, List, IfErr, IfOk};
 ghost use Rattle.dbformat.specs.Log.{IsPageLog};
 ghost use Rattle.dbformat.specs.Reference.{Reference};
 ghost use Rattle.dbformat.specs.Report.{faults, verdict};
@@ -9,13 +9,10 @@ ghost use Rattle.dbsource.specs.Failures.{failures_after};
 ghost use Rattle.dbsource.specs.Headers.{IsHeaderOf};
 ghost use Rattle.dbsource.specs.Snapshots.{HasReadBehind};
 ghost use Rattle.dbsource.specs.Sources.{Asks};
-ghost use Rattle.dbsurvey.specs.Moves.{Moves};
-ghost use Rattle.dbwalk.specs.Telling.{IsReadWriteOrMemory, SinkAfter};
+ghost use Rattle.dbwalk.specs.Telling.{IsReadWriteOrMemory};
 ghost use Rattle.dbscan.specs.DeskSizes.{DeskFitsInMemory};
 ghost use Rattle.dbscan.specs.Desks.{IsFresh, shape_of};
-ghost use Rattle.dbscan.specs.RunItems.{run_items};
 ghost use Rattle.dbreport.specs.Runs.{FailsOnce, IsUntouched};
-ghost use Rattle.dbmap.specs.MapSink.{Notes, quiet};
 ghost use Rattle.dbmap.specs.Maps.{HasMap};
 ghost use Rattle.dbmap.specs.Puts.{PutsSome};
 
@@ -28,7 +25,7 @@ use crate::squares::Squares;
 use crate::tally::Tally;
 use dbformat::Verdict;
 use dbowner::{PageTrees, TreeNames};
-use dbscan::{Desk, SchemaWatch, tell_end, tell_header, walk_starts};
+use dbscan::{Desk, scan};
 use dbsource::{HeadedSource, Header, Out, RunError, Source, WriteFailed};
 use std::alloc::{Allocator, Global};
 
@@ -37,25 +34,6 @@ use std::alloc::{Allocator, Global};
 struct Owners<A: Allocator = Global> {
     trees: PageTrees<A>,
     tally: Tally<A>,
-}
-
-// Tells all that a run tells.
-fn tell_map<A: Allocator, S: Source>(
-    desk: &mut Desk<A>,
-    source: &mut S,
-    watch: &mut SchemaWatch<MapSink<A>>,
-) -> Result<(), RunError>
-    requires fresh { IsFresh desk.old }
-    requires unseen { watch.old.has_rows ≡ false }
-    ensures asks { Asks S.step (IsPageLog (shape_of desk.old)) (λ file. IsHeaderOf desk.old.header file
-        → (V : List Reference) → Survey file V → OnOk result (Moves Notes watch.old.sink (run_items file V) watch.new.sink))
-        is_read_failed result (S.held source.old) (S.held source.new) }
-    ensures writes { SinkAfter is_write_failed result quiet quiet }
-    ensures only { IfErr result IsReadWriteOrMemory }
-{
-    tell_header(desk.header(), &mut watch.sink)?;
-    walk_starts(desk, source, watch)?;
-    tell_end(desk, source, watch.has_rows, &mut watch.sink)
 }
 
 // Puts the picture of a file whose pages were walked over.
@@ -114,10 +92,10 @@ fn map_file<A: Allocator, S: Source, O: Out>(
     ensures writes { (O.held out.new).failures ≡ failures_after is_write_failed result (O.held out.old).failures }
     ensures only { IfErr result IsReadWriteOrMemory }
 {
-    let mut watch = SchemaWatch::new(MapSink::new(faulty));
-    tell_map(desk, source, &mut watch)?;
-    put_map(name, desk, owners, &watch.sink, out)?;
-    Ok(watch.sink.verdict())
+    let mut sink = MapSink::new(faulty);
+    scan(desk, source, &mut sink)?;
+    put_map(name, desk, owners, &sink, out)?;
+    Ok(sink.verdict())
 }
 
 // The same of the file whose header is on the desk.

@@ -5,7 +5,7 @@ use crate::grid::Grid;
 use crate::legend::Legend;
 use crate::pieces::{Piece, put_all};
 use crate::shown::{Shown, shown_file};
-use crate::squares::Squares;
+use crate::squares::{NAME_WIDTH, Squares};
 use dbsource::{Geometry, Out, WriteFailed};
 use std::alloc::Allocator;
 
@@ -49,9 +49,9 @@ fn put_head<O: Out>(out: &mut O, file: &Shown, height: u64) -> Result<(), WriteF
             Piece::Markup(
                 "\" font-family=\"sans-serif\" font-size=\"12\" role=\"img\" aria-label=\"Pages of ",
             ),
-            Piece::Shown(file, 72),
+            Piece::Shown(file, NAME_WIDTH),
             Piece::Markup("\">\n<title>Pages of "),
-            Piece::Shown(file, 72),
+            Piece::Shown(file, NAME_WIDTH),
             Piece::Markup(
                 "</title>\n<defs><pattern id=\"unowned\" width=\"4\" height=\"4\" patternUnits=\"userSpaceOnUse\" patternTransform=\"rotate(45)\"><rect width=\"4\" height=\"4\" fill=\"#FFFFFF\"/><rect width=\"1.5\" height=\"4\" fill=\"#444444\"/></pattern></defs>\n",
             ),
@@ -123,7 +123,7 @@ fn put_heading<O: Out>(
         out,
         &[
             Piece::Markup("<text x=\"20\" y=\"26\" font-size=\"16\" font-weight=\"bold\">"),
-            Piece::Shown(file, 72),
+            Piece::Shown(file, NAME_WIDTH),
             Piece::Markup("</text>\n<text x=\"20\" y=\"46\" fill=\"#444444\">"),
         ],
     )?;

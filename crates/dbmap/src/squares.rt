@@ -10,13 +10,15 @@ use crate::pieces::{Piece, put_all};
 use crate::shown::{Shown, shown_tree};
 use crate::tally::{COLOURED, Tree, rank_of};
 use arrayvec::ArrayVec;
-use dbowner::{PageTrees, Place, TreeNames, place_front, place_of, place_tree};
+use dbowner::{
+    PageTrees, Place, TreeNames, place_from, place_front, place_of, place_tree, place_words,
+};
 use dbsource::{Header, Out, WriteFailed};
 use dbwalk::Marks;
 use std::alloc::Allocator;
 
-/// How many columns of a tree's name are shown on a square.
-const NAME_WIDTH: u32 = 72;
+/// How many columns of a name are shown.
+pub(crate) const NAME_WIDTH: u32 = 72;
 
 /// What the squares are made of: whose each page is.
 #[derive(Drop)]
@@ -174,7 +176,8 @@ impl<'a, A: Allocator> Squares<'a, A> {
         let fixed = self.header.geometry().fixed(page);
         let words = page_words(page, place_front(fixed, place), &self.name, place);
         if self.faulty.has(page) {
-            out.put(b"<g><title>page ")?;
+            put_front(out, square, true)?;
+            out.put(b"page ")?;
             put_all(out, &words)?;
             put_back(out, square, true)?;
         } else {
@@ -242,22 +245,15 @@ fn square_at(grid: &Grid, cell: u32) -> Square {
 
 // What a page is, by its number: what stands before its tree, the tree, and the page that it is reached from, where it is no root.
 fn page_words<'a>(page: u32, front: &'static str, tree: &'a Shown, place: Place) -> [Piece<'a>; 6] {
-    let (words, from) = match place {
-        Place::ChildOf(from) => (", child of page ", from),
-        Place::OverflowOf(from) => (", overflow page of page ", from),
-        Place::OverflowAfter(from) => (", overflow page after page ", from),
-        _ => ("", 0),
-    };
     [
         Piece::Number(u64::from(page)),
         Piece::Markup(": "),
         Piece::Markup(front),
         Piece::Shown(tree, NAME_WIDTH),
-        Piece::Markup(words),
-        if from == 0 {
-            Piece::Markup("")
-        } else {
-            Piece::Number(u64::from(from))
+        Piece::Markup(place_words(place)),
+        match place_from(place) {
+            Some(from) => Piece::Number(u64::from(from)),
+            None => Piece::Markup(""),
         },
     ]
 }

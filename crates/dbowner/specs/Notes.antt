@@ -47,12 +47,22 @@ place_tree (place.OverflowOf from) start = start
 place_tree (place.OverflowAfter from) start = start
 place_tree _ start = None
 
--- what stands behind it
+-- what stands behind it, and the page that it is reached from
+abbrev pub place_words : Place → List ℕ
+place_words (place.ChildOf from) = codes ", child of page "
+place_words (place.OverflowOf from) = codes ", overflow page of page "
+place_words (place.OverflowAfter from) = codes ", overflow page after page "
+place_words _ = []
+
+abbrev pub place_from : Place → Option ℕ
+place_from (place.ChildOf from) = Some from
+place_from (place.OverflowOf from) = Some from
+place_from (place.OverflowAfter from) = Some from
+place_from _ = None
+
+-- both, and the end of the line
 abbrev pub place_end : Place → List ℕ
-place_end (place.ChildOf from) = codes ", child of page " ++ decimal from ++ line_feed ∷ []
-place_end (place.OverflowOf from) = codes ", overflow page of page " ++ decimal from ++ line_feed ∷ []
-place_end (place.OverflowAfter from) = codes ", overflow page after page " ++ decimal from ++ line_feed ∷ []
-place_end _ = line_feed ∷ []
+place_end p = place_words p ++ option_map_or decimal (place_from p) [] ++ line_feed ∷ []
 
 -- where a page begins, and what stands before its tree
 abbrev pub page_front : Geometry → ℕ → Place → List ℕ

@@ -10,7 +10,7 @@ mod tree_line;
 
 pub use look::{Look, put_look};
 pub use owners::Owners;
-pub use page_line::{place_front, place_tree};
+pub use page_line::{place_from, place_front, place_tree, place_words};
 pub use summary::Counts;
 pub use sums::CodeCount;
 pub use tally::Tally;

@@ -19,7 +19,7 @@ use dbwalk::{Mark, Marks};
 use std::alloc::{AllocError, Allocator, Global};
 use std::marker::Model;
 
-const SCHEMA_START: u32 = 0;
+pub const SCHEMA_START: u32 = 0;
 
 /// The start of the freelist, behind the schema's and those of 65536 rows.
 pub const FREELIST_START: u32 = 65537;

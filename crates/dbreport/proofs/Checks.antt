@@ -17,7 +17,6 @@ use Rattle.dbsource.specs.declared.error.RunError.TheVariants.{ReadFailed, Write
 use Rattle.dbsource.proofs.Puts.{appends_nothing, puts_then}
 use Rattle.dbtrace.specs.Finding.{Finding, told_row, told_fault}
 use Rattle.dbwalk.specs.Telling.{StopsBy}
-use Rattle.dbwalk.proofs.Telling.Belows.{stops_by_first}
 use Rattle.dbreport.specs.CheckSink.{PutsAll, ShowsFault, Shows, Cuts, end_text, verdict_of}
 use Rattle.dbscan.specs.Findings.{faults_in}
 use Rattle.dbreport.specs.declared.checking.sink.CheckSink.{CheckSink}
@@ -248,9 +247,9 @@ module _ {O : Type 0} (held : O → OutState) where
       check_finds = ap₂ verdict_of shown_is more_is ∙ verdict_is s.limit found
 
     -- a beginning was told
-    module _ (e : RunError) (part rest : List Finding) (told : part ++ rest ≡ items) (stopped : StopsBy (Shows held) (Cuts held) e s part t) where
+    module _ (e : RunError) (stopped : StopsBy (Shows held) (Cuts held) e s items t) where
       breaks : Breaks s found t
-      breaks = breaks_by e items s t (omega arith) (omega arith) (subst (λ l. StopsBy (Shows held) (Cuts held) e s l t) told (stops_by_first (Shows held) (Cuts held) e s t part rest stopped))
+      breaks = breaks_by e items s t (omega arith) (omega arith) stopped
 
       pub check_begins : Begins (held s.out.now).bytes (held t.out.now).bytes (check_text s.limit found)
       check_begins = begins_more (held s.out.now).bytes (held t.out.now).bytes (lines s.limit found) (end_text (length (take s.limit found)) (counted (length (drop s.limit found)))) (check_text s.limit found)

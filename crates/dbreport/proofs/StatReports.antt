@@ -1,6 +1,6 @@
 -- What the statistics have written of a file in the end, and what they found: its report.
 use Rattle.std.proofs.Common.{◌≡◌, ℕ, suc, ◌+◌, false, cond, List, [], ◌∷◌, ◌++◌, length, Result, Ok, Err, refl, sym, ap, ap₂, ◌∙◌, subst, arith, append_assoc}
-use Rattle.std.specs.Prelude.{flat_map, ◌==◌, codes, IfOk, if◌then◌else◌}
+use Rattle.std.specs.Prelude.{flat_map, ◌==◌, IfOk, if◌then◌else◌}
 use Rattle.std.proofs.lemmas.Bool.Decides.{nat_tests}
 use Rattle.std.proofs.lemmas.Grind.{flat_map-append}
 use Rattle.dbformat.specs.EndFaults.{end_faults}
@@ -24,13 +24,11 @@ use Rattle.dbsource.specs.Headers.{IsHeaderOf}
 use Rattle.dbsource.specs.Outs.{OutState, Writes}
 use Rattle.dbsource.specs.declared.error.RunError.{RunError}
 use Rattle.dbreport.specs.StatSink.{IsSameSink, HasBegun, HasWritten, WritesBoth, found_verdict}
-use Rattle.dbreport.specs.StatStarts.{IsForSchema, rows_text, walk_faults_told, faults_told as walks_told}
+use Rattle.dbreport.specs.StatStarts.{IsForFile, rows_text, walk_faults_told, faults_told as walks_told}
 use Rattle.dbreport.specs.Statistics.{form_of}
 use Rattle.dbreport.specs.Sums.{sums_of}
-use Rattle.dbreport.specs.TreeNames.{label_text}
 use Rattle.dbreport.specs.declared.statistics.sink.StatSink.{StatSink}
 use Rattle.dbreport.specs.declared.statistics.Form.{Form}
-use Rattle.dbreport.specs.declared.statistics.tree_name.Label.{Label}
 use Rattle.dbscan.proofs.RunTold.{faults_told}
 use Rattle.dbreport.proofs.StatTexts.{trees_written}
 use Rattle.dbreport.proofs.StatWrites.{both_then, begun_first}
@@ -96,37 +94,32 @@ module _ {O E : Type 0} (held : O → OutState) (held' : E → OutState) (file :
   stopped_at_header A e t b = parts_of {A = A} (Err e) t (begun_first held held' s t [] (rows_text form.aggregate form.all file V) of_header (walk_faults_told file V) b)
 
   -- these were written
-  module _ (m w : StatSink O E) (first : HasWritten held held' s m [] of_header) (watched : w ≡ m) (t : StatSink O E) where
-    both : {A : Type 0} (r : Result A RunError) → WritesBoth held held' r w t (rows_text w.aggregate form.all file V) (walk_faults_told file V)
+  module _ (m : StatSink O E) (first : HasWritten held held' s m [] of_header) (t : StatSink O E) where
+    both : {A : Type 0} (r : Result A RunError) → WritesBoth held held' r m t (rows_text m.aggregate form.all file V) (walk_faults_told file V)
         → WritesBoth held held' r s t (rows_text form.aggregate form.all file V) (of_header ++ walk_faults_told file V)
     both r k = both_then held held' s m t [] (rows_text form.aggregate form.all file V) of_header (walk_faults_told file V) first r
-        (subst (λ a. WritesBoth held held' r m t (rows_text a form.all file V) (walk_faults_told file V)) (first.aggregate ∙ form_is)
-        (subst (λ x. WritesBoth held held' r x t (rows_text x.aggregate form.all file V) (walk_faults_told file V)) watched k))
+        (subst (λ a. WritesBoth held held' r m t (rows_text a form.all file V) (walk_faults_told file V)) (first.aggregate ∙ form_is) k)
 
-    pub all_parts : {A : Type 0} (r : Result A RunError) → WritesBoth held held' r w t (rows_text w.aggregate form.all file V) (walk_faults_told file V) → HasParts r t
+    pub all_parts : {A : Type 0} (r : Result A RunError) → WritesBoth held held' r m t (rows_text m.aggregate form.all file V) (walk_faults_told file V) → HasParts r t
     all_parts r k = parts_of r t (both r k)
 
-    all_found : {B : Type 0} (b : B) → s.found ≡ 0 → WritesBoth {X = RunError} held held' (Ok b) w t (rows_text w.aggregate form.all file V) (walk_faults_told file V)
+    all_found : {B : Type 0} (b : B) → s.found ≡ 0 → WritesBoth {X = RunError} held held' (Ok b) m t (rows_text m.aggregate form.all file V) (walk_faults_told file V)
         → found_verdict t.found ≡ verdict (faults file V)
     all_found b none k =
         let p = both (Ok b) k in
         ap found_verdict (p.found 0 none ∙ ap counted (from_none (length (of_header ++ walk_faults_told file V))) ∙ ap (λ l. counted (length l)) (all_faults file V h is survey)) ∙ by_count (faults file V)
 
     -- and so is the verdict
-    pub verdict_found : (r : Result Verdict RunError) → s.found ≡ 0 → WritesBoth held held' r w t (rows_text w.aggregate form.all file V) (walk_faults_told file V)
+    pub verdict_found : (r : Result Verdict RunError) → s.found ≡ 0 → WritesBoth held held' r m t (rows_text m.aggregate form.all file V) (walk_faults_told file V)
         → IfOk r (λ v. v ≡ found_verdict t.found) → IfOk r (λ v. v ≡ verdict (faults file V))
     verdict_found (Ok v) none k found = found ∙ all_found v none k
     verdict_found (Err e) none k found = tt
 
--- the first sink is that of the file's schema
-pub for_schema : {O E : Type 0} (file : List ℕ) (h : HeaderBytes) (g : Geometry) (label : Label) (s m w : StatSink O E) → IsHeaderOf h file → g ≡ geometry file
-    → label_text label ≡ codes "sqlite_schema" → label.encoding ≡ encoding_of h.bytes → label.page_size ≡ g.page_size
-    → s.label.now ≡ label → s.sums ≡ sums_of [] → IsSameSink s m × (s.sums ≡ sums_of [] → m.sums ≡ sums_of []) → w ≡ m → IsForSchema file w
-for_schema {O} {E} file h g label s m w is e name code size of none kept watched =
-    let l : w.label.now ≡ label = ap (λ (x : StatSink O E). x.label.now) watched ∙ kept.0.label ∙ of in
-    record {
-      name = ap label_text l ∙ name;
-      encoding = ap (λ (l : Label). l.encoding) l ∙ code ∙ ap encoding_of is.begins ∙ encoding_within file;
-      page_size = ap (λ (l : Label). l.page_size) l ∙ size ∙ ap (λ (g : Geometry). g.page_size) e;
-      summed = ap (λ (x : StatSink O E). x.sums) watched ∙ kept.1 none;
-    }
+-- behind the header's faults the sink is as the file asks for
+pub for_file : {O E : Type 0} (file : List ℕ) (h : HeaderBytes) (g : Geometry) (s m : StatSink O E) → IsHeaderOf h file → g ≡ geometry file
+    → s.encoding ≡ encoding_of h.bytes → s.page_size ≡ g.page_size → s.sums ≡ sums_of [] → IsSameSink s m × (s.sums ≡ sums_of [] → m.sums ≡ sums_of []) → IsForFile file m
+for_file file h g s m is e code size none kept = record {
+  encoding = kept.0.encoding ∙ code ∙ ap encoding_of is.begins ∙ encoding_within file;
+  page_size = kept.0.page_size ∙ size ∙ ap (λ (g : Geometry). g.page_size) e;
+  summed = kept.1 none;
+}

@@ -1,12 +1,10 @@
 -- What the sink of the statistics writes of what it is told, notice after notice.
 use Rattle.std.proofs.Common.{◌≡◌, ℕ, ◌+◌, ◌⊎◌, inl, inr, Bool, true, false, not, List, [], ◌∷◌, ◌++◌, Result, Ok, Err, refl, sym, ap, ◌∙◌, subst, arith, append-nil}
-use Rattle.std.specs.Prelude.{codes, OnOk}
+use Rattle.std.specs.Prelude.{OnOk}
 use Rattle.std.specs.Io.KnownBytes.{Appends}
-use Rattle.std.specs.Option.{option_map_or}
 use Rattle.dbsurvey.specs.Moves.{Moves, Stops, MovesBySome}
 use Rattle.dbformat.specs.Lines.{counted, fault_line}
 use Rattle.dbformat.specs.Rows.{StatRow}
-use Rattle.dbformat.specs.Text.{shown_name}
 use Rattle.dbformat.specs.declared.Encoding.{Encoding}
 use Rattle.dbformat.specs.declared.Fault.{Fault}
 use Rattle.dbsource.specs.Outs.{Begins, OutState}
@@ -16,14 +14,13 @@ use Rattle.dbsource.proofs.Beginnings.{begins_more}
 use Rattle.dbsource.proofs.Puts.{appends_nothing}
 use Rattle.dbtrace.specs.Finding.{told_row, told_fault}
 use Rattle.dbwalk.specs.Telling.{Tells, findings}
-use Rattle.dbowner.specs.Roots.{short_name}
 use Rattle.dbscan.specs.Findings.{faults_in}
-use Rattle.dbscan.specs.Notices.{Notice, begun, found, ended, Hearing, Hears}
-use Rattle.dbreport.specs.StatSink.{end_text, pages_text, BeginsTree, Breaks, Counts, CutsEnd, CutsFault, EndsTree, HasBegun, HasWritten, IsSameSink, TakesFault, WritesBoth}
+use Rattle.dbscan.specs.Notices.{Notice, whole, found, ended, Hearing, Hears}
+use Rattle.dbscan.specs.Starts.{At}
+use Rattle.dbreport.specs.StatSink.{end_text, pages_text, Breaks, BreaksAt, Counts, CountsAt, CutsEnd, CutsFault, EndsTree, HasBegun, HasWritten, IsSameSink, TakesFault, WritesBoth}
 use Rattle.dbreport.specs.Sums.{sums_of}
-use Rattle.dbreport.specs.TreeNames.{label_text}
+use Rattle.dbreport.specs.TreeNames.{name_at}
 use Rattle.dbreport.specs.declared.statistics.sink.StatSink.{StatSink}
-use Rattle.dbreport.specs.declared.statistics.tree_name.Label.{Label}
 use Rattle.dbreport.proofs.Flushed.{keeps_begins, kept_appends, kept_if}
 use Rattle.dbreport.proofs.StatWrites.{begun_first, begun_none, begun_then, written_none, written_then}
 use Rattle.dbscan.proofs.ToldStarts.{findings_in}
@@ -55,28 +52,27 @@ cut_first move fail s i L t (inl (inr h)) = inr (inr (h.0, h.1, inl h.2))
 cut_first move fail s i L t (inr (inl h)) = inr (inl h)
 cut_first move fail s i L t (inr (inr h)) = inr (inr (h.0, h.1, inr h.2))
 
--- how lines are written between two notices: in which form, with which encoding and size of a page, of which name, and behind
--- which rows of the same tree
+-- how lines are written between two notices: in which form, with which encoding and size of a page, and behind which rows of the
+-- same tree
 pub record Sheet : Type 0 where
   pub form : Bool
   pub encoding : Encoding
   pub size : ℕ
-  pub name : List ℕ
   pub rows : List StatRow
 
 -- the bytes that are put to the first Out at a notice
 abbrev pub lines : Sheet → Notice → List ℕ
-lines p (begun name) = []
-lines p (found (told_row r)) = pages_text p.form p.name p.size (r ∷ [])
-lines p (found (told_fault f)) = []
-lines p ended = end_text p.form p.name p.size p.rows
+lines p (whole item) = []
+lines p (found at (told_row r)) = pages_text p.form (name_at p.encoding at) p.size (r ∷ [])
+lines p (found at (told_fault f)) = []
+lines p (ended at) = end_text p.form (name_at p.encoding at) p.size p.rows
 
 -- and how they are written behind it
 abbrev pub next : Sheet → Notice → Sheet
-next p (begun name) = record p { name = option_map_or (shown_name p.encoding) (short_name name) (codes "?") }
-next p (found (told_row r)) = record p { rows = p.rows ++ r ∷ [] }
-next p (found (told_fault f)) = p
-next p ended = record p { rows = [] }
+next p (whole item) = p
+next p (found at (told_row r)) = record p { rows = p.rows ++ r ∷ [] }
+next p (found at (told_fault f)) = p
+next p (ended at) = record p { rows = [] }
 
 abbrev pub all_lines : Sheet → List Notice → List ℕ
 all_lines p [] = []
@@ -86,17 +82,25 @@ abbrev faults_of : List Notice → List Fault
 faults_of ns = faults_in (findings_in ns)
 
 one_more : (n : Notice) (ns : List Notice) → faults_of (n ∷ []) ++ faults_of ns ≡ faults_of (n ∷ ns)
-one_more (begun name) ns = refl
-one_more (found (told_row r)) ns = refl
-one_more (found (told_fault f)) ns = refl
-one_more ended ns = refl
+one_more (whole (told_row r)) ns = refl
+one_more (whole (told_fault f)) ns = refl
+one_more (found at (told_row r)) ns = refl
+one_more (found at (told_fault f)) ns = refl
+one_more (ended at) ns = refl
 
 module _ {O E : Type 0} (held : O → OutState) (held' : E → OutState) where
   abbrev pub hearing : Hearing (StatSink O E)
-  hearing = record { takes = Counts held held'; drops = Breaks held held'; begins = BeginsTree; ends = EndsTree held held'; cuts = CutsEnd held held' }
+  hearing = record {
+    takes = Counts held held';
+    drops = Breaks held held';
+    takes_at = CountsAt held held';
+    drops_at = BreaksAt held held';
+    ends = EndsTree held held';
+    cuts = CutsEnd held held';
+  }
 
-  abbrev whole : StatSink O E → Notice → StatSink O E → Type 0
-  whole = Hears hearing true
+  abbrev all : StatSink O E → Notice → StatSink O E → Type 0
+  all = Hears hearing true
 
   abbrev part : StatSink O E → Notice → StatSink O E → Type 0
   part = Hears hearing false
@@ -104,9 +108,8 @@ module _ {O E : Type 0} (held : O → OutState) (held' : E → OutState) where
   -- it writes so
   pub record IsOn (p : Sheet) (s : StatSink O E) : Type 0 where
     pub form : s.aggregate ≡ p.form
-    pub encoding : s.label.now.encoding ≡ p.encoding
-    pub size : s.label.now.page_size ≡ p.size
-    pub name : label_text s.label.now ≡ p.name
+    pub encoding : s.encoding ≡ p.encoding
+    pub size : s.page_size ≡ p.size
     pub summed : s.sums ≡ sums_of p.rows
 
   -- ---- one fault, and faults alone
@@ -114,8 +117,8 @@ module _ {O E : Type 0} (held : O → OutState) (held' : E → OutState) where
   fault_written : (s m : StatSink O E) (f : Fault) → TakesFault held held' s f m → HasWritten held held' s m [] (f ∷ [])
   fault_written s m f a = record {
     aggregate = a.same.aggregate;
-    encoding = ap (λ l. l.encoding) a.same.label;
-    page_size = ap (λ l. l.page_size) a.same.label;
+    encoding = a.same.encoding;
+    page_size = a.same.page_size;
     found = λ n e. a.found ∙ ap (λ k. counted (k + 1)) e ∙ counted_more n;
     out = kept_appends (held s.out.now).bytes (held m.out.now).bytes (held m.out.now).bytes [] a.out.kept (appends_nothing (held m.out.now).bytes);
     err = subst (λ l. Appends (held' s.err.now).bytes (held' m.err.now).bytes l) (sym (append-nil (fault_line f))) a.puts.held;
@@ -146,11 +149,11 @@ module _ {O E : Type 0} (held : O → OutState) (held' : E → OutState) where
   faults_written (Err e) fs s t h = some_faults_written fs s t (cut_of (Counts held held') (Breaks held held') e s (findings fs) t h)
 
   same_after : (fs : List Fault) (s t : StatSink O E) → Moves (Counts held held') s (findings fs) t → IsSameSink s t × (t.sums ≡ s.sums)
-  same_after [] s t h = subst (λ u. IsSameSink s u × (u.sums ≡ s.sums)) h (record { out = refl; err = refl; label = refl; aggregate = refl }, refl)
+  same_after [] s t h = subst (λ u. IsSameSink s u × (u.sums ≡ s.sums)) h (record { out = refl; err = refl; encoding = refl; page_size = refl; aggregate = refl }, refl)
   same_after (f ∷ fs) s t h =
       let a = h.1.same in
       let b = same_after fs h.0 t h.2 in
-      (record { out = b.0.out ∙ a.out; err = b.0.err ∙ a.err; label = b.0.label ∙ a.label; aggregate = b.0.aggregate ∙ a.aggregate }, b.1 ∙ h.1.sums)
+      (record { out = b.0.out ∙ a.out; err = b.0.err ∙ a.err; encoding = b.0.encoding ∙ a.encoding; page_size = b.0.page_size ∙ a.page_size; aggregate = b.0.aggregate ∙ a.aggregate }, b.1 ∙ h.1.sums)
 
   pub faults_kept : {A : Type 0} (r : Result A RunError) (fs : List Fault) (s t : StatSink O E) → Tells (Counts held held') (Breaks held held') r s (findings fs) t
       → OnOk r (IsSameSink s t × (s.sums ≡ sums_of [] → t.sums ≡ sums_of []))
@@ -160,99 +163,68 @@ module _ {O E : Type 0} (held : O → OutState) (held' : E → OutState) where
   -- ---- one notice
 
   module _ (p : Sheet) (s : StatSink O E) (on : IsOn p s) where
-    by_sheet : (P : List ℕ → Type 0) (f : Bool → List ℕ → ℕ → List ℕ) → P (f s.aggregate (label_text s.label.now) s.label.now.page_size) → P (f p.form p.name p.size)
-    by_sheet P f h =
-        subst (λ a. P (f a p.name p.size)) on.form (subst (λ n. P (f s.aggregate n p.size)) on.name (subst (λ z. P (f s.aggregate (label_text s.label.now) z)) on.size h))
+    by_sheet : (P : List ℕ → Type 0) (f : Bool → List ℕ → ℕ → List ℕ) (at : At) → P (f s.aggregate (name_at s.encoding at) s.page_size) → P (f p.form (name_at p.encoding at) p.size)
+    by_sheet P f at h =
+        subst (λ a. P (f a (name_at p.encoding at) p.size)) on.form (subst (λ e. P (f s.aggregate (name_at e at) p.size)) on.encoding (subst (λ z. P (f s.aggregate (name_at s.encoding at) z)) on.size h))
 
-    one_written : (n : Notice) (m : StatSink O E) → whole s n m → HasWritten held held' s m (lines p n) (faults_of (n ∷ [])) × IsOn (next p n) m
-    one_written (begun name) m b = (
-      record {
-        aggregate = b.aggregate;
-        encoding = b.encoding;
-        page_size = b.page_size;
-        found = λ n e. b.found ∙ e ∙ ap counted (nothing_more n);
-        out = subst (λ o. Appends (held s.out.now).bytes (held o).bytes []) (sym b.out) (appends_nothing (held s.out.now).bytes);
-        err = subst (λ o. Appends (held' s.err.now).bytes (held' o).bytes []) (sym b.err) (appends_nothing (held' s.err.now).bytes);
-      },
-      record {
-        form = b.aggregate ∙ on.form;
-        encoding = b.encoding ∙ on.encoding;
-        size = b.page_size ∙ on.size;
-        name = b.named ∙ ap (λ e. option_map_or (shown_name e) (short_name name) (codes "?")) on.encoding;
-        summed = b.sums ∙ on.summed;
-      },
-    )
-    one_written (found (told_row r)) m a = (
+    -- behind what leaves all but the rows of the tree as it was
+    on_same : (m : StatSink O E) → IsSameSink s m → (rows : List StatRow) → m.sums ≡ sums_of rows → IsOn (record p { rows = rows }) m
+    on_same m same rows e = record { form = same.aggregate ∙ on.form; encoding = same.encoding ∙ on.encoding; size = same.page_size ∙ on.size; summed = e }
+
+    one_written : (n : Notice) (m : StatSink O E) → all s n m → HasWritten held held' s m (lines p n) (faults_of (n ∷ [])) × IsOn (next p n) m
+    one_written (whole (told_row r)) m a = (subst (λ u. HasWritten held held' s u [] []) (sym a) (written_none held held' s), subst (IsOn p) (sym a) on)
+    one_written (whole (told_fault f)) m a = (fault_written s m f a, on_same m a.same p.rows (a.sums ∙ on.summed))
+    one_written (found at (told_row r)) m a = (
       record {
         aggregate = a.same.aggregate;
-        encoding = ap (λ l. l.encoding) a.same.label;
-        page_size = ap (λ l. l.page_size) a.same.label;
+        encoding = a.same.encoding;
+        page_size = a.same.page_size;
         found = λ n e. a.found ∙ e ∙ ap counted (nothing_more n);
-        out = by_sheet (Appends (held s.out.now).bytes (held m.out.now).bytes) (λ form name size. pages_text form name size (r ∷ [])) a.puts.held;
+        out = by_sheet (Appends (held s.out.now).bytes (held m.out.now).bytes) (λ form name size. pages_text form name size (r ∷ [])) at a.puts.held;
         err = kept_appends (held' s.err.now).bytes (held' m.err.now).bytes (held' m.err.now).bytes [] (kept_if (not s.aggregate) (held' s.err.now) (held' m.err.now) a.err) (appends_nothing (held' m.err.now).bytes);
       },
-      record {
-        form = a.same.aggregate ∙ on.form;
-        encoding = ap (λ (l : Label). l.encoding) a.same.label ∙ on.encoding;
-        size = ap (λ (l : Label). l.page_size) a.same.label ∙ on.size;
-        name = ap label_text a.same.label ∙ on.name;
-        summed = a.sums p.rows on.summed;
-      },
+      on_same m a.same (p.rows ++ r ∷ []) (a.sums p.rows on.summed),
     )
-    one_written (found (told_fault f)) m a = (
-      fault_written s m f a,
-      record {
-        form = a.same.aggregate ∙ on.form;
-        encoding = ap (λ (l : Label). l.encoding) a.same.label ∙ on.encoding;
-        size = ap (λ (l : Label). l.page_size) a.same.label ∙ on.size;
-        name = ap label_text a.same.label ∙ on.name;
-        summed = a.sums ∙ on.summed;
-      },
-    )
-    one_written ended m a = (
+    one_written (found at (told_fault f)) m a = (fault_written s m f a, on_same m a.same p.rows (a.sums ∙ on.summed))
+    one_written (ended at) m a = (
       record {
         aggregate = a.aggregate;
-        encoding = ap (λ l. l.encoding) a.label;
-        page_size = ap (λ l. l.page_size) a.label;
+        encoding = a.encoding;
+        page_size = a.page_size;
         found = λ n e. a.found ∙ e ∙ ap counted (nothing_more n);
-        out = by_sheet (Appends (held s.out.now).bytes (held m.out.now).bytes) (λ form name size. end_text form name size p.rows) (a.writes p.rows on.summed);
+        out = by_sheet (Appends (held s.out.now).bytes (held m.out.now).bytes) (λ form name size. end_text form name size p.rows) at (a.writes p.rows on.summed);
         err = kept_appends (held' s.err.now).bytes (held' m.err.now).bytes (held' m.err.now).bytes [] (kept_if s.aggregate (held' s.err.now) (held' m.err.now) a.err) (appends_nothing (held' m.err.now).bytes);
       },
-      record {
-        form = a.aggregate ∙ on.form;
-        encoding = ap (λ (l : Label). l.encoding) a.label ∙ on.encoding;
-        size = ap (λ (l : Label). l.page_size) a.label ∙ on.size;
-        name = ap label_text a.label ∙ on.name;
-        summed = a.sums;
-      },
+      record { form = a.aggregate ∙ on.form; encoding = a.encoding ∙ on.encoding; size = a.page_size ∙ on.size; summed = a.sums },
     )
 
     one_begun : (n : Notice) (t : StatSink O E) → part s n t → HasBegun held held' s t (lines p n) (faults_of (n ∷ []))
-    one_begun (begun name) t b = absurd b
-    one_begun (found (told_row r)) t a = record {
-      out = by_sheet (Begins (held s.out.now).bytes (held t.out.now).bytes) (λ form name size. pages_text form name size (r ∷ [])) a.out;
+    one_begun (whole (told_row r)) t b = absurd b
+    one_begun (whole (told_fault f)) t a = fault_begun s t f a
+    one_begun (found at (told_row r)) t a = record {
+      out = by_sheet (Begins (held s.out.now).bytes (held t.out.now).bytes) (λ form name size. pages_text form name size (r ∷ [])) at a.out;
       err = keeps_begins (held' s.err.now).bytes (held' t.err.now).bytes [] a.err;
     }
-    one_begun (found (told_fault f)) t a = fault_begun s t f a
-    one_begun ended t a = record {
-      out = by_sheet (Begins (held s.out.now).bytes (held t.out.now).bytes) (λ form name size. end_text form name size p.rows) (a.writes p.rows on.summed);
+    one_begun (found at (told_fault f)) t a = fault_begun s t f a
+    one_begun (ended at) t a = record {
+      out = by_sheet (Begins (held s.out.now).bytes (held t.out.now).bytes) (λ form name size. end_text form name size p.rows) at (a.writes p.rows on.summed);
       err = keeps_begins (held' s.err.now).bytes (held' t.err.now).bytes [] a.kept;
     }
 
   -- ---- notice after notice
 
-  all_written : (p : Sheet) (ns : List Notice) (s t : StatSink O E) → IsOn p s → Moves whole s ns t → HasWritten held held' s t (all_lines p ns) (faults_of ns)
+  all_written : (p : Sheet) (ns : List Notice) (s t : StatSink O E) → IsOn p s → Moves all s ns t → HasWritten held held' s t (all_lines p ns) (faults_of ns)
   all_written p [] s t on h = subst (λ u. HasWritten held held' s u [] []) h (written_none held held' s)
   all_written p (n ∷ ns) s t on h =
       let one = one_written p s on n h.0 h.1 in
       subst (λ fs. HasWritten held held' s t (all_lines p (n ∷ ns)) fs) (one_more n ns)
       (written_then held held' s h.0 t (lines p n) (all_lines (next p n) ns) (faults_of (n ∷ [])) (faults_of ns) one.0 (all_written (next p n) ns h.0 t one.1 h.2))
 
-  some_written : (p : Sheet) (ns : List Notice) (s t : StatSink O E) → IsOn p s → Cut whole part s ns t → HasBegun held held' s t (all_lines p ns) (faults_of ns)
-  some_written p [] s t on h = begun_none held held' s t [] [] (cut_none whole part s t h)
+  some_written : (p : Sheet) (ns : List Notice) (s t : StatSink O E) → IsOn p s → Cut all part s ns t → HasBegun held held' s t (all_lines p ns) (faults_of ns)
+  some_written p [] s t on h = begun_none held held' s t [] [] (cut_none all part s t h)
   some_written p (n ∷ ns) s t on h =
       subst (λ fs. HasBegun held held' s t (all_lines p (n ∷ ns)) fs) (one_more n ns)
-      (elim (cut_first whole part s n ns t h) [
+      (elim (cut_first all part s n ns t h) [
         | inl e ↦ begun_none held held' s t (all_lines p (n ∷ ns)) (faults_of (n ∷ []) ++ faults_of ns) e
         | inr (inl c) ↦ begun_first held held' s t (lines p n) (all_lines (next p n) ns) (faults_of (n ∷ [])) (faults_of ns) (one_begun p s on n t c)
         | inr (inr k) ↦ (
@@ -260,7 +232,7 @@ module _ {O E : Type 0} (held : O → OutState) (held' : E → OutState) where
             begun_then held held' s k.0 t (lines p n) (all_lines (next p n) ns) (faults_of (n ∷ [])) (faults_of ns) one.0 (some_written (next p n) ns k.0 t one.1 k.2))
       ])
 
-  pub notices_written : {A : Type 0} (r : Result A RunError) (p : Sheet) (ns : List Notice) (s t : StatSink O E) → IsOn p s → Tells whole part r s ns t
+  pub notices_written : {A : Type 0} (r : Result A RunError) (p : Sheet) (ns : List Notice) (s t : StatSink O E) → IsOn p s → Tells all part r s ns t
       → WritesBoth held held' r s t (all_lines p ns) (faults_of ns)
   notices_written (Ok a) p ns s t on h = all_written p ns s t on h
-  notices_written (Err e) p ns s t on h = some_written p ns s t on (cut_of whole part e s ns t h)
+  notices_written (Err e) p ns s t on h = some_written p ns s t on (cut_of all part e s ns t h)

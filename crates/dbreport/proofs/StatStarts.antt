@@ -1,8 +1,7 @@
 -- What the statistics write of the starts of a file, by what is told of them.
-use Rattle.std.proofs.Common.{◌≡◌, ℕ, suc, ◌+◌, Bool, true, false, cond, List, [], ◌∷◌, ◌++◌, map, take, Some, Result, refl, sym, ap, ◌∙◌, subst, arith, append_assoc, append-nil}
+use Rattle.std.proofs.Common.{◌≡◌, ℕ, suc, ◌+◌, Bool, true, false, cond, List, [], ◌∷◌, ◌++◌, map, take, Some, Result, refl, sym, ap, ap₂, ◌∙◌, subst, arith, append_assoc, append-nil}
 use Rattle.std.specs.Prelude.{flat_map, slice_get, codes, ◌==◌}
 use Rattle.std.specs.List.{enumerate_from}
-use Rattle.std.specs.Option.{option_map_or}
 use Rattle.dbsurvey.specs.Story.{Errand, Go, Follow, errands_at}
 use Rattle.dbformat.specs.Address.{freelist_start, last_root_start}
 use Rattle.dbformat.specs.Header.{encoding as encoding_of, first_trunk, page_size}
@@ -13,22 +12,20 @@ use Rattle.dbformat.specs.Schema.{schema, rooted_rows, start}
 use Rattle.dbformat.specs.SchemaRow.{SchemaRow}
 use Rattle.dbformat.specs.Story.{Event, start_errands}
 use Rattle.dbformat.specs.Survey.{Survey}
-use Rattle.dbformat.specs.Text.{shown_name}
 use Rattle.dbsource.specs.Outs.{OutState}
 use Rattle.dbsource.specs.declared.error.RunError.{RunError}
 use Rattle.dbtrace.specs.Finding.{Finding, told_row, told_fault, told_below, visited_below}
 use Rattle.dbwalk.specs.Trunks.{freelist_reference}
 use Rattle.dbmarks.specs.declared.marks.Mark.{Mark}
 use Rattle.dbwalk.proofs.Telling.Belows.{told_none}
-use Rattle.dbowner.specs.Roots.{short_name}
 use Rattle.dbscan.specs.Findings.{faults_in}
-use Rattle.dbscan.specs.Notices.{Notice, begun, found, ended, Hears, errands_left, root_reference, tree_notices, later_notices, start_notices}
-use Rattle.dbscan.specs.Starts.{schema_reference}
+use Rattle.dbscan.specs.Notices.{Notice, found, ended, Hears, errands_left, root_reference, tree_notices, later_notices, start_notices}
+use Rattle.dbscan.specs.Starts.{At, at_freelist, at_row, at_schema, schema_reference}
 use Rattle.dbreport.specs.StatLines.{tree_text, starts_text, rows_told}
+use Rattle.dbreport.specs.TreeNames.{name_at}
 use Rattle.dbreport.specs.StatSink.{end_text, pages_text, WritesBoth}
-use Rattle.dbreport.specs.StatStarts.{IsForSchema, IsSurveyed, faults_told}
+use Rattle.dbreport.specs.StatStarts.{IsForFile, IsSurveyed, faults_told}
 use Rattle.dbscan.specs.Walks.{AreWalked}
-use Rattle.dbscan.specs.declared.schema_watch.SchemaWatch.{SchemaWatch}
 use Rattle.dbreport.specs.declared.statistics.sink.StatSink.{StatSink}
 use Rattle.dbreport.proofs.ListedNames.{listed_name}
 use Rattle.dbreport.proofs.StatSinks.{Sheet, all_lines, hearing, notices_written}
@@ -63,42 +60,46 @@ pages_ended false name size rows = append-nil (pages_text false name size rows)
 
 -- ---- the lines of what is told
 
-found_lines : (p : Sheet) (items : List Finding) (rest : List Notice)
-    → all_lines p (map found items ++ rest) ≡ pages_text p.form p.name p.size (rows_told items) ++ all_lines (record p { rows = p.rows ++ rows_told items }) rest
-found_lines p [] rest =
+found_lines : (p : Sheet) (at : At) (items : List Finding) (rest : List Notice)
+    → all_lines p (map (found at) items ++ rest) ≡ pages_text p.form (name_at p.encoding at) p.size (rows_told items) ++ all_lines (record p { rows = p.rows ++ rows_told items }) rest
+found_lines p at [] rest =
     ap (λ rows. all_lines (record p { rows = rows }) rest) (sym (append-nil p.rows))
-    ∙ ap (λ l. l ++ all_lines (record p { rows = p.rows ++ [] }) rest) (sym (no_pages p.form p.name p.size))
-found_lines p (told_row r ∷ items) rest =
+    ∙ ap (λ l. l ++ all_lines (record p { rows = p.rows ++ [] }) rest) (sym (no_pages p.form (name_at p.encoding at) p.size))
+found_lines p at (told_row r ∷ items) rest =
+    let name = name_at p.encoding at in
     let q : Sheet = record p { rows = p.rows ++ r ∷ [] } in
-    let others = pages_text p.form p.name p.size (rows_told items) in
-    ap (λ l. pages_text p.form p.name p.size (r ∷ []) ++ l) (found_lines q items rest ∙ ap (λ rows. others ++ all_lines (record p { rows = rows }) rest) (append_assoc p.rows (r ∷ []) (rows_told items)))
-    ∙ sym (append_assoc (pages_text p.form p.name p.size (r ∷ [])) others _)
-    ∙ ap (λ l. l ++ all_lines (record p { rows = p.rows ++ (r ∷ rows_told items) }) rest) (pages_more p.form p.name p.size r (rows_told items))
-found_lines p (told_fault f ∷ items) rest = found_lines p items rest
+    let others = pages_text p.form name p.size (rows_told items) in
+    ap (λ l. pages_text p.form name p.size (r ∷ []) ++ l) (found_lines q at items rest ∙ ap (λ rows. others ++ all_lines (record p { rows = rows }) rest) (append_assoc p.rows (r ∷ []) (rows_told items)))
+    ∙ sym (append_assoc (pages_text p.form name p.size (r ∷ [])) others _)
+    ∙ ap (λ l. l ++ all_lines (record p { rows = p.rows ++ (r ∷ rows_told items) }) rest) (pages_more p.form name p.size r (rows_told items))
+found_lines p at (told_fault f ∷ items) rest = found_lines p at items rest
 
 module _ (file : List ℕ) (V : List Reference) (form : Bool) where
   -- between two trees
-  abbrev sheet : List ℕ → Sheet
-  sheet name = record { form = form; encoding = encoding_of file; size = page_size file; name = name; rows = [] }
+  abbrev sheet : Sheet
+  sheet = record { form = form; encoding = encoding_of file; size = page_size file; rows = [] }
 
-  tree_lines : (W : List Reference) (c : Reference) (name : List ℕ) (rest : List Notice)
-      → all_lines (sheet name) (tree_notices file W c ++ rest) ≡ tree_text form name (page_size file) (rows_told (told_below file W (Go c ∷ []))) ++ all_lines (sheet name) rest
-  tree_lines W c name rest =
+  abbrev shown : At → List ℕ
+  shown at = name_at (encoding_of file) at
+
+  tree_lines : (at : At) (W : List Reference) (c : Reference) (rest : List Notice)
+      → all_lines sheet (tree_notices at file W c ++ rest) ≡ tree_text form (shown at) (page_size file) (rows_told (told_below file W (Go c ∷ []))) ++ all_lines sheet rest
+  tree_lines at W c rest =
       let items = told_below file W (Go c ∷ []) in
       let rows = rows_told items in
-      ap (all_lines (sheet name)) (append_assoc (map found items) (ended ∷ []) rest)
-      ∙ found_lines (sheet name) items (ended ∷ rest)
-      ∙ sym (append_assoc (pages_text form name (page_size file) rows) (end_text form name (page_size file) rows) (all_lines (sheet name) rest))
-      ∙ ap (λ l. l ++ all_lines (sheet name) rest) (pages_ended form name (page_size file) rows)
+      ap (all_lines sheet) (append_assoc (map (found at) items) (ended at ∷ []) rest)
+      ∙ found_lines sheet at items (ended at ∷ rest)
+      ∙ sym (append_assoc (pages_text form (shown at) (page_size file) rows) (end_text form (shown at) (page_size file) rows) (all_lines sheet rest))
+      ∙ ap (λ l. l ++ all_lines sheet rest) (pages_ended form (shown at) (page_size file) rows)
 
   -- of the freelist there is no row
   abbrev if_none : Bool → List (Errand Way Event)
   if_none b = errands_at [] (map Follow (cond b [] (start freelist_start trunk (first_trunk file) ∷ [])))
 
-  freelist_lines : (W : List Reference) (name : List ℕ) → all_lines (sheet name) (later_notices file W []) ≡ starts_text form file V W (errands_left file [])
-  freelist_lines W name =
+  freelist_lines : (W : List Reference) → all_lines sheet (later_notices file W []) ≡ starts_text form file V W (errands_left file [])
+  freelist_lines W =
       let items = told_below file W (errands_left file []) in
-      ap (all_lines (sheet name)) (sym (append-nil (map found items))) ∙ found_lines (sheet name) items [] ∙ append-nil _ ∙ by_case (first_trunk file == 0)
+      ap (all_lines sheet) (sym (append-nil (map (found at_freelist) items))) ∙ found_lines sheet at_freelist items [] ∙ append-nil _ ∙ by_case (first_trunk file == 0)
     where
       d : Reference
       d = freelist_reference (first_trunk file)
@@ -106,51 +107,52 @@ module _ (file : List ℕ) (V : List Reference) (form : Bool) where
       none : rows_told (told_below file W (Go d ∷ [])) ≡ []
       none = rows_below file W (Go d ∷ []) (quiet_go d) ∙ freelist_rows file W (start freelist_start trunk (first_trunk file)) refl
 
-      by_case : (b : Bool) → pages_text form name (page_size file) (rows_told (told_below file W (if_none b))) ≡ starts_text form file V W (if_none b)
-      by_case true = ap (λ l. pages_text form name (page_size file) (rows_told l)) (told_none file W) ∙ no_pages form name (page_size file)
+      by_case : (b : Bool) → pages_text form (shown at_freelist) (page_size file) (rows_told (told_below file W (if_none b))) ≡ starts_text form file V W (if_none b)
+      by_case true = ap (λ l. pages_text form (shown at_freelist) (page_size file) (rows_told l)) (told_none file W) ∙ no_pages form (shown at_freelist) (page_size file)
       by_case false =
-          ap (pages_text form name (page_size file)) none ∙ no_pages form name (page_size file)
+          ap (pages_text form (shown at_freelist) (page_size file)) none ∙ no_pages form (shown at_freelist) (page_size file)
           ∙ sym (append-nil _ ∙ ap (tree_text form (tree_name file V freelist_start) (page_size file)) none ∙ no_tree form (tree_name file V freelist_start) (page_size file))
 
   -- the names of the rows are those of the trees from start k on
   abbrev AreNamed : ℕ → List SchemaRow → Type 0
-  AreNamed k rows = (j : ℕ) (r : SchemaRow) → slice_get rows j ≡ Some r → option_map_or (shown_name (encoding_of file)) (short_name r.name) (codes "?") ≡ tree_name file V (k + j)
+  AreNamed k rows = (j : ℕ) (r : SchemaRow) → slice_get rows j ≡ Some r → shown (at_row (k + j) r) ≡ tree_name file V (k + j)
 
-  -- what is written from a tree on, where its name is known by then
+  -- what is written from a tree on
   abbrev Writes : ℕ → List SchemaRow → List Reference → List Notice → List (Errand Way Event) → Type 0
-  Writes k rows W ns es = (name : List ℕ) → AreNamed k rows → all_lines (sheet name) ns ≡ starts_text form file V W es
+  Writes k rows W ns es = AreNamed k rows → all_lines sheet ns ≡ starts_text form file V W es
 
   next_lines : (k : ℕ) (row : SchemaRow) (rows : List SchemaRow) (W : List Reference) (ns : List Notice) (es : List (Errand Way Event))
       → Writes (k + 1) rows (W ++ visited_below file W (Go (root_reference file k row) ∷ [])) ns es
-      → Writes k (row ∷ rows) W (begun row.name ∷ tree_notices file W (root_reference file k row) ++ ns) (Go (root_reference file k row) ∷ es)
-  next_lines k row rows W ns es h name named =
+      → Writes k (row ∷ rows) W (tree_notices (at_row k row) file W (root_reference file k row) ++ ns) (Go (root_reference file k row) ∷ es)
+  next_lines k row rows W ns es h named =
       let c = root_reference file k row in
       let zero_more : k + 0 ≡ k = omega arith in
-      ap (λ name. all_lines (sheet name) (tree_notices file W c ++ ns)) (named 0 row refl ∙ ap (tree_name file V) zero_more)
-      ∙ tree_lines W c (tree_name file V k) ns
-      ∙ ap (λ l. tree_text form (tree_name file V k) (page_size file) (rows_told (told_below file W (Go c ∷ []))) ++ l) (h (tree_name file V k) (λ j r e.
-      let n : k + suc j ≡ (k + 1) + j = omega arith in named (suc j) r e ∙ ap (tree_name file V) n))
+      let text : List ℕ → List ℕ = λ name. tree_text form name (page_size file) (rows_told (told_below file W (Go c ∷ []))) in
+      let here : shown (at_row k row) ≡ tree_name file V k = subst (λ n. shown (at_row n row) ≡ tree_name file V n) zero_more (named 0 row refl) in
+      tree_lines (at_row k row) W c ns
+      ∙ ap₂ (λ name rest. text name ++ rest) here (h (λ j r e.
+      let n : k + suc j ≡ (k + 1) + j = omega arith in subst (λ n. shown (at_row n r) ≡ tree_name file V n) n (named (suc j) r e)))
 
-  start_lines : Survey file V → all_lines (sheet (tree_name file V 0)) (start_notices file V) ≡ starts_text form file V [] (start_errands file V)
+  start_lines : Survey file V → all_lines sheet (start_notices file V) ≡ starts_text form file V [] (start_errands file V)
   start_lines survey =
       let c = schema_reference in
       let U = [] ++ visited_below file [] (Go c ∷ []) in
       let rows = take last_root_start (rooted_rows (schema file V)) in
-      tree_lines [] c (tree_name file V 0) (later_notices file U (enumerate_from 1 rows))
-      ∙ ap (λ l. tree_text form (tree_name file V 0) (page_size file) (rows_told (told_below file [] (Go c ∷ []))) ++ l) (of_later file Writes (λ k W name named. freelist_lines W name) next_lines 1 rows U (tree_name file V 0) (λ j r e.
-      let n : suc j ≡ 1 + j = omega arith in listed_name file V rows j r refl e ∙ ap (tree_name file V) n))
+      let text : List ℕ → List ℕ = λ name. tree_text form name (page_size file) (rows_told (told_below file [] (Go c ∷ []))) in
+      tree_lines at_schema [] c (later_notices file U (enumerate_from 1 rows))
+      ∙ ap₂ (λ name rest. text name ++ rest) (schema_name file V) (of_later file Writes (λ k W named. freelist_lines W) next_lines 1 rows U (λ j r e.
+      let n : suc j ≡ 1 + j = omega arith in subst (λ n. shown (at_row n r) ≡ tree_name file V n) n (listed_name file V rows j r refl e)))
       ∙ ap (starts_text form file V []) (sym (start_errands_listed file V survey))
 
 -- All starts have been walked from, and it is written what was told.
-pub walked_written : {O E : Type 0} (held : O → OutState) (held' : E → OutState) (file : List ℕ) (V : List Reference) → Survey file V → (s t : SchemaWatch (StatSink O E)) → IsForSchema file s.sink
-    → (r : Result (Unit {0}) RunError) (marks : List Mark) (rows : List SchemaRow) → AreWalked (Hears (hearing held held')) file V r marks rows s t
-    → IsSurveyed file V r marks t.has_rows × WritesBoth held held' r s.sink t.sink (starts_text s.sink.aggregate file V [] (start_errands file V)) (faults_told file [] (start_errands file V))
+pub walked_written : {O E : Type 0} (held : O → OutState) (held' : E → OutState) (file : List ℕ) (V : List Reference) → Survey file V → (s t : StatSink O E) → IsForFile file s
+    → (r : Result Bool RunError) (marks : List Mark) (rows : List SchemaRow) → AreWalked (Hears (hearing held held')) file V r marks rows s t
+    → IsSurveyed file V r marks × WritesBoth held held' r s t (starts_text s.aggregate file V [] (start_errands file V)) (faults_told file [] (start_errands file V))
 walked_written held held' file V survey s t is r marks rows h =
-    let form = s.sink.aggregate in
-    let p = sheet file V form (tree_name file V 0) in (
+    let form = s.aggregate in
+    let p = sheet file V form in (
       record { marked = h.all.marked; has_rows = h.has_rows },
-      subst (λ x. WritesBoth held held' r s.sink t.sink x (faults_told file [] (start_errands file V))) (start_lines file V form survey)
-          (subst (λ items. WritesBoth held held' r s.sink t.sink (all_lines p (start_notices file V)) (faults_in items)) (of_starts file V survey)
-          (notices_written held held' r p (start_notices file V) s.sink t.sink
-          (record { form = refl; encoding = is.encoding; size = is.page_size; name = is.name ∙ schema_name file V; summed = is.summed }) h.all.told)),
+      subst (λ x. WritesBoth held held' r s t x (faults_told file [] (start_errands file V))) (start_lines file V form survey)
+          (subst (λ items. WritesBoth held held' r s t (all_lines p (start_notices file V)) (faults_in items)) (of_starts file V survey)
+          (notices_written held held' r p (start_notices file V) s t (record { form = refl; encoding = is.encoding; size = is.page_size; summed = is.summed }) h.all.told)),
     )

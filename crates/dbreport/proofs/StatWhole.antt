@@ -53,8 +53,8 @@ module _ {O E : Type 0} (held : O → OutState) (held' : E → OutState) (file :
     pub others_written : {B X : Type 0} (b : B) → PutsOthers {A = B} {X = X} held held' (Ok b) g marks t u → HasWritten held held' before u (rows_text before.aggregate true file V) in_walks
     others_written b p = record {
       aggregate = ap (λ (s : StatSink O E). s.aggregate) p.rest ∙ h.aggregate;
-      encoding = ap (λ (s : StatSink O E). s.label.now.encoding) p.rest ∙ h.encoding;
-      page_size = ap (λ (s : StatSink O E). s.label.now.page_size) p.rest ∙ h.page_size;
+      encoding = ap (λ (s : StatSink O E). s.encoding) p.rest ∙ h.encoding;
+      page_size = ap (λ (s : StatSink O E). s.page_size) p.rest ∙ h.page_size;
       found = λ n q. ap (λ (s : StatSink O E). s.found) p.rest ∙ h.found n q;
       out = appends_append (held before.out.now).bytes (held t.out.now).bytes (held u.out.now).bytes trees (others true) h.out
           (subst (λ l. Appends (held t.out.now).bytes (held u.out.now).bytes l) its_lines p.writes);

@@ -1,10 +1,8 @@
 -- The sink of the statistics: what a finding makes of it, and what it has written and counted after some.
-use Rattle.std.specs.Prelude.{◌≡◌, ℕ, ◌+◌, Bool, true, false, not, ◌==◌, List, [], ◌∷◌, ◌++◌, length, flat_map, Option, Result, Ok, MatchResult, OnOk, codes, if◌then◌else◌}
+use Rattle.std.specs.Prelude.{◌≡◌, ℕ, ◌+◌, Bool, true, false, not, ◌==◌, List, [], ◌∷◌, ◌++◌, length, flat_map, Result, Ok, MatchResult, OnOk, if◌then◌else◌}
 use Rattle.std.specs.Io.KnownBytes.{Appends, Keeps}
-use Rattle.std.specs.Option.{option_map_or}
 use Rattle.dbformat.specs.Lines.{counted, fault_line, page_line, tree_line}
 use Rattle.dbformat.specs.Rows.{StatRow}
-use Rattle.dbformat.specs.Text.{shown_name}
 use Rattle.dbformat.specs.declared.Fault.{Fault}
 use Rattle.dbformat.specs.declared.Geometry.{Geometry}
 use Rattle.dbformat.specs.declared.Verdict.{Verdict}
@@ -15,9 +13,9 @@ use Rattle.dbsource.specs.Outs.{Begins, Flushes, OutState, Writes}
 use Rattle.dbsource.specs.declared.error.RunError.{RunError}
 use Rattle.dbtrace.specs.Finding.{Finding, told_row, told_fault}
 use Rattle.dbmarks.specs.declared.marks.Mark.{Mark}
-use Rattle.dbowner.specs.Roots.{short_name}
+use Rattle.dbscan.specs.Starts.{At}
 use Rattle.dbreport.specs.CheckSink.{PutsAll}
-use Rattle.dbreport.specs.TreeNames.{label_text}
+use Rattle.dbreport.specs.TreeNames.{name_at}
 use Rattle.dbreport.specs.OtherMarks.{marked_lines}
 use Rattle.dbreport.specs.Sums.{sums_of}
 use Rattle.dbreport.specs.declared.statistics.sink.StatSink.{StatSink}
@@ -33,19 +31,20 @@ end_text true name size [] = []
 end_text true name size (row ∷ rows) = tree_line name size (row ∷ rows)
 end_text false name size rows = []
 
--- what a sink writes of rows as they come
-abbrev pub text_of : {O E : Type 0} → StatSink O E → List StatRow → List ℕ
-text_of s rows = pages_text s.aggregate (label_text s.label.now) s.label.now.page_size rows
+-- what a sink writes of rows as they come at a start
+abbrev pub text_of : {O E : Type 0} → StatSink O E → At → List StatRow → List ℕ
+text_of s at rows = pages_text s.aggregate (name_at s.encoding at) s.page_size rows
 
 -- it writes to the same Outs as before
 abbrev pub AreSameOuts : {O E : Type 0} → StatSink O E → StatSink O E → Type 0
 AreSameOuts s t = (t.out.ghost_name ≡ s.out.ghost_name) × (t.err.ghost_name ≡ s.err.ghost_name)
 
--- it writes to the same Outs as before, with the same label and form
+-- it writes to the same Outs as before, and in the same way
 pub record IsSameSink {O E : Type 0} (s t : StatSink O E) : Type 0 where
   pub out : t.out.ghost_name ≡ s.out.ghost_name
   pub err : t.err.ghost_name ≡ s.err.ghost_name
-  pub label : t.label.now ≡ s.label.now
+  pub encoding : t.encoding ≡ s.encoding
+  pub page_size : t.page_size ≡ s.page_size
   pub aggregate : t.aggregate ≡ s.aggregate
 
 -- an Out was flushed: what it told stays, nothing of it is pending, and it did not fail
@@ -58,18 +57,18 @@ IsFlushedIf true old new = IsFlushed old new
 IsFlushedIf false old new = new ≡ old
 
 -- a row was taken: it was written, behind the faults that came before it, or counted for its tree's
-pub record TakesRow {O E : Type 0} (held : O → OutState) (held' : E → OutState) (s : StatSink O E) (r : StatRow) (t : StatSink O E) : Type 0 where
+pub record TakesRow {O E : Type 0} (held : O → OutState) (held' : E → OutState) (s : StatSink O E) (at : At) (r : StatRow) (t : StatSink O E) : Type 0 where
   pub same : IsSameSink s t
   pub err : IsFlushedIf (not s.aggregate) (held' s.err.now) (held' t.err.now)
   pub found : t.found ≡ s.found
   pub sums : (rows : List StatRow) → s.sums ≡ sums_of rows → t.sums ≡ sums_of (rows ++ (r ∷ []))
-  pub puts : PutsAll (held s.out.now) (held t.out.now) (text_of s (r ∷ []))
+  pub puts : PutsAll (held s.out.now) (held t.out.now) (text_of s at (r ∷ []))
 
 -- it was not written whole, or the faults before it were not handed on
-pub record CutsRow {O E : Type 0} (held : O → OutState) (held' : E → OutState) (s : StatSink O E) (r : StatRow) (t : StatSink O E) : Type 0 where
+pub record CutsRow {O E : Type 0} (held : O → OutState) (held' : E → OutState) (s : StatSink O E) (at : At) (r : StatRow) (t : StatSink O E) : Type 0 where
   pub same : IsSameSink s t
   pub err : Keeps (held' s.err.now).bytes (held' t.err.now).bytes
-  pub out : Begins (held s.out.now).bytes (held t.out.now).bytes (text_of s (r ∷ []))
+  pub out : Begins (held s.out.now).bytes (held t.out.now).bytes (text_of s at (r ∷ []))
 
 -- a fault was written, behind the rows that came before it, and counted
 pub record TakesFault {O E : Type 0} (held : O → OutState) (held' : E → OutState) (s : StatSink O E) (f : Fault) (t : StatSink O E) : Type 0 where
@@ -85,15 +84,25 @@ pub record CutsFault {O E : Type 0} (held : O → OutState) (held' : E → OutSt
   pub out : Keeps (held s.out.now).bytes (held t.out.now).bytes
   pub err : Begins (held' s.err.now).bytes (held' t.err.now).bytes (fault_line f)
 
--- a finding was taken
+-- a finding of the whole file was taken; a row is none
 abbrev pub Counts : {O E : Type 0} → (O → OutState) → (E → OutState) → StatSink O E → Finding → StatSink O E → Type 0
-Counts out err s (told_row r) t = TakesRow out err s r t
+Counts out err s (told_row r) t = t ≡ s
 Counts out err s (told_fault f) t = TakesFault out err s f t
 
 -- it was not taken whole
 abbrev pub Breaks : {O E : Type 0} → (O → OutState) → (E → OutState) → StatSink O E → Finding → StatSink O E → Type 0
-Breaks out err s (told_row r) t = CutsRow out err s r t
+Breaks out err s (told_row r) t = ⊥
 Breaks out err s (told_fault f) t = CutsFault out err s f t
+
+-- a finding at a start was taken
+abbrev pub CountsAt : {O E : Type 0} → (O → OutState) → (E → OutState) → StatSink O E → At → Finding → StatSink O E → Type 0
+CountsAt out err s at (told_row r) t = TakesRow out err s at r t
+CountsAt out err s at (told_fault f) t = TakesFault out err s f t
+
+-- it was not taken whole
+abbrev pub BreaksAt : {O E : Type 0} → (O → OutState) → (E → OutState) → StatSink O E → At → Finding → StatSink O E → Type 0
+BreaksAt out err s at (told_row r) t = CutsRow out err s at r t
+BreaksAt out err s at (told_fault f) t = CutsFault out err s f t
 
 -- the failures of the first Out, and of the second
 abbrev pub failures_of_each : OutState → OutState → List ℕ
@@ -111,8 +120,8 @@ found_verdict n = if n == 0 then Clean else Faulty n
 -- From one sink to the other these bytes were written to the first Out, and the lines of these faults to the second.
 pub record HasWritten {O E : Type 0} (held : O → OutState) (held' : E → OutState) (s t : StatSink O E) (text : List ℕ) (faults : List Fault) : Type 0 where
   pub aggregate : t.aggregate ≡ s.aggregate
-  pub encoding : t.label.now.encoding ≡ s.label.now.encoding
-  pub page_size : t.label.now.page_size ≡ s.label.now.page_size
+  pub encoding : t.encoding ≡ s.encoding
+  pub page_size : t.page_size ≡ s.page_size
   pub found : (n : ℕ) → s.found ≡ counted n → t.found ≡ counted (n + length faults)
   pub out : Appends (held s.out.now).bytes (held t.out.now).bytes text
   pub err : Appends (held' s.err.now).bytes (held' t.err.now).bytes (flat_map fault_line faults)
@@ -126,32 +135,22 @@ pub record HasBegun {O E : Type 0} (held : O → OutState) (held' : E → OutSta
 abbrev pub WritesBoth : {A X O E : Type 0} → (O → OutState) → (E → OutState) → Result A X → StatSink O E → StatSink O E → List ℕ → List Fault → Type 0
 WritesBoth held held' r s t text faults = MatchResult r (λ _. HasWritten held held' s t text faults) (λ _. HasBegun held held' s t text faults)
 
--- A tree of this name comes next: the name of the label alone is another.
-pub record BeginsTree {O E : Type 0} (s : StatSink O E) (name : Option (List ℕ)) (t : StatSink O E) : Type 0 where
-  pub out : t.out.now ≡ s.out.now
-  pub err : t.err.now ≡ s.err.now
-  pub aggregate : t.aggregate ≡ s.aggregate
-  pub sums : t.sums ≡ s.sums
-  pub found : t.found ≡ s.found
-  pub encoding : t.label.now.encoding ≡ s.label.now.encoding
-  pub page_size : t.label.now.page_size ≡ s.label.now.page_size
-  pub named : label_text t.label.now ≡ option_map_or (shown_name s.label.now.encoding) (short_name name) (codes "?")
-
 -- A tree has ended: its own row was written, where its rows are added up, behind the faults that came before it.
-pub record EndsTree {O E : Type 0} (held : O → OutState) (held' : E → OutState) (s t : StatSink O E) : Type 0 where
+pub record EndsTree {O E : Type 0} (held : O → OutState) (held' : E → OutState) (s : StatSink O E) (at : At) (t : StatSink O E) : Type 0 where
   pub aggregate : t.aggregate ≡ s.aggregate
-  pub label : t.label.now ≡ s.label.now
+  pub encoding : t.encoding ≡ s.encoding
+  pub page_size : t.page_size ≡ s.page_size
   pub found : t.found ≡ s.found
   pub sums : t.sums ≡ sums_of []
   pub err : IsFlushedIf s.aggregate (held' s.err.now) (held' t.err.now)
   pub writes : (rows : List StatRow) → s.sums ≡ sums_of rows
-      → Appends (held s.out.now).bytes (held t.out.now).bytes (end_text s.aggregate (label_text s.label.now) s.label.now.page_size rows)
+      → Appends (held s.out.now).bytes (held t.out.now).bytes (end_text s.aggregate (name_at s.encoding at) s.page_size rows)
 
 -- it was not written whole, or the faults before it were not handed on
-pub record CutsEnd {O E : Type 0} (held : O → OutState) (held' : E → OutState) (s t : StatSink O E) : Type 0 where
+pub record CutsEnd {O E : Type 0} (held : O → OutState) (held' : E → OutState) (s : StatSink O E) (at : At) (t : StatSink O E) : Type 0 where
   pub kept : Keeps (held' s.err.now).bytes (held' t.err.now).bytes
   pub writes : (rows : List StatRow) → s.sums ≡ sums_of rows
-      → Begins (held s.out.now).bytes (held t.out.now).bytes (end_text s.aggregate (label_text s.label.now) s.label.now.page_size rows)
+      → Begins (held s.out.now).bytes (held t.out.now).bytes (end_text s.aggregate (name_at s.encoding at) s.page_size rows)
 
 -- The rows of the other pages were written, as the marks tell them, behind the faults that came before them; or a beginning
 -- of them.

@@ -1,6 +1,5 @@
 // A check of a file, by its header.
-ghost use Rattle.std.specs.Prelude.{◌≡◌, false, List, IfErr, IfOk};
-ghost use Rattle.dbformat.specs.HeaderFaults.{header_faults};
+ghost use Rattle.std.specs.Prelude.{◌≡◌, List, IfErr, IfOk};
 ghost use Rattle.dbformat.specs.Log.{IsPageLog};
 ghost use Rattle.dbformat.specs.Reference.{Reference};
 ghost use Rattle.dbformat.specs.Report.{check_text, faults, verdict};
@@ -10,50 +9,36 @@ ghost use Rattle.dbsource.specs.Failures.{failures_after};
 ghost use Rattle.dbsource.specs.Headers.{IsHeaderOf};
 ghost use Rattle.dbsource.specs.Outs.{Writes};
 ghost use Rattle.dbsource.specs.Sources.{Asks};
-ghost use Rattle.dbsource.specs.declared.error.RunError.TheVariants.{WriteFailed};
-ghost use Rattle.dbwalk.specs.Telling.{IsReadWriteOrMemory, Tells, findings};
+ghost use Rattle.dbwalk.specs.Telling.{IsReadWriteOrMemory, Tells};
 ghost use Rattle.dbreport.specs.CheckSink.{Cuts, Shows};
 ghost use Rattle.dbscan.specs.Desks.{IsFresh, shape_of};
-ghost use Rattle.dbscan.specs.RunItems.{walk_items};
+ghost use Rattle.dbscan.specs.RunItems.{run_items};
 
 mod sink;
 
 use crate::checking::sink::CheckSink;
 use dbformat::Verdict;
-use dbscan::{Desk, SchemaWatch, tell_end, tell_header, walk_starts};
-use dbsource::{Header, Out, RunError, Source};
-pub use sink::put_rest;
+use dbscan::{Desk, scan};
+use dbsource::{Out, RunError, Source};
 use std::alloc::Allocator;
 
-// Tells the header's faults to the sink of a check, which keeps its Out.
-fn tell_check_header<O: Out>(header: &Header, sink: &mut CheckSink<'_, O>) -> Result<(), RunError>
-    ensures same_out { sink.new.out.ghost_name ≡ sink.old.out.ghost_name }
-    ensures told { Tells (Shows O.held) (Cuts O.held) result sink.old (findings (header_faults header.now.bytes header.now.file_len)) sink.new }
-    ensures writes { (O.held sink.new.out.now).failures ≡ failures_after is_write_failed result (O.held sink.old.out.now).failures }
-    ensures only { IfErr result (λ e. e ≡ WriteFailed) }
-{
-    tell_header(header, sink)
-}
-
-// Tells it what the walks find and what is told at the end.
-fn tell_check<A: Allocator, S: Source, O: Out>(
+// Tells the sink of a check, which keeps its Out, all that is found in a file.
+fn scan_check<A: Allocator, S: Source, O: Out>(
     desk: &mut Desk<A>,
     source: &mut S,
-    watch: &mut SchemaWatch<CheckSink<'_, O>>,
+    sink: &mut CheckSink<'_, O>,
 ) -> Result<(), RunError>
     requires fresh { IsFresh desk.old }
-    requires unseen { watch.old.has_rows ≡ false }
-    ensures same_out { watch.new.sink.out.ghost_name ≡ watch.old.sink.out.ghost_name }
+    ensures same_out { sink.new.out.ghost_name ≡ sink.old.out.ghost_name }
     ensures header { desk.new.header ≡ desk.old.header }
     ensures asks { Asks S.step (IsPageLog (shape_of desk.old)) (λ file. IsHeaderOf desk.old.header file → (V : List Reference) → Survey file V
-        → Tells (Shows O.held) (Cuts O.held) result watch.old.sink (walk_items file V) watch.new.sink)
+        → Tells (Shows O.held) (Cuts O.held) result sink.old (run_items file V) sink.new)
         is_read_failed result (S.held source.old) (S.held source.new) }
-    ensures writes { (O.held watch.new.sink.out.now).failures ≡ failures_after is_write_failed result (O.held watch.old.sink.out.now).failures }
+    ensures writes { (O.held sink.new.out.now).failures ≡ failures_after is_write_failed result (O.held sink.old.out.now).failures }
     ensures refusals { desk.new.roots.refusals ≡ failures_after is_out_of_memory result desk.old.roots.refusals }
     ensures only { IfErr result IsReadWriteOrMemory }
 {
-    walk_starts(desk, source, watch)?;
-    tell_end(desk, source, watch.has_rows, &mut watch.sink)
+    scan(desk, source, sink)
 }
 
 /// Writes the first faults of a file, so many at most, and how many more there are, or that there is none; and answers
@@ -79,8 +64,6 @@ pub(crate) fn check<A: Allocator, S: Source, O: Out>(
     ensures only { IfErr result IsReadWriteOrMemory }
 {
     let mut sink = CheckSink::new(out, limit);
-    tell_check_header(desk.header(), &mut sink)?;
-    let mut watch = SchemaWatch::new(sink);
-    tell_check(desk, source, &mut watch)?;
-    Ok(watch.sink.finish()?)
+    scan_check(desk, source, &mut sink)?;
+    Ok(sink.finish()?)
 }

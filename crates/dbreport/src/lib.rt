@@ -11,7 +11,6 @@ mod checking;
 mod runs;
 mod statistics;
 
-pub use checking::put_rest;
 pub use dbformat::{Command, Verdict};
 pub use dbscan::Desk;
 pub use dbsource::{Header, Out, RunError, Source};

@@ -1,6 +1,5 @@
 // The statistics of a file, by its header.
-ghost use Rattle.std.specs.Prelude.{◌≡◌, [], false, List, IfErr, IfOk, OnOk, codes, flat_map};
-ghost use Rattle.dbformat.specs.Header.{encoding};
+ghost use Rattle.std.specs.Prelude.{◌≡◌, [], List, IfErr, IfOk, OnOk, flat_map};
 ghost use Rattle.dbformat.specs.HeaderFaults.{header_faults};
 ghost use Rattle.dbformat.specs.Lines.{fault_line, form_line};
 ghost use Rattle.dbformat.specs.Log.{IsPageLog};
@@ -19,9 +18,8 @@ ghost use Rattle.dbwalk.specs.Telling.{IsReadWriteOrMemory};
 ghost use Rattle.dbscan.specs.Desks.{AsksOver, IsFresh, shape_of};
 ghost use Rattle.dbreport.specs.Statistics.{form_of};
 ghost use Rattle.dbreport.specs.StatSink.{AreSameOuts, Fails, IsSameSink, WritesBoth, failures_of_each};
-ghost use Rattle.dbreport.specs.StatStarts.{IsForSchema, IsSurveyed, faults_told, rows_text, walk_faults_told};
+ghost use Rattle.dbreport.specs.StatStarts.{IsForFile, IsSurveyed, faults_told, rows_text, walk_faults_told};
 ghost use Rattle.dbreport.specs.Sums.{sums_of};
-ghost use Rattle.dbreport.specs.TreeNames.{label_text};
 
 mod columns;
 mod hex;
@@ -33,9 +31,8 @@ mod sums;
 mod tree_name;
 
 use crate::statistics::sink::StatSink;
-use crate::statistics::tree_name::Label;
 use dbformat::Verdict;
-use dbscan::{Desk, SchemaWatch, tell_end, tell_header, walk_starts};
+use dbscan::{Desk, tell_end, tell_header, walk_starts};
 use dbsource::{Header, Out, RunError, Source};
 use std::alloc::Allocator;
 
@@ -60,30 +57,29 @@ fn stat_header<O: Out, E: Out>(
     tell_header(header, sink)
 }
 
-// Writes the rows of the trees, and where all pages are asked for, those of the others.
+// Writes the rows of the trees, and where all pages are asked for, those of the others. It answers whether the schema has a row.
 fn stat_pages<A: Allocator, S: Source, O: Out, E: Out>(
     desk: &mut Desk<A>,
     source: &mut S,
     all: bool,
-    watch: &mut SchemaWatch<StatSink<'_, O, E>>,
-) -> Result<(), RunError>
+    sink: &mut StatSink<'_, O, E>,
+) -> Result<bool, RunError>
     requires fresh { IsFresh desk.old }
-    requires unseen { watch.old.has_rows ≡ false }
-    ensures same { AreSameOuts watch.old.sink watch.new.sink }
+    ensures same { AreSameOuts sink.old sink.new }
     ensures header { desk.new.header ≡ desk.old.header }
-    ensures asks { AsksOver S.step desk.old desk.new (λ file. IsForSchema file watch.old.sink → (V : List Reference) → Survey file V
-        → IsSurveyed file V result desk.new.marks watch.new.has_rows × WritesBoth O.held E.held result watch.old.sink watch.new.sink
-        (rows_text watch.old.sink.aggregate all file V) (faults_told file [] (start_errands file V)))
+    ensures asks { AsksOver S.step desk.old desk.new (λ file. IsForFile file sink.old → (V : List Reference) → Survey file V
+        → IsSurveyed file V result desk.new.marks × WritesBoth O.held E.held result sink.old sink.new
+        (rows_text sink.old.aggregate all file V) (faults_told file [] (start_errands file V)))
         result (S.held source.old) (S.held source.new) }
-    ensures writes { Fails O.held E.held result watch.old.sink watch.new.sink }
+    ensures writes { Fails O.held E.held result sink.old sink.new }
     ensures refusals { desk.new.roots.refusals ≡ failures_after is_out_of_memory result desk.old.roots.refusals }
     ensures only { IfErr result IsReadWriteOrMemory }
 {
-    walk_starts(desk, source, watch)?;
-    if !all {
-        return Ok(());
+    let any_rows = walk_starts(desk, source, sink)?;
+    if all {
+        sink.put_others(desk.geometry(), desk.marks())?;
     }
-    Ok(watch.sink.put_others(desk.geometry(), desk.marks())?)
+    Ok(any_rows)
 }
 
 // Writes all that is told behind the header's faults.
@@ -91,31 +87,21 @@ fn stat_walks<A: Allocator, S: Source, O: Out, E: Out>(
     desk: &mut Desk<A>,
     source: &mut S,
     all: bool,
-    watch: &mut SchemaWatch<StatSink<'_, O, E>>,
+    sink: &mut StatSink<'_, O, E>,
 ) -> Result<(), RunError>
     requires fresh { IsFresh desk.old }
-    requires unseen { watch.old.has_rows ≡ false }
-    ensures same { AreSameOuts watch.old.sink watch.new.sink }
+    ensures same { AreSameOuts sink.old sink.new }
     ensures header { desk.new.header ≡ desk.old.header }
     ensures asks { Asks S.step (IsPageLog (shape_of desk.old)) (λ file. IsHeaderOf desk.old.header file
-        → IsForSchema file watch.old.sink → (V : List Reference) → Survey file V
-        → WritesBoth O.held E.held result watch.old.sink watch.new.sink (rows_text watch.old.sink.aggregate all file V) (walk_faults_told file V))
+        → IsForFile file sink.old → (V : List Reference) → Survey file V
+        → WritesBoth O.held E.held result sink.old sink.new (rows_text sink.old.aggregate all file V) (walk_faults_told file V))
         is_read_failed result (S.held source.old) (S.held source.new) }
-    ensures writes { Fails O.held E.held result watch.old.sink watch.new.sink }
+    ensures writes { Fails O.held E.held result sink.old sink.new }
     ensures refusals { desk.new.roots.refusals ≡ failures_after is_out_of_memory result desk.old.roots.refusals }
     ensures only { IfErr result IsReadWriteOrMemory }
 {
-    stat_pages(desk, source, all, watch)?;
-    tell_end(desk, source, watch.has_rows, &mut watch.sink)
-}
-
-// The label of the schema's tree.
-fn schema_label<A: Allocator>(desk: &Desk<A>) -> Label
-    ensures text { label_text result ≡ codes "sqlite_schema" }
-    ensures encoding { result.encoding ≡ encoding desk.now.header.bytes }
-    ensures page_size { result.page_size ≡ (shape_of desk.now).page_size }
-{
-    Label::schema(desk.header().encoding(), desk.geometry().page_size)
+    let any_rows = stat_pages(desk, source, all, sink)?;
+    tell_end(desk, source, any_rows, sink)
 }
 
 /// Writes the rows of a file in their form, and the lines of all its faults to the second Out; and answers what was found.
@@ -142,10 +128,10 @@ pub(crate) fn stat<A: Allocator, S: Source, O: Out, E: Out>(
     ensures refusals { desk.new.roots.refusals ≡ failures_after is_out_of_memory result desk.old.roots.refusals }
     ensures only { IfErr result IsReadWriteOrMemory }
 {
-    let mut label = schema_label(desk);
-    let mut sink = StatSink::new(out, err, &mut label, form.aggregate);
+    let encoding = desk.header().encoding();
+    let page_size = desk.geometry().page_size;
+    let mut sink = StatSink::new(out, err, encoding, page_size, form.aggregate);
     stat_header(desk.header(), &mut sink)?;
-    let mut watch = SchemaWatch::new(sink);
-    stat_walks(desk, source, form.all, &mut watch)?;
-    Ok(watch.sink.verdict())
+    stat_walks(desk, source, form.all, &mut sink)?;
+    Ok(sink.verdict())
 }

@@ -1,4 +1,5 @@
 pub mod CountedMarks
+pub mod DeskWalks
 pub mod EndItems
 pub mod MapLogs
 pub mod MapPlaces
@@ -7,12 +8,13 @@ pub mod Refusals
 pub mod RootsTaken
 pub mod RunItems
 pub mod RunTold
+pub mod Scanned
 pub mod SchemaTold
 pub mod SchemaWalks
 pub mod ShortNames
 pub mod StartByStart
 pub mod Starts
+pub mod Tellers
 pub mod ToldFaults
 pub mod ToldStarts
 pub mod TreeWalks
-pub mod Watched

@@ -20,6 +20,7 @@ use Rattle.dbsource.proofs.Logs.{has_none}
 use Rattle.dbmarks.specs.Marking.{is_unmarked, AreMarksFor}
 use Rattle.dbmarks.specs.Reads.{Reads}
 use Rattle.dbmarks.specs.declared.marks.Mark.{Mark}
+use Rattle.dbmarks.proofs.Readings.{keeps_same}
 use Rattle.dbmarks.proofs.Unfixed.{marks_for-kept, readable, unmarked_unfixed}
 use Rattle.dbscan.specs.Looks.{IsUnmarked, ReadsMarked, ReadsOrNot, ReadsRising, ReadsRisingBefore}
 use Rattle.dbscan.specs.MapReads.{IsMapInUse, MapReads}
@@ -126,6 +127,10 @@ walk_then_map_log g old new walked mapped m h k = record {
 pub walk_log : (g : Geometry) (old new : List Mark) (walked : List ByteRange) → AreMarksFor g old → Reads g.page_size old new walked → ReadsMarked g new walked
 walk_log g old new walked m h =
     subst (ReadsMarked g new) (append-nil walked) (walk_then_map_log g old new walked [] m h (reads_none g.page_size (IsMapInUse g) 1).reads)
+
+-- of no walk
+pub no_log : (g : Geometry) (marks : List Mark) → AreMarksFor g marks → ReadsMarked g marks []
+no_log g marks m = walk_log g marks marks [] m (record { pages = []; ranges = refl; distinct = tt; fresh = λ p i. absurd i; marked = λ p i. absurd i; kept = keeps_same marks })
 
 -- and behind these pages that have no mark
 pub looks_log : (g : Geometry) (marks : List Mark) (log looks : List ByteRange)

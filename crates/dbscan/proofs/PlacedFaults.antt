@@ -1,8 +1,9 @@
--- Each fault of the walk is told at the start that a sink is told of.
-use Rattle.std.proofs.Common.{◌≡◌, ℕ, ◌+◌, Bool, true, false, cond, inl, inr, List, [], ◌∷◌, ◌++◌, map, take, Some, refl, sym, ap, ap₂, subst, ◌∙◌, append_assoc, append-nil}
+-- A sink is told each fault of the walk at the start of its address.
+use Rattle.std.proofs.Common.{◌≡◌, ℕ, Bool, true, false, cond, inl, inr, List, [], ◌∷◌, ◌++◌, length, map, take, None, Some, refl, sym, ap, ap₂, subst, ◌∙◌, append_assoc, append-nil}
 use Rattle.std.specs.Prelude.{flat_map, option_to_list, Option, ◌==◌}
 use Rattle.std.specs.List.{enumerate_from}
 use Rattle.std.proofs.lemmas.List.{map-append}
+use Rattle.std.proofs.lemmas.List.Elements.{filter_map-append}
 use Rattle.dbsurvey.specs.Address.{Address, IsIn}
 use Rattle.dbsurvey.specs.InOrder.{visits_in}
 use Rattle.dbsurvey.specs.Story.{Told, Errand, Go, Follow, errand_key, errands_at, telling_of}
@@ -12,8 +13,10 @@ use Rattle.dbsurvey.proofs.ReadBack.{joined}
 use Rattle.dbsurvey.proofs.Reporting.{telling_join_law}
 use Rattle.dbsurvey.proofs.Within.{told_within}
 use Rattle.dbformat.specs.Address.{start_of, freelist_start, last_root_start}
+use Rattle.dbformat.specs.EndFaults.{end_faults}
 use Rattle.dbformat.specs.File.{geometry}
 use Rattle.dbformat.specs.Header.{first_trunk}
+use Rattle.dbformat.specs.HeaderFaults.{header_faults}
 use Rattle.dbformat.specs.Reference.{Way, Reference, trunk}
 use Rattle.dbformat.specs.Report.{event_faults, faults_below}
 use Rattle.dbformat.specs.Schema.{schema, rooted_rows, start}
@@ -24,11 +27,12 @@ use Rattle.dbformat.specs.declared.Fault.{Fault}
 use Rattle.dbformat.proofs.LookBack.{here, one_of, up_to, visits-append}
 use Rattle.dbformat.proofs.Theory.{are_rules, is_story, shows_visits, told_in_order}
 use Rattle.dbtrace.specs.Finding.{Finding, told_row, told_fault, told_below, visited_below}
-use Rattle.dbowner.specs.Explained.{told_at, walk_placed}
+use Rattle.dbowner.specs.Explained.{told_at, walk_placed, placed_faults}
+use Rattle.dbwalk.specs.Telling.{findings}
 use Rattle.dbscan.specs.Findings.{faults_in}
-use Rattle.dbscan.specs.Notices.{Notice, found, ended, errands_left, root_reference, tree_notices, later_notices, start_notices}
-use Rattle.dbscan.specs.Placed.{placed}
-use Rattle.dbscan.specs.Starts.{schema_reference}
+use Rattle.dbscan.specs.Notices.{Notice, whole, found, ended, errands_left, root_reference, tree_notices, later_notices, start_notices, run_notices}
+use Rattle.dbscan.specs.Placed.{fault_at, faults_placed}
+use Rattle.dbscan.specs.Starts.{At, at_freelist, at_row, at_schema, schema_reference}
 use Rattle.dbscan.proofs.RunTold.{faults_told}
 use Rattle.dbscan.proofs.StartByStart.{of_later}
 use Rattle.dbscan.proofs.Starts.{quiet_go}
@@ -110,48 +114,61 @@ freelist_begins file e i = by_case (first_trunk file == 0) i
 
 -- ---- by notices
 
-found_placed : (next now : ℕ) (items : List Finding) (ns : List Notice) → placed next now (map found items ++ ns) ≡ told_at (Some now) (faults_in items) ++ placed next now ns
-found_placed next now [] ns = refl
-found_placed next now (told_row r ∷ items) ns = found_placed next now items ns
-found_placed next now (told_fault f ∷ items) ns = ap (λ l. (Some now, f) ∷ l) (found_placed next now items ns)
+whole_placed : (fs : List Fault) → faults_placed (map whole (findings fs)) ≡ told_at None fs
+whole_placed [] = refl
+whole_placed (f ∷ fs) = ap (λ l. (None, f) ∷ l) (whole_placed fs)
 
-tree_placed : (file : List ℕ) (next k : ℕ) (W : List Reference) (c : Reference) (ns : List Notice)
-    → placed next k (tree_notices file W c ++ ns) ≡ told_at (Some k) (faults_below file W (Go c ∷ [])) ++ placed next freelist_start ns
-tree_placed file next k W c ns =
-    ap (placed next k) (append_assoc (map found (told_below file W (Go c ∷ []))) (ended ∷ []) ns)
-    ∙ found_placed next k (told_below file W (Go c ∷ [])) (ended ∷ ns)
-    ∙ ap (λ fs. told_at (Some k) fs ++ placed next freelist_start ns) (faults_told file W (Go c ∷ []))
+found_placed : (at : At) (items : List Finding) → faults_placed (map (found at) items) ≡ told_at (Some at.number) (faults_in items)
+found_placed at [] = refl
+found_placed at (told_row r ∷ items) = found_placed at items
+found_placed at (told_fault f ∷ items) = ap (λ l. (Some at.number, f) ∷ l) (found_placed at items)
+
+tree_placed : (at : At) (file : List ℕ) (W : List Reference) (c : Reference) → faults_placed (tree_notices at file W c) ≡ told_at (Some at.number) (faults_below file W (Go c ∷ []))
+tree_placed at file W c =
+    let items = told_below file W (Go c ∷ []) in
+    filter_map-append fault_at (map (found at) items) (ended at ∷ [])
+    ∙ append-nil (faults_placed (map (found at) items))
+    ∙ found_placed at items
+    ∙ ap (told_at (Some at.number)) (faults_told file W (Go c ∷ []))
 
 -- a tree, and what is told behind it
-tree_then : (file : List ℕ) (next k : ℕ) (W : List Reference) (c : Reference) (es : List (Errand Way Event)) (ns : List Notice) → c.address ≡ k ∷ []
-    → placed next freelist_start ns ≡ by_keys file (W ++ visited_below file W (Go c ∷ [])) (telling_of (rules_of file) (story_of file) (geometry file).pages (W ++ visited_below file W (Go c ∷ [])) es)
-    → placed next k (tree_notices file W c ++ ns) ≡ by_keys file W (telling_of (rules_of file) (story_of file) (geometry file).pages W (Go c ∷ es))
-tree_then file next k W c es ns at rest =
-    tree_placed file next k W c ns
-    ∙ ap₂ (λ a b. a ++ b) (sym (below_start file k W (Go c ∷ []) (root_begins c k at))) rest
+tree_then : (at : At) (file : List ℕ) (W : List Reference) (c : Reference) (es : List (Errand Way Event)) (ns : List Notice) → c.address ≡ at.number ∷ []
+    → faults_placed ns ≡ by_keys file (W ++ visited_below file W (Go c ∷ [])) (telling_of (rules_of file) (story_of file) (geometry file).pages (W ++ visited_below file W (Go c ∷ [])) es)
+    → faults_placed (tree_notices at file W c ++ ns) ≡ by_keys file W (telling_of (rules_of file) (story_of file) (geometry file).pages W (Go c ∷ es))
+tree_then at file W c es ns address rest =
+    filter_map-append fault_at (tree_notices at file W c) ns
+    ∙ ap₂ (λ a b. a ++ b) (tree_placed at file W c ∙ sym (below_start file at.number W (Go c ∷ []) (root_begins c at.number address))) rest
     ∙ sym (by_keys_join file W c es)
 
-freelist_placed : (file : List ℕ) (k : ℕ) (W : List Reference)
-    → placed k freelist_start (map found (told_below file W (errands_left file []))) ≡ by_keys file W (telling_of (rules_of file) (story_of file) (geometry file).pages W (errands_left file []))
-freelist_placed file k W =
-    let items = told_below file W (errands_left file []) in
-    ap (placed k freelist_start) (sym (append-nil (map found items)))
-    ∙ found_placed k freelist_start items []
-    ∙ append-nil (told_at (Some freelist_start) (faults_in items))
+freelist_placed : (file : List ℕ) (W : List Reference)
+    → faults_placed (map (found at_freelist) (told_below file W (errands_left file []))) ≡ by_keys file W (telling_of (rules_of file) (story_of file) (geometry file).pages W (errands_left file []))
+freelist_placed file W =
+    found_placed at_freelist (told_below file W (errands_left file []))
     ∙ ap (told_at (Some freelist_start)) (faults_told file W (errands_left file []))
     ∙ sym (below_start file freelist_start W (errands_left file []) (freelist_begins file))
 
 later_placed : (file : List ℕ) (rows : List SchemaRow) (W : List Reference)
-    → placed 1 freelist_start (later_notices file W (enumerate_from 1 rows)) ≡ by_keys file W (telling_of (rules_of file) (story_of file) (geometry file).pages W (errands_left file (enumerate_from 1 rows)))
-later_placed file rows W = of_later file (λ k rows W ns es. placed k freelist_start ns ≡ by_keys file W (telling_of (rules_of file) (story_of file) (geometry file).pages W es))
-    (freelist_placed file) (λ k row rows W ns es h. tree_then file (k + 1) k W (root_reference file k row) es ns refl h) 1 rows W
+    → faults_placed (later_notices file W (enumerate_from 1 rows)) ≡ by_keys file W (telling_of (rules_of file) (story_of file) (geometry file).pages W (errands_left file (enumerate_from 1 rows)))
+later_placed file rows W = of_later file (λ k rows W ns es. faults_placed ns ≡ by_keys file W (telling_of (rules_of file) (story_of file) (geometry file).pages W es))
+    (λ k W. freelist_placed file W) (λ k row rows W ns es h. tree_then (at_row k row) file W (root_reference file k row) es ns refl h) 1 rows W
 
 -- each fault of the walk has the start of the address that it is told at
-pub starts_placed : (file : List ℕ) (V : List Reference) → Survey file V → placed 1 0 (start_notices file V) ≡ walk_placed file V
+starts_placed : (file : List ℕ) (V : List Reference) → Survey file V → faults_placed (start_notices file V) ≡ walk_placed file V
 starts_placed file V s =
     let c = schema_reference in
     let U = [] ++ visited_below file [] (Go c ∷ []) in
-    let left = enumerate_from 1 (take last_root_start (rooted_rows (schema file V))) in
-    tree_then file 1 0 [] c (errands_left file left) (later_notices file U left) refl (later_placed file (take last_root_start (rooted_rows (schema file V))) U)
+    let rows = take last_root_start (rooted_rows (schema file V)) in
+    let left = enumerate_from 1 rows in
+    tree_then at_schema file [] c (errands_left file left) (later_notices file U left) refl (later_placed file rows U)
     ∙ ap (λ es. by_keys file [] (telling_of (rules_of file) (story_of file) (geometry file).pages [] es)) (sym (start_errands_listed file V s))
     ∙ sym (walk_by_keys file V s)
+
+-- and of the whole file are those of the header and those at the end
+pub run_placed : (file : List ℕ) (V : List Reference) → Survey file V → faults_placed (run_notices file V) ≡ placed_faults file V
+run_placed file V s =
+    let first = map whole (findings (header_faults file (length file))) in
+    let last = map whole (findings (end_faults file V)) in
+    filter_map-append fault_at first (start_notices file V ++ last)
+    ∙ ap₂ (λ a b. a ++ b) (whole_placed (header_faults file (length file)))
+    (filter_map-append fault_at (start_notices file V) last ∙ ap₂ (λ a b. a ++ b) (starts_placed file V s) (whole_placed (end_faults file V)))
+    ∙ sym (append_assoc (told_at None (header_faults file (length file))) (walk_placed file V) (told_at None (end_faults file V)))

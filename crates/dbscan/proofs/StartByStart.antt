@@ -6,15 +6,16 @@ use Rattle.dbformat.specs.Reference.{Way, Reference}
 use Rattle.dbformat.specs.SchemaRow.{SchemaRow}
 use Rattle.dbformat.specs.Story.{Event}
 use Rattle.dbtrace.specs.Finding.{told_below, visited_below}
-use Rattle.dbscan.specs.Notices.{Notice, begun, found, errands_left, root_reference, tree_notices, later_notices}
+use Rattle.dbscan.specs.Notices.{Notice, found, errands_left, root_reference, tree_notices, later_notices}
+use Rattle.dbscan.specs.Starts.{at_freelist, at_row}
 
 -- Behind the visits of W, of the rows from start k on: it holds of what is told along the freelist, and of the tree of a row and
 -- what is told behind it, where it holds of that.
 module _ (file : List ℕ) (Holds : ℕ → List SchemaRow → List Reference → List Notice → List (Errand Way Event) → Type 0)
-    (of_freelist : (k : ℕ) (W : List Reference) → Holds k [] W (map found (told_below file W (errands_left file []))) (errands_left file []))
+    (of_freelist : (k : ℕ) (W : List Reference) → Holds k [] W (map (found at_freelist) (told_below file W (errands_left file []))) (errands_left file []))
     (of_tree : (k : ℕ) (row : SchemaRow) (rows : List SchemaRow) (W : List Reference) (ns : List Notice) (es : List (Errand Way Event))
     → Holds (k + 1) rows (W ++ visited_below file W (Go (root_reference file k row) ∷ [])) ns es
-    → Holds k (row ∷ rows) W (begun row.name ∷ tree_notices file W (root_reference file k row) ++ ns) (Go (root_reference file k row) ∷ es)) where
+    → Holds k (row ∷ rows) W (tree_notices (at_row k row) file W (root_reference file k row) ++ ns) (Go (root_reference file k row) ∷ es)) where
   -- then it holds of all
   pub of_later : (k : ℕ) (rows : List SchemaRow) (W : List Reference) → Holds k rows W (later_notices file W (enumerate_from k rows)) (errands_left file (enumerate_from k rows))
   of_later k [] W = of_freelist k W

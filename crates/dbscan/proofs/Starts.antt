@@ -1,11 +1,10 @@
 -- The starts of a run, one after another: what a walk at the next one leaves.
-use Rattle.std.proofs.Common.{◌≡◌, ◌≢◌, ℕ, zero, suc, ◌≤◌, inl, inr, List, [], ◌∷◌, ◌++◌, drop, length, Some, refl, sym, ap, subst, arith}
-use Rattle.std.specs.Prelude.{slice_get, ◌↔◌}
+use Rattle.std.proofs.Common.{◌≡◌, ◌≢◌, ℕ, zero, suc, ◌<◌, ◌≤◌, inl, inr, List, [], ◌∷◌, ◌++◌, drop, length, Some, refl, sym, ap, subst, arith}
+use Rattle.std.specs.Prelude.{slice_get}
 use Rattle.dbsurvey.specs.Address.{Address, IsIn, IsBefore}
 use Rattle.dbsurvey.specs.InOrder.{AreQuiet}
 use Rattle.dbsurvey.specs.Story.{Errand, Go}
 use Rattle.dbsurvey.proofs.Order.{IsIn-left}
-use Rattle.dbformat.specs.Address.{schema_start}
 use Rattle.dbformat.specs.Header.{encoding}
 use Rattle.dbformat.specs.Reference.{root, Way, Reference}
 use Rattle.dbformat.specs.Schema.{root_kind}
@@ -18,10 +17,9 @@ use Rattle.dbtrace.specs.Finding.{visited_below}
 use Rattle.dbtrace.specs.Starts.{IsOfEarlierStart}
 use Rattle.dbwalk.specs.Roots.{kind_in, IsRootAfter}
 use Rattle.dbmarks.specs.declared.marks.Mark.{Mark}
-use Rattle.dbwalk.specs.declared.root.Root.{Root}
 use Rattle.dbwalk.specs.declared.root.RootKind.TheVariants.{Schema}
 use Rattle.dbscan.specs.Notices.{root_reference}
-use Rattle.dbscan.specs.Starts.{root_of, AreBelowStarts}
+use Rattle.dbscan.specs.Starts.{kind_by, root_of, AreBelowStarts}
 use Rattle.dbscan.specs.Walks.{IsAt}
 
 pub quiet_go : (c : Reference) → AreQuiet own_visit (Go c ∷ [])
@@ -50,6 +48,14 @@ drop_more [] i x e = cc
 drop_more (y ∷ xs) zero x e = cc
 drop_more (y ∷ xs) (suc i) x e = drop_more xs i x e
 
+pub some_is : {X : Type 0} {x y : X} → Some x ≡ Some y → x ≡ y
+some_is e = cc
+
+pub row_there : {X : Type 0} (xs : List X) (i : ℕ) → i < length xs → (x : X) × (slice_get xs i ≡ Some x)
+row_there [] i l = absurd (omega (arith, l))
+row_there (x ∷ xs) zero l = (x, refl)
+row_there (x ∷ xs) (suc i) l = row_there xs i (omega (arith, l))
+
 -- the next start is a root
 pub root_next : (file : List ℕ) (V U : List Reference) (marks : List Mark) (encoding : Encoding) (k : ℕ) (r : SchemaRow) (es : List (Errand Way Event))
     → AreBelowStarts ([] ++ visited_below file [] (start_errands file V)) → IsAt file V U (Go (root_reference file k r) ∷ es) marks
@@ -73,6 +79,9 @@ drop_none [] (suc i) h = refl
 drop_none (x ∷ xs) zero h = absurd (omega (arith, h))
 drop_none (x ∷ xs) (suc i) h = drop_none xs i (omega (arith, h))
 
--- a root behind the schema's is not the schema's
-pub no_schema_start : (named : Root) {X : Type 0} → (named.kind ≡ Schema ↔ named.start ≡ schema_start) → 1 ≤ named.start → named.kind ≡ Schema → X
-no_schema_start named is later e = let z = is.0 e in absurd (omega (arith, z, later))
+-- a row of the list does not name the schema
+pub no_schema_kind : (kind : RowKind) → kind_by kind ≡ Schema → ⊥
+no_schema_kind row.Table e = cc
+no_schema_kind row.Index e = cc
+no_schema_kind row.View e = cc
+no_schema_kind row.Trigger e = cc

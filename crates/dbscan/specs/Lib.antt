@@ -7,7 +7,8 @@ pub mod MapReads
 pub mod Notices
 pub mod Placed
 pub mod RunItems
-pub mod SchemaWatch
+pub mod Scans
 pub mod Starts
+pub mod Tellers
 pub mod Telling
 pub mod Walks

@@ -1,10 +1,12 @@
--- The starts behind the schema's, as a run comes by them: the roots of a list, and the first trunk.
-use Rattle.std.specs.Prelude.{◌≡◌, ◌≢◌, ℕ, Bool, List, [], ◌∷◌, map, ◌++◌}
+-- The starts of a file: as a sink is told of them, and as a run comes by those behind the schema's, the roots of a list and the
+-- first trunk.
+use Rattle.std.specs.Prelude.{◌≡◌, ◌≢◌, ℕ, ◌≤◌, Bool, List, [], ◌∷◌, map, ◌++◌, Option, None}
 use Rattle.std.specs.List.{enumerate_from}
+use Rattle.std.specs.Option.{option_copied}
 use Rattle.dbsurvey.specs.Address.{IsIn}
 use Rattle.dbsurvey.specs.Story.{Errand, Follow, errands_at}
 use Rattle.dbsurvey.specs.Survey.{Link}
-use Rattle.dbformat.specs.Address.{schema_start}
+use Rattle.dbformat.specs.Address.{freelist_start, schema_start}
 use Rattle.dbformat.specs.EndFaults.{has_rows}
 use Rattle.dbformat.specs.Reference.{Way, Reference}
 use Rattle.dbformat.specs.Schema.{schema_link, root_start, freelist_starts, later_starts}
@@ -17,6 +19,30 @@ use Rattle.dbwalk.specs.declared.root.Root.{Root}
 use Rattle.dbwalk.specs.declared.root.RootKind.{RootKind}
 use Rattle.dbwalk.specs.declared.root.RootKind.TheVariants as root
 use Rattle.dbowner.specs.Roots.{AreListed}
+use Rattle.dbscan.specs.declared.start.Start.TheInside.{Inside}
+
+-- a start as contracts see it: its number, and the name of its row of the schema
+pub record At : Type 0 where
+  pub number : ℕ
+  pub name : Option (List ℕ)
+
+-- what the fields hold
+abbrev pub start_in : Inside → At
+start_in s = record { number = s.number; name = option_copied s.name }
+
+-- there are no more starts than those of a file
+abbrev pub IsNumbered : Inside → Type 0
+IsNumbered s = s.number ≤ freelist_start
+
+-- the start of the schema, that of its k-th row with a root page, and that of the freelist
+abbrev pub at_schema : At
+at_schema = record { number = schema_start; name = None }
+
+abbrev pub at_row : ℕ → SchemaRow → At
+at_row k r = record { number = k; name = r.name }
+
+abbrev pub at_freelist : At
+at_freelist = record { number = freelist_start; name = None }
 
 -- how a row names the kind of its tree
 abbrev pub kind_by : RowKind → RootKind

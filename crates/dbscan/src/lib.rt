@@ -1,12 +1,13 @@
 //! A scan of a file: what its header, the walks over all its starts and its end tell a sink, in the order of the report.
 //!
-//! A [`Desk`] has what a run keeps of a file: its header, page buffers, a mark for each page, and the list of roots. [`tell_header`]
-//! tells the faults of the header. [`walk_starts`] walks over the schema, then over each root that the schema names, and along the
-//! freelist; its sink ([`TreeSink`]) is also told where each tree begins and ends. [`SchemaWatch`] notes whether the schema has a row.
-//! [`tell_end`] tells what is left when all pages have been visited: by the marks, the header and the pages of the pointer map.
+//! A [`Desk`] has what a run keeps of a file: its header, page buffers, a mark for each page, and the list of roots. [`scan`] tells a
+//! [`TreeSink`] all that is found in the file, in three steps. [`tell_header`] tells the faults of the header. [`walk_starts`] walks
+//! over the schema, then over each root that the schema names, and along the freelist; of what is found there the sink is told at
+//! which [`Start`] it is, and where each tree ends. [`tell_end`] tells what is left when all pages have been visited: by the marks,
+//! the header and the pages of the pointer map.
 //!
-//! What is told of a file stands in specs/RunItems; specs/Desks says what a desk holds, specs/Walks how far a walk over the starts has
-//! come, and specs/Notices what a sink hears of it.
+//! What a sink is told stands in specs/Notices; specs/Desks says what a desk holds, and specs/Walks how far a walk over the starts has
+//! come.
 #![tactic(auto)]
 
 mod counts;
@@ -16,9 +17,12 @@ mod end_pass;
 mod header_faults;
 mod looks;
 mod map_entry;
+mod no_rows;
 mod placed;
-mod schema_watch;
+mod scans;
+mod start;
 mod tell;
+mod teller;
 mod tree_sink;
 mod walks;
 
@@ -28,7 +32,8 @@ pub use dbwalk::{Marks, Sink};
 pub use desk::Desk;
 pub use end_pass::tell_end;
 pub use placed::faults_are_told_at_their_starts;
-pub use schema_watch::SchemaWatch;
+pub use scans::scan;
+pub use start::Start;
 pub use tell::tell_header;
 pub use tree_sink::TreeSink;
 pub use walks::walk_starts;

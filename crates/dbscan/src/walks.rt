@@ -1,31 +1,36 @@
 // The walks of a run, start after start.
-ghost use Rattle.std.specs.Prelude.{◌≡◌, ◌↔◌, ℕ, ◌≤◌, ◌+◌, ◌-◌, false, List, [], length, IfErr};
+ghost use Rattle.std.specs.Prelude.{◌≡◌, ◌↔◌, ℕ, ◌≤◌, ◌+◌, ◌-◌, List, [], length, slice_get, Some, IfErr};
 ghost use Rattle.std.specs.List.{enumerate_from};
 ghost use Rattle.dbformat.specs.Address.{schema_start};
+ghost use Rattle.dbformat.specs.File.{geometry};
 ghost use Rattle.dbformat.specs.Header.{encoding as encoding_of};
 ghost use Rattle.dbformat.specs.Reference.{Reference};
+ghost use Rattle.dbformat.specs.SchemaRow.{SchemaRow as NamingRow};
 ghost use Rattle.dbformat.specs.Survey.{Survey};
-ghost use Rattle.dbsource.specs.Errors.{is_out_of_memory, is_write_failed};
+ghost use Rattle.dbsource.specs.Errors.{is_out_of_memory, is_read_failed, is_write_failed};
 ghost use Rattle.dbsource.specs.Failures.{failures_after};
-ghost use Rattle.dbwalk.specs.Done.{IsTreeDone};
+ghost use Rattle.dbsource.specs.Sources.{Asks};
+ghost use Rattle.dbmarks.specs.Reads.{Reads};
 ghost use Rattle.dbwalk.specs.Telling.{IsReadOrWrite, IsReadWriteOrMemory, SinkAfter};
 ghost use Rattle.dbwalk.specs.Roots.{IsRootAfter};
 ghost use Rattle.dbwalk.specs.Rows.{schema_row_of};
 ghost use Rattle.dbwalk.specs.Taking.{StartsEmpty};
 ghost use Rattle.dbwalk.specs.declared.root.RootKind.TheVariants as root_kind;
-ghost use Rattle.dbowner.specs.Roots.{Listed, RefusesRow, TakesRow};
 ghost use Rattle.dbscan.specs.Desks.{AsksOver, IsFresh};
 ghost use Rattle.dbscan.specs.Notices.{Hears, hearing};
-ghost use Rattle.dbscan.specs.Starts.{kind_by, root_of, schema_root};
-ghost use Rattle.dbscan.specs.Walks.{AreTold, AreWalked, BeginsAt, IsSchemaWalked, IsTelling, IsTreeWalked, StopsTelling};
+ghost use Rattle.dbscan.specs.Starts.{at_freelist, at_row, kind_by, root_of, schema_root};
+ghost use Rattle.dbscan.specs.Walks.{AreTold, AreWalked, IsSchemaWalked, IsTelling, IsTreeWalked, IsWalkedOver, StopsTelling};
 
 use crate::Desk;
-use crate::schema_watch::SchemaWatch;
+use crate::no_rows::NoRows;
+use crate::start::Start;
+use crate::teller::Teller;
 use crate::tree_sink::TreeSink;
 use dbbytes::SchemaRow;
 use dbformat::{Encoding, RowKind};
-use dbsource::{RunError, Source};
-use dbwalk::{Root, RootKind, Sink, walk_freelist, walk_tree};
+use dbowner::RootList;
+use dbsource::{Bench, RunError, Source};
+use dbwalk::{Marks, Root, RootKind, Taker, walk_freelist, walk_tree};
 use std::alloc::Allocator;
 
 // The root of the schema.
@@ -38,56 +43,6 @@ fn schema_root(encoding: Encoding) -> Root
         kind: RootKind::Schema,
         encoding,
     }
-}
-
-// Walks over the tree of a root. The list takes the rows of the schema.
-fn walk_over<A: Allocator, S: Source, K: Sink>(
-    desk: &mut Desk<A>,
-    source: &mut S,
-    root: Root,
-    sink: &mut K,
-) -> Result<(), RunError>
-    requires schema { (root.kind ≡ root_kind.Schema) ↔ (root.start ≡ schema_start) }
-    ensures header { desk.new.header ≡ desk.old.header }
-    ensures asks { AsksOver S.step desk.old desk.new (λ file. root.encoding ≡ encoding_of file
-        → (W : List Reference) (c : Reference) → IsRootAfter file root W c desk.old.marks
-        → (held : Listed → ℕ) → (root.kind ≡ root_kind.Schema → StartsEmpty TakesRow held desk.old.roots)
-        → IsTreeDone K.takes K.drops TakesRow RefusesRow file W c result desk.new.marks sink.old sink.new desk.old.roots desk.new.roots)
-        result (S.held source.old) (S.held source.new) }
-    ensures writes { SinkAfter is_write_failed result (K.held sink.old) (K.held sink.new) }
-    ensures refusals { desk.new.roots.refusals ≡ failures_after is_out_of_memory result desk.old.roots.refusals }
-    ensures only { IfErr result IsReadWriteOrMemory }
-    ensures later { 1 ≤ root.start → (desk.new.roots ≡ desk.old.roots) × IfErr result IsReadOrWrite }
-{
-    walk_tree(
-        source,
-        &mut desk.bench,
-        &mut desk.marks,
-        root,
-        &mut desk.roots,
-        sink,
-    )
-}
-
-// Walks over the schema's tree. The list takes its rows, and the watch notes whether there are any.
-fn walk_schema<A: Allocator, S: Source, K: TreeSink + Drop>(
-    desk: &mut Desk<A>,
-    source: &mut S,
-    watch: &mut SchemaWatch<K>,
-) -> Result<(), RunError>
-    requires fresh { IsFresh desk.old }
-    requires unseen { watch.old.has_rows ≡ false }
-    ensures header { desk.new.header ≡ desk.old.header }
-    ensures asks { AsksOver S.step desk.old desk.new (λ file.
-        IsSchemaWalked (Hears (hearing K.Sink K.TreeSink.own)) file result desk.new.marks desk.new.roots.rows watch.new.has_rows watch.old.sink watch.new.sink)
-        result (S.held source.old) (S.held source.new) }
-    ensures writes { SinkAfter is_write_failed result (K.held watch.old.sink) (K.held watch.new.sink) }
-    ensures refusals { desk.new.roots.refusals ≡ failures_after is_out_of_memory result desk.old.roots.refusals }
-    ensures only { IfErr result IsReadWriteOrMemory }
-{
-    let root = schema_root(desk.header().encoding());
-    walk_over(desk, source, root, watch)?;
-    Ok(watch.sink.end_tree()?)
 }
 
 // How a row names the kind of its tree.
@@ -112,38 +67,118 @@ fn root_of(row: &SchemaRow<'_>, start: u32, encoding: Encoding) -> Root
     }
 }
 
-// The root of a start of the list, from 1 on, whose tree begins.
-fn begin_at<A: Allocator, K: TreeSink>(desk: &Desk<A>, start: u32, sink: &mut K) -> Root
-    requires { (1 ≤ start) × (start ≤ length desk.now.roots.rows) }
-    ensures begins { BeginsAt K.begins desk.now.roots.rows (encoding_of desk.now.header.bytes) start result sink.old sink.new }
-    ensures same { K.held sink.new ≡ K.held sink.old }
+// Walks over the tree of a root, to its end.
+fn walk_over<A: Allocator, S: Source, T: Taker, K: TreeSink>(
+    source: &mut S,
+    bench: &mut Bench<A>,
+    marks: &mut Marks<A>,
+    root: Root,
+    taker: &mut T,
+    teller: &mut Teller<'_, K>,
+) -> Result<(), RunError>
+    requires schema { (root.kind ≡ root_kind.Schema) ↔ (root.start ≡ schema_start) }
+    ensures same_sink { teller.new.sink.ghost_name ≡ teller.old.sink.ghost_name }
+    ensures shape { bench.new.geometry ≡ bench.old.geometry }
+    ensures asks { Asks S.step (Reads bench.old.geometry.page_size marks.old marks.new) (λ file. bench.old.geometry ≡ geometry file
+        → root.encoding ≡ encoding_of file → (W : List Reference) (c : Reference) → IsRootAfter file root W c marks.old
+        → (held : T → ℕ) → (root.kind ≡ root_kind.Schema → StartsEmpty T.takes held taker.old)
+        → IsWalkedOver (Hears (hearing K.Sink K.TreeSink.own)) T.takes file W c result marks.new teller.old teller.new taker.old taker.new)
+        is_read_failed result (S.held source.old) (S.held source.new) }
+    ensures writes { SinkAfter is_write_failed result (K.held teller.old.sink.now) (K.held teller.new.sink.now) }
+    ensures refusals { T.refusals taker.new ≡ failures_after is_out_of_memory result (T.refusals taker.old) }
+    ensures only { IfErr result IsReadWriteOrMemory }
+    ensures later { 1 ≤ root.start → IfErr result IsReadOrWrite }
 {
-    let Some(row) = desk.roots.get(start) else {
-        unreachable!()
-    };
-    sink.begin_tree(row.name);
-    root_of(&row, start, desk.header.encoding())
+    walk_tree(source, bench, marks, root, taker, teller)?;
+    Ok(teller.end()?)
 }
 
-// Walks over the tree of a root behind the schema's, to its end.
+// Walks over the schema's tree, to its end. The list takes its rows. It answers whether there are any.
+fn walk_schema<A: Allocator, S: Source, K: TreeSink>(
+    desk: &mut Desk<A>,
+    source: &mut S,
+    sink: &mut K,
+) -> Result<bool, RunError>
+    requires fresh { IsFresh desk.old }
+    ensures header { desk.new.header ≡ desk.old.header }
+    ensures asks { AsksOver S.step desk.old desk.new (λ file.
+        IsSchemaWalked (Hears (hearing K.Sink K.TreeSink.own)) file result desk.new.marks desk.new.roots.rows sink.old sink.new)
+        result (S.held source.old) (S.held source.new) }
+    ensures writes { SinkAfter is_write_failed result (K.held sink.old) (K.held sink.new) }
+    ensures refusals { desk.new.roots.refusals ≡ failures_after is_out_of_memory result desk.old.roots.refusals }
+    ensures only { IfErr result IsReadWriteOrMemory }
+{
+    let root = schema_root(desk.header.encoding());
+    let start = Start::schema();
+    let mut teller = Teller::new(sink, &start);
+    walk_over(
+        source,
+        &mut desk.bench,
+        &mut desk.marks,
+        root,
+        &mut desk.roots,
+        &mut teller,
+    )?;
+    Ok(teller.has_rows())
+}
+
+// Walks over the tree of a row of a list, to its end. The sink is lent its name.
+fn walk_row<A: Allocator, S: Source, K: TreeSink>(
+    source: &mut S,
+    bench: &mut Bench<A>,
+    marks: &mut Marks<A>,
+    roots: &RootList<A>,
+    encoding: Encoding,
+    number: u32,
+    sink: &mut K,
+) -> Result<(), RunError>
+    requires within { (1 ≤ number) × (number ≤ length roots.now.rows) }
+    requires most { number ≤ 65536 }
+    ensures shape { bench.new.geometry ≡ bench.old.geometry }
+    ensures asks { Asks S.step (Reads bench.old.geometry.page_size marks.old marks.new) (λ file. bench.old.geometry ≡ geometry file
+        → encoding ≡ encoding_of file → (row : NamingRow) → slice_get roots.now.rows (number - 1) ≡ Some row
+        → (W : List Reference) (c : Reference) → IsRootAfter file (root_of encoding number row) W c marks.old
+        → IsTreeWalked (Hears (hearing K.Sink K.TreeSink.own)) (at_row number row) file W c result marks.new sink.old sink.new)
+        is_read_failed result (S.held source.old) (S.held source.new) }
+    ensures writes { SinkAfter is_write_failed result (K.held sink.old) (K.held sink.new) }
+    ensures only { IfErr result IsReadOrWrite }
+{
+    let Some(row) = roots.get(number) else {
+        unreachable!()
+    };
+    let root = root_of(&row, number, encoding);
+    let start = Start::tree(number, row.name);
+    let mut teller = Teller::new(sink, &start);
+    walk_over(source, bench, marks, root, &mut NoRows, &mut teller)
+}
+
+// Walks over the tree of a row of the desk's list, to its end.
 fn walk_root<A: Allocator, S: Source, K: TreeSink>(
     desk: &mut Desk<A>,
     source: &mut S,
-    root: Root,
+    number: u32,
     sink: &mut K,
 ) -> Result<(), RunError>
-    requires schema { (root.kind ≡ root_kind.Schema) ↔ (root.start ≡ schema_start) }
-    requires later { 1 ≤ root.start }
+    requires within { (1 ≤ number) × (number ≤ length desk.old.roots.rows) }
+    requires most { number ≤ 65536 }
     ensures kept { (desk.new.header ≡ desk.old.header) × (desk.new.roots ≡ desk.old.roots) }
-    ensures asks { AsksOver S.step desk.old desk.new (λ file. root.encoding ≡ encoding_of file
-        → (W : List Reference) (c : Reference) → IsRootAfter file root W c desk.old.marks
-        → IsTreeWalked (Hears (hearing K.Sink K.TreeSink.own)) file W c result desk.new.marks sink.old sink.new)
+    ensures asks { AsksOver S.step desk.old desk.new (λ file. (row : NamingRow) → slice_get desk.old.roots.rows (number - 1) ≡ Some row
+        → (W : List Reference) (c : Reference) → IsRootAfter file (root_of (encoding_of file) number row) W c desk.old.marks
+        → IsTreeWalked (Hears (hearing K.Sink K.TreeSink.own)) (at_row number row) file W c result desk.new.marks sink.old sink.new)
         result (S.held source.old) (S.held source.new) }
     ensures writes { SinkAfter is_write_failed result (K.held sink.old) (K.held sink.new) }
     ensures only { IfErr result IsReadOrWrite }
 {
-    walk_over(desk, source, root, sink)?;
-    Ok(sink.end_tree()?)
+    let encoding = desk.header.encoding();
+    walk_row(
+        source,
+        &mut desk.bench,
+        &mut desk.marks,
+        &desk.roots,
+        encoding,
+        number,
+        sink,
+    )
 }
 
 // Walks over the trees of the list, one after another.
@@ -161,8 +196,7 @@ fn walk_roots<A: Allocator, S: Source, K: TreeSink>(
     ensures only { IfErr result IsReadOrWrite }
 {
     for index in 0..desk.root_count() {
-        let root = begin_at(desk, index + 1, sink);
-        walk_root(desk, source, root, sink)?;
+        walk_root(desk, source, index + 1, sink)?;
     }
     Ok(())
 }
@@ -171,21 +205,23 @@ fn walk_roots<A: Allocator, S: Source, K: TreeSink>(
 fn walk_trunks<A: Allocator, S: Source, K: TreeSink>(
     desk: &mut Desk<A>,
     source: &mut S,
-    sink: &mut K,
+    teller: &mut Teller<'_, K>,
 ) -> Result<(), RunError>
+    requires start { teller.old.start.now ≡ at_freelist }
+    ensures same_sink { teller.new.sink.ghost_name ≡ teller.old.sink.ghost_name }
     ensures kept { (desk.new.header ≡ desk.old.header) × (desk.new.roots ≡ desk.old.roots) }
     ensures asks { AsksOver S.step desk.old desk.new (λ file. (V : List Reference) → Survey file V → (before : K)
-        → IsTelling (Hears (hearing K.Sink K.TreeSink.own)) file V before [] desk.old.marks sink.old
-        → AreTold (Hears (hearing K.Sink K.TreeSink.own)) file V result desk.new.marks before sink.new)
+        → IsTelling (Hears (hearing K.Sink K.TreeSink.own)) file V before [] desk.old.marks teller.old.sink.now
+        → AreTold (Hears (hearing K.Sink K.TreeSink.own)) file V result desk.new.marks before teller.new.sink.now)
         result (S.held source.old) (S.held source.new) }
-    ensures writes { SinkAfter is_write_failed result (K.held sink.old) (K.held sink.new) }
+    ensures writes { SinkAfter is_write_failed result (K.held teller.old.sink.now) (K.held teller.new.sink.now) }
     ensures only { IfErr result IsReadOrWrite }
 {
     let first = desk.header.first_trunk();
     if first == 0 {
         return Ok(());
     }
-    walk_freelist(source, &mut desk.bench, &mut desk.marks, first, sink)
+    walk_freelist(source, &mut desk.bench, &mut desk.marks, first, teller)
 }
 
 // Walks over the trees of the list, one after another, and then along the freelist.
@@ -203,32 +239,33 @@ fn walk_later<A: Allocator, S: Source, K: TreeSink>(
     ensures only { IfErr result IsReadOrWrite }
 {
     walk_roots(desk, source, sink)?;
-    walk_trunks(desk, source, sink)
+    let start = Start::freelist();
+    walk_trunks(desk, source, &mut Teller::new(sink, &start))
 }
 
 /// Walks from all starts: over the schema's tree and the trees that it names, and along the freelist. The list takes the
-/// rows of the schema, and the watch notes whether there are any. The sink is told of each tree, before the next page is
-/// read, that it has ended.
+/// rows of the schema; the answer is whether there are any. The sink is told of each tree, before the next page is read, that
+/// it has ended.
 ///
 /// # Errors
 ///
 /// [`RunError::ReadFailed`] exactly where the source failed, [`RunError::WriteFailed`] exactly where the sink failed, and
 /// [`RunError::OutOfMemory`] exactly where the list was refused memory.
-pub fn walk_starts<A: Allocator, S: Source, K: TreeSink + Drop>(
+pub fn walk_starts<A: Allocator, S: Source, K: TreeSink>(
     desk: &mut Desk<A>,
     source: &mut S,
-    watch: &mut SchemaWatch<K>,
-) -> Result<(), RunError>
+    sink: &mut K,
+) -> Result<bool, RunError>
     requires fresh { IsFresh desk.old }
-    requires unseen { watch.old.has_rows ≡ false }
     ensures header { desk.new.header ≡ desk.old.header }
     ensures asks { AsksOver S.step desk.old desk.new (λ file. (V : List Reference) → Survey file V
-        → AreWalked (Hears (hearing K.Sink K.TreeSink.own)) file V result desk.new.marks desk.new.roots.rows watch.old watch.new)
+        → AreWalked (Hears (hearing K.Sink K.TreeSink.own)) file V result desk.new.marks desk.new.roots.rows sink.old sink.new)
         result (S.held source.old) (S.held source.new) }
-    ensures writes { SinkAfter is_write_failed result (K.held watch.old.sink) (K.held watch.new.sink) }
+    ensures writes { SinkAfter is_write_failed result (K.held sink.old) (K.held sink.new) }
     ensures refusals { desk.new.roots.refusals ≡ failures_after is_out_of_memory result desk.old.roots.refusals }
     ensures only { IfErr result IsReadWriteOrMemory }
 {
-    walk_schema(desk, source, watch)?;
-    walk_later(desk, source, &mut watch.sink)
+    let any_rows = walk_schema(desk, source, sink)?;
+    walk_later(desk, source, sink)?;
+    Ok(any_rows)
 }

@@ -5,7 +5,7 @@ ghost use Rattle.dbformat.specs.Lines.{line_feed};
 ghost use Rattle.dbformat.specs.FixedPages.{IsInRange, fixed_use};
 ghost use Rattle.dbsource.specs.Outs.{Puts};
 ghost use Rattle.dbowner.specs.Explained.{page_line, line_of_start, tree_of_row};
-ghost use Rattle.dbowner.specs.Notes.{place_front, place_end, start_front, page_front, place_tree, start_tree};
+ghost use Rattle.dbowner.specs.Notes.{page_front, place_end, place_from, place_front, place_tree, place_words, start_front, start_tree};
 
 use crate::explain::tree_line::TreeNames;
 use crate::page_trees::FREELIST_START;
@@ -51,30 +51,38 @@ pub fn place_tree(place: Place, start: Option<u32>) -> Option<u32>
     }
 }
 
-// What stands behind it.
+/// What stands behind the tree of a page, before the page that it is reached from, if there is one.
+pub fn place_words(place: Place) -> &'static str
+    ensures text { result.now ≡ place_words place }
+    ensures short { length result.now ≤ 27 }
+{
+    match place {
+        Place::ChildOf(_) => ", child of page ",
+        Place::OverflowOf(_) => ", overflow page of page ",
+        Place::OverflowAfter(_) => ", overflow page after page ",
+        Place::Root | Place::Trunk | Place::FreeLeaf | Place::Fixed | Place::Nowhere => "",
+    }
+}
+
+/// The page that a page of a tree or of an overflow chain is reached from, if it is no root.
+pub fn place_from(place: Place) -> Option<u32>
+    ensures { result ≡ place_from place }
+{
+    match place {
+        Place::ChildOf(from) | Place::OverflowOf(from) | Place::OverflowAfter(from) => Some(from),
+        Place::Root | Place::Trunk | Place::FreeLeaf | Place::Fixed | Place::Nowhere => None,
+    }
+}
+
+// What stands behind the tree of a page, to the end of the line.
 fn place_end(place: Place) -> ArrayVec<u8, 64>
     ensures { result.items ≡ place_end place }
 {
-    let (text, from) = match place {
-        Place::ChildOf(from) => (", child of page ", from),
-        Place::OverflowOf(from) => (", overflow page of page ", from),
-        Place::OverflowAfter(from) => (", overflow page after page ", from),
-        Place::Root | Place::Trunk | Place::FreeLeaf | Place::Fixed | Place::Nowhere => {
-            return line_end();
-        }
-    };
     let mut end = ArrayVec::new();
-    append(&mut end, text);
-    append_number(&mut end, u64::from(from));
-    append(&mut end, "\n");
-    end
-}
-
-// The end of a line alone.
-fn line_end() -> ArrayVec<u8, 64>
-    ensures { result.items ≡ line_feed ∷ [] }
-{
-    let mut end = ArrayVec::new();
+    append(&mut end, place_words(place));
+    if let Some(from) = place_from(place) {
+        append_number(&mut end, u64::from(from));
+    }
     append(&mut end, "\n");
     end
 }

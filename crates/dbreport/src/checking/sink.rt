@@ -1,12 +1,11 @@
 // What a check writes of what it is told.
 ghost use Rattle.std.specs.Prelude.{◌≡◌, [], ◌∷◌, IfOk};
-ghost use Rattle.dbformat.specs.Report.{more_text};
 ghost use Rattle.dbsource.specs.Outs.{Puts};
 ghost use Rattle.dbreport.specs.CheckSink.{end_text, verdict_of};
 
 use dbformat::Verdict;
-use dblines::{put_fault, put_more, put_ok};
-use dbscan::TreeSink;
+use dblines::{put_fault, put_ok, put_rest};
+use dbscan::{Start, TreeSink};
 use dbsource::{Out, WriteFailed};
 use dbwalk::{Fault, Row, Sink};
 
@@ -76,29 +75,28 @@ impl<O: Out> Sink for CheckSink<'_, O> {
     }
 }
 
-// Where trees begin and end is nothing to a check.
+// Where a fault is found is nothing to a check.
 impl<O: Out> TreeSink for CheckSink<'_, O> {
     ghost use Rattle.std.specs.Prelude.{◌≡◌};
+    ghost use Rattle.dbreport.specs.CheckSink.{Shows, Cuts};
 
-    ghost begins = { λ s name t. t ≡ s };
+    ghost takes_at = { λ s at item t. Shows O.held s item t };
 
-    ghost ends = { λ s t. t ≡ s };
+    ghost drops_at = { λ s at item t. Cuts O.held s item t };
 
-    ghost cuts = { λ s t. ⊥ };
+    ghost ends = { λ s at t. t ≡ s };
 
-    fn begin_tree(&mut self, _name: Option<&[u8]>) {}
+    ghost cuts = { λ s at t. ⊥ };
 
-    fn end_tree(&mut self) -> Result<(), WriteFailed> {
+    fn fault_at(&mut self, _start: &Start<'_>, fault: &Fault) -> Result<(), WriteFailed> {
+        self.fault(fault)
+    }
+
+    fn row_at(&mut self, _start: &Start<'_>, _row: &Row<'_>) -> Result<(), WriteFailed> {
         Ok(())
     }
-}
 
-/// Puts the line that counts the faults that are not shown, if there are any.
-pub fn put_rest<O: Out>(out: &mut O, count: u64) -> Result<(), WriteFailed>
-    ensures { Puts result (O.held out.old) (O.held out.new) (more_text count) }
-{
-    if count == 0 {
-        return Ok(());
+    fn end_tree(&mut self, _start: &Start<'_>) -> Result<(), WriteFailed> {
+        Ok(())
     }
-    put_more(out, count)
 }

@@ -25,7 +25,7 @@ use dbwalk::Row;
 // Puts the line of the row of a page.
 pub(crate) fn put_page_row<O: Out>(
     out: &mut O,
-    label: &Label,
+    label: &Label<'_>,
     row: &Row<'_>,
 ) -> Result<(), WriteFailed>
     ensures { Puts result (O.held out.old) (O.held out.new) (page_line (label_text label.now) label.now.page_size (row_of row.now)) }
@@ -79,7 +79,7 @@ fn page_end(row: &Row<'_>, page_size: u32) -> ArrayVec<u8, 192>
 // Puts the line of a tree, by the sums of its rows.
 pub(crate) fn put_tree_row<O: Out>(
     out: &mut O,
-    label: &Label,
+    label: &Label<'_>,
     sums: &Sums,
 ) -> Result<(), WriteFailed>
     ensures text { (rows : List StatRow) → sums.now ≡ sums_of rows

@@ -12,9 +12,9 @@ use crate::statistics::lines::{put_page_row, put_tree_row};
 use crate::statistics::other_pages::put_others;
 use crate::statistics::sums::Sums;
 use crate::statistics::tree_name::Label;
-use dbformat::Verdict;
+use dbformat::{Encoding, Verdict};
 use dblines::put_fault;
-use dbscan::TreeSink;
+use dbscan::{Start, TreeSink};
 use dbsource::{Geometry, Out, WriteFailed};
 use dbwalk::{Fault, Marks, Row, Sink};
 use std::alloc::Allocator;
@@ -26,25 +26,28 @@ use std::alloc::Allocator;
 pub(crate) struct StatSink<'a, O, E> {
     out: &'a mut O,
     err: &'a mut E,
-    label: &'a mut Label,
+    encoding: Encoding,
+    page_size: u32,
     aggregate: bool,
     sums: Sums,
     found: u64,
 }
 
 impl<'a, O: Out, E: Out> StatSink<'a, O, E> {
-    // One that was told nothing; its first rows are those of the tree of this label.
+    // One that was told nothing.
     pub(crate) fn new(
         out: &'a mut O,
         err: &'a mut E,
-        label: &'a mut Label,
+        encoding: Encoding,
+        page_size: u32,
         aggregate: bool,
     ) -> StatSink<'a, O, E>
         ensures same_out { result.out.ghost_name ≡ out.entry.ghost_name }
         ensures same_err { result.err.ghost_name ≡ err.entry.ghost_name }
         ensures out { result.out.now ≡ out.old }
         ensures err { result.err.now ≡ err.old }
-        ensures label { result.label.now ≡ label.old }
+        ensures encoding { result.encoding ≡ encoding }
+        ensures page_size { result.page_size ≡ page_size }
         ensures aggregate { result.aggregate ≡ aggregate }
         ensures sums { result.sums ≡ sums_of [] }
         ensures found { result.found ≡ 0 }
@@ -52,7 +55,8 @@ impl<'a, O: Out, E: Out> StatSink<'a, O, E> {
         StatSink {
             out,
             err,
-            label,
+            encoding,
+            page_size,
             aggregate,
             sums: Sums::new(),
             found: 0,
@@ -74,6 +78,17 @@ impl<'a, O: Out, E: Out> StatSink<'a, O, E> {
     {
         self.err.flush()?;
         put_others(shape, marks, self.out)
+    }
+
+    // What the rows of the tree of a start show.
+    fn label<'s>(&self, start: &'s Start<'s>) -> Label<'s>
+        ensures { result ≡ record { encoding = self.now.encoding; page_size = self.now.page_size; start = start.entry } }
+    {
+        Label {
+            encoding: self.encoding,
+            page_size: self.page_size,
+            start,
+        }
     }
 
     // What was found.
@@ -104,34 +119,43 @@ impl<O: Out, E: Out> Sink for StatSink<'_, O, E> {
         Ok(())
     }
 
-    #[tactic(auto, using(dbsource::proofs::Beginnings::begins_nothing))]
-    fn row(&mut self, row: &Row<'_>) -> Result<(), WriteFailed> {
-        if !self.aggregate {
-            self.err.flush()?;
-            put_page_row(self.out, self.label, row)?;
-        }
-        self.sums.add(row);
+    // A row is told at a start.
+    fn row(&mut self, _row: &Row<'_>) -> Result<(), WriteFailed> {
         Ok(())
     }
 }
 
 impl<O: Out, E: Out> TreeSink for StatSink<'_, O, E> {
-    ghost use Rattle.dbreport.specs.StatSink.{BeginsTree, CutsEnd, EndsTree};
+    ghost use Rattle.dbreport.specs.StatSink.{BreaksAt, CountsAt, CutsEnd, EndsTree};
 
-    ghost begins = { BeginsTree };
+    ghost takes_at = { CountsAt O.held E.held };
+
+    ghost drops_at = { BreaksAt O.held E.held };
 
     ghost ends = { EndsTree O.held E.held };
 
     ghost cuts = { CutsEnd O.held E.held };
 
-    fn begin_tree(&mut self, name: Option<&[u8]>) {
-        self.label.rename(name);
+    fn fault_at(&mut self, _start: &Start<'_>, fault: &Fault) -> Result<(), WriteFailed> {
+        self.fault(fault)
     }
 
-    fn end_tree(&mut self) -> Result<(), WriteFailed> {
+    #[tactic(auto, using(dbsource::proofs::Beginnings::begins_nothing))]
+    fn row_at(&mut self, start: &Start<'_>, row: &Row<'_>) -> Result<(), WriteFailed> {
+        if !self.aggregate {
+            self.err.flush()?;
+            let label = self.label(start);
+            put_page_row(self.out, &label, row)?;
+        }
+        self.sums.add(row);
+        Ok(())
+    }
+
+    fn end_tree(&mut self, start: &Start<'_>) -> Result<(), WriteFailed> {
         if self.aggregate {
             self.err.flush()?;
-            put_sums(self.out, self.label, &self.sums)?;
+            let label = self.label(start);
+            put_sums(self.out, &label, &self.sums)?;
         }
         self.sums = Sums::new();
         Ok(())
@@ -139,7 +163,7 @@ impl<O: Out, E: Out> TreeSink for StatSink<'_, O, E> {
 }
 
 // Puts the row of a tree that some rows came of.
-fn put_sums<O: Out>(out: &mut O, label: &Label, sums: &Sums) -> Result<(), WriteFailed>
+fn put_sums<O: Out>(out: &mut O, label: &Label<'_>, sums: &Sums) -> Result<(), WriteFailed>
     ensures text { (rows : List StatRow) → sums.now ≡ sums_of rows
         → Puts result (O.held out.old) (O.held out.new) (end_text true (label_text label.now) label.now.page_size rows) }
     ensures count { (O.held out.new).failures ≡ failures_after is_any result (O.held out.old).failures }

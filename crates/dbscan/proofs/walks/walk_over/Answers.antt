@@ -1,33 +1,26 @@
-use Rattle.std.proofs.Common.{◌≡◌, ℕ, List, refl, ap, subst, ◌∙◌}
-use Rattle.dbformat.specs.FixedPages.{geometry_of}
-use Rattle.dbformat.specs.Header.{encoding}
-use Rattle.dbformat.specs.Reference.{Reference}
-use Rattle.dbformat.specs.declared.Geometry.{Geometry}
-use Rattle.dbsource.specs.Errors.{is_read_failed}
-use Rattle.dbsource.specs.Headers.{IsHeaderOf}
-use Rattle.dbsource.specs.Sources.{Asks}
+use Rattle.std.proofs.Common.{Err, Ok, refl}
+use Rattle.std.proofs.lemmas.Result.{err_from_is_err_and}
 use Rattle.dbsource.proofs.Logs.{asks_weaker}
-use Rattle.dbmarks.specs.Reads.{Reads}
-use Rattle.dbwalk.specs.Done.{IsTreeDone}
-use Rattle.dbwalk.specs.Roots.{IsRootAfter}
-use Rattle.dbwalk.specs.Taking.{StartsEmpty}
-use Rattle.dbwalk.specs.declared.root.RootKind.TheVariants.{Schema}
-use Rattle.dbowner.specs.Roots.{Listed, RefusesRow, TakesRow}
-use Rattle.dbscan.specs.Desks.{Things}
+use Rattle.dbsource.specs.declared.error.RunError.TheVariants.{WriteFailed}
+use Rattle.dbscan.specs.Notices.{hearing}
+use Rattle.dbscan.proofs.TreeWalks.{tree_stopped, tree_ended, tree_cut}
 use Rattle.dbscan.proofs.walks.walk_over.Goals as goal
 
-pub returns-clause-asks : goal.returns-clause-asks
-returns-clause-asks g c =
-    subst (λ (d : Things). Asks g.S.Source.step (Reads (geometry_of d.header.bytes d.header.file_len).page_size d.marks c.walk_tree.new.marks)
-    (λ file. IsHeaderOf d.header file → c.args.root.encoding ≡ encoding file → (W : List Reference) (r : Reference) → IsRootAfter file c.args.root W r d.marks
-    → (held : Listed → ℕ) → (c.args.root.kind ≡ Schema → StartsEmpty TakesRow held d.roots)
-    → IsTreeDone g.K.Sink.takes g.K.Sink.drops TakesRow RefusesRow file W r c.walk_tree.result c.walk_tree.new.marks c.args.sink.now c.walk_tree.new.sink d.roots c.walk_tree.new.taker)
-    is_read_failed c.walk_tree.result (g.S.Source.held c.args.source.now) (g.S.Source.held c.walk_tree.new.source)) c.desk.view_is
-    (asks_weaker _ _ c.walk_tree.result (λ n. refl) c.walk_tree.ensures.asks
-    (λ log r. subst (λ (s : Geometry). Reads s.page_size c.desk.inside.marks c.walk_tree.new.marks log) c.desk.invariant.shape r)
-    (λ file walked is. walked (c.desk.invariant.shape ∙ is.shape)))
+pub returns-in_err-walk_tree-clause-asks : goal.returns-in_err-walk_tree-clause-asks
+returns-in_err-walk_tree-clause-asks g c =
+    let q = err_from_is_err_and c.from_residual.result c.from_residual.ensures.1 in
+    rw q.1 (rw q.2 (asks_weaker _ _ (Err c.in_err-walk_tree.field-0.0) (λ n. refl) c.in_err-walk_tree.ensures.asks (λ log reads. reads) (λ file done shape code W d after held empty.
+    tree_stopped (hearing g.K.Sink g.K.TreeSink) g.T.Taker.takes g.T.Taker.refuses file W d c.walk_tree.new.marks c.args.teller.now c.walk_tree.new.sink c.args.taker.now c.walk_tree.new.taker
+    c.in_err-walk_tree.field-0.0 (done shape code W d after held empty))))
 
-pub returns-clause-later : goal.returns-clause-later
-returns-clause-later g c l =
-    let others = c.walk_tree.ensures.others l in
-    (others.0 ∙ ap (λ (d : Things). d.roots) c.desk.view_is, others.1)
+pub returns-in_err-end-clause-asks : goal.returns-in_err-end-clause-asks
+returns-in_err-end-clause-asks g c =
+    let q = err_from_is_err_and c.from_residual-in_err-end.result c.from_residual-in_err-end.ensures.1 in
+    rw q.1 (rw q.2 (asks_weaker _ _ (Err WriteFailed) (λ n. refl) c.in_ok-walk_tree.ensures.asks (λ log reads. reads) (λ file done shape code W d after held empty.
+    tree_cut (hearing g.K.Sink g.K.TreeSink) g.T.Taker.takes g.T.Taker.refuses file W d c.walk_tree.new.marks c.args.teller.now c.walk_tree.new.sink c.args.taker.now c.walk_tree.new.taker
+    c.end.new.self (done shape code W d after held empty) c.in_err-end.ensures.ends)))
+
+pub returns-clause-asks : goal.returns-clause-asks
+returns-clause-asks g c = asks_weaker _ _ (Ok tt) (λ n. refl) c.in_ok-walk_tree.ensures.asks (λ log reads. reads) (λ file done shape code W d after held empty.
+    tree_ended (hearing g.K.Sink g.K.TreeSink) g.T.Taker.takes g.T.Taker.refuses file W d c.walk_tree.new.marks c.args.teller.now c.walk_tree.new.sink c.args.taker.now c.walk_tree.new.taker
+    c.end.new.self (done shape code W d after held empty) c.in_ok-end.ensures.ends c.in_ok-end.ensures.rows)

@@ -1,27 +1,23 @@
-use Rattle.std.proofs.Common.{Err, Ok, refl}
-use Rattle.std.proofs.lemmas.Result.{err_from_is_err_and}
-use Rattle.dbsource.proofs.Logs.{asks_weaker}
-use Rattle.dbsource.specs.declared.error.RunError.TheVariants.{WriteFailed}
-use Rattle.dbscan.specs.Notices.{hearing}
-use Rattle.dbscan.proofs.Starts.{no_schema_start}
-use Rattle.dbscan.proofs.TreeWalks.{tree_stopped, tree_ended, tree_cut}
+use Rattle.std.proofs.Common.{◌≡◌, ◌-◌, List, Some, refl, sym, ap, subst, ◌∙◌}
+use Rattle.std.specs.Prelude.{slice_get}
+use Rattle.dbformat.specs.Header.{encoding}
+use Rattle.dbformat.specs.Reference.{Reference}
+use Rattle.dbformat.specs.SchemaRow.{SchemaRow}
+use Rattle.dbformat.specs.declared.Encoding.{Encoding}
+use Rattle.dbformat.proofs.HeaderPrefix.{encoding_within}
+use Rattle.dbwalk.specs.Roots.{IsRootAfter}
+use Rattle.dbscan.specs.Notices.{Hears, hearing}
+use Rattle.dbscan.specs.Starts.{at_row, root_of}
+use Rattle.dbscan.specs.Walks.{IsTreeWalked}
+use Rattle.dbscan.proofs.DeskWalks.{desk_asks}
 use Rattle.dbscan.proofs.walks.walk_root.Goals as goal
 
-pub returns-in_err-walk_over-clause-asks : goal.returns-in_err-walk_over-clause-asks
-returns-in_err-walk_over-clause-asks g c =
-    let q = err_from_is_err_and c.from_residual.result c.from_residual.ensures.1 in
-    rw q.1 (rw q.2 (asks_weaker _ _ (Err c.in_err-walk_over.field-0.0) (λ n. refl) c.in_err-walk_over.ensures.asks (λ log reads. reads) (λ file walked is code W d after.
-    tree_stopped (hearing g.K.Sink g.K.TreeSink) file W d c.walk_over.new.desk.marks c.args.sink.now c.walk_over.new.sink c.in_err-walk_over.field-0.0
-    (walked is code W d after (λ l. 0) (λ k. no_schema_start c.args.root c.requires.schema c.requires.later k)).done)))
-
-pub returns-in_err-end_tree-clause-asks : goal.returns-in_err-end_tree-clause-asks
-returns-in_err-end_tree-clause-asks g c =
-    let q = err_from_is_err_and c.from_residual-in_err-end_tree.result c.from_residual-in_err-end_tree.ensures.1 in
-    rw q.1 (rw q.2 (asks_weaker _ _ (Err WriteFailed) (λ n. refl) c.in_ok-walk_over.ensures.asks (λ log reads. reads) (λ file walked is code W d after.
-    tree_cut (hearing g.K.Sink g.K.TreeSink) file W d c.walk_over.new.desk.marks c.args.sink.now c.walk_over.new.sink c.end_tree.new.self
-    (walked is code W d after (λ l. 0) (λ k. no_schema_start c.args.root c.requires.schema c.requires.later k)).done c.in_err-end_tree.ensures.ends)))
-
 pub returns-clause-asks : goal.returns-clause-asks
-returns-clause-asks g c = asks_weaker _ _ (Ok tt) (λ n. refl) c.in_ok-walk_over.ensures.asks (λ log reads. reads) (λ file walked is code W d after.
-    tree_ended (hearing g.K.Sink g.K.TreeSink) file W d c.walk_over.new.desk.marks c.args.sink.now c.walk_over.new.sink c.end_tree.new.self
-    (walked is code W d after (λ l. 0) (λ k. no_schema_start c.args.root c.requires.schema c.requires.later k)).done c.in_ok-end_tree.ensures.ends)
+returns-clause-asks g c =
+    desk_asks g.S.Source.step c.desk.inside c.args.desk.now c.walk_row.new.marks _
+    (λ o file. (row : SchemaRow) → slice_get o.roots.rows (c.args.number - 1) ≡ Some row → (W : List Reference) (d : Reference) → IsRootAfter file (root_of (encoding file) c.args.number row) W d o.marks
+    → IsTreeWalked (Hears (hearing g.K.Sink g.K.TreeSink)) (at_row c.args.number row) file W d c.walk_row.result c.walk_row.new.marks c.args.sink.now c.walk_row.new.sink)
+    c.walk_row.result c.desk.invariant c.desk.view_is (λ n. refl) c.walk_row.ensures.asks
+    (λ file is walked row at W d after.
+    let code : c.encoding-encoding.result ≡ encoding file = c.encoding-encoding.ensures ∙ ap encoding is.begins ∙ encoding_within file in
+    walked code row at W d (subst (λ (e : Encoding). IsRootAfter file (root_of e c.args.number row) W d c.desk.inside.marks) (sym code) after))

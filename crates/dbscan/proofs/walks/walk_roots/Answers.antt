@@ -1,17 +1,17 @@
-use Rattle.std.proofs.Common.{◌≡◌, ◌+◌, [], drop, length, Err, Ok, refl, sym, ap, subst, ◌∙◌, arith}
+use Rattle.std.proofs.Common.{◌≡◌, ◌+◌, ◌-◌, [], drop, length, Err, Ok, refl, sym, ap, subst, ◌∙◌, arith}
+use Rattle.std.specs.Prelude.{slice_get}
 use Rattle.std.specs.List.{enumerate_from}
 use Rattle.std.proofs.lemmas.Result.{err_from_is_err_and}
 use Rattle.dbformat.specs.FixedPages.{geometry_of}
-use Rattle.dbformat.specs.Header.{encoding}
-use Rattle.dbformat.proofs.HeaderPrefix.{encoding_within}
 use Rattle.dbsource.proofs.Logs.{asks_weaker}
 use Rattle.dbsource.specs.HeaderBytes.{HeaderBytes}
 use Rattle.dbsource.specs.Headers.{IsHeaderOf}
 use Rattle.dbmarks.proofs.Readings.{asks_then, log_none}
 use Rattle.dbscan.specs.Notices.{Hears, hearing}
-use Rattle.dbscan.specs.Walks.{BeginsAt, IsTelling}
+use Rattle.dbowner.specs.Roots.{Listed}
+use Rattle.dbscan.specs.Walks.{IsTelling}
 use Rattle.dbscan.proofs.Starts.{drop_none}
-use Rattle.dbscan.proofs.TreeWalks.{root_told, begun_encoding}
+use Rattle.dbscan.proofs.TreeWalks.{root_told}
 use Rattle.dbscan.proofs.walks.walk_roots.Goals as goal
 
 pub loop-index-init : goal.loop-index-init
@@ -31,14 +31,9 @@ returns-in_err-walk_root-clause-asks g c =
     let same = c.loop-index.invariant.header in
     rw q.1 (rw q.2 (asks_then _ _ (ap (λ (h : HeaderBytes). (geometry_of h.bytes h.file_len).page_size) same) c.loop-index.invariant.asks c.in_err-walk_root.ensures.asks
     (λ file left walked is V s before h.
-    let rows = c.args.desk.now.roots.rows in
-    let i = c.loop-index.index in
-    let code = c.loop-index.desk.header in
-    let begins = subst (λ l. BeginsAt g.K.TreeSink.begins l.rows (encoding code.bytes) (i + 1) c.begin_at-root.result c.loop-index.sink c.begin_at-root.new.sink) c.loop-index.invariant.roots c.begin_at-root.ensures.begins in
-    let header = subst (λ (h : HeaderBytes). IsHeaderOf h file) (sym same) is in
-    root_told (hearing g.K.Sink g.K.TreeSink) file V s before c.loop-index.desk.marks c.walk_root.new.desk.marks c.loop-index.sink c.begin_at-root.new.sink c.walk_root.new.sink
-    (encoding code.bytes) rows i c.begin_at-root.result (Err c.in_err-walk_root.field-0.0) begins (left is V s before h)
-    (λ U d after. walked header (begun_encoding g.K.TreeSink.begins rows (encoding code.bytes) (i + 1) c.begin_at-root.result c.loop-index.sink c.begin_at-root.new.sink begins ∙ ap encoding header.begins ∙ encoding_within file) U d after))))
+    root_told (hearing g.K.Sink g.K.TreeSink) file V s before c.loop-index.desk.marks c.walk_root.new.desk.marks c.loop-index.sink c.walk_root.new.sink c.args.desk.now.roots.rows c.loop-index.index
+    (Err c.in_err-walk_root.field-0.0) (omega arith) (left is V s before h)
+    (λ row at. walked (subst (λ (h : HeaderBytes). IsHeaderOf h file) (sym same) is) row (ap (λ (l : Listed). slice_get l.rows (c.loop-index.index + 1 - 1)) c.loop-index.invariant.roots ∙ at)))))
 
 pub loop-index-preserved : goal.loop-index-preserved
 loop-index-preserved g c =
@@ -47,15 +42,10 @@ loop-index-preserved g c =
       roots = c.in_ok-walk_root.ensures.kept.1 ∙ c.loop-index.invariant.roots;
       asks = asks_then _ _ (ap (λ (h : HeaderBytes). (geometry_of h.bytes h.file_len).page_size) same) c.loop-index.invariant.asks c.in_ok-walk_root.ensures.asks
           (λ file left walked is V s before h.
-          let rows = c.args.desk.now.roots.rows in
-          let i = c.loop-index.index in
-          let code = c.loop-index.desk.header in
-          let begins = subst (λ l. BeginsAt g.K.TreeSink.begins l.rows (encoding code.bytes) (i + 1) c.begin_at-root.result c.loop-index.sink c.begin_at-root.new.sink) c.loop-index.invariant.roots c.begin_at-root.ensures.begins in
-          let header = subst (λ (h : HeaderBytes). IsHeaderOf h file) (sym same) is in
-          root_told (hearing g.K.Sink g.K.TreeSink) file V s before c.loop-index.desk.marks c.walk_root.new.desk.marks c.loop-index.sink c.begin_at-root.new.sink c.walk_root.new.sink
-          (encoding code.bytes) rows i c.begin_at-root.result (Ok tt) begins (left is V s before h)
-          (λ U d after. walked header (begun_encoding g.K.TreeSink.begins rows (encoding code.bytes) (i + 1) c.begin_at-root.result c.loop-index.sink c.begin_at-root.new.sink begins ∙ ap encoding header.begins ∙ encoding_within file) U d after));
-      writes = c.in_ok-walk_root.ensures.writes ∙ c.begin_at-root.ensures.same ∙ c.loop-index.invariant.writes;
+          root_told (hearing g.K.Sink g.K.TreeSink) file V s before c.loop-index.desk.marks c.walk_root.new.desk.marks c.loop-index.sink c.walk_root.new.sink c.args.desk.now.roots.rows c.loop-index.index
+          (Ok tt) (omega arith) (left is V s before h)
+          (λ row at. walked (subst (λ (h : HeaderBytes). IsHeaderOf h file) (sym same) is) row (ap (λ (l : Listed). slice_get l.rows (c.loop-index.index + 1 - 1)) c.loop-index.invariant.roots ∙ at)));
+      writes = c.in_ok-walk_root.ensures.writes ∙ c.loop-index.invariant.writes;
     }
 
 pub returns-clause-asks : goal.returns-clause-asks

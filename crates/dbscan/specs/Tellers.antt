@@ -1,0 +1,17 @@
+-- What a walk from a start tells, as it is handed on with that start.
+use Rattle.std.specs.Prelude.{◌≡◌, ◌||◌, ◌∷◌}
+use Rattle.dbtrace.specs.Finding.{Finding}
+use Rattle.dbwalk.specs.Telling.{SinkState}
+use Rattle.dbscan.specs.Findings.{is_schema_row}
+use Rattle.dbscan.specs.Starts.{At}
+use Rattle.dbscan.specs.declared.teller.Teller.{Teller}
+
+-- a finding was handed on with the start, and moved the sink by this relation
+pub record HandsOn {K : Type 0} (moves : K → At → Finding → K → Type 0) (s : Teller K) (item : Finding) (t : Teller K) : Type 0 where
+  pub moved : moves s.sink.now s.start.now item t.sink.now
+  pub start : t.start.now ≡ s.start.now
+  pub has_rows : t.has_rows ≡ (s.has_rows || is_schema_row item)
+
+-- what it is lent is the sink, and what that is lent
+abbrev pub lent_by : {K : Type 0} → (K → SinkState) → Teller K → SinkState
+lent_by held s = record { lent = s.sink.ghost_name ∷ (held s.sink.now).lent; failures = (held s.sink.now).failures }

@@ -1,0 +1,22 @@
+// A taker for the trees that are not the schema's.
+use dbbytes::SchemaRow;
+use dbwalk::{Taken, Taker};
+use std::alloc::AllocError;
+
+// Takes no row. Only the walk over the schema's tree gives any.
+#[derive(Drop)]
+pub(crate) struct NoRows;
+
+impl Taker for NoRows {
+    ghost use Rattle.std.specs.Prelude.{⊤};
+
+    ghost takes = { λ _ _ _ _. ⊤ };
+
+    ghost refuses = { λ _ _ _. ⊤ };
+
+    ghost refusals = { λ _. 0 };
+
+    fn take(&mut self, _row: &SchemaRow<'_>) -> Result<Taken, AllocError> {
+        Ok(Taken::NoRoot)
+    }
+}

@@ -1,0 +1,47 @@
+// A scan: all that is told of a file.
+ghost use Rattle.std.specs.Prelude.{◌≡◌, List, IfErr};
+ghost use Rattle.dbformat.specs.Reference.{Reference};
+ghost use Rattle.dbformat.specs.Survey.{Survey};
+ghost use Rattle.dbsource.specs.Errors.{is_out_of_memory, is_read_failed, is_write_failed};
+ghost use Rattle.dbsource.specs.Failures.{failures_after};
+ghost use Rattle.dbsource.specs.Headers.{IsHeaderOf};
+ghost use Rattle.dbsource.specs.Sources.{Asks};
+ghost use Rattle.dbwalk.specs.Telling.{IsReadWriteOrMemory, SinkAfter};
+ghost use Rattle.dbscan.specs.Desks.{IsFresh, shape_of};
+ghost use Rattle.dbscan.specs.Looks.{ReadsMarked};
+ghost use Rattle.dbscan.specs.Notices.{Hears, hearing};
+ghost use Rattle.dbscan.specs.Scans.{IsScanned};
+
+use crate::Desk;
+use crate::end_pass::tell_end;
+use crate::tell::tell_header;
+use crate::tree_sink::TreeSink;
+use crate::walks::walk_starts;
+use dbsource::{RunError, Source};
+use std::alloc::Allocator;
+
+/// Tells all that is found in a file: the faults of its header, what is found at its starts, and the faults at the end.
+///
+/// # Errors
+///
+/// [`RunError::ReadFailed`] exactly where the source failed, [`RunError::WriteFailed`] exactly where the sink failed, and
+/// [`RunError::OutOfMemory`] exactly where the list of roots was refused memory. The sink was told a beginning then.
+pub fn scan<A: Allocator, S: Source, K: TreeSink>(
+    desk: &mut Desk<A>,
+    source: &mut S,
+    sink: &mut K,
+) -> Result<(), RunError>
+    requires fresh { IsFresh desk.old }
+    ensures header { desk.new.header ≡ desk.old.header }
+    ensures asks { Asks S.step (ReadsMarked (shape_of desk.old) desk.new.marks) (λ file. IsHeaderOf desk.old.header file
+        → (V : List Reference) → Survey file V
+        → IsScanned (Hears (hearing K.Sink K.TreeSink.own)) file V result desk.new.marks desk.new.roots.rows sink.old sink.new)
+        is_read_failed result (S.held source.old) (S.held source.new) }
+    ensures writes { SinkAfter is_write_failed result (K.held sink.old) (K.held sink.new) }
+    ensures refusals { desk.new.roots.refusals ≡ failures_after is_out_of_memory result desk.old.roots.refusals }
+    ensures only { IfErr result IsReadWriteOrMemory }
+{
+    tell_header(desk.header(), sink)?;
+    let any_rows = walk_starts(desk, source, sink)?;
+    tell_end(desk, source, any_rows, sink)
+}

@@ -1,0 +1,84 @@
+// What a walk from a start tells, handed on with that start.
+ghost use Rattle.std.specs.Prelude.{◌≡◌, MatchResult, false};
+ghost use Rattle.dbsource.specs.Failures.{is_any};
+ghost use Rattle.dbwalk.specs.Rows.{row_of};
+ghost use Rattle.dbwalk.specs.Telling.{SinkAfter};
+ghost use Rattle.dbscan.specs.Findings.{is_schema_leaf};
+
+use crate::start::Start;
+use crate::tree_sink::TreeSink;
+use dbowner::SCHEMA_START;
+use dbsource::WriteFailed;
+use dbwalk::{Fault, PageType, Row, Sink};
+
+// Hands on what it is told, and notes whether that shows a row of the schema.
+#[derive(Drop)]
+pub(crate) struct Teller<'a, K> {
+    sink: &'a mut K,
+    start: &'a Start<'a>,
+    has_rows: bool,
+}
+
+impl<'a, K: TreeSink> Teller<'a, K> {
+    // One that was told nothing.
+    pub(crate) fn new(sink: &'a mut K, start: &'a Start<'a>) -> Teller<'a, K>
+        ensures same_sink { result.sink.ghost_name ≡ sink.entry.ghost_name }
+        ensures sink { result.sink.now ≡ sink.old }
+        ensures start { result.start.now ≡ start.now }
+        ensures none { result.has_rows ≡ false }
+    {
+        Teller {
+            sink,
+            start,
+            has_rows: false,
+        }
+    }
+
+    // Whether it was told a row of the schema.
+    pub(crate) fn has_rows(&self) -> bool
+        ensures { result ≡ self.now.has_rows }
+    {
+        self.has_rows
+    }
+
+    // Hands on that the tree has ended.
+    pub(crate) fn end(&mut self) -> Result<(), WriteFailed>
+        ensures same_sink { self.new.sink.ghost_name ≡ self.old.sink.ghost_name }
+        ensures rows { self.new.has_rows ≡ self.old.has_rows }
+        ensures ends { MatchResult result (λ _. K.ends self.old.sink.now self.old.start.now self.new.sink.now)
+            (λ _. K.cuts self.old.sink.now self.old.start.now self.new.sink.now) }
+        ensures count { SinkAfter is_any result (K.held self.old.sink.now) (K.held self.new.sink.now) }
+    {
+        self.sink.end_tree(self.start)
+    }
+}
+
+impl<K: TreeSink> Sink for Teller<'_, K> {
+    ghost use Rattle.dbscan.specs.Tellers.{HandsOn, lent_by};
+
+    ghost takes = { HandsOn K.takes_at };
+
+    ghost drops = { HandsOn K.drops_at };
+
+    ghost held = { lent_by K.held };
+
+    fn fault(&mut self, fault: &Fault) -> Result<(), WriteFailed> {
+        self.sink.fault_at(self.start, fault)
+    }
+
+    fn row(&mut self, row: &Row<'_>) -> Result<(), WriteFailed> {
+        self.has_rows = self.has_rows || is_schema_leaf(row);
+        self.sink.row_at(self.start, row)
+    }
+}
+
+// Whether a row is of a leaf of the schema with a cell.
+fn is_schema_leaf(row: &Row<'_>) -> bool
+    ensures { result ≡ is_schema_leaf (row_of row.now) }
+{
+    let is_leaf = match row.pagetype {
+        PageType::Leaf => true,
+        _ => false,
+    };
+    row.start == SCHEMA_START && is_leaf && row.ncell != 0
+}
