@@ -1,4 +1,2 @@
 pub mod MapSink
 pub mod Maps
-pub mod Puts
-pub mod Xml

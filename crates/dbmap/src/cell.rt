@@ -2,7 +2,7 @@
 use dbowner::Place;
 
 /// Whose a page is.
-#[derive(Clone, Copy, Debug, PartialEq, Eq)]
+#[derive(Clone, Copy, PartialEq, Eq)]
 pub(crate) enum Owner {
     /// Of one of the largest trees, by its rank from 0, or behind the last rank of another tree.
     Tree(usize),
@@ -16,7 +16,7 @@ pub(crate) enum Owner {
 pub(crate) const RANKS: usize = 13;
 
 /// How many pages, and how many of them are overflow pages.
-#[derive(Clone, Copy, Debug, Default, PartialEq, Eq)]
+#[derive(Clone, Copy, Default)]
 pub(crate) struct Share {
     pub(crate) pages: u32,
     pub(crate) overflow: u32,
@@ -47,7 +47,7 @@ pub(crate) fn is_overflow(place: Place) -> bool {
 }
 
 /// The pages of a square, by their owners.
-#[derive(Clone, Copy, Debug)]
+#[derive(Clone, Copy)]
 pub(crate) struct Cell {
     trees: [Share; RANKS],
     freelist: Share,
@@ -56,7 +56,7 @@ pub(crate) struct Cell {
 }
 
 /// The owner of most of them, and how many are its pages.
-#[derive(Clone, Copy, Debug, PartialEq, Eq)]
+#[derive(Clone, Copy)]
 pub(crate) struct Most {
     pub(crate) owner: Owner,
     pub(crate) share: Share,

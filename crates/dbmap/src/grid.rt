@@ -5,7 +5,7 @@ ghost use Rattle.std.specs.Prelude.{◌≤◌};
 const MOST_CELLS: u32 = 16384;
 
 // How many squares stand in a row: the fewer, the larger they are.
-#[derive(Clone, Copy, Debug, PartialEq, Eq)]
+#[derive(Clone, Copy)]
 enum Width {
     Few,
     Some,
@@ -13,7 +13,7 @@ enum Width {
 }
 
 /// The squares: how many pages each stands for, and how many there are.
-#[derive(Clone, Copy, Debug, PartialEq, Eq)]
+#[derive(Clone, Copy)]
 pub(crate) struct Grid {
     pages: u32,
     pub(crate) run: u32,

@@ -1,15 +1,14 @@
 // The legend of the picture.
-ghost use Rattle.dbmap.specs.Puts.{PutsSome};
+ghost use Rattle.dbxml.specs.Puts.{PutsSome};
 
 use crate::cell::{Owner, Share};
 use crate::colours::fill;
 use crate::picture::tenths_of_mib;
-use crate::pieces::{Piece, put_all};
-use crate::shown::shown_tree;
 use crate::tally::{COLOURED, Tally, Tree};
 use arrayvec::ArrayVec;
 use dbowner::{FREELIST_START, TreeNames};
 use dbsource::{Geometry, Out, WriteFailed};
+use dbxml::{Piece, put_all, shown_tree};
 use std::alloc::Allocator;
 
 // How many columns of a tree's name are shown.
@@ -19,7 +18,7 @@ const NAME_WIDTH: u32 = 56;
 const LINE: u32 = 20;
 
 // What a line is of.
-#[derive(Clone, Copy, Debug, Default, PartialEq, Eq)]
+#[derive(Clone, Copy, Default)]
 enum Label {
     // The tree of a start, by its rank.
     Tree(usize, u32),
@@ -33,14 +32,14 @@ enum Label {
 }
 
 // A line, with how many pages it is of.
-#[derive(Clone, Copy, Debug, Default, PartialEq, Eq)]
+#[derive(Clone, Copy, Default)]
 struct Line {
     label: Label,
     share: Share,
 }
 
 /// The lines of the legend.
-#[derive(Debug, Drop)]
+#[derive(Drop)]
 pub(crate) struct Legend {
     lines: ArrayVec<Line, 17>,
 }

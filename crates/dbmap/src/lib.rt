@@ -12,7 +12,7 @@
 //! (`dbowner`); a first pass over the pages counts those of each tree, and a second one writes the squares.
 //!
 //! What is proved is that the file is read as a check reads it, and that the verdict is the check's. Of the picture it is proved
-//! that no text of the file or of the command line comes into it but escaped (specs/Xml); its bytes are tested.
+//! that no text of the file or of the command line comes into it but escaped (`dbxml`); its bytes are tested.
 #![tactic(auto)]
 
 mod cell;
@@ -23,10 +23,7 @@ mod map_sink;
 mod maps;
 mod page_set;
 mod picture;
-mod pieces;
-mod shown;
 mod squares;
 mod tally;
-mod xml;
 
 pub use maps::{map, map_in};

@@ -1,5 +1,6 @@
 // A map: from the bytes of a database to its picture.
 ghost use Rattle.std.specs.Prelude.{◌≡◌, List, IfErr, IfOk};
+ghost use Rattle.dbformat.specs.FixedPages.{IsInRange};
 ghost use Rattle.dbformat.specs.Log.{IsPageLog};
 ghost use Rattle.dbformat.specs.Reference.{Reference};
 ghost use Rattle.dbformat.specs.Report.{faults, verdict};
@@ -14,26 +15,49 @@ ghost use Rattle.dbscan.specs.DeskSizes.{DeskFitsInMemory};
 ghost use Rattle.dbscan.specs.Desks.{IsFresh, shape_of};
 ghost use Rattle.dbreport.specs.Runs.{FailsOnce, IsUntouched};
 ghost use Rattle.dbmap.specs.Maps.{HasMap};
-ghost use Rattle.dbmap.specs.Puts.{PutsSome};
+ghost use Rattle.dbxml.specs.Puts.{PutsSome};
 
 use crate::legend::Legend;
 use crate::map_sink::MapSink;
 use crate::page_set::PageSet;
 use crate::picture::{Heading, put_picture};
-use crate::shown::Shown;
 use crate::squares::Squares;
 use crate::tally::Tally;
-use dbformat::Verdict;
+use dbformat::{Geometry, Verdict};
 use dbowner::{PageTrees, TreeNames};
 use dbscan::{Desk, scan};
 use dbsource::{HeadedSource, Header, Out, RunError, Source, WriteFailed};
-use std::alloc::{Allocator, Global};
+use dbxml::Shown;
+use std::alloc::{AllocError, Allocator, Global};
 
 // Whose the pages are: the tree of each page, and the pages of each tree.
 #[derive(Drop)]
 struct Owners<A: Allocator = Global> {
     trees: PageTrees<A>,
     tally: Tally<A>,
+}
+
+// What a map keeps of a file beside what a check keeps.
+#[derive(Drop)]
+struct Kept<A: Allocator = Global> {
+    owners: Owners<A>,
+    // The pages that faults are told at.
+    faulty: PageSet<A>,
+}
+
+impl<A: Allocator + Copy> Kept<A> {
+    // Of a file of which nothing is known yet, each part in one growth.
+    fn new_in(alloc: A, geometry: &Geometry) -> Result<Kept<A>, AllocError>
+        requires { IsInRange geometry.now }
+    {
+        let trees = PageTrees::new_in(alloc, geometry)?;
+        let tally = Tally::new_in(alloc)?;
+        let faulty = PageSet::new_in(alloc, geometry.pages)?;
+        Ok(Kept {
+            owners: Owners { trees, tally },
+            faulty,
+        })
+    }
 }
 
 // Puts the picture of a file whose pages were walked over.
@@ -80,8 +104,7 @@ fn put_map<A: Allocator, O: Out>(
 fn map_file<A: Allocator, S: Source, O: Out>(
     name: &str,
     desk: &mut Desk<A>,
-    owners: Owners<A>,
-    faulty: PageSet<A>,
+    kept: Kept<A>,
     source: &mut S,
     out: &mut O,
 ) -> Result<Verdict, RunError>
@@ -92,6 +115,7 @@ fn map_file<A: Allocator, S: Source, O: Out>(
     ensures writes { (O.held out.new).failures ≡ failures_after is_write_failed result (O.held out.old).failures }
     ensures only { IfErr result IsReadWriteOrMemory }
 {
+    let Kept { owners, faulty } = kept;
     let mut sink = MapSink::new(faulty);
     scan(desk, source, &mut sink)?;
     put_map(name, desk, owners, &sink, out)?;
@@ -102,8 +126,7 @@ fn map_file<A: Allocator, S: Source, O: Out>(
 fn map_on<A: Allocator, S: Source, O: Out>(
     name: &str,
     desk: &mut Desk<A>,
-    owners: Owners<A>,
-    faulty: PageSet<A>,
+    kept: Kept<A>,
     source: &mut S,
     out: &mut O,
 ) -> Result<Verdict, RunError>
@@ -117,7 +140,7 @@ fn map_on<A: Allocator, S: Source, O: Out>(
     desk.renew();
     let header = *desk.header();
     let mut headed = HeadedSource::new(&header, source);
-    map_file(name, desk, owners, faulty, &mut headed, out)
+    map_file(name, desk, kept, &mut headed, out)
 }
 
 /// Does what [`map`] does, in memory from any allocator: the clauses are the same.
@@ -140,11 +163,8 @@ pub fn map_in<A: Allocator + Copy, S: Source, O: Out>(
     let header = Header::read(source)?;
     let geometry = header.geometry();
     let mut desk = Desk::new_in(alloc, header)?;
-    let trees = PageTrees::new_in(alloc, &geometry)?;
-    let tally = Tally::new_in(alloc)?;
-    let faulty = PageSet::new_in(alloc, geometry.pages)?;
-    let owners = Owners { trees, tally };
-    map_on(name, &mut desk, owners, faulty, source, out)
+    let kept = Kept::new_in(alloc, &geometry)?;
+    map_on(name, &mut desk, kept, source, out)
 }
 
 /// Reads the database that `source` gives, and puts a picture of its pages to `out`, an SVG with `name` as the file's name. It

@@ -1,12 +1,11 @@
 // The picture as a whole.
-ghost use Rattle.dbmap.specs.Puts.{PutsSome};
+ghost use Rattle.dbxml.specs.Puts.{PutsSome};
 
 use crate::grid::Grid;
 use crate::legend::Legend;
-use crate::pieces::{Piece, put_all};
-use crate::shown::{Shown, shown_file};
 use crate::squares::{NAME_WIDTH, Squares};
 use dbsource::{Geometry, Out, WriteFailed};
+use dbxml::{Piece, Shown, put_all, shown_file};
 use std::alloc::Allocator;
 
 /// Where the first row of squares begins.
@@ -18,7 +17,7 @@ pub(crate) const LEFT: u64 = 72;
 const WIDTH: u64 = 988;
 
 /// What is said above the squares.
-#[derive(Clone, Copy, Debug)]
+#[derive(Clone, Copy)]
 pub(crate) struct Heading<'a> {
     pub(crate) name: &'a str,
     pub(crate) geometry: Geometry,

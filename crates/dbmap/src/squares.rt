@@ -1,13 +1,11 @@
 // The squares of the picture.
-ghost use Rattle.dbmap.specs.Puts.{PutsSome};
+ghost use Rattle.dbxml.specs.Puts.{PutsSome};
 
 use crate::cell::{Cell, Most, Owner, is_overflow};
 use crate::colours::fill;
 use crate::grid::Grid;
 use crate::page_set::PageSet;
 use crate::picture::{LEFT, TOP};
-use crate::pieces::{Piece, put_all};
-use crate::shown::{Shown, shown_tree};
 use crate::tally::{COLOURED, Tree, rank_of};
 use arrayvec::ArrayVec;
 use dbowner::{
@@ -15,6 +13,7 @@ use dbowner::{
 };
 use dbsource::{Header, Out, WriteFailed};
 use dbwalk::Marks;
+use dbxml::{Piece, Shown, put_all, shown_tree};
 use std::alloc::Allocator;
 
 /// How many columns of a name are shown.

@@ -11,7 +11,7 @@ use std::alloc::{AllocError, Allocator, Global};
 pub(crate) const COLOURED: usize = 12;
 
 /// A tree, by its start.
-#[derive(Clone, Copy, Debug, Default, PartialEq, Eq)]
+#[derive(Clone, Copy, Default)]
 pub(crate) struct Tree {
     pub(crate) start: u32,
     pub(crate) share: Share,

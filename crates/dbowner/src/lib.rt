@@ -30,4 +30,4 @@ pub use explained::summary_counts_all_faults;
 pub use owner::visited_pages_are_owned;
 pub use page_trees::{FREELIST_START, PageTrees, SCHEMA_START};
 pub use place::{Place, place_of};
-pub use roots::{MAX_NAME, RootList};
+pub use roots::RootList;

@@ -19,6 +19,7 @@ use dbwalk::{Mark, Marks};
 use std::alloc::{AllocError, Allocator, Global};
 use std::marker::Model;
 
+/// The start of the schema, whose root is page 1.
 pub const SCHEMA_START: u32 = 0;
 
 /// The start of the freelist, behind the schema's and those of 65536 rows.

@@ -11,20 +11,20 @@ use dbwalk::{Taken, Taker};
 use std::alloc::{AllocError, Allocator, Global};
 use std::marker::Model;
 
-// How many roots are taken (own).
+// How many roots are taken: a limit of our own.
 const MAX_ROOTS: usize = 65536;
-/// How many bytes of a name are kept: a limit of our own.
-pub const MAX_NAME: usize = 1000;
+// How many bytes of a name are kept: a limit of our own.
+const MAX_NAME: usize = 1000;
 
 // Where the bytes of a name stand.
-#[derive(Clone, Copy, Debug, PartialEq, Eq)]
+#[derive(Clone, Copy)]
 struct Span {
     start: u32,
     len: u32,
 }
 
 // A row of the schema that has a root page.
-#[derive(Clone, Copy, Debug, PartialEq, Eq)]
+#[derive(Clone, Copy)]
 struct Entry {
     page: u32,
     kind: RowKind,

@@ -6,12 +6,9 @@ use Rattle.dbsource.specs.Outs.{OutState}
 use Rattle.dbsource.specs.declared.error.RunError.{RunError}
 use Rattle.dbsource.specs.declared.error.RunError.TheVariants.{ReadFailed, WriteFailed, OutOfMemory, Refused}
 use Rattle.dbwalk.specs.Telling.{SinkAfter, SinkState}
+use Rattle.dbscan.proofs.Tellers.{first}
 
--- the first of some numbers, and the second
-abbrev pub first : List ℕ → ℕ
-first [] = 0
-first (x ∷ xs) = x
-
+-- the second of some numbers
 abbrev pub second : List ℕ → ℕ
 second [] = 0
 second (x ∷ xs) = first xs

@@ -37,7 +37,7 @@ use dbsource::{Header, Out, RunError, Source};
 use std::alloc::Allocator;
 
 /// A form of the statistics: whether the rows of a tree are added up, and whether the other pages are shown.
-#[derive(Clone, Copy, Debug, PartialEq, Eq)]
+#[derive(Clone, Copy)]
 pub(crate) struct Form {
     pub(crate) aggregate: bool,
     pub(crate) all: bool,

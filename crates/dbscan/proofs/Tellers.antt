@@ -94,7 +94,7 @@ module _ {K : Type 0} (takes drops : K → At → Finding → K → Type 0) wher
 
 -- ---- what its sink is lent, and what failed
 
-abbrev first : List ℕ → ℕ
+abbrev pub first : List ℕ → ℕ
 first [] = 0
 first (x ∷ xs) = x
 

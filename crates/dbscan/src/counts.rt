@@ -7,7 +7,7 @@ use dbwalk::{Mark, Marks};
 use std::alloc::Allocator;
 
 // How many pages are on the freelist, the greatest root page, and the least page in use that is no root.
-#[derive(Clone, Copy, Debug, PartialEq, Eq)]
+#[derive(Clone, Copy)]
 pub(crate) struct Counts {
     pub(crate) free_pages: u32,
     pub(crate) greatest_root: u32,

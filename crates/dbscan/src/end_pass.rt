@@ -22,11 +22,8 @@ use crate::end_faults::{counted_faults, late_fault, use_fault};
 use crate::map_entry::{MapEntry, stored_entry};
 use crate::tell::tell_all;
 use dbsource::{Bench, Fixed, Geometry, RunError, Source};
-use dbwalk::{Mark, Marks, Sink};
+use dbwalk::{CHAIN, Mark, Marks, Sink};
 use std::alloc::Allocator;
-
-// The level of a bench that map pages are read to: its chain buffer.
-const MAP: usize = 20;
 
 // Whether this is a map page with pages behind it.
 fn is_map_in_use(geometry: Geometry, page: u32) -> bool
@@ -51,7 +48,7 @@ fn entry_of<A: Allocator>(bench: &Bench<A>, page: u32) -> Option<MapEntry>
         → option_map entry_value result ≡ map_entry file page }
 {
     match bench.geometry().map_page_of(page) {
-        Some(map_page) => Some(stored_entry(bench.page(MAP), page - map_page)),
+        Some(map_page) => Some(stored_entry(bench.page(CHAIN), page - map_page)),
         None => None,
     }
 }
@@ -80,7 +77,7 @@ fn end_page<S: Source, K: Sink, A: Allocator, B: Allocator>(
     let mark = marks.get(page);
     if is_fixed(mark) {
         if is_map_in_use(bench.geometry(), page) {
-            bench.load(MAP, source, page)?;
+            bench.load(CHAIN, source, page)?;
         }
         return Ok(());
     }

@@ -12,10 +12,8 @@ use crate::Desk;
 use dbowner::Look;
 use dbpage::PageView;
 use dbsource::{Bench, ReadFailed, Source};
+use dbwalk::CHAIN;
 use std::alloc::Allocator;
-
-// The level of a bench that such a page is read to: its chain buffer.
-const CHAIN: usize = 20;
 
 // Reads a page, and says what it looks like.
 fn look_at<S: Source, A: Allocator>(

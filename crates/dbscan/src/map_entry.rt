@@ -8,7 +8,7 @@ use dbformat::u32_at;
 use dbwalk::Mark;
 
 // What an entry says of a page: what it is, and a page that this rests on.
-#[derive(Clone, Copy, Debug, PartialEq, Eq)]
+#[derive(Clone, Copy)]
 pub(crate) struct MapEntry {
     pub(crate) kind: u8,
     pub(crate) number: u32,

@@ -13,7 +13,7 @@ use std::alloc::Allocator;
 
 /// A cell of a leaf, as far as a walk needs it: its first overflow page with the bytes that stand on overflow pages, and its
 /// key.
-#[derive(Clone, Copy, Debug)]
+#[derive(Clone, Copy)]
 pub(crate) struct LeafCell {
     pub(crate) overflow: Option<(u32, u32)>,
     pub(crate) key: Option<i64>,

@@ -24,11 +24,11 @@ use dbbytes::RowSieve;
 use dbsource::{Bench, RunError, Source};
 use std::alloc::Allocator;
 
-// The level of a bench where pages of chains and trunks stand.
-pub(crate) const CHAIN: usize = 20;
+/// The level of a bench that pages are read to which are no page of a tree: those of chains, trunks, and map pages.
+pub const CHAIN: usize = 20;
 
 /// Where an overflow chain begins.
-#[derive(Clone, Copy, Debug, Drop, PartialEq, Eq)]
+#[derive(Clone, Copy, Drop)]
 pub(crate) struct Chain<'a> {
     /// The start of the tree.
     pub(crate) start: u32,
@@ -45,7 +45,7 @@ pub(crate) struct Chain<'a> {
 }
 
 // A place on the way along a chain: the number of the next page, the bytes that are left, and the reference to it.
-#[derive(Clone, Copy, Debug, PartialEq, Eq)]
+#[derive(Clone, Copy)]
 struct Place {
     number: u32,
     left: u32,

@@ -15,7 +15,7 @@ use dbsource::RunError;
 use std::alloc::Allocator;
 
 /// A reference to a page.
-#[derive(Clone, Copy, Debug, PartialEq, Eq)]
+#[derive(Clone, Copy)]
 pub(crate) struct Step {
     /// The page that it names.
     pub(crate) page: u32,

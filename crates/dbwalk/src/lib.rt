@@ -50,6 +50,7 @@ mod tree;
 mod tree_walk;
 mod visit;
 
+pub use chain::CHAIN;
 pub use dbbytes::{RowKind, SchemaRow};
 pub use dbformat::{Encoding, Fault, FaultCode, Geometry, PageType};
 pub use dbmarks::{Mark, Marks};

@@ -21,7 +21,7 @@ use dbsource::{Bench, RunError, WriteFailed};
 use std::alloc::Allocator;
 
 /// Where a row of the schema stands: its page, the number of its cell, and its rowid.
-#[derive(Clone, Copy, Debug, Drop, PartialEq, Eq)]
+#[derive(Clone, Copy, Drop)]
 pub(crate) struct RowPlace {
     pub(crate) page: u32,
     pub(crate) item: u32,

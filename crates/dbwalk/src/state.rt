@@ -12,7 +12,7 @@ use dbsource::WriteFailed;
 
 /// The keys of a leaf whose cells are all readable, without overflow pages and in the order of their keys: that of its first
 /// cell and that of its last, where there are cells and they have keys.
-#[derive(Clone, Copy, Debug, PartialEq, Eq)]
+#[derive(Clone, Copy)]
 pub(crate) struct KeySpan {
     pub(crate) first: Option<i64>,
     pub(crate) last: Option<i64>,

@@ -13,7 +13,7 @@ use dbsource::Bench;
 use std::alloc::Allocator;
 
 /// An interior page that was visited, and the step of it that comes next.
-#[derive(Clone, Copy, Debug, Default, PartialEq, Eq)]
+#[derive(Clone, Copy, Default)]
 pub(crate) struct Frame {
     pub(crate) page: u32,
     pub(crate) next: u32,
@@ -34,7 +34,7 @@ impl Frame {
 }
 
 /// What an interior page has at a step.
-#[derive(Clone, Copy, Debug, PartialEq, Eq)]
+#[derive(Clone, Copy)]
 pub(crate) enum Next {
     /// The step is behind the last one.
     Behind,

@@ -14,7 +14,7 @@ use dbpage::PageView;
 use dbsource::WriteFailed;
 
 /// A page of a tree: the number of the tree's start, the children on the way to the page, and its number.
-#[derive(Clone, Copy, Debug, Drop)]
+#[derive(Clone, Copy, Drop)]
 pub(crate) struct PagePlace<'a> {
     pub(crate) start: u32,
     pub(crate) path: &'a [u32],

@@ -15,7 +15,7 @@ use dbsource::{Bench, WriteFailed};
 use std::alloc::Allocator;
 
 /// What a page of a tree was found to be.
-#[derive(Clone, Copy, Debug, PartialEq, Eq)]
+#[derive(Clone, Copy)]
 pub(crate) enum PageFound {
     Damaged,
     Interior,

@@ -35,7 +35,7 @@ pub struct Owners<'a, A: Allocator = Global> {
 }
 
 // What stands below a fault.
-#[derive(Clone, Copy, Debug, PartialEq, Eq)]
+#[derive(Clone, Copy)]
 pub(crate) enum Below {
     Nothing,
     StatedPages,

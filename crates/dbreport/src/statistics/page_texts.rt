@@ -6,7 +6,7 @@ ghost use Rattle.dbreport.specs.Columns.{other_of};
 use dbwalk::PageType;
 
 // What a page is that is in no tree and in no overflow chain.
-#[derive(Clone, Copy, Debug, PartialEq, Eq)]
+#[derive(Clone, Copy)]
 pub(crate) enum OtherPage {
     Trunk,
     FreeLeaf,

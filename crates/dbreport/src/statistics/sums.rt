@@ -7,7 +7,7 @@ ghost use Rattle.dbreport.specs.Sums.{sums_of};
 use dbwalk::Row;
 
 // How many pages there are, the sums of their numbers, and the greatest payload. A sum stops at the greatest number of 64 bits.
-#[derive(Clone, Copy, Debug, PartialEq, Eq)]
+#[derive(Clone, Copy)]
 pub(crate) struct Sums {
     pub(crate) pages: u64,
     pub(crate) ncell: u64,

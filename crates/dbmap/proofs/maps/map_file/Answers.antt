@@ -1,4 +1,4 @@
-use Rattle.std.proofs.Common.{Err, Ok, refl, ◌∙◌, ap}
+use Rattle.std.proofs.Common.{Err, Ok, refl, ◌∙◌}
 use Rattle.std.proofs.lemmas.Result.{err_from_is_err_and}
 use Rattle.dbformat.specs.declared.Verdict.{Verdict}
 use Rattle.dbsource.proofs.Logs.{asks_weaker}

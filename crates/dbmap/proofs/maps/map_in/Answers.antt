@@ -61,58 +61,22 @@ returns-in_err-desk-clause-refused g c =
       unwritten = refused_unwritten c.from_residual-in_err-desk.result c.args.out.now;
     }
 
-pub returns-in_err-trees-clause-read : goal.returns-in_err-trees-clause-read
-returns-in_err-trees-clause-read g c =
-    let q = err_from_is_err_and c.from_residual-in_err-trees.result c.from_residual-in_err-trees.ensures.1 in
+pub returns-in_err-kept-clause-read : goal.returns-in_err-kept-clause-read
+returns-in_err-kept-clause-read g c =
+    let q = err_from_is_err_and c.from_residual-in_err-kept.result c.from_residual-in_err-kept.ensures.1 in
     let k = c.in_ok-header.ensures in
     rw q.1 (rw q.2 (header_run c.in_ok-header.header k.opens k.read k.accepted c.in_ok-desk.ensures.range (λ file is. no_map file OutOfMemory is.is_read)))
 
-pub returns-in_err-trees-clause-failed : goal.returns-in_err-trees-clause-failed
-returns-in_err-trees-clause-failed g c =
-    let q = err_from_is_err_and c.from_residual-in_err-trees.result c.from_residual-in_err-trees.ensures.1 in
+pub returns-in_err-kept-clause-failed : goal.returns-in_err-kept-clause-failed
+returns-in_err-kept-clause-failed g c =
+    let q = err_from_is_err_and c.from_residual-in_err-kept.result c.from_residual-in_err-kept.ensures.1 in
     rw q.1 (rw q.2 (record { reads = c.in_ok-header.ensures.opens.asks.count; writes = refl }))
 
-pub returns-in_err-trees-clause-refused : goal.returns-in_err-trees-clause-refused
-returns-in_err-trees-clause-refused g c =
-    let q = err_from_is_err_and c.from_residual-in_err-trees.result c.from_residual-in_err-trees.ensures.1 in record {
+pub returns-in_err-kept-clause-refused : goal.returns-in_err-kept-clause-refused
+returns-in_err-kept-clause-refused g c =
+    let q = err_from_is_err_and c.from_residual-in_err-kept.result c.from_residual-in_err-kept.ensures.1 in record {
       asked = rw q.1 (rw q.2 tt);
-      unwritten = refused_unwritten c.from_residual-in_err-trees.result c.args.out.now;
-    }
-
-pub returns-in_err-tally-clause-read : goal.returns-in_err-tally-clause-read
-returns-in_err-tally-clause-read g c =
-    let q = err_from_is_err_and c.from_residual-in_err-tally.result c.from_residual-in_err-tally.ensures.1 in
-    let k = c.in_ok-header.ensures in
-    rw q.1 (rw q.2 (header_run c.in_ok-header.header k.opens k.read k.accepted c.in_ok-desk.ensures.range (λ file is. no_map file OutOfMemory is.is_read)))
-
-pub returns-in_err-tally-clause-failed : goal.returns-in_err-tally-clause-failed
-returns-in_err-tally-clause-failed g c =
-    let q = err_from_is_err_and c.from_residual-in_err-tally.result c.from_residual-in_err-tally.ensures.1 in
-    rw q.1 (rw q.2 (record { reads = c.in_ok-header.ensures.opens.asks.count; writes = refl }))
-
-pub returns-in_err-tally-clause-refused : goal.returns-in_err-tally-clause-refused
-returns-in_err-tally-clause-refused g c =
-    let q = err_from_is_err_and c.from_residual-in_err-tally.result c.from_residual-in_err-tally.ensures.1 in record {
-      asked = rw q.1 (rw q.2 tt);
-      unwritten = refused_unwritten c.from_residual-in_err-tally.result c.args.out.now;
-    }
-
-pub returns-in_err-faulty-clause-read : goal.returns-in_err-faulty-clause-read
-returns-in_err-faulty-clause-read g c =
-    let q = err_from_is_err_and c.from_residual-in_err-faulty.result c.from_residual-in_err-faulty.ensures.1 in
-    let k = c.in_ok-header.ensures in
-    rw q.1 (rw q.2 (header_run c.in_ok-header.header k.opens k.read k.accepted c.in_ok-desk.ensures.range (λ file is. no_map file OutOfMemory is.is_read)))
-
-pub returns-in_err-faulty-clause-failed : goal.returns-in_err-faulty-clause-failed
-returns-in_err-faulty-clause-failed g c =
-    let q = err_from_is_err_and c.from_residual-in_err-faulty.result c.from_residual-in_err-faulty.ensures.1 in
-    rw q.1 (rw q.2 (record { reads = c.in_ok-header.ensures.opens.asks.count; writes = refl }))
-
-pub returns-in_err-faulty-clause-refused : goal.returns-in_err-faulty-clause-refused
-returns-in_err-faulty-clause-refused g c =
-    let q = err_from_is_err_and c.from_residual-in_err-faulty.result c.from_residual-in_err-faulty.ensures.1 in record {
-      asked = rw q.1 (rw q.2 tt);
-      unwritten = refused_unwritten c.from_residual-in_err-faulty.result c.args.out.now;
+      unwritten = refused_unwritten c.from_residual-in_err-kept.result c.args.out.now;
     }
 
 -- ---- the file was read

@@ -1,8 +1,9 @@
 use Rattle.std.proofs.Common.{refl, ap}
 use Rattle.dbsource.proofs.Logs.{asks_weaker}
 use Rattle.dbreport.specs.CheckSink.{Cuts, Shows}
+use Rattle.dbscan.proofs.Tellers.{first}
 use Rattle.dbscan.proofs.ToldStarts.{run_told}
-use Rattle.dbreport.proofs.SinkStates.{first, lent_same, one_failed}
+use Rattle.dbreport.proofs.SinkStates.{lent_same, one_failed}
 use Rattle.dbreport.proofs.checking.scan_check.Goals as goal
 
 pub returns-clause-asks : goal.returns-clause-asks

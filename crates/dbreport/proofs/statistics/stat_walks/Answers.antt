@@ -11,7 +11,8 @@ use Rattle.dbscan.specs.Desks.{Things}
 use Rattle.dbscan.specs.MapReads.{MapReads}
 use Rattle.dbscan.proofs.MapLogs.{walk_then_map_log}
 use Rattle.dbscan.proofs.Refusals.{memory_kept}
-use Rattle.dbreport.proofs.SinkStates.{first, lent_same, second}
+use Rattle.dbscan.proofs.Tellers.{first}
+use Rattle.dbreport.proofs.SinkStates.{lent_same, second}
 use Rattle.dbreport.proofs.StatWhole.{walks_ended, walks_stopped}
 use Rattle.dbreport.proofs.statistics.stat_walks.Goals as goal
 

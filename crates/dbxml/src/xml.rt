@@ -1,7 +1,7 @@
 // Text in the picture, with what is markup in XML escaped.
 ghost use Rattle.std.specs.Prelude.{◌≡◌, true, false, [], ◌∷◌};
 ghost use Rattle.dbsource.specs.Outs.{Puts};
-ghost use Rattle.dbmap.specs.Xml.{byte_text, escaped};
+ghost use Rattle.dbxml.specs.Xml.{byte_text, escaped};
 
 use dbsource::{Out, WriteFailed};
 

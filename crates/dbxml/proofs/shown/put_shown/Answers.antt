@@ -1,8 +1,8 @@
 use Rattle.std.proofs.Common.{◌++◌, take}
 use Rattle.std.proofs.lemmas.Grind.{flat_map-append}
 use Rattle.dbsource.proofs.Puts.{puts_then}
-use Rattle.dbmap.specs.Xml.{byte_text, escaped}
-use Rattle.dbmap.proofs.shown.put_shown.Goals as goal
+use Rattle.dbxml.specs.Xml.{byte_text, escaped}
+use Rattle.dbxml.proofs.shown.put_shown.Goals as goal
 
 pub returns : goal.returns
 returns g c =

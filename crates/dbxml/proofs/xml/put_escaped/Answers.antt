@@ -1,9 +1,9 @@
 use Rattle.std.proofs.Common.{◌+◌, drop}
 use Rattle.std.proofs.lemmas.Result.{err_from_is_err_and}
 use Rattle.dbbytes.proofs.NameLemmas.{put_more, put_stop}
-use Rattle.dbmap.specs.Xml.{escaped}
-use Rattle.dbmap.proofs.Escaping.{next_byte}
-use Rattle.dbmap.proofs.xml.put_escaped.Goals as goal
+use Rattle.dbxml.specs.Xml.{escaped}
+use Rattle.dbxml.proofs.Escaping.{next_byte}
+use Rattle.dbxml.proofs.xml.put_escaped.Goals as goal
 
 pub returns-in_err-put_byte : goal.returns-in_err-put_byte
 returns-in_err-put_byte g c =

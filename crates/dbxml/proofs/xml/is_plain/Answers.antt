@@ -1,5 +1,5 @@
-use Rattle.dbmap.proofs.Escaping.{next_plain, none_left}
-use Rattle.dbmap.proofs.xml.is_plain.Goals as goal
+use Rattle.dbxml.proofs.Escaping.{next_plain, none_left}
+use Rattle.dbxml.proofs.xml.is_plain.Goals as goal
 
 pub loop-byte-preserved : goal.loop-byte-preserved
 loop-byte-preserved c =

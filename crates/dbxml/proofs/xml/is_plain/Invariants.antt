@@ -1,6 +1,6 @@
 use Rattle.std.proofs.Common.{◌≡◌, drop}
-use Rattle.dbmap.specs.Xml.{escaped}
-use Rattle.dbmap.proofs.xml.is_plain.Given as goal
+use Rattle.dbxml.specs.Xml.{escaped}
+use Rattle.dbxml.proofs.xml.is_plain.Given as goal
 
 abbrev pub invariant-loop-byte : goal.invariant-loop-byte
 invariant-loop-byte l = escaped (drop l.byte-index l.text) ≡ drop l.byte-index l.text → escaped l.text ≡ l.text

@@ -1,5 +1,5 @@
 // What the picture's text is put together of.
-ghost use Rattle.dbmap.specs.Puts.{PutsSome};
+ghost use Rattle.dbxml.specs.Puts.{PutsSome};
 
 use crate::shown::{Shown, put_shown};
 use arrayvec::ArrayVec;
@@ -8,7 +8,7 @@ use itoa::Buffer;
 
 /// A piece of the picture's text.
 #[derive(Clone, Copy)]
-pub(crate) enum Piece<'a> {
+pub enum Piece<'a> {
     /// Markup, or plain words of this crate.
     Markup(&'a str),
     /// A number.
@@ -89,7 +89,7 @@ fn add_piece<O: Out>(
 /// # Errors
 ///
 /// [`WriteFailed`] where the Out failed: nothing is put after that.
-pub(crate) fn put_all<O: Out>(out: &mut O, pieces: &[Piece<'_>]) -> Result<(), WriteFailed>
+pub fn put_all<O: Out>(out: &mut O, pieces: &[Piece<'_>]) -> Result<(), WriteFailed>
     ensures { PutsSome result (O.held out.old) (O.held out.new) }
 {
     let mut waiting = ArrayVec::new();

@@ -1,7 +1,7 @@
 -- Escaped texts, byte by byte.
 use Rattle.std.proofs.Common.{◌≡◌, ℕ, ◌+◌, ◌<◌, ◌≤◌, List, [], ◌∷◌, ◌++◌, length, drop, get_or, add-one, drop-cons, refl, sym, ap₂, ◌∙◌}
 use Rattle.std.proofs.lemmas.List.{drop_all}
-use Rattle.dbmap.specs.Xml.{byte_text, escaped}
+use Rattle.dbxml.specs.Xml.{byte_text, escaped}
 
 -- what is left of a text, by its next byte
 pub next_byte : (text : List ℕ) (i : ℕ) (none : ℕ) → i < length text → escaped (drop i text) ≡ byte_text (get_or text i none) ++ escaped (drop (i + 1) text)

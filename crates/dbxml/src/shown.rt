@@ -1,7 +1,7 @@
 // Texts of the file and of the command line as the picture shows them.
 ghost use Rattle.std.specs.Prelude.{◌≡◌, ◌≤◌, length, IfSome};
 ghost use Rattle.dbsource.specs.Outs.{Puts};
-ghost use Rattle.dbmap.specs.Xml.{escaped, PutsEscaped};
+ghost use Rattle.dbxml.specs.Xml.{escaped, PutsEscaped};
 
 use crate::xml::{is_plain, put_escaped};
 use arrayvec::ArrayVec;
@@ -17,13 +17,13 @@ const KEPT: usize = 320;
 /// The beginning of a text. It is UTF-8 without control characters, as names are shown, and without the two numbers at the end
 /// of the first plane that are no characters, which XML forbids.
 #[derive(Drop)]
-pub(crate) struct Shown {
+pub struct Shown {
     bytes: ArrayVec<u8, KEPT>,
 }
 
 impl Shown {
     /// Nothing.
-    pub(crate) fn new() -> Shown {
+    pub fn new() -> Shown {
         Shown {
             bytes: ArrayVec::new(),
         }
@@ -69,14 +69,14 @@ impl Out for Shown {
 }
 
 /// The name of a file.
-pub(crate) fn shown_file(name: &str) -> Shown {
+pub fn shown_file(name: &str) -> Shown {
     let mut shown = Shown::new();
     let _ = name_text(name.as_bytes(), Encoding::Utf8, &mut shown);
     shown
 }
 
 /// The tree of a start.
-pub(crate) fn shown_tree<A: Allocator>(names: &TreeNames<'_, A>, start: u32) -> Shown {
+pub fn shown_tree<A: Allocator>(names: &TreeNames<'_, A>, start: u32) -> Shown {
     let mut shown = Shown::new();
     let _ = names.put_tree(&mut shown, start);
     shown

@@ -1,0 +1,15 @@
+//! The text of an XML document, put together of pieces: markup, numbers, and texts of a file or of the command line, which come
+//! into it escaped, and cut to a width (specs/Xml).
+//!
+//! ```
+//! let name = shown_file("a & b.db");
+//! put_all(out, &[Piece::Markup("<title>"), Piece::Shown(&name, 40), Piece::Markup("</title>")])?;
+//! ```
+#![tactic(auto)]
+
+mod pieces;
+mod shown;
+mod xml;
+
+pub use pieces::{Piece, put_all};
+pub use shown::{Shown, shown_file, shown_tree};
