@@ -1,4 +1,4 @@
-// Each thing that a run needs is refused in turn.
-mod check;
+// What is refused to a run, each thing in turn: reads, writes and growths.
 mod growths;
-mod stat;
+mod reads;
+mod writes;

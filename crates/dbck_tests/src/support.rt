@@ -1,6 +1,5 @@
 // Outs, files and tables of the tests.
-pub(crate) mod check_tables;
+pub(crate) mod cases;
 pub(crate) mod fakes;
 pub(crate) mod files;
-pub(crate) mod stat_tables;
 pub(crate) mod versions;

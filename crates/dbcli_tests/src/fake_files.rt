@@ -39,9 +39,9 @@ impl<'a> FakeFiles<'a> {
         self.has_refused.get()
     }
 
-    fn refuse<T>(&self) -> io::Result<T> {
+    fn refusal(&self) -> io::Error {
         self.has_refused.set(true);
-        Err(io::Error::from(io::ErrorKind::Unsupported))
+        io::Error::from(io::ErrorKind::Unsupported)
     }
 }
 
@@ -69,12 +69,12 @@ impl<'a> Files for FakeFiles<'a> {
         match self.allowed {
             Allowed::Reading if only_reads(how) => how.open(self.rt, path),
             Allowed::Swapping if only_reads(how) => how.open(self.rt, "/dev/zero"),
-            _ => self.refuse(),
+            _ => Err(self.refusal()),
         }
     }
 
     fn open_dir(&self, _path: &str) -> io::Result<File> {
-        self.refuse()
+        Err(self.refusal())
     }
 
     fn metadata(&self, path: &str) -> io::Result<Metadata> {
@@ -94,26 +94,26 @@ impl<'a> Files for FakeFiles<'a> {
     }
 
     fn copy(&self, _from: &str, _to: &str) -> io::Result<u64> {
-        self.refuse()
+        Err(self.refusal())
     }
 
     fn rename(&self, _from: &str, _to: &str) -> io::Result<()> {
-        self.refuse()
+        Err(self.refusal())
     }
 
     fn remove_file(&self, _path: &str) -> io::Result<()> {
-        self.refuse()
+        Err(self.refusal())
     }
 
     fn create_dir(&self, _path: &str) -> io::Result<()> {
-        self.refuse()
+        Err(self.refusal())
     }
 
     fn remove_dir(&self, _path: &str) -> io::Result<()> {
-        self.refuse()
+        Err(self.refusal())
     }
 
     fn remove_dir_all<B: Allocator>(&self, _alloc: B, _path: &str) -> io::Result<()> {
-        self.refuse()
+        Err(self.refusal())
     }
 }

@@ -1,23 +1,33 @@
 //! Tests of `dbcli`: texts and statuses that no clause says. They stand apart, since a crate with tests is proved twice.
 #![tactic(auto)]
 
+// One call where `assert!` has a branch, which would be proved at each place. The text says what did not hold, and of what.
 #[cfg(test)]
-mod exits;
+macro_rules! holds {
+    ($rt:expr; $is_so:expr, $of:expr) => {
+        crate::stop_unless(&$rt, $is_so, stringify!($is_so), $of)
+    };
+}
+
+#[cfg(test)]
+mod ends;
 #[cfg(test)]
 mod fake_files;
 #[cfg(test)]
-mod files;
+mod fake_outs;
 #[cfg(test)]
-mod flushes;
+mod files;
 #[cfg(test)]
 mod lines;
 #[cfg(test)]
 mod logs;
 #[cfg(test)]
-mod no_notes;
-#[cfg(test)]
 mod one_log;
 #[cfg(test)]
 mod runs;
+
+// Stops a test where something does not hold.
 #[cfg(test)]
-mod texts;
+fn stop_unless(rt: &impl std::process::Abort, is_so: bool, text: &str, of: &str) {
+    assert!(rt; is_so, "{text}: {of}");
+}

@@ -1,6 +1,9 @@
-// Lines that are taken, and lines that are not, with the texts of help.
+// Command lines that are taken, and lines that are not, with the texts of help and of errors.
 use dbcli::{LineError, Request, line_of, line_status};
 use dbreport::Command;
+use dbsource::{Refusal, RunError};
+use std::alloc::{AllocError, Global};
+use std::process::Abort;
 use std::test::Fail;
 
 const HELP: &str = "Checks the structure of a SQLite 3 database file, which it only reads
@@ -114,250 +117,256 @@ Examples:
 'dbck --help' lists the exit statuses.
 ";
 
-// Lines that are taken: the limit that they ask for, and the file.
-#[test]
-fn takes_lines(rt: HostRuntime) -> Result<(), Fail> {
-    let lines: [(&[&str], u32, &str); 6] = [
-        (&["dbck", "check", "x"], 100, "x"),
-        (&["dbck", "check", "--limit", "1", "x"], 1, "x"),
-        (&["dbck", "check", "x", "--limit=1000000"], 1000000, "x"),
-        (&["dbck", "check", "--limit", "+7", "x"], 7, "x"),
-        (&["dbck", "check", "--", "-x"], 100, "-x"),
-        (&["dbck", "check", "--no-progress", "x"], 100, "x"),
-    ];
-    for (words, limit, file) in lines {
-        match line_of(rt.alloc(), words) {
-            Ok(line) => {
-                assert!(rt; line.request == Request::Report(Command::Check { limit }));
-                assert!(rt; line.file == file);
-                assert!(rt; line.progress != words.contains(&"--no-progress"));
-            }
-            Err(_) => assert!(rt; false, "a line of limit {limit}"),
+// Lines that are taken, with bars between their words, and what they ask for.
+const TAKEN: [(&str, &str); 24] = [
+    // The limit, and the file.
+    ("dbck|check|x", "check 100 of x, progress"),
+    ("dbck|check|--limit|1|x", "check 1 of x, progress"),
+    (
+        "dbck|check|x|--limit=1000000",
+        "check 1000000 of x, progress",
+    ),
+    ("dbck|check|--limit|+7|x", "check 7 of x, progress"),
+    ("dbck|check|--|-x", "check 100 of -x, progress"),
+    ("dbck|check|--no-progress|x", "check 100 of x"),
+    // Whether each flag of the statistics is given.
+    ("dbck|stat|x", "stat of x, progress"),
+    ("dbck|stat|--aggregate|x", "stat aggregate of x, progress"),
+    ("dbck|stat|--all|x", "stat all of x, progress"),
+    (
+        "dbck|stat|--aggregate|--all|x",
+        "stat aggregate all of x, progress",
+    ),
+    (
+        "dbck|stat|--all|--aggregate|x",
+        "stat aggregate all of x, progress",
+    ),
+    (
+        "dbck|stat|--no-progress|x|--aggregate",
+        "stat aggregate of x",
+    ),
+    (
+        "dbck|stat|--all|x|--aggregate",
+        "stat aggregate all of x, progress",
+    ),
+    ("dbck|stat|--|--all", "stat of --all, progress"),
+    // The limit of explanations.
+    ("dbck|explain|x", "explain 100 of x, progress"),
+    ("dbck|explain|--limit|1|x", "explain 1 of x, progress"),
+    (
+        "dbck|explain|x|--limit=10000",
+        "explain 10000 of x, progress",
+    ),
+    ("dbck|explain|--no-progress|x", "explain 100 of x"),
+    // The name that a file has in its picture.
+    ("dbck|map|x", "map x of x, progress"),
+    (
+        "dbck|map|/srv/a b/x.db",
+        "map x.db of /srv/a b/x.db, progress",
+    ),
+    ("dbck|map|--no-progress|../x", "map x of ../x"),
+    ("dbck|map|--|-x", "map -x of -x, progress"),
+    ("dbck|map|..", "map .. of .., progress"),
+    ("dbck|map|", "map  of , progress"),
+];
+
+// Lines that ask for help or the version, and the text.
+const HELPS: [(&str, &str); 9] = [
+    ("dbck|--help", HELP),
+    ("dbck|help", HELP),
+    ("dbck|check|--help", CHECK_HELP),
+    ("dbck|explain|--help", EXPLAIN_HELP),
+    ("dbck|map|--help", MAP_HELP),
+    ("dbck|stat|--help", STAT_HELP),
+    ("dbck|help|stat", STAT_HELP),
+    ("dbck|--version", "dbck 0.1.0\n"),
+    ("dbck|-V", "dbck 0.1.0\n"),
+];
+
+// Lines that are wrong, and how the text begins.
+const WRONG: [(&str, &str); 19] = [
+    (
+        "dbck",
+        "error: 'dbck' requires a subcommand but one was not provided\n",
+    ),
+    (
+        "dbck|check",
+        "error: the following required arguments were not provided:\n  <FILE>\n",
+    ),
+    (
+        "dbck|check|--limit|0|x",
+        "error: invalid value '0' for '--limit <N>'",
+    ),
+    (
+        "dbck|check|--limit|1000001|x",
+        "error: invalid value '1000001' for '--limit <N>'",
+    ),
+    (
+        "dbck|check|--limit|five|x",
+        "error: invalid value 'five' for '--limit <N>'",
+    ),
+    (
+        "dbck|check|--limit|1|--limit|2|x",
+        "error: the argument '--limit <N>' cannot be used multiple times\n",
+    ),
+    ("dbck|check|x|y", "error: unexpected argument 'y' found\n"),
+    (
+        "dbck|check|--version",
+        "error: unexpected argument '--version' found\n",
+    ),
+    (
+        "dbck|stat",
+        "error: the following required arguments were not provided:\n  <FILE>\n",
+    ),
+    (
+        "dbck|stat|--all|--all|x",
+        "error: the argument '--all' cannot be used multiple times\n",
+    ),
+    (
+        "dbck|stat|--aggregate|x|--aggregate",
+        "error: the argument '--aggregate' cannot be used multiple times\n",
+    ),
+    (
+        "dbck|stat|--all=true|x",
+        "error: unexpected value 'true' for '--all' found; no more were expected\n",
+    ),
+    (
+        "dbck|stat|--limit|1|x",
+        "error: unexpected argument '--limit' found\n",
+    ),
+    (
+        "dbck|check|--all|x",
+        "error: unexpected argument '--all' found\n",
+    ),
+    (
+        "dbck|explain|--limit|10001|x",
+        "error: invalid value '10001' for '--limit <N>'",
+    ),
+    (
+        "dbck|explain|--all|x",
+        "error: unexpected argument '--all' found\n",
+    ),
+    (
+        "dbck|map",
+        "error: the following required arguments were not provided:\n  <FILE>\n",
+    ),
+    (
+        "dbck|map|--limit|1|x",
+        "error: unexpected argument '--limit' found\n",
+    ),
+    ("dbck|repair|x", "error: unrecognized subcommand 'repair'\n"),
+];
+
+// The text of each error, which its line shows behind the program's name.
+const ERRORS: [(RunError, &str); 10] = [
+    (
+        RunError::Refused(Refusal::Short),
+        "E1 file is shorter than 100 bytes",
+    ),
+    (
+        RunError::Refused(Refusal::Magic),
+        "E2 file is not a SQLite 3 database",
+    ),
+    (
+        RunError::Refused(Refusal::PageSize),
+        "E3 page size is not valid",
+    ),
+    (
+        RunError::Refused(Refusal::Usable),
+        "E4 usable size is below 480",
+    ),
+    (
+        RunError::Refused(Refusal::NoPage),
+        "E5 file has no whole page",
+    ),
+    (
+        RunError::Refused(Refusal::TooManyPages),
+        "E6 file has more than 67108864 pages",
+    ),
+    (
+        RunError::Refused(Refusal::MapAtLock),
+        "E7 pointer map at the lock-byte page",
+    ),
+    (RunError::ReadFailed, "E8 the file cannot be read"),
+    (RunError::OutOfMemory, "E9 out of memory"),
+    (RunError::WriteFailed, "E10 the output cannot be written"),
+];
+
+// What a line asks for, and of which file.
+fn asked(alloc: Global, request: Request<'_>, file: &str) -> Result<String, AllocError> {
+    match request {
+        Request::Report(Command::Check { limit }) => format!(in alloc; "check {limit} of {file}"),
+        Request::Report(Command::Stat { aggregate, all }) => {
+            let aggregate = if aggregate { " aggregate" } else { "" };
+            let all = if all { " all" } else { "" };
+            format!(in alloc; "stat{aggregate}{all} of {file}")
         }
+        Request::Explain { limit } => format!(in alloc; "explain {limit} of {file}"),
+        Request::Map { name } => format!(in alloc; "map {name} of {file}"),
+    }
+}
+
+// Whether a line is taken, or its status, and below that what it asks for, or the text.
+fn answer(alloc: Global, words: &[&str]) -> Result<String, AllocError> {
+    match line_of(alloc, words) {
+        Ok(line) => {
+            let asked = asked(alloc, line.request, line.file)?;
+            let progress = if line.progress { ", progress" } else { "" };
+            format!(in alloc; "taken\n{asked}{progress}")
+        }
+        Err(error) => refusal(alloc, &error),
+    }
+}
+
+fn refusal(alloc: Global, error: &LineError) -> Result<String, AllocError> {
+    format!(in alloc; "status {}\n{error}", line_status(error))
+}
+
+// Compares an answer with what is wanted. Of a line that is wrong the text is only the beginning.
+fn compare(stop: &impl Abort, line: &str, answer: &str, how: &str, text: &str) {
+    let (head, rest) = answer.split_once('\n').unwrap_or((answer, ""));
+    holds!(*stop; head == how, line);
+    holds!(*stop; rest.starts_with(text), line);
+    holds!(*stop; how == "status 2" || rest == text, line);
+}
+
+fn read(
+    rt: &HostRuntime,
+    stop: &impl Abort,
+    line: &str,
+    how: &str,
+    text: &str,
+) -> Result<(), Fail> {
+    let words: Vec<&str> = line.split('|').collect(rt.alloc())?;
+    let answer = answer(rt.alloc(), words.as_slice())?;
+    compare(stop, line, answer.as_str(), how, text);
+    Ok(())
+}
+
+#[test]
+fn reads_lines(rt: HostRuntime) -> Result<(), Fail> {
+    for (line, text) in TAKEN {
+        read(&rt, &rt, line, "taken", text)?;
+    }
+    for (line, text) in HELPS {
+        read(&rt, &rt, line, "status 0", text)?;
+    }
+    for (line, text) in WRONG {
+        read(&rt, &rt, line, "status 2", text)?;
     }
     Ok(())
 }
 
-// The same of the statistics: whether each flag is given, and the file.
+// Errors of no line.
 #[test]
-fn takes_statistics(rt: HostRuntime) -> Result<(), Fail> {
-    let lines: [(&[&str], bool, bool, &str); 8] = [
-        (&["dbck", "stat", "x"], false, false, "x"),
-        (&["dbck", "stat", "--aggregate", "x"], true, false, "x"),
-        (&["dbck", "stat", "--all", "x"], false, true, "x"),
-        (
-            &["dbck", "stat", "--aggregate", "--all", "x"],
-            true,
-            true,
-            "x",
-        ),
-        (
-            &["dbck", "stat", "--all", "--aggregate", "x"],
-            true,
-            true,
-            "x",
-        ),
-        (
-            &["dbck", "stat", "--no-progress", "x", "--aggregate"],
-            true,
-            false,
-            "x",
-        ),
-        (
-            &["dbck", "stat", "--all", "x", "--aggregate"],
-            true,
-            true,
-            "x",
-        ),
-        (&["dbck", "stat", "--", "--all"], false, false, "--all"),
-    ];
-    for (words, aggregate, all, file) in lines {
-        match line_of(rt.alloc(), words) {
-            Ok(line) => {
-                assert!(rt; line.request == Request::Report(Command::Stat { aggregate, all }));
-                assert!(rt; line.file == file);
-                assert!(rt; line.progress != words.contains(&"--no-progress"));
-            }
-            Err(_) => assert!(rt; false, "a line of the statistics of {file}"),
-        }
+fn errors_have_texts(rt: HostRuntime) -> Result<(), Fail> {
+    for (error, text) in ERRORS {
+        let shown = error.to_string(rt.alloc())?;
+        holds!(rt; shown.as_str() == text, text);
     }
-    Ok(())
-}
-
-// Lines of explanations: the limit that they ask for.
-#[test]
-fn takes_explanations(rt: HostRuntime) -> Result<(), Fail> {
-    let lines: [(&[&str], u32); 4] = [
-        (&["dbck", "explain", "x"], 100),
-        (&["dbck", "explain", "--limit", "1", "x"], 1),
-        (&["dbck", "explain", "x", "--limit=10000"], 10000),
-        (&["dbck", "explain", "--no-progress", "x"], 100),
-    ];
-    for (words, limit) in lines {
-        match line_of(rt.alloc(), words) {
-            Ok(line) => {
-                assert!(rt; line.request == Request::Explain { limit });
-                assert!(rt; line.progress != words.contains(&"--no-progress"));
-            }
-            Err(_) => assert!(rt; false, "an explanation of limit {limit}"),
-        }
-    }
-    Ok(())
-}
-
-// Lines of pictures: the file, and the name that it has in the picture.
-#[test]
-fn takes_maps(rt: HostRuntime) -> Result<(), Fail> {
-    let lines: [(&[&str], &str, &str); 6] = [
-        (&["dbck", "map", "x"], "x", "x"),
-        (&["dbck", "map", "/srv/a b/x.db"], "/srv/a b/x.db", "x.db"),
-        (&["dbck", "map", "--no-progress", "../x"], "../x", "x"),
-        (&["dbck", "map", "--", "-x"], "-x", "-x"),
-        (&["dbck", "map", ".."], "..", ".."),
-        (&["dbck", "map", ""], "", ""),
-    ];
-    for (words, file, name) in lines {
-        match line_of(rt.alloc(), words) {
-            Ok(line) => {
-                assert!(rt; line.request == Request::Map { name });
-                assert!(rt; line.file == file);
-                assert!(rt; line.progress != words.contains(&"--no-progress"));
-            }
-            Err(_) => assert!(rt; false, "a line of a picture"),
-        }
-    }
-    Ok(())
-}
-
-// Lines that are not: the status, and how the text begins.
-#[test]
-fn refuses_lines(rt: HostRuntime) -> Result<(), Fail> {
-    let lines: [(&[&str], u8, &str); 28] = [
-        (&["dbck", "--help"], 0, HELP),
-        (&["dbck", "help"], 0, HELP),
-        (&["dbck", "check", "--help"], 0, CHECK_HELP),
-        (&["dbck", "explain", "--help"], 0, EXPLAIN_HELP),
-        (&["dbck", "map", "--help"], 0, MAP_HELP),
-        (&["dbck", "stat", "--help"], 0, STAT_HELP),
-        (&["dbck", "help", "stat"], 0, STAT_HELP),
-        (&["dbck", "--version"], 0, "dbck 0.1.0\n"),
-        (&["dbck", "-V"], 0, "dbck 0.1.0\n"),
-        (
-            &["dbck"],
-            2,
-            "error: 'dbck' requires a subcommand but one was not provided\n",
-        ),
-        (
-            &["dbck", "check"],
-            2,
-            "error: the following required arguments were not provided:\n  <FILE>\n",
-        ),
-        (
-            &["dbck", "check", "--limit", "0", "x"],
-            2,
-            "error: invalid value '0' for '--limit <N>'",
-        ),
-        (
-            &["dbck", "check", "--limit", "1000001", "x"],
-            2,
-            "error: invalid value '1000001' for '--limit <N>'",
-        ),
-        (
-            &["dbck", "check", "--limit", "five", "x"],
-            2,
-            "error: invalid value 'five' for '--limit <N>'",
-        ),
-        (
-            &["dbck", "check", "--limit", "1", "--limit", "2", "x"],
-            2,
-            "error: the argument '--limit <N>' cannot be used multiple times\n",
-        ),
-        (
-            &["dbck", "check", "x", "y"],
-            2,
-            "error: unexpected argument 'y' found\n",
-        ),
-        (
-            &["dbck", "check", "--version"],
-            2,
-            "error: unexpected argument '--version' found\n",
-        ),
-        (
-            &["dbck", "stat"],
-            2,
-            "error: the following required arguments were not provided:\n  <FILE>\n",
-        ),
-        (
-            &["dbck", "stat", "--all", "--all", "x"],
-            2,
-            "error: the argument '--all' cannot be used multiple times\n",
-        ),
-        (
-            &["dbck", "stat", "--aggregate", "x", "--aggregate"],
-            2,
-            "error: the argument '--aggregate' cannot be used multiple times\n",
-        ),
-        (
-            &["dbck", "stat", "--all=true", "x"],
-            2,
-            "error: unexpected value 'true' for '--all' found; no more were expected\n",
-        ),
-        (
-            &["dbck", "stat", "--limit", "1", "x"],
-            2,
-            "error: unexpected argument '--limit' found\n",
-        ),
-        (
-            &["dbck", "check", "--all", "x"],
-            2,
-            "error: unexpected argument '--all' found\n",
-        ),
-        (
-            &["dbck", "explain", "--limit", "10001", "x"],
-            2,
-            "error: invalid value '10001' for '--limit <N>'",
-        ),
-        (
-            &["dbck", "explain", "--all", "x"],
-            2,
-            "error: unexpected argument '--all' found\n",
-        ),
-        (
-            &["dbck", "map"],
-            2,
-            "error: the following required arguments were not provided:\n  <FILE>\n",
-        ),
-        (
-            &["dbck", "map", "--limit", "1", "x"],
-            2,
-            "error: unexpected argument '--limit' found\n",
-        ),
-        (
-            &["dbck", "repair", "x"],
-            2,
-            "error: unrecognized subcommand 'repair'\n",
-        ),
-    ];
-    for (words, status, text) in lines {
-        match line_of(rt.alloc(), words) {
-            Ok(_) => assert!(rt; false, "{text}"),
-            Err(error) => {
-                assert!(rt; line_status(&error) == status, "{text}");
-                let shown = error.to_string(rt.alloc())?;
-                assert!(rt;
-                    shown.as_str().as_bytes().starts_with(text.as_bytes()),
-                    "{text}"
-                );
-                assert!(rt;
-                    status == 2 || shown.as_str().as_bytes() == text.as_bytes(),
-                    "{text}"
-                );
-            }
-        }
-    }
-    let not_text = LineError::NotText.to_string(rt.alloc())?;
-    assert!(rt; not_text.as_str() == "error: a word of the command line is not UTF-8");
-    assert!(rt; line_status(&LineError::NotText) == 2);
-    assert!(rt; line_status(&LineError::Limit) == 2);
+    let shown = refusal(rt.alloc(), &LineError::NotText)?;
+    let text = "status 2\nerror: a word of the command line is not UTF-8";
+    holds!(rt; shown.as_str() == text, text);
+    holds!(rt; line_status(&LineError::Limit) == 2, "limit");
     Ok(())
 }

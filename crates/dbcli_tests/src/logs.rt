@@ -2,9 +2,9 @@
 use crate::fake_files::{Allowed, FakeFiles};
 use dbcli::put_log_notes;
 use dbsource::MemOut;
-use std::fs;
 use std::os::unix::fs::symlink;
 use std::test::Fail;
+use std::{fs, io};
 
 const WAL: &str =
     "dbck: note: logs/x.db-wal is not read; let SQLite open a copy of both files to checkpoint it, and check that copy\n";
@@ -12,37 +12,70 @@ const WAL: &str =
 const JOURNAL: &str =
     "dbck: note: logs/x.db-journal is not read; let SQLite open a copy of both files to recover it, and check that copy\n";
 
-// Looks for logs at `path`, and tells whether these are the notes, and nothing but metadata was asked for.
-fn has_notes(rt: &HostRuntime, path: &str, notes: &[&str]) -> Result<bool, Fail> {
-    let files = FakeFiles::new(rt, Allowed::Looking);
-    let mut err = MemOut::new(rt.alloc());
-    put_log_notes(&files, path, &mut err);
-    let mut text = String::new(rt.alloc());
-    for note in notes {
-        text.push_str(note)?;
+const TWO_LINES: &str =
+    "dbck: note: logs/two\\x0alines\\x9b.db-wal is not read; let SQLite open a copy of both files to checkpoint it, and check that copy\n";
+
+// What the folder has: files of a byte, files of none where a `!` follows, and folders where a slash does. Then the database,
+// the note on its log, and the one on its journal.
+const CASES: [[&str; 4]; 8] = [
+    ["x.db", "logs/x.db", "", ""],
+    // An empty log holds nothing, and a folder is none.
+    ["x.db x.db-journal! x.db-wal/", "logs/x.db", "", ""],
+    ["x.db x.db-journal! x.db-wal", "logs/x.db", WAL, ""],
+    ["x.db x.db-journal x.db-wal", "logs/x.db", WAL, JOURNAL],
+    ["x.db x.db-journal", "logs/x.db", "", JOURNAL],
+    ["x.db x.db-journal", "logs/y.db", "", ""],
+    ["x.db x.db-journal", "logs/no-folder/x.db", "", ""],
+    // A name with control characters stays on its line.
+    [
+        "two\nlines\u{9b}.db two\nlines\u{9b}.db-wal",
+        "logs/two\nlines\u{9b}.db",
+        TWO_LINES,
+        "",
+    ],
+];
+
+fn make(rt: &HostRuntime, path: &str) -> io::Result<()> {
+    if let Some(folder) = path.strip_suffix('/') {
+        fs::create_dir(rt, folder)
+    } else if let Some(file) = path.strip_suffix('!') {
+        fs::write(rt, file, b"".as_slice())
+    } else {
+        fs::write(rt, path, b"x".as_slice())
     }
-    Ok(err.bytes() == text.as_str().as_bytes() && !files.has_refused())
+}
+
+// Makes a folder that has these, and nothing else.
+fn make_folder(rt: &HostRuntime, folder: &str, names: &str) -> Result<(), Fail> {
+    let _ = fs::remove_dir_all(rt, folder);
+    fs::create_dir(rt, folder)?;
+    for name in names.split(' ') {
+        let path = format!(in rt.alloc(); "{folder}/{name}")?;
+        make(rt, path.as_str())?;
+    }
+    Ok(())
+}
+
+// Puts the notes on the logs of a database, and tells whether nothing but metadata was asked for.
+fn put_notes(rt: &HostRuntime, path: &str, notes: &mut MemOut) -> bool {
+    let files = FakeFiles::new(rt, Allowed::Looking);
+    put_log_notes(&files, path, notes);
+    !files.has_refused()
+}
+
+// Whether the notes are one text and, behind it, another.
+fn are_both(notes: &[u8], first: &str, second: &str) -> bool {
+    notes.strip_prefix(first.as_bytes()) == Some(second.as_bytes())
 }
 
 #[test]
 fn tells_of_logs(rt: HostRuntime) -> Result<(), Fail> {
-    let _ = fs::remove_dir_all(&rt, "logs");
-    fs::create_dir(&rt, "logs")?;
-    fs::write(&rt, "logs/x.db", b"x".as_slice())?;
-    assert!(rt; has_notes(&rt, "logs/x.db", &[])?);
-    // An empty log holds nothing, and a folder is none.
-    fs::write(&rt, "logs/x.db-journal", b"".as_slice())?;
-    fs::create_dir(&rt, "logs/x.db-wal")?;
-    assert!(rt; has_notes(&rt, "logs/x.db", &[])?);
-    fs::remove_dir_all(&rt, "logs/x.db-wal")?;
-    fs::write(&rt, "logs/x.db-wal", b"x".as_slice())?;
-    assert!(rt; has_notes(&rt, "logs/x.db", &[WAL])?);
-    fs::write(&rt, "logs/x.db-journal", b"x".as_slice())?;
-    assert!(rt; has_notes(&rt, "logs/x.db", &[WAL, JOURNAL])?);
-    fs::remove_file(&rt, "logs/x.db-wal")?;
-    assert!(rt; has_notes(&rt, "logs/x.db", &[JOURNAL])?);
-    assert!(rt; has_notes(&rt, "logs/y.db", &[])?);
-    assert!(rt; has_notes(&rt, "logs/no-folder/x.db", &[])?);
+    for [names, path, log, journal] in CASES {
+        make_folder(&rt, "logs", names)?;
+        let mut notes = MemOut::new(rt.alloc());
+        holds!(rt; put_notes(&rt, path, &mut notes), names);
+        holds!(rt; are_both(notes.bytes(), log, journal), names);
+    }
     fs::remove_dir_all(&rt, "logs")?;
     Ok(())
 }
@@ -50,32 +83,15 @@ fn tells_of_logs(rt: HostRuntime) -> Result<(), Fail> {
 // A link to a database: the logs lie beside what it leads to.
 #[test]
 fn tells_of_logs_behind_links(rt: HostRuntime) -> Result<(), Fail> {
-    let _ = fs::remove_dir_all(&rt, "links");
-    fs::create_dir(&rt, "links")?;
-    fs::create_dir(&rt, "links/far")?;
-    fs::write(&rt, "links/far/x.db", b"x".as_slice())?;
-    fs::write(&rt, "links/far/x.db-wal", b"x".as_slice())?;
+    make_folder(&rt, "links", "far/ far/x.db far/x.db-wal")?;
     symlink(&rt, "far/x.db", "links/near.db")?;
     let far = fs::canonicalize(&rt, "links/far/x.db")?;
-    let mut err = MemOut::new(rt.alloc());
-    put_log_notes(&rt, "links/near.db", &mut err);
     let mut at_link = MemOut::new(rt.alloc());
-    put_log_notes(&rt, far.as_str(), &mut at_link);
-    assert!(rt; !err.bytes().is_empty());
-    assert!(rt; err.bytes() == at_link.bytes());
+    let mut at_file = MemOut::new(rt.alloc());
+    holds!(rt; put_notes(&rt, "links/near.db", &mut at_link), "links");
+    holds!(rt; put_notes(&rt, far.as_str(), &mut at_file), "links");
+    holds!(rt; !at_link.bytes().is_empty(), "links");
+    holds!(rt; at_link.bytes() == at_file.bytes(), "links");
     fs::remove_dir_all(&rt, "links")?;
-    Ok(())
-}
-
-// A name with control characters stays on its line.
-#[test]
-fn notes_are_single_lines(rt: HostRuntime) -> Result<(), Fail> {
-    fs::write(&rt, "two\nlines\u{9b}.db-wal", b"x".as_slice())?;
-    let text =
-        "dbck: note: two\\x0alines\\x9b.db-wal is not read; let SQLite open a copy of both files to checkpoint it, and check that copy\n";
-    fs::write(&rt, "two\nlines\u{9b}.db", b"x".as_slice())?;
-    assert!(rt; has_notes(&rt, "two\nlines\u{9b}.db", &[text])?);
-    fs::remove_file(&rt, "two\nlines\u{9b}.db-wal")?;
-    fs::remove_file(&rt, "two\nlines\u{9b}.db")?;
     Ok(())
 }

@@ -11,6 +11,9 @@
 //! file.hex(2, 7, "01");
 //! ```
 //!
+//! The same database is a sample, and a test may write it as one text, with what is changed in it behind a colon:
+//! `TestFile::of(alloc, "LongRow 3: 2 7 01")`.
+//!
 //! What has no place in its page or file spoils it: a page is filled with a byte that is no type, and a file is emptied, so
 //! that a test over it fails.
 #![tactic(auto)]
@@ -21,6 +24,7 @@ mod records;
 mod samples;
 mod stated;
 mod test_file;
+mod texts;
 mod tree_page;
 
 pub use bytes::patch;

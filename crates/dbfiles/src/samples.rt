@@ -43,6 +43,31 @@ pub enum Sample {
 }
 
 impl Sample {
+    /// The sample of a name, which is written as above.
+    pub fn named(name: &str) -> Option<Sample> {
+        let sample = match name {
+            "Smallest" => Sample::Smallest,
+            "OneTable" => Sample::OneTable,
+            "LongRow" => Sample::LongRow,
+            "Mapped" => Sample::Mapped,
+            "TwoLeaves" => Sample::TwoLeaves,
+            "SharedBytes" => Sample::SharedBytes,
+            "SharedRoot" => Sample::SharedRoot,
+            "Index" => Sample::Index,
+            "OwnChild" => Sample::OwnChild,
+            "ParentAsChild" => Sample::ParentAsChild,
+            "Utf16" => Sample::Utf16,
+            "LongSql" => Sample::LongSql,
+            "MappedFreelist" => Sample::MappedFreelist,
+            "Freelist" => Sample::Freelist,
+            "OwnTrunk" => Sample::OwnTrunk,
+            "RootLast" => Sample::RootLast,
+            "RootFirst" => Sample::RootFirst,
+            _ => return None,
+        };
+        Some(sample)
+    }
+
     /// The database of this name, cut to so many pages or with zeros behind it.
     ///
     /// # Errors

@@ -67,8 +67,13 @@ impl TestFile {
     /// Writes the bytes that hexadecimal digits spell over those of a page from a place on. Spaces are left out.
     pub fn hex(&mut self, page: u32, at: usize, digits: &str) {
         if write_hex(self.page(page), at, digits).is_none() {
-            self.bytes.clear();
+            self.clear();
         }
+    }
+
+    // Empties a file that is spoiled.
+    pub(crate) fn clear(&mut self) {
+        self.bytes.clear();
     }
 
     /// Writes a number of four bytes at a place of the header.

@@ -4,9 +4,6 @@
 // One call where `assert!` has a branch, which would be proved at each place. The text says what did not hold, and of what.
 #[cfg(test)]
 macro_rules! holds {
-    ($rt:expr; $is_so:expr) => {
-        crate::stop_unless(&$rt, $is_so, stringify!($is_so), &"")
-    };
     ($rt:expr; $is_so:expr, $of:expr) => {
         crate::stop_unless(&$rt, $is_so, stringify!($is_so), &$of)
     };
@@ -18,6 +15,8 @@ mod errors;
 mod pages;
 #[cfg(test)]
 mod records;
+#[cfg(test)]
+mod texts;
 
 // Stops a test where something does not hold.
 #[cfg(test)]

@@ -1,296 +1,190 @@
 // Pages written out by hand. What is expected of them is counted from their bytes.
+mod heads;
 mod marks;
+mod packed;
 mod sqlite_pages;
 mod written_pages;
 
-use dbformat::{CellFault, Coverage, HeadFault, PageKind};
-use dbpage::{Cell, CellSums, Packed, PageView, content_start, type_byte, uncounted_coverage};
+ghost use Rattle.std.specs.Prelude.{◌≤◌, length};
+
+use crate::texts::{Text, expect_text, write_bytes};
+use dbformat::CellFault;
+use dbpage::{Cell, PageView, content_start, type_byte, uncounted_coverage};
+use std::fmt::Write;
 use std::process::Abort;
 
-// A cell by its offset, length, payload size, local bytes, left child, key and first overflow page.
-type Shown = (u32, u32, u32, usize, Option<u32>, Option<i64>, Option<u32>);
+/// A page in four texts: a name, the number of the page and its usable bytes, runs of bytes behind their offsets, beside
+/// which all are 0, and what is answered of it, part by part. The first word of a part says what is asked for.
+pub(crate) type Case = [&'static str; 4];
 
-#[derive(Drop)]
-struct Case<'a> {
-    name: &'a str,
-    // Bytes of the page, each run behind its offset. All others are 0.
-    bytes: &'a [(usize, &'a [u8])],
-    cells: &'a [Result<Shown, CellFault>],
-    freeblocks: &'a [(u32, u32)],
-    bad: Option<(u32, u32)>,
-    unused: u32,
-    coverage: Coverage,
+/// Asks for all parts of some pages.
+pub(crate) fn check_all(rt: &impl Abort, cases: &[Case]) {
+    let mut page = [0u8; 65536];
+    let mut table = [255u8; 65536];
+    for case in cases {
+        page.fill(0);
+        write_page(&mut page, case[2]);
+        check(rt, case, &page, &mut table);
+    }
 }
 
-fn page_of(runs: &[(usize, &[u8])]) -> [u8; 512] {
-    let mut page = [0u8; 512];
-    for (start, bytes) in runs {
-        let mut at = *start;
-        for byte in bytes.iter() {
-            if at < 512 {
-                page[at] = *byte;
-                at += 1;
-            }
+// Writes the runs of bytes of a page.
+fn write_page(page: &mut [u8], runs: &str) {
+    for run in runs.split(", ") {
+        let (at, bytes) = run.split_once(' ').unwrap_or(("", ""));
+        let at = at.parse::<usize>().unwrap_or(usize::MAX);
+        if write_bytes(page, at, bytes).is_none() {
+            // No type of a page.
+            page.fill(0xee);
         }
     }
-    page
 }
 
-fn shown(cell: Result<Cell<'_>, CellFault>) -> Result<Shown, CellFault> {
-    let cell = cell?;
-    Ok((
-        cell.offset,
-        cell.len,
-        cell.size,
-        cell.local.len(),
-        cell.left,
-        cell.key,
-        cell.overflow,
-    ))
-}
-
-// Compares what is read of a page that is not page 1 with what the case says.
-fn check(rt: &impl Abort, case: &Case<'_>, page: &[u8], usable: u32) {
-    let name = case.name;
-    assert!(rt; usable >= 480 && usable <= 512 && usable as usize <= page.len());
-    let view = match PageView::new(page, 2, usable) {
-        Ok(view) => view,
-        Err(fault) => panic!(rt; "{name}: {fault:?}"),
-    };
-    holds!(rt; view.cells() as usize == case.cells.len(), name);
-    for i in 0..view.cells() {
-        let want = case.cells.get(i as usize).copied();
-        holds!(rt; Some(shown(view.cell(i))) == want, (name, i));
-    }
-    let mut freeblocks = view.freeblocks();
-    let mut number = 0;
-    for freeblock in freeblocks.by_ref() {
-        let want = case.freeblocks.get(number).copied();
-        holds!(rt; Some((freeblock.offset, freeblock.size)) == want, (name, number));
-        number = number.wrapping_add(1);
-    }
-    holds!(rt; number == case.freeblocks.len(), name);
-    holds!(rt; freeblocks.bad() == case.bad, name);
-    holds!(rt; view.unused() == case.unused, name);
-    let mut table = [255u8; 512];
-    holds!(rt; uncounted_coverage(&view, &mut table) == case.coverage, name);
-}
-
-fn packed(rt: &impl Abort, page: &[u8]) -> Option<Packed> {
-    assert!(rt; page.len() >= 512);
-    let mut table = [255u8; 512];
-    match PageView::new(page, 2, 512) {
-        Ok(view) => view.packed(&mut table),
-        Err(fault) => panic!(rt; "{fault:?}"),
-    }
-}
-
-// Leaves of two or three cells, which end the page.
-#[test]
-fn packed_pages(rt: HostRuntime) {
-    let two = b"\x0d\x00\x00\x00\x02\x01\xf0\x00\x01\xfc\x01\xf7\x00\x00";
-    let rising = b"\x0d\x00\x00\x00\x02\x01\xf0\x00\x01\xf7\x01\xfc\x00\x00";
-    let within = b"\x0d\x00\x00\x00\x02\x01\xf0\x00\x01\xf7\x01\xf9\x00\x00";
-    let three = b"\x0d\x00\x00\x00\x03\x01\xf0\x00\x01\xfc\x01\xf0\x01\xf7";
-    let freeblock = b"\x0d\x01\xf0\x00\x02\x01\xf0\x00\x01\xfc\x01\xf7\x00\x00";
-    let cases = [
-        // The payload, the greatest, what no item holds, and the rowids of the first and the last.
-        (
-            two,
-            b"\0\0\0\0\0\0\0\x03\x02abc\x02\x01AB",
-            Some((5, 3, 7, 1, 2)),
-        ),
-        // A rowid comes twice.
-        (two, b"\0\0\0\0\0\0\0\x03\x01abc\x02\x01AB", None),
-        // The second cell stands behind the first.
-        (
-            rising,
-            b"\0\0\0\0\0\0\0\x03\x01abc\x02\x02AB",
-            Some((5, 3, 7, 1, 2)),
-        ),
-        // It begins within the first.
-        (within, b"\0\0\0\0\0\0\0\x03\x01\x02\x05c\x02\x02AB", None),
-        // The third cell stands between the others.
-        (
-            three,
-            b"\0\x02\0\0\0\0\0\x03\x03abc\x02\x01AB",
-            Some((5, 3, 3, 1, 3)),
-        ),
-        (
-            freeblock,
-            b"\0\0\0\x05\0\0\0\x03\x02abc\x02\x01AB",
-            Some((5, 3, 2, 1, 2)),
-        ),
-        // The freeblock ends within a cell.
-        (freeblock, b"\0\0\0\x08\0\0\0\x03\x02abc\x02\x01AB", None),
-    ];
-    for (head, cells, want) in cases {
-        let page = page_of(&[(0, head), (496, cells)]);
-        let numbers = packed(&rt, &page).map(|p| (
-            p.sums.payload,
-            p.sums.greatest,
-            p.unheld,
-            p.sums.first.unwrap_or(0),
-            p.sums.last.unwrap_or(0),
-        ));
-        holds!(rt; numbers == want, (head, cells));
-    }
-}
-
-// A leaf of two cells. Of the 478 bytes of the first payload 39 stand in its cell, and all two of the other.
-#[test]
-fn packed_with_an_overflow_page(rt: HostRuntime) {
-    let page = page_of(&[
-        (0, b"\x0d\x00\x00\x00\x02\x01\xce\x00\x01\xd2\x01\xce"),
-        (462, b"\x02\x07AB\x83\x5e\x06"),
-        (508, b"\x00\x00\x00\x05"),
-    ]);
-    let want = Packed {
-        sums: CellSums {
-            payload: 41,
-            greatest: 478,
-            first: Some(6),
-            last: Some(7),
-            has_overflow: true,
-        },
-        unheld: 0,
-    };
-    holds!(rt; packed(&rt, &page) == Some(want));
-}
-
-#[test]
-fn heads(rt: HostRuntime) {
-    let leaf = Ok((PageKind::LeafTable, 0));
-    let unknown = Err(HeadFault::UnknownType);
-    let out = Err(HeadFault::ContentStart);
-    let cases = [
-        (2, 512, 0, b"\x00\x00\x00\x00\x00\x02\x00\x00", unknown),
-        (2, 512, 0, b"\x0c\x00\x00\x00\x00\x02\x01\x00", unknown),
-        (2, 512, 0, b"\x0d\x00\x00\x00\x00\x02\x00\x00", leaf),
-        // 0 stands for 65536 at every page size.
-        (2, 512, 0, b"\x0d\x00\x00\x00\x00\x00\x00\x00", out),
-        (2, 512, 0, b"\x0d\x00\x00\x00\x00\x02\x01\x00", out),
-        (2, 480, 0, b"\x0d\x00\x00\x00\x00\x01\xe0\x00", leaf),
-        (2, 480, 0, b"\x0d\x00\x00\x00\x00\x01\xe1\x00", out),
-        // The pointers end where the content area begins, or one later.
-        (
-            2,
-            512,
-            0,
-            b"\x0a\x00\x00\x00\x01\x00\x0a\x00",
-            Ok((PageKind::LeafIndex, 1)),
-        ),
-        (2, 512, 0, b"\x0a\x00\x00\x00\x01\x00\x09\x00", out),
-        (
-            2,
-            512,
-            0,
-            b"\x0d\x00\x00\x00\xfc\x02\x00\x00",
-            Ok((PageKind::LeafTable, 252)),
-        ),
-        (2, 512, 0, b"\x0d\x00\x00\x00\xfd\x02\x00\x00", out),
-        (
-            2,
-            512,
-            0,
-            b"\x05\x00\x00\x00\xfa\x02\x00\x00",
-            Ok((PageKind::InteriorTable, 250)),
-        ),
-        (
-            2,
-            512,
-            0,
-            b"\x02\x00\x00\x00\xfa\x02\x00\x00",
-            Ok((PageKind::InteriorIndex, 250)),
-        ),
-        (2, 512, 0, b"\x02\x00\x00\x00\xfb\x02\x00\x00", out),
-        (1, 512, 100, b"\x0d\x00\x00\x00\x00\x02\x00\x00", leaf),
-        (2, 512, 100, b"\x0d\x00\x00\x00\x00\x02\x00\x00", unknown),
-        (1, 512, 0, b"\x0d\x00\x00\x00\x00\x02\x00\x00", unknown),
-    ];
-    for (p, usable, at, head, want) in cases {
-        let page = page_of(&[(at, head)]);
-        let page: &[u8] = &page;
-        assert!(rt; usable >= 480 && usable <= 512 && page.len() == 512);
-        let read = match PageView::new(page, p, usable) {
-            Ok(view) => Ok((view.kind(), view.cells())),
-            Err(fault) => Err(fault),
+// Asks for all parts of a page.
+fn check(rt: &impl Abort, case: &Case, page: &[u8], table: &mut [u8]) {
+    let (number, usable) = case[1].split_once(" of ").unwrap_or(("", ""));
+    let number = number.parse::<u32>().unwrap_or(0);
+    let usable = usable.parse::<u32>().unwrap_or(0);
+    for want in case[3].split("; ") {
+        let word = match want.split_once(' ') {
+            Some((word, _)) => word,
+            None => want,
         };
-        holds!(rt; read == want, (p, usable, head, at));
+        let mut text = Text::new();
+        let _ = write!(text, "{word}");
+        answer(rt, page, (number, usable), table, word, &mut text);
+        expect_text(rt, &text, want, case);
     }
 }
 
-#[test]
-fn children(rt: HostRuntime) {
-    let cases = [
-        (
-            b"\x05\x00\x00\x00\x01\x01\xfb\x00\x00\x00\x00\x04\x01\xfb",
-            Some(3),
-            Some(4),
-        ),
-        (
-            b"\x05\x00\x00\x00\x01\x01\xfb\x00\x00\x00\x00\x04\x01\xfd",
-            None,
-            Some(4),
-        ),
-        (
-            b"\x02\x00\x00\x00\x01\x01\xfb\x00\x00\x01\x00\x00\x01\xfb",
-            Some(3),
-            Some(65536),
-        ),
-        (
-            b"\x0d\x00\x00\x00\x01\x01\xfb\x00\x01\xfb\x00\x00\x00\x00",
-            None,
-            None,
-        ),
-    ];
-    for (head, left, right) in cases {
-        let page = page_of(&[(0, head), (507, b"\x00\x00\x00\x03\x00")]);
-        let page: &[u8] = &page;
-        assert!(rt; page.len() == 512);
-        match PageView::new(page, 3, 512) {
-            Ok(view) => {
-                assert!(rt; view.cells() == 1);
-                holds!(rt; view.child(0) == left, head);
-                holds!(rt; view.child(1) == right, head);
-            },
-            Err(fault) => panic!(rt; "{fault:?}"),
+// What is asked of the page of this number and so many usable bytes.
+fn answer(
+    rt: &impl Abort,
+    page: &[u8],
+    of: (u32, u32),
+    table: &mut [u8],
+    word: &str,
+    text: &mut Text,
+) {
+    let (number, usable) = of;
+    assert!(rt; 480 <= usable && usable <= 65536);
+    assert!(rt; usable as usize <= page.len() && usable as usize <= table.len());
+    if word == "head" {
+        let _ = write!(
+            text,
+            " {} {}",
+            type_byte(page, number),
+            content_start(page, number)
+        );
+        return;
+    }
+    match PageView::new(page, number, usable) {
+        Ok(view) => describe(&view, table, word, text),
+        Err(fault) => drop(write!(text, " {fault:?}")),
+    }
+}
+
+// What is asked of a page whose head is sound.
+fn describe(view: &PageView<'_>, table: &mut [u8], word: &str, text: &mut Text)
+    requires { view.now.usable ≤ length table.old }
+{
+    let _ = match word {
+        "kind" => write!(text, " {:?} {}", view.kind(), view.cells()),
+        "cells" => return write_cells(view, text),
+        "children" => return write_children(view, text),
+        "freeblocks" => return write_freeblocks(view, text),
+        "items" => return write_items(view, text),
+        "totals" => return write_totals(view, text),
+        "packed" => return write_packed(view, table, text),
+        "unused" => write!(text, " {}", view.unused()),
+        _ => write!(text, " {:?}", uncounted_coverage(view, table)),
+    };
+}
+
+// Each cell: its offset and length, its local bytes and payload size, its left child, key and first overflow page.
+fn write_cells(view: &PageView<'_>, text: &mut Text) {
+    for i in 0..view.cells() {
+        match view.cell(i) {
+            Ok(cell) => write_cell(&cell, text),
+            Err(fault) => drop(write!(text, " [{fault:?}]")),
         }
     }
 }
 
-#[test]
-fn item_offsets(rt: HostRuntime) {
-    let page = page_of(&[
-        (0, b"\x0d\x01\xf0\x00\x02\x01\xf0\x00\x01\xf4\x01\xfd"),
-        (496, b"\x00\x00\x00\x08"),
-        (500, b"\x0a\x03"),
-    ]);
-    let page: &[u8] = &page;
-    assert!(rt; page.len() == 512);
-    match PageView::new(page, 3, 512) {
-        Ok(view) => {
-            for (item, offset) in [(0, 500), (1, 509), (2, 496), (3, 0), (4294967295, 0)] {
-                holds!(rt; view.item_offset(item) == offset, item);
-            }
-        },
-        Err(fault) => panic!(rt; "{fault:?}"),
+fn write_cell(cell: &Cell<'_>, text: &mut Text) {
+    let _ = write!(text, " [{}+{}", cell.offset, cell.len);
+    let _ = write!(text, " {}/{}", cell.local.len(), cell.size);
+    write_part(" left ", cell.left.map(i64::from), text);
+    write_part(" key ", cell.key, text);
+    write_part(" to ", cell.overflow.map(i64::from), text);
+    let _ = write!(text, "]");
+}
+
+fn write_part(name: &str, part: Option<i64>, text: &mut Text) {
+    if let Some(part) = part {
+        let _ = write!(text, "{name}{part}");
     }
 }
 
-// What is told of pages whose heads are not sound.
-#[test]
-fn damaged_heads(rt: HostRuntime) {
-    let cases = [
-        (2, 0, b"\x0c\x00\x00\x00\x00\x02\x01\x00", 12, 513),
-        (2, 0, b"\x0d\x00\x00\x00\x00\x00\x00\x00", 13, 65536),
-        (1, 100, b"\x05\x00\x00\x00\x00\xff\xff\x00", 5, 65535),
-    ];
-    for (p, at, head, type_byte_of_page, start) in cases {
-        let page = page_of(&[(at, head)]);
-        let page: &[u8] = &page;
-        assert!(rt; page.len() == 512);
-        holds!(rt; type_byte(page, p) == type_byte_of_page, head);
-        holds!(rt; content_start(page, p) == start, head);
+// The children that there are, each behind its number.
+fn write_children(view: &PageView<'_>, text: &mut Text) {
+    for i in 0..view.cells().saturating_add(1) {
+        if let Some(child) = view.child(i) {
+            let _ = write!(text, " {i}:{child}");
+        }
+    }
+}
+
+// The good freeblocks by offset and size, and the number and offset of the bad one.
+fn write_freeblocks(view: &PageView<'_>, text: &mut Text) {
+    let mut freeblocks = view.freeblocks();
+    for freeblock in freeblocks.by_ref() {
+        let _ = write!(text, " [{}+{}]", freeblock.offset, freeblock.size);
+    }
+    if let Some((number, offset)) = freeblocks.bad() {
+        let _ = write!(text, " bad {number} {offset}");
+    }
+}
+
+// The offsets of some items, of which the last are none of a small page.
+fn write_items(view: &PageView<'_>, text: &mut Text) {
+    for item in [0, 1, 2, 3, 4294967295] {
+        let _ = write!(text, " {}", view.item_offset(item));
+    }
+}
+
+// The readable cells, their bytes of payload on the page, and the largest payload.
+fn write_totals(view: &PageView<'_>, text: &mut Text) {
+    let mut cells = 0u32;
+    let mut payload = 0usize;
+    let mut largest = 0;
+    for i in 0..view.cells() {
+        if let Ok(cell) = view.cell(i) {
+            cells = cells.wrapping_add(1);
+            payload = payload.wrapping_add(cell.local.len());
+            largest = largest.max(cell.size);
+        }
+    }
+    let _ = write!(text, " {cells} {payload} {largest}");
+}
+
+// The bytes of payload, the greatest payload, what no item holds, the rowids of the first and the last, and what goes on.
+fn write_packed(view: &PageView<'_>, table: &mut [u8], text: &mut Text)
+    requires { view.now.usable ≤ length table.old }
+{
+    if let Some(packed) = view.packed(table) {
+        let sums = packed.sums;
+        let _ = write!(
+            text,
+            " {} {} {}",
+            sums.payload, sums.greatest, packed.unheld
+        );
+        write_part(" ", sums.first, text);
+        write_part(" ", sums.last, text);
+        if sums.has_overflow {
+            let _ = write!(text, " goes on");
+        }
+    } else {
+        let _ = write!(text, " none");
     }
 }

@@ -1,7 +1,8 @@
 // A check of a schema that names more roots than are taken.
-use crate::support::check_tables::{check, verdict_of};
+use crate::runs::{check_of, found_of, is_found};
 use dbfiles::{Record, TestFile};
-use dbsource::LogSource;
+use dbreport::Verdict;
+use dbsource::MemSource;
 use std::alloc::{AllocError, Global};
 use std::test::Fail;
 
@@ -39,16 +40,18 @@ fn many_roots(alloc: Global, rows: u32) -> Result<Vec<u8>, AllocError> {
     Ok(file.into_bytes())
 }
 
+const TOO_MANY_ROOTS: &[u8] =
+    b"S04 page 25 item 32 value 65537: more than 65536 root pages\nmore 65536\n";
+
 // All roots are past the end of the file. Row 65537 is no start: it is told as the schema is walked, before the starts.
 #[test]
 fn tells_of_the_65537th_root(rt: HostRuntime) -> Result<(), Fail> {
     let file = many_roots(rt.alloc(), 65537)?;
-    let mut source = LogSource::new(file.as_slice());
-    let checked = check(rt.alloc(), 1, &mut source);
-    assert!(rt; checked.answer == Ok(verdict_of(65537)));
-    assert!(rt;
-        checked.out.bytes()
-            == b"S04 page 25 item 32 value 65537: more than 65536 root pages\nmore 65536\n".as_slice()
+    let found = found_of(
+        rt.alloc(),
+        check_of(1),
+        &mut MemSource::new(file.as_slice()),
     );
+    holds!(rt; is_found(&found, Ok(Verdict::Faulty(65537)), TOO_MANY_ROOTS, b""));
     Ok(())
 }

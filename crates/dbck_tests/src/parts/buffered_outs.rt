@@ -1,8 +1,9 @@
 // What an Out that gathers bytes hands on, and when.
 use dbsource::{BufferedOut, Out, WriteFailed};
 use linked_list_allocator::LocalHeap;
-use std::alloc::AllocError;
+use std::alloc::{AllocError, Global};
 use std::io::{self, ErrorKind, Write};
+use std::process::Abort;
 use std::test::Fail;
 
 /// A writer that takes some bytes at a time. Its write number `fails_at`, from 0, fails.
@@ -34,278 +35,312 @@ impl Write for CountingWriter {
 }
 
 // One that has written nothing yet.
-fn counting(rt: &HostRuntime, at_once: usize, fails_at: u64) -> CountingWriter {
+fn counting(alloc: Global, at_once: usize, fails_at: u64) -> CountingWriter {
     CountingWriter {
-        taken: Vec::new(rt.alloc()),
+        taken: Vec::new(alloc),
         at_once,
         fails_at,
         writes: 0,
     }
 }
 
-// So many bytes, each unlike its neighbours, and none a line feed.
-fn bytes_of(rt: &HostRuntime, len: usize) -> Result<Vec<u8>, AllocError> {
-    let mut bytes = Vec::new(rt.alloc());
+// An out over one.
+fn out_over(
+    alloc: Global,
+    at_once: usize,
+    fails_at: u64,
+) -> Result<BufferedOut<CountingWriter>, AllocError> {
+    BufferedOut::new(alloc, counting(alloc, at_once, fails_at))
+}
+
+// Adds so many bytes, each unlike its neighbours, and none a line feed.
+fn add_bytes(bytes: &mut Vec<u8>, len: usize) -> Result<(), AllocError> {
     for i in 0..len {
         bytes.push(b'\n' + 1 + (i % 241) as u8)?;
     }
-    Ok(bytes)
-}
-
-#[test]
-fn pieces_are_gathered(rt: HostRuntime) -> Result<(), Fail> {
-    // The lengths that are put, how many bytes are gathered then, and after how many writes.
-    for (lens, gathered, writes) in [
-        ([1, 2, 3], 6, 0),
-        ([0, 0, 0], 0, 0),
-        ([65535, 1, 0], 65536, 0),
-        ([65536, 0, 0], 65536, 0),
-        ([65536, 1, 2], 3, 1),
-        ([65535, 2, 0], 2, 1),
-        ([65537, 0, 0], 0, 1),
-        ([65537, 5, 0], 5, 1),
-        ([7, 65537, 5], 5, 2),
-        ([65536, 65536, 65536], 65536, 2),
-        ([100000, 100000, 100000], 0, 3),
-    ] {
-        let bytes = bytes_of(&rt, 300000)?;
-        let mut out = BufferedOut::new(rt.alloc(), counting(&rt, 300000, 100))?;
-        let mut at = 0usize;
-        for len in lens {
-            let end = at.saturating_add(len);
-            assert!(rt; end <= bytes.len());
-            assert!(rt; at <= end);
-            assert!(rt; out.put(&bytes[at..end]) == Ok(()));
-            at = end;
-        }
-        assert_eq!(rt; out.gathered().len(), gathered, "{lens:?}");
-        assert_eq!(rt; out.writer().writes, writes, "{lens:?}");
-        assert!(rt; out.flush() == Ok(()));
-        assert!(rt; out.gathered().is_empty());
-        assert!(rt; at <= bytes.len());
-        assert!(rt; out.writer().taken.as_slice() == &bytes[..at], "{lens:?}");
-    }
     Ok(())
 }
 
-// Pieces by their lengths, and whether each ends with a line feed; how many bytes are gathered then, how many the writer took,
-// and in how many writes.
-type Put = ([(usize, bool); 4], usize, usize, u64);
+// Puts the bytes from a place on. Whether they were taken.
+fn is_put(out: &mut BufferedOut<CountingWriter>, bytes: &[u8], from: usize) -> bool {
+    out.put(bytes.get(from..).unwrap_or(&[])) == Ok(())
+}
 
-const LINES: [Put; 10] = [
+// Puts a piece of so many bytes, and adds them to all that were put. An `n` behind the number makes the last one a line feed.
+fn is_piece_put(
+    out: &mut BufferedOut<CountingWriter>,
+    all: &mut Vec<u8>,
+    piece: &str,
+) -> Result<bool, AllocError> {
+    let from = all.len();
+    let digits = piece.strip_suffix('n');
+    let len = digits.unwrap_or(piece).parse::<usize>().unwrap_or(0);
+    add_bytes(all, len)?;
+    if digits.is_some() {
+        let _ = all.pop();
+        all.push(b'\n')?;
+    }
+    Ok(is_put(out, all.as_slice(), from))
+}
+
+// That all bytes were taken behind a flush.
+fn is_flushed(rt: &impl Abort, out: &mut BufferedOut<CountingWriter>, all: &[u8], of: &str) {
+    holds!(*rt; out.flush() == Ok(()), of);
+    holds!(*rt; out.gathered().is_empty(), of);
+    holds!(*rt; out.writer().taken.as_slice() == all, of);
+}
+
+// Pieces by their lengths, an `n` behind those that end with a line feed; and how many bytes are gathered then, how many the
+// writer took, and in how many writes.
+const PUTS: [(&str, &str); 21] = [
+    ("1 2 3", "6 0 0"),
+    ("0 0 0", "0 0 0"),
+    ("65535 1 0", "65536 0 0"),
+    ("65536 0 0", "65536 0 0"),
+    ("65536 1 2", "3 65536 1"),
+    ("65535 2 0", "2 65535 1"),
+    ("65537 0 0", "0 65537 1"),
+    ("65537 5 0", "5 65537 1"),
+    ("7 65537 5", "5 65544 2"),
+    ("65536 65536 65536", "65536 131072 2"),
+    ("100000 100000 100000", "0 300000 3"),
     // The line that was begun stays, where the piece has room behind it, also just so.
-    (
-        [(10, true), (65520, false), (7, false), (0, false)],
-        65527,
-        10,
-        1,
-    ),
-    (
-        [(10, true), (65526, false), (10, false), (0, false)],
-        65536,
-        10,
-        1,
-    ),
+    ("10n 65520 7 0", "65527 10 1"),
+    ("10n 65526 10 0", "65536 10 1"),
     // And goes where it has none.
-    (
-        [(10, true), (65526, false), (11, false), (0, false)],
-        11,
-        65536,
-        1,
-    ),
+    ("10n 65526 11 0", "11 65536 1"),
     // All lines go, up to the last line feed.
-    (
-        [(1, true), (1, true), (65534, false), (1, false)],
-        65535,
-        2,
-        1,
-    ),
-    (
-        [(65535, false), (1, true), (1, false), (1, false)],
-        2,
-        65536,
-        1,
-    ),
-    (
-        [(65536, true), (65536, true), (1, true), (5, false)],
-        6,
-        131072,
-        2,
-    ),
+    ("1n 1n 65534 1", "65535 2 1"),
+    ("65535 1n 1 1", "2 65536 1"),
+    ("65536n 65536n 1n 5", "6 131072 2"),
     // A line of 65536 bytes is written at once, and one of 65537 is not.
-    (
-        [(10, true), (65535, false), (1, true), (1, false)],
-        1,
-        65546,
-        2,
-    ),
-    (
-        [(10, true), (65535, false), (2, true), (1, false)],
-        3,
-        65545,
-        2,
-    ),
+    ("10n 65535 1n 1", "1 65546 2"),
+    ("10n 65535 2n 1", "3 65545 2"),
     // A piece that is longer than the buffer is written behind all that was gathered.
-    (
-        [(10, true), (5, false), (65537, true), (3, false)],
-        3,
-        65552,
-        2,
-    ),
-    (
-        [(10, true), (70000, false), (70000, false), (6, true)],
-        6,
-        140010,
-        3,
-    ),
+    ("10n 5 65537n 3", "3 65552 2"),
+    ("10n 70000 70000 6n", "6 140010 3"),
 ];
 
+// A number of a text of numbers.
+fn number_of(text: &str, at: usize) -> Option<usize> {
+    text.split(' ').nth(at)?.parse::<usize>().ok()
+}
+
+// That pieces are gathered and handed on so.
+fn hands_on(
+    rt: &impl Abort,
+    out: &mut BufferedOut<CountingWriter>,
+    all: &mut Vec<u8>,
+    pieces: &str,
+    wanted: &str,
+) -> Result<(), AllocError> {
+    for piece in pieces.split(' ') {
+        let is_put = is_piece_put(out, all, piece)?;
+        holds!(*rt; is_put, pieces);
+    }
+    let gathered = out.gathered().len();
+    let taken = out.writer().taken.len();
+    let writes = out.writer().writes as usize;
+    holds!(*rt; number_of(wanted, 0) == Some(gathered), pieces);
+    holds!(*rt; number_of(wanted, 1) == Some(taken), pieces);
+    holds!(*rt; number_of(wanted, 2) == Some(writes), pieces);
+    is_flushed(rt, out, all.as_slice(), pieces);
+    Ok(())
+}
+
 #[test]
-fn lines_are_handed_on_whole(rt: HostRuntime) -> Result<(), Fail> {
-    for (pieces, gathered, taken, writes) in LINES {
-        let mut out = BufferedOut::new(rt.alloc(), counting(&rt, 300000, 100))?;
+fn pieces_and_lines_are_handed_on(rt: HostRuntime) -> Result<(), Fail> {
+    for (pieces, wanted) in PUTS {
+        let mut out = out_over(rt.alloc(), 300000, 100)?;
         let mut all = Vec::new(rt.alloc());
-        for (len, is_end) in pieces {
-            let mut piece = bytes_of(&rt, len)?;
-            if is_end {
-                let _ = piece.pop();
-                piece.push(b'\n')?;
-            }
-            all.extend_from_slice(piece.as_slice())?;
-            assert!(rt; out.put(piece.as_slice()) == Ok(()));
-        }
-        assert_eq!(rt; out.gathered().len(), gathered, "{pieces:?}");
-        assert_eq!(rt; out.writer().taken.len(), taken, "{pieces:?}");
-        assert_eq!(rt; out.writer().writes, writes, "{pieces:?}");
-        assert!(rt; out.flush() == Ok(()));
-        assert!(rt;
-            out.writer().taken.as_slice() == all.as_slice(),
-            "{pieces:?}"
-        );
+        hands_on(&rt, &mut out, &mut all, pieces, wanted)?;
     }
     Ok(())
 }
 
-// A row of 100 bytes is put in four pieces: 655 rows find room in the buffer.
+// A row of 100 bytes, put in pieces.
+const PIECES: [&str; 4] = [
+    "table t1 at page 1 holds the rows of a tree, and this is one of them:",
+    " cells 12 depth 3",
+    " unused 1234",
+    "6\n",
+];
+
+// Puts a row: what the writer took ends with a row, and after so many rows it took so many.
+fn puts_row(rt: &impl Abort, out: &mut BufferedOut<CountingWriter>, row: u64) {
+    for piece in PIECES {
+        holds!(*rt; out.put(piece.as_bytes()) == Ok(()), row);
+    }
+    let writes = row.wrapping_sub(1) / 655;
+    let taken = out.writer().taken.as_slice();
+    holds!(*rt; out.writer().writes == writes, row);
+    holds!(*rt; taken.len() as u64 == writes.wrapping_mul(65500), row);
+    holds!(*rt; taken.is_empty() || taken.last() == Some(&b'\n'), row);
+}
+
+// 655 rows find room in the buffer.
 #[test]
 fn rows_of_several_puts_are_not_torn(rt: HostRuntime) -> Result<(), Fail> {
-    let mut out = BufferedOut::new(rt.alloc(), counting(&rt, 300000, 100))?;
-    for row in 1..=2000u64 {
-        for piece in [
-            b"table t1 at page 1 holds the rows of a tree, and this is one of them:".as_slice(),
-            b" cells 12 depth 3".as_slice(),
-            b" unused 1234".as_slice(),
-            b"6\n".as_slice(),
-        ] {
-            assert!(rt; out.put(piece) == Ok(()));
+    let mut out = out_over(rt.alloc(), 300000, 100)?;
+    for row in 1..2001u64 {
+        puts_row(&rt, &mut out, row);
+    }
+    Ok(())
+}
+
+// Puts so many bytes, of which the first may be another, and flushes them.
+fn puts_and_flushes(
+    rt: &impl Abort,
+    out: &mut BufferedOut<CountingWriter>,
+    all: &mut Vec<u8>,
+    len: usize,
+    first: Option<u8>,
+) -> Result<(), AllocError> {
+    let from = all.len();
+    add_bytes(all, len)?;
+    if let (Some(first), Some(place)) = (first, all.as_mut_slice().get_mut(from)) {
+        *place = first;
+    }
+    holds!(*rt; is_put(out, all.as_slice(), from), (first, len));
+    is_flushed(rt, out, all.as_slice(), "a piece");
+    Ok(())
+}
+
+#[test]
+fn each_byte_is_flushed(rt: HostRuntime) -> Result<(), Fail> {
+    let mut out = out_over(rt.alloc(), 300000, 100000)?;
+    let mut all = Vec::new(rt.alloc());
+    for first in 0..256u32 {
+        for len in [1usize, 2, 60] {
+            puts_and_flushes(&rt, &mut out, &mut all, len, Some(first as u8))?;
         }
-        assert_eq!(rt; out.writer().writes, (row - 1) / 655);
-        assert!(rt; out.writer().taken.len() as u64 == (row - 1) / 655 * 65500);
-        assert!(rt; out.writer().taken.is_empty() || out.writer().taken.last() == Some(&b'\n'));
     }
     Ok(())
 }
 
 #[test]
-fn each_byte_and_length_is_flushed(rt: HostRuntime) -> Result<(), Fail> {
-    let mut out = BufferedOut::new(rt.alloc(), counting(&rt, 300000, 100000))?;
+fn each_length_is_flushed(rt: HostRuntime) -> Result<(), Fail> {
+    let mut out = out_over(rt.alloc(), 300000, 100000)?;
     let mut all = Vec::new(rt.alloc());
-    for first in 0..=255u8 {
-        for len in [1usize, 2, 60] {
-            let mut piece = bytes_of(&rt, len)?;
-            assert!(rt; !piece.is_empty());
-            piece[0] = first;
-            all.extend_from_slice(piece.as_slice())?;
-            assert!(rt; out.put(piece.as_slice()) == Ok(()));
-            assert!(rt; out.flush() == Ok(()), "{first} {len}");
-            assert!(rt;
-                out.writer().taken.as_slice() == all.as_slice(),
-                "{first} {len}"
-            );
-        }
-    }
-    let mut out = BufferedOut::new(rt.alloc(), counting(&rt, 300000, 100000))?;
-    let mut all = Vec::new(rt.alloc());
-    for len in (0..520usize).chain([4095, 4096, 4097, 65535, 65536, 65537]) {
-        let piece = bytes_of(&rt, len)?;
-        all.extend_from_slice(piece.as_slice())?;
-        assert!(rt; out.put(piece.as_slice()) == Ok(()));
-        assert!(rt; out.flush() == Ok(()), "{len}");
-        assert!(rt; out.writer().taken.as_slice() == all.as_slice(), "{len}");
+    for len in 0..526usize {
+        let len = match len {
+            0..520 => len,
+            520..523 => len.wrapping_add(3575),
+            _ => len.wrapping_add(65012),
+        };
+        puts_and_flushes(&rt, &mut out, &mut all, len, None)?;
     }
     Ok(())
+}
+
+// Two rows.
+const ROWS: &[u8] = b"row 1\nrow 2\n";
+
+// Puts both rows, of which nothing is written by then.
+fn puts_rows(rt: &impl Abort, out: &mut BufferedOut<CountingWriter>) {
+    holds!(*rt; out.put(b"row 1\n") == Ok(()));
+    holds!(*rt; out.put(b"row 2\n") == Ok(()));
+    holds!(*rt; out.writer().taken.is_empty());
+}
+
+// A writer takes a byte at a time.
+fn flushes_bytes(rt: &impl Abort, out: &mut BufferedOut<CountingWriter>) {
+    is_flushed(rt, out, ROWS, "the first time");
+    is_flushed(rt, out, ROWS, "the second time");
+    holds!(*rt; out.writer().writes == 12);
+}
+
+// A write of this number fails: the rest is kept, and the next write, which does not fail, takes it once.
+fn keeps_the_rest(rt: &impl Abort, out: &mut BufferedOut<CountingWriter>, fails_at: usize) {
+    holds!(*rt; out.flush() == Err(WriteFailed), fails_at);
+    holds!(*rt; Some(out.writer().taken.as_slice()) == ROWS.get(..fails_at), fails_at);
+    holds!(*rt; Some(out.gathered()) == ROWS.get(fails_at..), fails_at);
+    is_flushed(rt, out, ROWS, "the rest");
 }
 
 #[test]
 fn a_writer_takes_a_byte_at_a_time(rt: HostRuntime) -> Result<(), Fail> {
-    let mut out = BufferedOut::new(rt.alloc(), counting(&rt, 1, 100))?;
-    assert!(rt; out.put(b"row 1\n") == Ok(()));
-    assert!(rt; out.put(b"row 2\n") == Ok(()));
-    assert!(rt; out.writer().taken.is_empty());
-    assert!(rt; out.flush() == Ok(()));
-    assert!(rt; out.writer().taken.as_slice() == b"row 1\nrow 2\n".as_slice());
-    assert!(rt; out.flush() == Ok(()));
-    assert!(rt; out.writer().writes == 12);
+    let mut out = out_over(rt.alloc(), 1, 100)?;
+    puts_rows(&rt, &mut out);
+    flushes_bytes(&rt, &mut out);
     Ok(())
 }
 
 #[test]
 fn each_failing_write_keeps_the_rest(rt: HostRuntime) -> Result<(), Fail> {
-    let want = b"row 1\nrow 2\n".as_slice();
     for fails_at in 0..12u64 {
-        let mut out = BufferedOut::new(rt.alloc(), counting(&rt, 1, fails_at))?;
-        assert!(rt; out.put(&want[..6]) == Ok(()));
-        assert!(rt; out.put(&want[6..]) == Ok(()));
-        assert!(rt; out.flush() == Err(WriteFailed));
-        let taken = fails_at as usize;
-        assert!(rt; taken <= want.len());
-        assert!(rt; out.writer().taken.as_slice() == &want[..taken]);
-        assert!(rt; out.gathered() == &want[taken..]);
-        // The next write does not fail: the rest comes, once.
-        assert!(rt; out.flush() == Ok(()));
-        assert!(rt; out.writer().taken.as_slice() == want);
+        let mut out = out_over(rt.alloc(), 1, fails_at)?;
+        puts_rows(&rt, &mut out);
+        keeps_the_rest(&rt, &mut out, fails_at as usize);
     }
+    Ok(())
+}
+
+// Puts two pieces into so much room. Whether the second was taken, and the flush behind it.
+fn put_two(
+    alloc: Global,
+    held: &mut [u8],
+    first: &[u8],
+    second: &[u8],
+) -> Result<(bool, bool, bool), AllocError> {
+    let mut out = BufferedOut::new(alloc, held)?;
+    let is_first = out.put(first) == Ok(());
+    let is_second = out.put(second) == Ok(());
+    let is_flushed = out.flush() == Ok(());
+    Ok((is_first, is_second, is_flushed))
+}
+
+// The first piece, of so many bytes, is gathered, and the second has no room, or is longer than the buffer.
+fn ends_at(
+    rt: &impl Abort,
+    alloc: Global,
+    held: &mut [u8],
+    bytes: &[u8],
+    first: usize,
+) -> Result<(), AllocError> {
+    let room = held.len();
+    held.fill(255);
+    let pieces = (
+        bytes.get(..first).unwrap_or(&[]),
+        bytes.get(first..).unwrap_or(&[]),
+    );
+    let (is_first, is_second, is_flushed) = put_two(alloc, held, pieces.0, pieces.1)?;
+    holds!(*rt; is_first && !(is_second && is_flushed), (first, room));
+    holds!(*rt; is_second == (first > 40 && room >= first), (first, room));
+    holds!(*rt; bytes.get(..room) == Some(held), (first, room));
     Ok(())
 }
 
 #[test]
 fn room_ends_at_each_byte(rt: HostRuntime) -> Result<(), Fail> {
-    let bytes = bytes_of(&rt, 65600)?;
-    assert!(rt; bytes.len() == 65600);
-    // The first piece is gathered, and the second has no room, or is longer than the buffer.
-    for first in [65530, 40] {
-        for room in [0, 1, 39, 40, 41, 65529, 65530, 65531, 65536, 65599] {
-            let mut held = bytes_of(&rt, 65600)?;
-            held.as_mut_slice().fill(255);
-            assert!(rt; room <= held.len());
-            let mut out = BufferedOut::new(rt.alloc(), &mut held.as_mut_slice()[..room])?;
-            assert!(rt; first <= bytes.len());
-            assert!(rt; out.put(&bytes[..first]) == Ok(()));
-            let put = out.put(&bytes[first..]);
-            let flushed = out.flush();
-            assert!(rt; put.is_err() || flushed.is_err(), "with room for {room}");
-            assert!(rt;
-                put.is_ok() == (first > 40 && room >= first),
-                "with room for {room}"
-            );
-            drop(out);
-            assert!(rt;
-                held.as_slice()[..room] == bytes[..room],
-                "with room for {room}"
-            );
+    let mut bytes = Vec::new(rt.alloc());
+    add_bytes(&mut bytes, 65600)?;
+    holds!(rt; bytes.len() == 65600);
+    let mut held = Vec::from_elem(rt.alloc(), 255u8, 65600)?;
+    for room in [0usize, 1, 39, 40, 41, 65529, 65530, 65531, 65536, 65599] {
+        for first in [65530usize, 40] {
+            let held = held.as_mut_slice().get_mut(..room).unwrap_or(&mut []);
+            holds!(rt; held.len() == room);
+            ends_at(&rt, rt.alloc(), held, bytes.as_slice(), first)?;
         }
     }
     Ok(())
 }
 
+// Whether an out finds room in so many bytes of memory, and writes.
+fn is_written_in(alloc: Global, room: usize) -> Result<bool, AllocError> {
+    let heap = LocalHeap::new(alloc, room)?;
+    let Ok(mut out) = BufferedOut::new_in(&heap, counting(alloc, 100, 100)) else {
+        return Ok(false);
+    };
+    let is_put = out.put(b"ok\n") == Ok(()) && out.flush() == Ok(());
+    Ok(is_put && out.writer().taken.as_slice() == b"ok\n".as_slice())
+}
+
 #[test]
 fn a_buffer_that_is_refused(rt: HostRuntime) -> Result<(), Fail> {
-    let heap = LocalHeap::new(rt.alloc(), 0)?;
-    assert!(rt; BufferedOut::new_in(&heap, counting(&rt, 1, 0)).is_err());
-    let heap = LocalHeap::new(rt.alloc(), 70000)?;
-    let mut out = BufferedOut::new_in(&heap, counting(&rt, 100, 100))?;
-    assert!(rt; out.put(b"ok\n") == Ok(()));
-    assert!(rt; out.flush() == Ok(()));
-    assert!(rt; out.writer().taken.as_slice() == b"ok\n".as_slice());
+    let is_refused = !is_written_in(rt.alloc(), 0)?;
+    let is_written = is_written_in(rt.alloc(), 70000)?;
+    holds!(rt; is_refused && is_written);
     Ok(())
 }

@@ -1,74 +1,79 @@
 // Desks that are used more than once, and sources that answer other bytes at each read.
-use crate::support::check_tables::{patched, verdict_of};
-use crate::support::files::{ladder, long_freelist};
-use crate::support::stat_tables::{ALL_PAGES, PAGES, TREES, TREES_AND_ALL, written};
-use dbfiles::{DrawnSource, Sample, StatedSource, TestFile};
-use dbreport::{Command, Desk, Verdict, run, run_on, told_files_are_read};
-use dbsource::{Header, LogSource, MemOut, MemSource, RunError};
-use std::alloc::{AllocError, Global};
+use crate::runs::{Found, check_of, found_of, is_found, is_same, stat_of};
+use crate::support::cases::file_of;
+use dbfiles::{DrawnSource, StatedSource, TestFile};
+use dbreport::{Command, Desk, Verdict, run_on, told_files_are_read};
+use dbsource::{Header, MemOut, MemSource, OpenError, RunError};
+use std::alloc::Global;
+use std::process::Abort;
 use std::test::Fail;
 
-const CHECK: Command = Command::Check { limit: 100 };
+// What a run on a desk over some bytes finds.
+fn found_on(alloc: Global, desk: &mut Desk, command: Command, bytes: &[u8]) -> Found {
+    let mut source = MemSource::new(bytes);
+    let mut out = MemOut::new(alloc);
+    let mut err = MemOut::new(alloc);
+    let answer = run_on(command, desk, &mut source, &mut out, &mut err);
+    Found { answer, out, err }
+}
+
+// The header of some bytes.
+fn header_of(bytes: &[u8]) -> Result<Header, OpenError> {
+    Header::read(&mut MemSource::new(bytes))
+}
+
+const FAULTY: &str = "O01 page 3 item 0 value 2: last overflow page names a next page\n";
 
 // Marks and roots of the first run do not stand in the way of the second.
 #[test]
 fn a_desk_serves_twice(rt: HostRuntime) -> Result<(), Fail> {
-    for (next, faults, text) in [
-        ("00000000", 0u64, "ok\n"),
-        (
-            "00000002",
-            1,
-            "O01 page 3 item 0 value 2: last overflow page names a next page\n",
-        ),
+    for (text, verdict, out) in [
+        ("LongRow 3: 3 0 00000000", Verdict::Clean, "ok\n"),
+        ("LongRow 3: 3 0 00000002", Verdict::Faulty(1), FAULTY),
     ] {
-        let mut file = Sample::LongRow.of_pages(rt.alloc(), 3)?;
-        file.hex(3, 0, next);
-        let file = file.into_bytes();
-        let header = Header::read(&mut MemSource::new(file.as_slice()))?;
+        let file = file_of(rt.alloc(), text)?;
+        let header = header_of(file.as_slice())?;
         let mut desk = Desk::new(rt.alloc(), header)?;
         for _ in 0..2u32 {
-            let mut source = MemSource::new(file.as_slice());
-            let mut out = MemOut::new(rt.alloc());
-            let mut err = MemOut::new(rt.alloc());
-            let answer = run_on(CHECK, &mut desk, &mut source, &mut out, &mut err);
-            assert!(rt; answer == Ok(verdict_of(faults)));
-            assert!(rt; out.bytes() == text.as_bytes());
-            assert!(rt; err.bytes().is_empty());
+            let found = found_on(rt.alloc(), &mut desk, check_of(100), file.as_slice());
+            holds!(rt; is_found(&found, Ok(verdict), out.as_bytes(), b""), text);
         }
     }
     Ok(())
 }
 
-// A desk that is used for both commands in turn serves each like a fresh one.
+// That a command on a desk finds what it finds on a fresh one, and writes something.
+fn serves(rt: &impl Abort, alloc: Global, desk: &mut Desk, command: Command, bytes: &[u8]) {
+    let found = found_on(alloc, desk, command, bytes);
+    let fresh = found_of(alloc, command, &mut MemSource::new(bytes));
+    holds!(*rt; is_same(&found, &fresh));
+    holds!(*rt; found.answer.is_ok() && !found.out.bytes().is_empty());
+}
+
+// That a desk which is used for both commands in turn serves each like a fresh one.
+fn serves_both(rt: &impl Abort, alloc: Global, desk: &mut Desk, bytes: &[u8]) {
+    serves(rt, alloc, desk, check_of(100), bytes);
+    serves(rt, alloc, desk, stat_of(false, false), bytes);
+    serves(rt, alloc, desk, check_of(100), bytes);
+    serves(rt, alloc, desk, stat_of(false, true), bytes);
+    serves(rt, alloc, desk, stat_of(true, false), bytes);
+    serves(rt, alloc, desk, stat_of(false, false), bytes);
+    serves(rt, alloc, desk, stat_of(true, true), bytes);
+    serves(rt, alloc, desk, check_of(100), bytes);
+}
+
 #[test]
 fn a_desk_serves_both_commands(rt: HostRuntime) -> Result<(), Fail> {
-    for file in [
-        patched(rt.alloc(), 3, Sample::LongRow, &[])?,
-        patched(rt.alloc(), 2, Sample::SharedRoot, &[(1, 509, "ff")])?,
-        ladder(rt.alloc(), 21)?,
-        long_freelist(rt.alloc(), 127)?,
+    for text in [
+        "LongRow 3",
+        "SharedRoot 2: 1 509 ff",
+        "ladder 21",
+        "trunk 127",
     ] {
-        let header = Header::read(&mut MemSource::new(file.as_slice()))?;
+        let file = file_of(rt.alloc(), text)?;
+        let header = header_of(file.as_slice())?;
         let mut desk = Desk::new(rt.alloc(), header)?;
-        for command in [
-            CHECK,
-            PAGES,
-            CHECK,
-            ALL_PAGES,
-            TREES,
-            PAGES,
-            TREES_AND_ALL,
-            CHECK,
-        ] {
-            let fresh = written(rt.alloc(), command, &mut MemSource::new(file.as_slice()));
-            let mut source = MemSource::new(file.as_slice());
-            let mut out = MemOut::new(rt.alloc());
-            let mut err = MemOut::new(rt.alloc());
-            let answer = run_on(command, &mut desk, &mut source, &mut out, &mut err);
-            assert!(rt; answer == fresh.answer && answer.is_ok());
-            assert!(rt; out.bytes() == fresh.out.bytes() && !out.bytes().is_empty());
-            assert!(rt; err.bytes() == fresh.err.bytes());
-        }
+        serves_both(&rt, rt.alloc(), &mut desk, file.as_slice());
     }
     Ok(())
 }
@@ -79,31 +84,42 @@ fn a_desk_serves_both_commands(rt: HostRuntime) -> Result<(), Fail> {
 fn takes_marks_of_67108864_pages(rt: HostRuntime) -> Result<(), Fail> {
     let file = TestFile::new(rt.alloc(), 512, 1)?.into_bytes();
     let mut source = StatedSource::new(file.as_slice(), 67108864 * 512, 2);
-    let found = written(rt.alloc(), CHECK, &mut source);
-    assert!(rt; found.answer == Err(RunError::ReadFailed));
-    assert!(rt; source.calls() == 3);
-    assert!(rt; found.out.bytes().is_empty() && found.err.bytes().is_empty());
+    let found = found_of(rt.alloc(), check_of(100), &mut source);
+    holds!(rt; is_found(&found, Err(RunError::ReadFailed), b"", b""));
+    holds!(rt; source.calls() == 3);
     Ok(())
 }
 
+// Whether a read of this number, which is not the first, is of a whole page of a file of 64, and of none that was read before.
+fn is_of_new_page(offsets: &[u64], number: usize) -> bool {
+    let offset = offsets.get(number).copied().unwrap_or(1);
+    let mut is_new = offset % 512 == 0 && offset < 32768;
+    for other in offsets.iter().take(number).skip(1) {
+        is_new = is_new && *other != offset;
+    }
+    is_new
+}
+
+// Whether reads are of the header, and then of pages, of each once at most.
+fn are_of_pages(offsets: &[u64]) -> bool {
+    let mut are_new = offsets.first() == Some(&0);
+    for number in 1..offsets.len() {
+        are_new = are_new && is_of_new_page(offsets, number);
+    }
+    are_new
+}
+
 // How many reads a run over such a header and drawn bytes makes, where it finds faults, and reads no page twice behind the
-// header, nor any part of one.
-fn drawn_reads(alloc: Global, header: &[u8], drawn: u32) -> Option<usize> {
+// header, nor any part of one; and else 0.
+fn drawn_reads(alloc: Global, header: &[u8], drawn: u32) -> usize {
     let mut source = DrawnSource::new(header, 32768, drawn);
-    let mut out = MemOut::new(alloc);
-    let mut err = MemOut::new(alloc);
-    let answer = run(alloc, CHECK, &mut source, &mut out, &mut err);
-    let offsets = source.offsets();
-    if answer.is_err() || answer == Ok(Verdict::Clean) || offsets.first() != Some(&0) {
-        return None;
+    let found = found_of(alloc, check_of(100), &mut source);
+    let is_faulty = found.answer.is_ok() && found.answer != Ok(Verdict::Clean);
+    if is_faulty && are_of_pages(source.offsets()) {
+        source.offsets().len()
+    } else {
+        0
     }
-    for (i, offset) in offsets.iter().enumerate().skip(1) {
-        let is_again = offsets.iter().take(i).skip(1).any(|other| other == offset);
-        if offset % 512 != 0 || *offset >= 32768 || is_again {
-            return None;
-        }
-    }
-    Some(offsets.len())
 }
 
 // The header of 64 pages with a pointer map and a freelist, and then other bytes at each read: no page is read twice behind
@@ -117,19 +133,20 @@ fn reads_no_page_twice(rt: HostRuntime) -> Result<(), Fail> {
     let mut reads: usize = 0;
     for drawn in 0..100u32 {
         let found = drawn_reads(rt.alloc(), header.as_slice(), drawn);
-        assert!(rt; found.is_some(), "drawn from {drawn}");
-        reads = reads.wrapping_add(found.unwrap_or(0));
+        holds!(rt; found > 0, drawn);
+        reads = reads.wrapping_add(found);
     }
-    assert!(rt; reads > 1000, "{reads} reads");
+    holds!(rt; reads > 1000, reads);
     Ok(())
 }
 
 // What it says is proved; here it is called for a source over memory.
 #[test]
 fn told_files_are_read_from_memory(rt: HostRuntime) -> Result<(), Fail> {
-    let file = Sample::LongRow.of_pages(rt.alloc(), 3)?.into_bytes();
+    let file = file_of(rt.alloc(), "LongRow 3")?;
     let mut source = MemSource::new(file.as_slice());
-    assert!(rt; written(rt.alloc(), CHECK, &mut source).answer == Ok(Verdict::Clean));
+    let found = found_of(rt.alloc(), check_of(100), &mut source);
+    holds!(rt; found.answer == Ok(Verdict::Clean));
     told_files_are_read::<MemSource<'_>>();
     Ok(())
 }

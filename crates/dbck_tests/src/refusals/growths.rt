@@ -1,16 +1,13 @@
-// How many growths a run takes: 22 buffers of a page and the marks, and each is refused in turn.
-use crate::support::check_tables::{patched, verdict_of};
+// How many growths a run takes: 22 buffers of a page and the marks, and each is refused in turn; and the list of roots.
+use crate::support::cases::{begins, command_of, file_of, verdict_of};
 use crate::support::fakes::SmallOut;
-use crate::support::files::{DEEP_ROWS, EMPTY_PAGES, ladder};
-use crate::support::stat_tables::PAGES;
+use crate::support::files::{DEEP_ROWS, EMPTY_PAGES, LONG_ROW_ROWS, OLD_VERSION};
 use bumpalo::Bump;
-use dbfiles::Sample;
-use dbreport::{Command, Verdict, run_in};
+use dbreport::{Verdict, run_in};
 use dbsource::{MemSource, RunError};
+use linked_list_allocator::LocalHeap;
 use std::alloc::{AllocError, Global};
 use std::test::Fail;
-
-const CHECK: Command = Command::Check { limit: 100 };
 
 // An arena with room for so many bytes more. What is given back leaves no room, since it is of two chunks: the first is full, and
 // the second, which is twice as large, has the room.
@@ -24,64 +21,115 @@ fn arena(alloc: Global, room: usize) -> Result<Bump, AllocError> {
     Ok(arena)
 }
 
+// How much room is left of so much where vectors of so many bytes were made and given back, one after another.
+fn left_of(alloc: Global, room: usize, lens: &[usize]) -> Result<usize, AllocError> {
+    let arena = arena(alloc, room)?;
+    for len in lens {
+        drop(Vec::from_elem(&arena, 0u8, *len)?);
+    }
+    Ok(arena.chunk_capacity())
+}
+
 #[test]
-fn an_arena_gets_nothing_back(rt: HostRuntime) -> Result<(), Fail> {
-    let arena = arena(rt.alloc(), 1024)?;
-    assert!(rt; arena.chunk_capacity() == 1024);
-    drop(Vec::from_elem(&arena, 0u8, 512)?);
-    assert!(rt; arena.chunk_capacity() == 512);
-    drop(Vec::from_elem(&arena, 0u8, 512)?);
-    assert!(rt; Vec::from_elem(&arena, 0u8, 1).is_err());
-    Ok(())
+fn an_arena_gets_nothing_back(rt: HostRuntime) {
+    holds!(rt; left_of(rt.alloc(), 1024, &[]) == Ok(1024));
+    holds!(rt; left_of(rt.alloc(), 1024, &[512]) == Ok(512));
+    holds!(rt; left_of(rt.alloc(), 1024, &[512, 512]) == Ok(0));
+    holds!(rt; left_of(rt.alloc(), 1024, &[512, 512, 1]).is_err());
 }
 
 // What a run answers that has so many bytes in all, how many of them it left, and how long the texts are that it wrote.
-fn run_in_room(
-    alloc: Global,
-    command: Command,
-    bytes: &[u8],
-    room: usize,
-) -> Result<(Result<Verdict, RunError>, usize, usize, usize), AllocError> {
+type Grown = (Result<Verdict, RunError>, usize, usize, usize);
+
+fn run_in_arena(alloc: Global, what: &str, file: &[u8], room: usize) -> Result<Grown, AllocError> {
     let arena = arena(alloc, room)?;
-    let mut source = MemSource::new(bytes);
+    let mut source = MemSource::new(file);
     let mut out = SmallOut::new(2048);
     let mut err = SmallOut::new(2048);
-    let answer = run_in(&arena, command, &mut source, &mut out, &mut err);
-    Ok((
-        answer,
-        arena.chunk_capacity(),
-        out.bytes().len(),
-        err.bytes().len(),
-    ))
+    let answer = run_in(&arena, command_of(what), &mut source, &mut out, &mut err);
+    let left = arena.chunk_capacity();
+    Ok((answer, left, out.bytes().len(), err.bytes().len()))
 }
 
+// What is run, the file, how many bytes its marks take, of four each, and what is written to both outs.
+const GROWTHS: [(&str, &str, usize, &str, &str); 4] = [
+    ("check", "Smallest 1", 4, "ok\n", ""),
+    (
+        "pages",
+        "Smallest 1",
+        4,
+        "sqlite_schema|/|1|leaf|0|0|404|0|0|512\n",
+        "",
+    ),
+    ("check", "ladder 20", 80, EMPTY_PAGES, ""),
+    ("pages", "ladder 20", 80, DEEP_ROWS, EMPTY_PAGES),
+];
+
 // With room for less than 23 growths all that there is room for are taken, and nothing is written; with room for just these no
-// growth is missed, also none that would be given back. Pages are of 512 bytes, and a mark is of four.
+// growth is missed, also none that would be given back. Pages are of 512 bytes.
 #[test]
 fn takes_23_growths_and_no_more(rt: HostRuntime) -> Result<(), Fail> {
-    let smallest = patched(rt.alloc(), 1, Sample::Smallest, &[])?;
-    let deep = ladder(rt.alloc(), 20)?;
-    let row = "sqlite_schema|/|1|leaf|0|0|404|0|0|512\n";
-    for (name, file, marks, command, out, err, faults) in [
-        ("a check", &smallest, 4usize, CHECK, "ok\n", "", 0u64),
-        ("pages", &smallest, 4, PAGES, row, "", 0),
-        ("a deep check", &deep, 80, CHECK, EMPTY_PAGES, "", 19),
-        ("deep pages", &deep, 80, PAGES, DEEP_ROWS, EMPTY_PAGES, 19),
-    ] {
+    for (what, text, marks, out, err) in GROWTHS {
+        let file = file_of(rt.alloc(), text)?;
         for growths in 0..23usize {
             let room = growths.wrapping_mul(512);
-            let found = run_in_room(rt.alloc(), command, file.as_slice(), room)?;
-            assert!(rt;
-                found == (Err(RunError::OutOfMemory), 0, 0, 0),
-                "{name}, {growths} growths"
-            );
+            let found = run_in_arena(rt.alloc(), what, file.as_slice(), room)?;
+            holds!(rt; found == (Err(RunError::OutOfMemory), 0, 0, 0), (what, growths));
         }
+        let report = if what == "check" { out } else { err };
+        let wanted = (Ok(verdict_of(report)), 0, out.len(), err.len());
         let room = marks.wrapping_add(22 * 512);
-        let found = run_in_room(rt.alloc(), command, file.as_slice(), room)?;
-        assert!(rt;
-            found == (Ok(verdict_of(faults)), 0, out.len(), err.len()),
-            "{name}"
-        );
+        let found = run_in_arena(rt.alloc(), what, file.as_slice(), room)?;
+        holds!(rt; found == wanted, what);
+    }
+    Ok(())
+}
+
+// What a run answers whose growths are from a heap of so many bytes, and how long the texts are that it wrote: of both the
+// beginnings. All memory is given back.
+type Written = (Result<Verdict, RunError>, usize, usize);
+
+fn run_in_heap(
+    alloc: Global,
+    what: &str,
+    file: &[u8],
+    room: usize,
+    (rows, told): (&str, &str),
+) -> Result<Option<Written>, AllocError> {
+    let heap = LocalHeap::new(alloc, room)?;
+    let mut source = MemSource::new(file);
+    let mut out = SmallOut::new(2048);
+    let mut err = SmallOut::new(2048);
+    let answer = run_in(&heap, command_of(what), &mut source, &mut out, &mut err);
+    let are_begun = begins(rows, out.bytes()) && begins(told, err.bytes());
+    let written = (answer, out.bytes().len(), err.bytes().len());
+    Ok((are_begun && heap.used() == 0).then_some(written))
+}
+
+// What is run, what is written to both outs, and what of that stands where the list of roots finds no memory, behind the buffers
+// and the marks: the line of the header, and the row of page 1.
+const ROOTS: [(&str, (&str, &str), (usize, usize)); 2] = [
+    ("check", (OLD_VERSION, ""), (55, 0)),
+    ("pages", (LONG_ROW_ROWS, OLD_VERSION), (41, 55)),
+];
+
+// The list grows by the root, and by its name.
+#[test]
+fn the_list_of_roots_finds_no_memory(rt: HostRuntime) -> Result<(), Fail> {
+    let file = file_of(rt.alloc(), "LongRow 3: 1 18 03")?;
+    for (what, texts, stand) in ROOTS {
+        let refused = Some((Err(RunError::OutOfMemory), stand.0, stand.1));
+        let whole = Some((Ok(Verdict::Faulty(1)), texts.0.len(), texts.1.len()));
+        let mut refusals: u32 = 0;
+        for more in 0..32usize {
+            let room = more.wrapping_mul(16).wrapping_add(22 * 512 + 16);
+            let found = run_in_heap(rt.alloc(), what, file.as_slice(), room, texts)?;
+            holds!(rt; found == refused || found == whole, (what, room));
+            holds!(rt; more > 0 || found == refused, what);
+            holds!(rt; more < 31 || found == whole, what);
+            refusals = refusals.wrapping_add(u32::from(found == refused));
+        }
+        holds!(rt; refusals >= 2, what);
     }
     Ok(())
 }

@@ -1,31 +1,10 @@
 // A slow checker, beside which the program's verdicts are held: the bytes of a file, its header and its pages. It is written
-// from what a sound file is, for files that are shorter than the lock-byte page is far.
-use std::alloc::AllocError;
+// from what a sound file is, for files that are shorter than the lock-byte page is far. Behind the end of bytes it reads zeros,
+// and each part is asked by itself whether it is within its bounds.
 
-/// Why there is no answer, or the answer is no.
-#[derive(Clone, Copy, Debug, PartialEq, Eq)]
-pub(crate) enum Flaw {
-    /// The file is not sound.
-    Unsound,
-    /// A growth was refused.
-    NoMemory,
-}
-
-impl From<AllocError> for Flaw {
-    fn from(_error: AllocError) -> Flaw {
-        Flaw::NoMemory
-    }
-}
-
-/// Adds an item to a list.
-pub(crate) fn add_to<T: Drop>(list: &mut Vec<T>, item: T) -> Result<(), AllocError> {
-    list.push(item)?;
-    Ok(())
-}
-
-/// The file is not sound where this does not hold.
-pub(crate) fn wants(holds: bool) -> Result<(), Flaw> {
-    if holds { Ok(()) } else { Err(Flaw::Unsound) }
+/// Whether all of these hold.
+pub(crate) fn all(facts: &[bool]) -> bool {
+    !facts.contains(&false)
 }
 
 /// The byte at a place, or 0 behind the end.
@@ -50,84 +29,96 @@ pub(crate) fn four_at(bytes: &[u8], at: usize) -> u32 {
     ])
 }
 
-/// The varint at a place, and the place behind it. None where the bytes end first.
-pub(crate) fn varint_at(bytes: &[u8], at: usize) -> Option<(u64, usize)> {
-    let mut value: u64 = 0;
-    for i in 0..9usize {
-        let place = at.wrapping_add(i);
-        let byte = *bytes.get(place)?;
-        if i == 8 {
-            value = value.wrapping_mul(256).wrapping_add(u64::from(byte));
-        } else {
-            value = value.wrapping_mul(128).wrapping_add(u64::from(byte % 128));
-        }
-        if i == 8 || byte < 128 {
-            return Some((value, place.wrapping_add(1)));
-        }
-    }
-    None
+/// The bytes from a place up to another, or none where there are no such.
+pub(crate) fn part(bytes: &[u8], from: usize, to: usize) -> &[u8] {
+    bytes.get(from..to).unwrap_or(&[])
 }
 
-/// A file whose header is read and has no fault.
+/// The varint at a place, and the place behind it, which is behind the end of the bytes where they end first.
+pub(crate) fn varint_at(bytes: &[u8], at: usize) -> (u64, usize) {
+    let mut value: u64 = 0;
+    for i in 0..8usize {
+        let place = at.wrapping_add(i);
+        let byte = byte_at(bytes, place);
+        value = value.wrapping_mul(128).wrapping_add(u64::from(byte % 128));
+        if byte < 128 {
+            return (value, place.wrapping_add(1));
+        }
+    }
+    let last = u64::from(byte_at(bytes, at.wrapping_add(8)));
+    let value = value.wrapping_mul(256).wrapping_add(last);
+    (value, at.wrapping_add(9))
+}
+
+/// A file.
 #[derive(Clone, Copy)]
 pub(crate) struct File<'a> {
     pub(crate) bytes: &'a [u8],
     pub(crate) page_size: usize,
     pub(crate) usable: usize,
-    pub(crate) pages: u32,
+    pub(crate) pages: usize,
 }
 
-// The size of a page, and of the part of it that is used.
-fn sizes(bytes: &[u8]) -> Result<(usize, usize), Flaw> {
-    wants(bytes.len() >= 100)?;
-    wants(bytes.starts_with(b"SQLite format 3\0"))?;
-    let stored = two_at(bytes, 16);
-    let page_size = if stored == 1 { 65536 } else { stored };
-    wants([512, 1024, 2048, 4096, 8192, 16384, 32768, 65536].contains(&page_size))?;
-    let usable = page_size.wrapping_sub(usize::from(byte_at(bytes, 20)));
-    wants(usable >= 480)?;
-    Ok((page_size, usable))
-}
-
-// The number of pages. A stated size counts where it is of the last change.
-fn page_count(bytes: &[u8], page_size: usize) -> Result<u32, Flaw> {
-    let whole = bytes.len().checked_div(page_size).unwrap_or(0);
-    let stated = four_at(bytes, 28);
-    let is_valid = stated != 0 && four_at(bytes, 24) == four_at(bytes, 92);
-    wants(!is_valid || stated as usize <= whole)?;
-    let pages = if is_valid { stated as usize } else { whole };
-    wants(pages >= 1 && pages <= 67108864)?;
-    u32::try_from(pages).map_err(|_| Flaw::Unsound)
+// Whether the size that a header states is of the last change.
+fn is_size_valid(bytes: &[u8]) -> bool {
+    four_at(bytes, 28) != 0 && four_at(bytes, 24) == four_at(bytes, 92)
 }
 
 impl<'a> File<'a> {
-    /// The file of these bytes, where its header has no fault.
-    pub(crate) fn open(bytes: &'a [u8]) -> Result<File<'a>, Flaw> {
-        let (page_size, usable) = sizes(bytes)?;
-        let pages = page_count(bytes, page_size)?;
-        wants([1, 2].contains(&byte_at(bytes, 18)))?;
-        wants([1, 2].contains(&byte_at(bytes, 19)))?;
-        wants(byte_at(bytes, 21) == 64)?;
-        wants(byte_at(bytes, 22) == 32)?;
-        wants(byte_at(bytes, 23) == 32)?;
-        wants(four_at(bytes, 44) <= 4)?;
-        wants(four_at(bytes, 56) <= 3)?;
-        wants(bytes.iter().skip(72).take(20).all(|byte| *byte == 0))?;
-        wants(four_at(bytes, 64) == 0 || four_at(bytes, 52) != 0)?;
-        Ok(File {
+    /// The file of these bytes.
+    pub(crate) fn of(bytes: &'a [u8]) -> File<'a> {
+        let stored = two_at(bytes, 16);
+        let page_size = if stored == 1 { 65536 } else { stored };
+        let whole = bytes.len().checked_div(page_size).unwrap_or(0);
+        let stated = four_at(bytes, 28) as usize;
+        File {
             bytes,
             page_size,
-            usable,
-            pages,
-        })
+            usable: page_size.wrapping_sub(usize::from(byte_at(bytes, 20))),
+            pages: if is_size_valid(bytes) { stated } else { whole },
+        }
     }
 
-    /// The used part of a page.
-    pub(crate) fn page(&self, p: u32) -> Result<&'a [u8], Flaw> {
-        wants(p >= 1 && p <= self.pages)?;
-        let from = (p as usize).wrapping_sub(1).wrapping_mul(self.page_size);
-        let rest = self.bytes.get(from..).ok_or(Flaw::Unsound)?;
-        rest.get(..self.usable).ok_or(Flaw::Unsound)
+    // Whether there are such pages, and as many as the size that counts.
+    fn has_pages(&self) -> bool {
+        let whole = self.bytes.len().checked_div(self.page_size).unwrap_or(0);
+        all(&[
+            [512, 1024, 2048, 4096, 8192, 16384, 32768, 65536].contains(&self.page_size),
+            self.usable >= 480,
+            self.pages >= 1,
+            self.pages <= whole,
+            self.pages <= 67108864,
+        ])
+    }
+
+    /// Whether the header has no fault.
+    pub(crate) fn is_headed(&self) -> bool {
+        let bytes = self.bytes;
+        all(&[
+            bytes.len() >= 100,
+            bytes.starts_with(b"SQLite format 3\0"),
+            self.has_pages(),
+            [1, 2].contains(&byte_at(bytes, 18)),
+            [1, 2].contains(&byte_at(bytes, 19)),
+            part(bytes, 21, 24) == [64u8, 32, 32].as_slice(),
+            four_at(bytes, 44) <= 4,
+            four_at(bytes, 56) <= 3,
+            part(bytes, 72, 92) == [0u8; 20].as_slice(),
+            four_at(bytes, 64) == 0 || four_at(bytes, 52) != 0,
+        ])
+    }
+
+    /// The used part of a page, which is empty where there is no such page.
+    pub(crate) fn page(&self, p: u32) -> &'a [u8] {
+        let p = p as usize;
+        if p < 1 || p > self.pages {
+            return &[];
+        }
+        let from = p.wrapping_sub(1).wrapping_mul(self.page_size);
+        let bytes = self.bytes;
+        bytes
+            .get(from..from.wrapping_add(self.usable))
+            .unwrap_or(&[])
     }
 
     /// The number in the header at a place.
@@ -135,28 +126,27 @@ impl<'a> File<'a> {
         four_at(self.bytes, at)
     }
 
-    // How many pages a map page and those that it describes are.
-    fn map_period(&self) -> u32 {
-        u32::try_from(self.usable / 5).unwrap_or(0).wrapping_add(1)
+    // How many pages a page is behind its map page.
+    fn behind_map(&self, p: u32) -> usize {
+        let period = (self.usable / 5).wrapping_add(1);
+        let behind = (p as usize).wrapping_sub(2);
+        behind.checked_rem(period).unwrap_or(0)
     }
 
     /// Whether a page is one of a pointer map.
     pub(crate) fn is_map(&self, p: u32) -> bool {
-        let behind = p.wrapping_sub(2).checked_rem(self.map_period());
-        self.number(52) != 0 && p >= 2 && behind == Some(0)
+        self.number(52) != 0 && p >= 2 && self.behind_map(p) == 0
     }
 
-    /// The entry of a page in the pointer map, where it has one.
-    pub(crate) fn entry(&self, p: u32) -> Result<Option<(u8, u32)>, Flaw> {
+    /// Whether the entry of a page in the pointer map, where it has one, is of this type and number.
+    pub(crate) fn has_entry(&self, p: u32, kind: u8, number: u32) -> bool {
         if self.number(52) == 0 || p <= 2 || self.is_map(p) {
-            return Ok(None);
+            return true;
         }
-        let behind = p
-            .wrapping_sub(2)
-            .checked_rem(self.map_period())
-            .unwrap_or(0);
-        let map = self.page(p.wrapping_sub(behind))?;
-        let at = (behind as usize).wrapping_sub(1).wrapping_mul(5);
-        Ok(Some((byte_at(map, at), four_at(map, at.wrapping_add(1)))))
+        let behind = self.behind_map(p);
+        let distance = u32::try_from(behind).unwrap_or(0);
+        let map = self.page(p.wrapping_sub(distance));
+        let at = behind.wrapping_sub(1).wrapping_mul(5);
+        byte_at(map, at) == kind && four_at(map, at.wrapping_add(1)) == number
     }
 }

@@ -1,111 +1,33 @@
-// A slow checker: a page of a tree, whose items are ranges of its bytes that lie apart.
-use crate::slow::file::{File, Flaw, add_to, byte_at, four_at, two_at, varint_at, wants};
-use std::alloc::Global;
+// A slow checker: a page of a tree, of whose bytes each is held by one cell or freeblock at most.
+use crate::slow::file::{File, all, byte_at, four_at, two_at, varint_at};
 
 /// A cell, as far as its page has it.
 #[derive(Clone, Copy)]
-pub(crate) struct Cell<'a> {
+pub(crate) struct Cell {
+    /// Where it begins and ends.
+    at: usize,
+    end: usize,
     pub(crate) left: u32,
-    pub(crate) key: Option<i64>,
-    /// The bytes of its payload on the page, how many more there are, and the page that they begin on.
-    pub(crate) local: &'a [u8],
-    pub(crate) more: usize,
+    /// Its key, or 0 where it is of an index.
+    pub(crate) key: i64,
+    /// The size of its payload, of which `local` bytes stand on the page from `from` on, and the page that the others begin on.
+    pub(crate) size: usize,
+    pub(crate) from: usize,
+    pub(crate) local: usize,
     pub(crate) overflow: u32,
 }
 
-/// A page of a tree that has no fault within it.
-#[derive(Drop)]
+/// A page of a tree.
+#[derive(Clone, Copy)]
 pub(crate) struct TreePage<'a> {
+    pub(crate) bytes: &'a [u8],
     pub(crate) is_interior: bool,
     pub(crate) is_table: bool,
-    pub(crate) cells: Vec<Cell<'a>>,
+    pub(crate) cells: usize,
     pub(crate) right: u32,
-}
-
-// The head of a page.
-#[derive(Clone, Copy)]
-struct Head<'a> {
-    bytes: &'a [u8],
+    // Where its head begins, and its content.
     at: usize,
-    is_interior: bool,
-    is_table: bool,
-    cells: usize,
     start: usize,
-}
-
-// Where the pointers of the cells begin.
-fn pointers_at(head: &Head<'_>) -> usize {
-    head.at.wrapping_add(if head.is_interior { 12 } else { 8 })
-}
-
-fn head_of(bytes: &[u8], at: usize) -> Result<Head<'_>, Flaw> {
-    let kind = byte_at(bytes, at);
-    wants([2, 5, 10, 13].contains(&kind))?;
-    let stored = two_at(bytes, at.wrapping_add(5));
-    let head = Head {
-        bytes,
-        at,
-        is_interior: kind < 10,
-        is_table: kind == 5 || kind == 13,
-        cells: two_at(bytes, at.wrapping_add(3)),
-        start: if stored == 0 { 65536 } else { stored },
-    };
-    let end = pointers_at(&head).wrapping_add(head.cells.wrapping_mul(2));
-    wants(end <= head.start && head.start <= bytes.len())?;
-    wants(byte_at(bytes, at.wrapping_add(7)) <= 60)?;
-    Ok(head)
-}
-
-// How many bytes of a payload stand on the page, which has so many used bytes.
-fn local_size(head: &Head<'_>, payload: usize) -> usize {
-    let usable = head.bytes.len();
-    let part = usable.wrapping_sub(12);
-    let most = if head.is_table {
-        usable.wrapping_sub(35)
-    } else {
-        (part.wrapping_mul(64) / 255).wrapping_sub(23)
-    };
-    if payload <= most {
-        return payload;
-    }
-    let least = (part.wrapping_mul(32) / 255).wrapping_sub(23);
-    let rest = payload
-        .wrapping_sub(least)
-        .checked_rem(usable.wrapping_sub(4))
-        .unwrap_or(0);
-    let some = least.wrapping_add(rest);
-    if some <= most { some } else { least }
-}
-
-// The payload of a cell from a place on, its key, and the place behind the cell.
-fn payload_cell<'a>(head: &Head<'a>, at: usize, left: u32) -> Result<(Cell<'a>, usize), Flaw> {
-    let (size, mut at) = varint_at(head.bytes, at).ok_or(Flaw::Unsound)?;
-    wants(size <= 2147483647)?;
-    let size = usize::try_from(size).map_err(|_| Flaw::Unsound)?;
-    let mut key = None;
-    if head.is_table {
-        let (rowid, behind) = varint_at(head.bytes, at).ok_or(Flaw::Unsound)?;
-        key = Some(signed(rowid));
-        at = behind;
-    }
-    let local_size = local_size(head, size);
-    let rest = head.bytes.get(at..).ok_or(Flaw::Unsound)?;
-    let local = rest.get(..local_size).ok_or(Flaw::Unsound)?;
-    let mut end = at.wrapping_add(local_size);
-    let mut overflow = 0;
-    if local_size < size {
-        overflow = four_at(head.bytes, end);
-        end = end.wrapping_add(4);
-        wants(end <= head.bytes.len())?;
-    }
-    let cell = Cell {
-        left,
-        key,
-        local,
-        more: size.wrapping_sub(local_size),
-        overflow,
-    };
-    Ok((cell, end))
 }
 
 // 64 bits as a number in two's complement.
@@ -113,98 +35,178 @@ fn signed(bits: u64) -> i64 {
     i64::from_be_bytes(bits.to_be_bytes())
 }
 
-// The cell at a place, and the place behind it.
-fn cell_at<'a>(head: &Head<'a>, at: usize) -> Result<(Cell<'a>, usize), Flaw> {
-    if !head.is_interior {
-        return payload_cell(head, at, 0);
-    }
-    let left = four_at(head.bytes, at);
-    let behind = at.wrapping_add(4);
-    if !head.is_table {
-        return payload_cell(head, behind, left);
-    }
-    let (key, end) = varint_at(head.bytes, behind).ok_or(Flaw::Unsound)?;
-    let cell = Cell {
-        left,
-        key: Some(signed(key)),
-        local: &[],
-        more: 0,
-        overflow: 0,
-    };
-    Ok((cell, end))
-}
-
-// Adds a range to others that it shares no byte with.
-fn add_apart(ranges: &mut Vec<(usize, usize)>, from: usize, to: usize) -> Result<(), Flaw> {
-    wants(
-        ranges
-            .iter()
-            .all(|(start, end)| to <= *start || *end <= from),
-    )?;
-    Ok(add_to(ranges, (from, to))?)
-}
-
-// The cells of a page, and the ranges that they hold.
-fn read_cells<'a>(
-    alloc: Global,
-    head: &Head<'a>,
-    ranges: &mut Vec<(usize, usize)>,
-) -> Result<Vec<Cell<'a>>, Flaw> {
-    let mut cells = Vec::new(alloc);
-    for i in 0..head.cells {
-        let at = two_at(
-            head.bytes,
-            pointers_at(head).wrapping_add(i.wrapping_mul(2)),
-        );
-        wants(head.start <= at && at.wrapping_add(4) <= head.bytes.len())?;
-        let (cell, end) = cell_at(head, at)?;
-        wants(end <= head.bytes.len())?;
-        add_apart(ranges, at, end.max(at.wrapping_add(4)))?;
-        add_to(&mut cells, cell)?;
-    }
-    Ok(cells)
-}
-
-// The ranges of the freeblocks of a page, each behind the one before.
-fn read_freeblocks(head: &Head<'_>, ranges: &mut Vec<(usize, usize)>) -> Result<(), Flaw> {
-    let mut at = two_at(head.bytes, head.at.wrapping_add(1));
-    let mut least = head.start;
-    for _ in 0..head.bytes.len() {
-        if at == 0 {
-            return Ok(());
+impl<'a> TreePage<'a> {
+    /// The page of this number.
+    pub(crate) fn of(file: File<'a>, p: u32) -> TreePage<'a> {
+        let bytes = file.page(p);
+        let at = if p == 1 { 100 } else { 0 };
+        let kind = byte_at(bytes, at);
+        let stored = two_at(bytes, at.wrapping_add(5));
+        TreePage {
+            bytes,
+            is_interior: kind < 10,
+            is_table: kind == 5 || kind == 13,
+            cells: two_at(bytes, at.wrapping_add(3)),
+            right: four_at(bytes, at.wrapping_add(8)),
+            at,
+            start: if stored == 0 { 65536 } else { stored },
         }
-        let size = two_at(head.bytes, at.wrapping_add(2));
-        let end = at.wrapping_add(size);
-        wants(least <= at && size >= 4 && end <= head.bytes.len())?;
-        add_apart(ranges, at, end)?;
-        least = end;
-        at = two_at(head.bytes, at);
     }
-    Err(Flaw::Unsound)
-}
 
-/// A page of a tree. Only a root may be empty.
-pub(crate) fn tree_page<'a>(
-    alloc: Global,
-    file: &File<'a>,
-    p: u32,
-    is_root: bool,
-) -> Result<TreePage<'a>, Flaw> {
-    let bytes = file.page(p)?;
-    let head = head_of(bytes, if p == 1 { 100 } else { 0 })?;
-    wants(is_root || head.cells > 0)?;
-    let mut ranges = Vec::new(alloc);
-    let cells = read_cells(alloc, &head, &mut ranges)?;
-    read_freeblocks(&head, &mut ranges)?;
-    let mut free = bytes.len().wrapping_sub(head.start);
-    for (from, to) in ranges.iter() {
-        free = free.wrapping_sub(to.wrapping_sub(*from));
+    // Where the pointers of the cells begin.
+    fn pointers(&self) -> usize {
+        let size = if self.is_interior { 12 } else { 8 };
+        self.at.wrapping_add(size)
     }
-    wants(free == usize::from(byte_at(bytes, head.at.wrapping_add(7))))?;
-    Ok(TreePage {
-        is_interior: head.is_interior,
-        is_table: head.is_table,
-        cells,
-        right: four_at(bytes, head.at.wrapping_add(8)),
-    })
+
+    // The fragmented bytes that its head states.
+    fn fragmented(&self) -> usize {
+        usize::from(byte_at(self.bytes, self.at.wrapping_add(7)))
+    }
+
+    // Whether its head has no fault.
+    fn is_headed(&self) -> bool {
+        let end = self.pointers().wrapping_add(self.cells.wrapping_mul(2));
+        all(&[
+            [2, 5, 10, 13].contains(&byte_at(self.bytes, self.at)),
+            end <= self.start,
+            self.start <= self.bytes.len(),
+            self.fragmented() <= 60,
+        ])
+    }
+
+    // How many bytes of a payload stand on the page.
+    fn local_size(&self, payload: usize) -> usize {
+        let usable = self.bytes.len();
+        let part = usable.wrapping_sub(12);
+        let least = (part.wrapping_mul(32) / 255).wrapping_sub(23);
+        let most = if self.is_table {
+            usable.wrapping_sub(35)
+        } else {
+            (part.wrapping_mul(64) / 255).wrapping_sub(23)
+        };
+        let rest = payload
+            .wrapping_sub(least)
+            .checked_rem(usable.wrapping_sub(4))
+            .unwrap_or(0);
+        let some = least.wrapping_add(rest);
+        if payload <= most {
+            payload
+        } else if some <= most {
+            some
+        } else {
+            least
+        }
+    }
+
+    /// The cell of this number, from 0.
+    pub(crate) fn cell(&self, i: usize) -> Cell {
+        let bytes = self.bytes;
+        let at = two_at(bytes, self.pointers().wrapping_add(i.wrapping_mul(2)));
+        let behind_left = at.wrapping_add(if self.is_interior { 4 } else { 0 });
+        let has_payload = !(self.is_interior && self.is_table);
+        let (size, behind_size) = if has_payload {
+            varint_at(bytes, behind_left)
+        } else {
+            (0, behind_left)
+        };
+        let (key, from) = if self.is_table {
+            varint_at(bytes, behind_size)
+        } else {
+            (0, behind_size)
+        };
+        let size = usize::try_from(size).unwrap_or(usize::MAX);
+        let local = self.local_size(size);
+        let behind = from.wrapping_add(local);
+        let end = behind.wrapping_add(if local < size { 4 } else { 0 });
+        Cell {
+            at,
+            end: end.max(at.wrapping_add(4)),
+            left: four_at(bytes, at),
+            key: signed(key),
+            size,
+            from,
+            local,
+            overflow: four_at(bytes, behind),
+        }
+    }
+
+    // Whether each cell is within the content.
+    fn are_cells_inside(&self) -> bool {
+        let mut are_inside = true;
+        for i in 0..self.cells {
+            let cell = self.cell(i);
+            are_inside = all(&[
+                are_inside,
+                cell.size <= 2147483647,
+                self.start <= cell.at,
+                cell.end <= self.bytes.len(),
+            ]);
+        }
+        are_inside
+    }
+
+    // Whether each freeblock is within the content, behind the one before.
+    fn are_blocks_inside(&self) -> bool {
+        let mut at = two_at(self.bytes, self.at.wrapping_add(1));
+        let mut least = self.start;
+        let mut are_inside = true;
+        for _ in 0..self.bytes.len() {
+            if at != 0 {
+                let size = two_at(self.bytes, at.wrapping_add(2));
+                let end = at.wrapping_add(size);
+                are_inside = all(&[are_inside, least <= at, size >= 4, end <= self.bytes.len()]);
+                least = end;
+                at = two_at(self.bytes, at);
+            }
+        }
+        are_inside && at == 0
+    }
+
+    // How many cells hold a byte.
+    fn cells_with(&self, place: usize) -> usize {
+        let mut count: usize = 0;
+        for i in 0..self.cells {
+            let cell = self.cell(i);
+            let holds = cell.at <= place && place < cell.end;
+            count = count.wrapping_add(usize::from(holds));
+        }
+        count
+    }
+
+    // How many freeblocks, which are in order, hold a byte.
+    fn blocks_with(&self, place: usize) -> usize {
+        let mut at = two_at(self.bytes, self.at.wrapping_add(1));
+        let mut count: usize = 0;
+        for _ in 0..self.bytes.len() {
+            if at == 0 || at > place {
+                return count;
+            }
+            let end = at.wrapping_add(two_at(self.bytes, at.wrapping_add(2)));
+            count = count.wrapping_add(usize::from(place < end));
+            at = two_at(self.bytes, at);
+        }
+        count
+    }
+
+    // Whether each byte of the content is held at most once, and as many are not held as the head states.
+    fn is_covered(&self) -> bool {
+        let mut free: usize = 0;
+        let mut is_shared = false;
+        for place in self.start..self.bytes.len() {
+            let count = self.cells_with(place).wrapping_add(self.blocks_with(place));
+            free = free.wrapping_add(usize::from(count == 0));
+            is_shared = is_shared || count > 1;
+        }
+        !is_shared && free == self.fragmented()
+    }
+
+    /// Whether there is no fault within the page. Only a root may be empty.
+    pub(crate) fn is_sound(&self, is_root: bool) -> bool {
+        if !self.is_headed() {
+            return false;
+        }
+        let is_inside = self.are_cells_inside() && self.are_blocks_inside();
+        is_inside && (is_root || self.cells > 0) && self.is_covered()
+    }
 }

@@ -1,13 +1,5 @@
 // A slow checker: a row of the schema, from the whole of its payload.
-use crate::slow::file::{Flaw, add_to, varint_at, wants};
-use std::alloc::Global;
-
-/// What is to know of a row.
-#[derive(Clone, Copy)]
-pub(crate) struct SchemaRow {
-    pub(crate) is_index: bool,
-    pub(crate) root: u32,
-}
+use crate::slow::file::{all, part, varint_at};
 
 // How bytes of a text stand for characters.
 #[derive(Clone, Copy, PartialEq, Eq)]
@@ -17,73 +9,148 @@ enum Text {
     BigEnd,
 }
 
-// A column: its serial type, and its bytes.
+// A column: its serial type, where the next one stands, and where its bytes begin and end.
 #[derive(Clone, Copy)]
-struct Column<'a> {
+struct Column {
     serial: u64,
-    bytes: &'a [u8],
+    next: usize,
+    from: usize,
+    to: usize,
 }
 
 // How many bytes a column of a serial type has.
-fn serial_size(serial: u64) -> Result<u64, Flaw> {
+fn serial_size(serial: u64) -> u64 {
     match serial {
-        0 | 8 | 9 => Ok(0),
-        1 => Ok(1),
-        2 => Ok(2),
-        3 => Ok(3),
-        4 => Ok(4),
-        5 => Ok(6),
-        6 | 7 => Ok(8),
-        10 | 11 => Err(Flaw::Unsound),
-        _ => Ok(serial.wrapping_sub(12) / 2),
+        0 | 8..=11 => 0,
+        1..=4 => serial,
+        5 => 6,
+        6 | 7 => 8,
+        _ => serial.wrapping_sub(12) / 2,
     }
 }
 
-// The columns of a record, whose header and bodies are all of it.
-fn columns<'a>(alloc: Global, payload: &'a [u8]) -> Result<Vec<Column<'a>>, Flaw> {
-    let (header, mut at) = varint_at(payload, 0).ok_or(Flaw::Unsound)?;
-    let header = usize::try_from(header).map_err(|_| Flaw::Unsound)?;
-    let mut bodies = payload.get(header..).ok_or(Flaw::Unsound)?;
-    let mut columns = Vec::new(alloc);
-    for _ in 0..5u32 {
-        let (serial, behind) = varint_at(payload, at).ok_or(Flaw::Unsound)?;
-        let size = usize::try_from(serial_size(serial)?).map_err(|_| Flaw::Unsound)?;
-        let bytes = bodies.get(..size).ok_or(Flaw::Unsound)?;
-        bodies = bodies.get(size..).ok_or(Flaw::Unsound)?;
-        add_to(&mut columns, Column { serial, bytes })?;
-        at = behind;
+// The column of this number, from 0. Where it is not within the record its end is not either.
+fn column_at(payload: &[u8], number: usize) -> Column {
+    let (header, first) = varint_at(payload, 0);
+    let bodies = usize::try_from(header).unwrap_or(usize::MAX);
+    let mut column = Column {
+        serial: 0,
+        next: first,
+        from: bodies,
+        to: bodies,
+    };
+    for _ in 0..number.wrapping_add(1) {
+        let (serial, next) = varint_at(payload, column.next);
+        let size = usize::try_from(serial_size(serial)).unwrap_or(usize::MAX);
+        column = Column {
+            serial,
+            next,
+            from: column.to,
+            to: column.to.saturating_add(size),
+        };
     }
-    wants(at == header && bodies.is_empty())?;
-    Ok(columns)
+    column
 }
 
-// The bytes of a column that is a text.
-fn text_of<'a>(column: &Column<'a>) -> Result<&'a [u8], Flaw> {
-    wants(column.serial >= 13 && column.serial % 2 == 1)?;
-    Ok(column.bytes)
+/// A row of the schema: its payload, and how its texts are written.
+#[derive(Clone, Copy)]
+pub(crate) struct SchemaRow<'a> {
+    payload: &'a [u8],
+    text: Text,
 }
 
-// The number of a column that is an integer or NULL, which stands for 0.
-fn number_of(column: &Column<'_>) -> Result<i64, Flaw> {
-    match column.serial {
-        0 | 8 => Ok(0),
-        9 => Ok(1),
-        1..=6 => {
-            let is_negative = column.bytes.first().is_some_and(|byte| *byte >= 128);
-            let mut number: i64 = if is_negative { -1 } else { 0 };
-            for byte in column.bytes {
-                number = number.wrapping_mul(256).wrapping_add(i64::from(*byte));
-            }
-            Ok(number)
+impl<'a> SchemaRow<'a> {
+    /// The row that a payload spells, in the encoding of this number.
+    pub(crate) fn of(payload: &'a [u8], encoding: u32) -> SchemaRow<'a> {
+        let text = match encoding {
+            2 => Text::LittleEnd,
+            3 => Text::BigEnd,
+            _ => Text::Utf8,
+        };
+        SchemaRow { payload, text }
+    }
+
+    // The bytes of a column.
+    fn bytes(&self, number: usize) -> &'a [u8] {
+        let column = column_at(self.payload, number);
+        part(self.payload, column.from, column.to)
+    }
+
+    // Whether a column is a text.
+    fn is_text(&self, number: usize) -> bool {
+        let serial = column_at(self.payload, number).serial;
+        serial >= 13 && serial % 2 == 1
+    }
+
+    // Whether its five columns have types, and its header and bodies are all of it.
+    fn is_whole(&self) -> bool {
+        let mut have_types = true;
+        for number in 0..5usize {
+            let serial = column_at(self.payload, number).serial;
+            have_types = have_types && serial != 10 && serial != 11;
         }
-        _ => Err(Flaw::Unsound),
+        let header = column_at(self.payload, 0).from;
+        let last = column_at(self.payload, 4);
+        have_types && last.next == header && last.to == self.payload.len()
+    }
+
+    // The number of the column of the root, which is an integer or NULL, that stands for 0.
+    fn root_number(&self) -> Option<i64> {
+        match column_at(self.payload, 3).serial {
+            0 | 8 => Some(0),
+            9 => Some(1),
+            1..=6 => Some(integer(self.bytes(3))),
+            _ => None,
+        }
+    }
+
+    // Whether it may have such a root by its type.
+    fn is_root(&self, root: i64) -> bool {
+        let kind = self.bytes(0);
+        let is_page = root >= 1 && root <= 4294967295;
+        let is_table = spells(self.text, kind, b"table");
+        let is_other = spells(self.text, kind, b"view") || spells(self.text, kind, b"trigger");
+        (is_page && (is_table || self.is_index())) || (root == 0 && (is_table || is_other))
+    }
+
+    /// Whether it has no fault.
+    pub(crate) fn is_sound(&self) -> bool {
+        let name = self.bytes(1);
+        all(&[
+            self.is_whole(),
+            self.is_text(0),
+            self.is_text(1),
+            self.root_number().is_some_and(|root| self.is_root(root)),
+            name.len() <= 1000,
+            is_well_formed(self.text, name),
+        ])
+    }
+
+    /// Whether it is of an index.
+    pub(crate) fn is_index(&self) -> bool {
+        spells(self.text, self.bytes(0), b"index")
+    }
+
+    /// Its root, where it is sound, or 0.
+    pub(crate) fn root(&self) -> u32 {
+        u32::try_from(self.root_number().unwrap_or(0)).unwrap_or(0)
     }
 }
 
-// The unit of UTF-16 that two bytes are.
-fn unit(text: Text, pair: &[u8]) -> u16 {
-    let first = pair.first().copied().unwrap_or(0);
-    let second = pair.get(1).copied().unwrap_or(0);
+// The number of bytes in two's complement, the highest first.
+fn integer(bytes: &[u8]) -> i64 {
+    let is_negative = bytes.first().copied().unwrap_or(0) >= 128;
+    let mut number: i64 = if is_negative { -1 } else { 0 };
+    for byte in bytes {
+        number = number.wrapping_mul(256).wrapping_add(i64::from(*byte));
+    }
+    number
+}
+
+// The unit of UTF-16 at a place.
+fn unit(text: Text, bytes: &[u8], at: usize) -> u16 {
+    let first = bytes.get(at).copied().unwrap_or(0);
+    let second = bytes.get(at.wrapping_add(1)).copied().unwrap_or(0);
     if text == Text::LittleEnd {
         u16::from_le_bytes([first, second])
     } else {
@@ -96,11 +163,12 @@ fn spells(text: Text, bytes: &[u8], word: &[u8]) -> bool {
     if text == Text::Utf8 {
         return bytes == word;
     }
-    bytes.len() == word.len().wrapping_mul(2)
-        && bytes
-            .chunks(2)
-            .zip(word)
-            .all(|(pair, letter)| unit(text, pair) == u16::from(*letter))
+    let mut is_same = bytes.len() == word.len().wrapping_mul(2);
+    for i in 0..word.len() {
+        let letter = word.get(i).copied().unwrap_or(0);
+        is_same = is_same && unit(text, bytes, i.wrapping_mul(2)) == u16::from(letter);
+    }
+    is_same
 }
 
 // Whether bytes are well-formed: in UTF-16 each first half of a pair has its second, and no second stands alone.
@@ -108,46 +176,13 @@ fn is_well_formed(text: Text, bytes: &[u8]) -> bool {
     if text == Text::Utf8 {
         return str::from_utf8(bytes).is_ok();
     }
+    let mut is_formed = bytes.len() % 2 == 0;
     let mut wants_second = false;
-    for pair in bytes.chunks(2) {
-        let unit = unit(text, pair);
+    for i in 0..bytes.len() / 2 {
+        let unit = unit(text, bytes, i.wrapping_mul(2));
         let is_second = unit >= 0xdc00 && unit < 0xe000;
-        if pair.len() < 2 || is_second != wants_second {
-            return false;
-        }
+        is_formed = is_formed && is_second == wants_second;
         wants_second = unit >= 0xd800 && unit < 0xdc00;
     }
-    !wants_second
-}
-
-// The least and the greatest root of a row of this type.
-fn roots_of(text: Text, kind: &[u8]) -> Result<(i64, i64), Flaw> {
-    if spells(text, kind, b"table") {
-        return Ok((0, 4294967295));
-    }
-    if spells(text, kind, b"index") {
-        return Ok((1, 4294967295));
-    }
-    wants(spells(text, kind, b"view") || spells(text, kind, b"trigger"))?;
-    Ok((0, 0))
-}
-
-/// The row that a payload spells, without any fault, in the encoding of this number.
-pub(crate) fn schema_row(alloc: Global, payload: &[u8], encoding: u32) -> Result<SchemaRow, Flaw> {
-    let text = match encoding {
-        2 => Text::LittleEnd,
-        3 => Text::BigEnd,
-        _ => Text::Utf8,
-    };
-    let columns = columns(alloc, payload)?;
-    let kind = text_of(columns.first().ok_or(Flaw::Unsound)?)?;
-    let name = text_of(columns.get(1).ok_or(Flaw::Unsound)?)?;
-    let root = number_of(columns.get(3).ok_or(Flaw::Unsound)?)?;
-    let (least, greatest) = roots_of(text, kind)?;
-    wants(least <= root && root <= greatest)?;
-    wants(name.len() <= 1000 && is_well_formed(text, name))?;
-    Ok(SchemaRow {
-        is_index: spells(text, kind, b"index"),
-        root: u32::try_from(root).map_err(|_| Flaw::Unsound)?,
-    })
+    is_formed && !wants_second
 }

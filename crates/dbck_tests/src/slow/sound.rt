@@ -1,25 +1,31 @@
 // A slow checker: whether a file is sound. The pages of each tree are listed level by level, those of a chain and of the
-// freelist one behind another, and nothing is marked: at the end the lists together have to be all pages, each once.
-use crate::slow::file::{File, Flaw, add_to, byte_at, four_at, wants};
-use crate::slow::page::{Cell, TreePage, tree_page};
-use crate::slow::row::{SchemaRow, schema_row};
+// freelist one behind another, and nothing is marked: at the end the list has to be all pages, each once.
+use crate::slow::file::{File, all, four_at, part};
+use crate::slow::page::{Cell, TreePage};
+use crate::slow::row::SchemaRow;
+use dbfiles::patch;
 use std::alloc::{AllocError, Global};
 
-// A page of a term, and its entry in a pointer map.
+// A page of a term: its entry in a pointer map, and in a tree its level, from 1, and the keys that it lies between.
 #[derive(Clone, Copy)]
 struct Use {
     page: u32,
-    entry: (u8, u32),
-}
-
-// A page of a level, the page above it, and the keys that it lies between.
-#[derive(Clone, Copy)]
-struct Spot {
-    page: u32,
-    from: u32,
+    kind: u8,
+    number: u32,
+    level: u32,
     low: Option<i64>,
     high: Option<i64>,
 }
+
+// No page.
+const NOTHING: Use = Use {
+    page: 0,
+    kind: 0,
+    number: 0,
+    level: 0,
+    low: None,
+    high: None,
+};
 
 // Whether a key is at most another, where both are there.
 fn is_up_to(low: Option<i64>, high: Option<i64>) -> bool {
@@ -29,256 +35,317 @@ fn is_up_to(low: Option<i64>, high: Option<i64>) -> bool {
     }
 }
 
-// The pages of the terms of a file.
+// Whether a key is below another, where both are there.
+fn is_below(low: Option<i64>, high: Option<i64>) -> bool {
+    match (low, high) {
+        (Some(low), Some(high)) => low < high,
+        _ => true,
+    }
+}
+
+// The pages of the terms of a file, of which there cannot be more than the file has.
 #[derive(Drop)]
 struct Terms<'a> {
-    alloc: Global,
     file: File<'a>,
-    uses: Vec<Use>,
+    uses: &'a mut [Use],
+    count: usize,
+    // The rows of the schema, those that have a root, and the greatest root.
+    rows: usize,
+    roots: usize,
+    greatest: u32,
+    // Whether all was as it is in a sound file.
+    is_sound: bool,
 }
 
 impl Terms<'_> {
-    // Lists a page. There cannot be more than the file has.
-    fn add(&mut self, page: u32, entry: (u8, u32)) -> Result<(), Flaw> {
-        wants(self.uses.len() < self.file.pages as usize)?;
-        Ok(add_to(&mut self.uses, Use { page, entry })?)
+    // The file is not sound where this does not hold.
+    fn wants(&mut self, holds: bool) {
+        self.is_sound = self.is_sound && holds;
     }
 
-    // Lists the chain of a cell of page p, and adds what it holds to the payload.
-    fn add_chain(&mut self, cell: &Cell<'_>, p: u32, payload: &mut Vec<u8>) -> Result<(), Flaw> {
-        let room = self.file.usable.wrapping_sub(4);
-        let mut left = cell.more;
-        let mut page = cell.overflow;
-        let mut entry = (3, p);
-        for _ in 0..self.file.pages {
-            self.add(page, entry)?;
-            let bytes = self.file.page(page)?;
-            let size = left.min(room);
-            let rest = bytes.get(4..).ok_or(Flaw::Unsound)?;
-            payload.extend_from_slice(rest.get(..size).ok_or(Flaw::Unsound)?)?;
-            left = left.wrapping_sub(size);
-            let next = four_at(bytes, 0);
-            if left == 0 {
-                return wants(next == 0);
+    // Lists a page.
+    fn add(&mut self, used: Use) {
+        self.wants(self.count < self.uses.len());
+        if let Some(place) = self.uses.get_mut(self.count) {
+            *place = used;
+        }
+        self.count = self.count.wrapping_add(1);
+    }
+
+    // Lists a page that is in no tree.
+    fn add_other(&mut self, page: u32, kind: u8, number: u32) {
+        self.add(Use {
+            page,
+            kind,
+            number,
+            ..NOTHING
+        });
+    }
+
+    // What is listed at a place.
+    fn used(&self, i: usize) -> Use {
+        self.uses.get(i).copied().unwrap_or(NOTHING)
+    }
+
+    // Lists the chain of a cell of page p.
+    fn add_chain(&mut self, cell: &Cell, p: u32) {
+        let file = self.file;
+        let mut left = cell.size.wrapping_sub(cell.local);
+        let mut page = if left > 0 { cell.overflow } else { 0 };
+        let mut kind: u8 = 3;
+        let mut number = p;
+        for _ in 0..file.pages {
+            if left > 0 {
+                self.add_other(page, kind, number);
+                left = left.saturating_sub(file.usable.wrapping_sub(4));
+                kind = 4;
+                number = page;
+                page = four_at(file.page(page), 0);
             }
-            entry = (4, page);
-            page = next;
         }
-        Err(Flaw::Unsound)
+        self.wants(left == 0 && page == 0);
     }
 
-    // The payload of a cell of page p, whose chain is listed.
-    fn payload(&mut self, cell: &Cell<'_>, p: u32) -> Result<Vec<u8>, Flaw> {
-        let mut payload = Vec::from_slice(self.alloc, cell.local)?;
-        if cell.more > 0 {
-            self.add_chain(cell, p, &mut payload)?;
-        }
-        Ok(payload)
-    }
-
-    // The payloads of the cells of a page, in their order. Those of a table's interior page have none.
-    fn payloads(
-        &mut self,
-        page: &TreePage<'_>,
-        p: u32,
-        payloads: &mut Vec<Vec<u8>>,
-    ) -> Result<(), Flaw> {
-        for cell in page
-            .cells
-            .iter()
-            .filter(|_| !(page.is_interior && page.is_table))
-        {
-            let payload = self.payload(cell, p)?;
-            add_to(payloads, payload)?;
-        }
-        Ok(())
-    }
-
-    // Lists a tree, at most 20 levels high, whose leaves are all on the last one. Adds the payloads of its cells, by levels.
-    fn add_tree(
-        &mut self,
-        root: u32,
-        is_table: bool,
-        payloads: &mut Vec<Vec<u8>>,
-    ) -> Result<(), Flaw> {
-        let mut level = Vec::new(self.alloc);
-        let top = Spot {
-            page: root,
-            from: 0,
-            low: None,
-            high: None,
+    // Lists what is below a sound page of a tree, whose keys rise.
+    fn add_below(&mut self, page: &TreePage<'_>, above: &Use) {
+        let child = Use {
+            page: page.right,
+            kind: 5,
+            number: above.page,
+            level: above.level.wrapping_add(1),
+            ..*above
         };
-        add_to(&mut level, top)?;
-        for depth in 1..21u32 {
-            let mut below = Vec::new(self.alloc);
-            let mut leaves: usize = 0;
-            for spot in level.iter() {
-                let is_root = depth == 1;
-                let page = tree_page(self.alloc, &self.file, spot.page, is_root)?;
-                wants(page.is_table == is_table)?;
-                self.add(spot.page, (if is_root { 1 } else { 5 }, spot.from))?;
-                self.payloads(&page, spot.page, payloads)?;
-                if page.is_interior {
-                    add_children(&page, spot, &mut below)?;
-                } else {
-                    leaves = leaves.wrapping_add(1);
-                    rise(&page, spot)?;
+        let mut low = above.low;
+        for i in 0..page.cells {
+            let cell = page.cell(i);
+            let key = if page.is_table { Some(cell.key) } else { None };
+            self.wants(is_up_to(key, above.high));
+            if page.is_interior {
+                self.wants(is_up_to(low, key));
+                self.add(Use {
+                    page: cell.left,
+                    low,
+                    high: key,
+                    ..child
+                });
+            } else {
+                self.wants(is_below(low, key));
+            }
+            self.add_chain(&cell, above.page);
+            low = key;
+        }
+        if page.is_interior {
+            self.add(Use { low, ..child });
+        }
+    }
+
+    // Lists a tree, at most 20 levels high, whose leaves are all on the last one.
+    fn add_tree(&mut self, root: u32, is_table: bool) {
+        let first = self.count;
+        self.add(Use {
+            page: root,
+            kind: 1,
+            level: 1,
+            ..NOTHING
+        });
+        let mut leaf_level: u32 = 0;
+        for i in first..self.uses.len() {
+            let used = self.used(i);
+            if used.level > 0 && self.is_sound {
+                let page = TreePage::of(self.file, used.page);
+                if leaf_level == 0 && !page.is_interior {
+                    leaf_level = used.level;
                 }
+                self.wants(used.level <= 20 && page.is_table == is_table);
+                self.wants(page.is_interior || used.level == leaf_level);
+                self.wants(page.is_sound(used.kind == 1));
+                self.add_below_sound(&page, &used);
             }
-            if below.is_empty() {
-                return Ok(());
-            }
-            wants(leaves == 0 && below.len() <= self.file.pages as usize)?;
-            level = below;
         }
-        Err(Flaw::Unsound)
     }
 
-    // Lists the freelist, and counts its pages.
-    fn add_freelist(&mut self) -> Result<u32, Flaw> {
-        let mut trunk = self.file.number(32);
-        let mut count: u32 = 0;
-        for _ in 0..self.file.pages {
-            if trunk == 0 {
-                return Ok(count);
-            }
-            self.add(trunk, (2, 0))?;
-            let bytes = self.file.page(trunk)?;
-            let leaves = four_at(bytes, 4);
-            wants(leaves as usize <= (self.file.usable / 4).wrapping_sub(2))?;
-            for leaf in 0..leaves {
-                let at = (leaf as usize).wrapping_mul(4).wrapping_add(8);
-                self.add(four_at(bytes, at), (2, 0))?;
-            }
-            count = count.wrapping_add(leaves).wrapping_add(1);
-            trunk = four_at(bytes, 0);
+    // The same as `add_below`, where the page and all before it are sound.
+    fn add_below_sound(&mut self, page: &TreePage<'_>, above: &Use) {
+        if self.is_sound {
+            self.add_below(page, above);
         }
-        wants(trunk == 0)?;
-        Ok(count)
     }
 
-    // Lists the tree of each row that has a root. One of an index is an index tree.
-    fn add_trees(&mut self, rows: &[SchemaRow]) -> Result<(), Flaw> {
-        for row in rows.iter().filter(|row| row.root != 0) {
-            let at = if row.root == 1 { 100 } else { 0 };
-            let kind = byte_at(self.file.page(row.root)?, at);
-            let is_index = row.is_index || kind == 2 || kind == 10;
-            let mut payloads = Vec::new(self.alloc);
-            self.add_tree(row.root, !is_index, &mut payloads)?;
+    // Counts a row of the schema, and lists its tree, if it has one. One of an index is an index tree.
+    fn add_row(&mut self, row: &SchemaRow<'_>) {
+        let root = row.root();
+        self.wants(row.is_sound());
+        self.rows = self.rows.wrapping_add(1);
+        self.greatest = self.greatest.max(root);
+        if self.is_sound && root != 0 {
+            self.roots = self.roots.wrapping_add(1);
+            let is_table = TreePage::of(self.file, root).is_table;
+            self.add_tree(root, is_table && !row.is_index());
         }
-        Ok(())
+    }
+
+    // The same for each cell of a leaf of the schema. A payload is read into a buffer as long as the file.
+    fn add_rows_of(&mut self, page: &TreePage<'_>, payload: &mut [u8]) {
+        let file = self.file;
+        for i in 0..page.cells {
+            let cell = page.cell(i);
+            read_payload(file, page, &cell, payload);
+            let encoding = file.number(56);
+            self.add_row(&SchemaRow::of(part(payload, 0, cell.size), encoding));
+        }
+    }
+
+    // The same for the schema, whose tree alone is listed.
+    fn add_rows(&mut self, payload: &mut [u8]) {
+        for i in 0..self.count {
+            let used = self.used(i);
+            let page = TreePage::of(self.file, used.page);
+            if self.is_sound && used.level > 0 && !page.is_interior {
+                self.add_rows_of(&page, payload);
+            }
+        }
+    }
+
+    // Lists the leaves of a trunk.
+    fn add_leaves(&mut self, trunk: &[u8]) {
+        let leaves = four_at(trunk, 4) as usize;
+        let most = (self.file.usable / 4).wrapping_sub(2);
+        self.wants(leaves <= most);
+        for i in 0..leaves.min(most) {
+            let at = i.wrapping_mul(4).wrapping_add(8);
+            self.add_other(four_at(trunk, at), 2, 0);
+        }
+    }
+
+    // Lists the freelist.
+    fn add_freelist(&mut self) {
+        let file = self.file;
+        let mut trunk = file.number(32);
+        for _ in 0..file.pages {
+            if trunk != 0 {
+                let bytes = file.page(trunk);
+                self.add_other(trunk, 2, 0);
+                self.add_leaves(bytes);
+                trunk = four_at(bytes, 0);
+            }
+        }
+        self.wants(trunk == 0);
+    }
+
+    // How often a page is listed.
+    fn times(&self, p: u32) -> usize {
+        let mut times: usize = 0;
+        for i in 0..self.count {
+            times = times.wrapping_add(usize::from(self.used(i).page == p));
+        }
+        times
     }
 
     // All pages are listed or of fixed use, and each once.
     fn are_all_pages_once(&self) -> bool {
-        (1..self.file.pages.wrapping_add(1)).all(|p| {
-            let listed = self.uses.iter().filter(|used| used.page == p).count();
-            if self.file.is_map(p) {
-                listed == 0
-            } else {
-                listed == 1
-            }
-        }) && self
-            .uses
-            .iter()
-            .all(|used| used.page >= 1 && used.page <= self.file.pages)
+        let mut are_once = true;
+        let mut listed: usize = 0;
+        for p in 1..self.file.pages.wrapping_add(1) {
+            let p = u32::try_from(p).unwrap_or(0);
+            let times = self.times(p);
+            are_once = are_once && times == usize::from(!self.file.is_map(p));
+            listed = listed.wrapping_add(times);
+        }
+        are_once && listed == self.count
     }
 
     // Each entry of the pointer map is that of its page.
-    fn are_mapped(&self) -> Result<(), Flaw> {
-        for used in self.uses.iter() {
-            let entry = self.file.entry(used.page)?;
-            wants(entry.is_none() || entry == Some(used.entry))?;
+    fn are_mapped(&self) -> bool {
+        let mut are_mapped = true;
+        for i in 0..self.count {
+            let used = self.used(i);
+            let is_mapped = self.file.has_entry(used.page, used.kind, used.number);
+            are_mapped = are_mapped && is_mapped;
         }
-        Ok(())
+        are_mapped
     }
 
     // Each root is before each page that is none.
     fn are_roots_first(&self) -> bool {
-        self.uses
-            .iter()
-            .filter(|used| used.entry.0 == 1)
-            .all(|root| {
-                self.uses
-                    .iter()
-                    .filter(|used| used.entry.0 != 1)
-                    .all(|other| root.page < other.page)
-            })
+        let mut last_root: u32 = 0;
+        let mut first_other = u32::MAX;
+        for i in 0..self.count {
+            let used = self.used(i);
+            if used.kind == 1 {
+                last_root = last_root.max(used.page);
+            } else {
+                first_other = first_other.min(used.page);
+            }
+        }
+        last_root < first_other
+    }
+
+    // How many pages are on the freelist.
+    fn free(&self) -> u32 {
+        let mut free: u32 = 0;
+        for i in 0..self.count {
+            free = free.wrapping_add(u32::from(self.used(i).kind == 2));
+        }
+        free
+    }
+
+    // Whether all that is listed fits the header and the pointer map.
+    fn fits_together(&self) -> bool {
+        let file = self.file;
+        let greatest = file.number(52);
+        all(&[
+            self.is_sound,
+            self.roots <= 65536,
+            self.are_all_pages_once(),
+            file.number(36) == self.free(),
+            greatest == 0 || greatest == self.greatest,
+            self.rows == 0 || (file.number(44) != 0 && file.number(56) != 0),
+            self.are_mapped(),
+            greatest == 0 || self.are_roots_first(),
+        ])
     }
 }
 
-// The rowids of a leaf rise, between its keys.
-fn rise(page: &TreePage<'_>, spot: &Spot) -> Result<(), Flaw> {
-    let mut low = spot.low;
-    for cell in page.cells.iter() {
-        wants(low.is_none() || cell.key.is_none() || low < cell.key)?;
-        wants(is_up_to(cell.key, spot.high))?;
-        low = cell.key;
+// Writes the payload of a cell of a sound page, whose chain is whole, over a buffer, and then what stands behind it.
+fn read_payload(file: File<'_>, page: &TreePage<'_>, cell: &Cell, payload: &mut [u8]) {
+    let local = part(page.bytes, cell.from, cell.from.wrapping_add(cell.local));
+    patch(payload, 0, local);
+    let mut at = cell.local;
+    let mut next = cell.overflow;
+    for _ in 0..file.pages {
+        if at < cell.size {
+            let bytes = file.page(next);
+            patch(payload, at, part(bytes, 4, bytes.len()));
+            at = at.wrapping_add(file.usable.wrapping_sub(4));
+            next = four_at(bytes, 0);
+        }
     }
-    Ok(())
 }
 
-// The children of a page, and the keys that each lies between.
-fn add_children(page: &TreePage<'_>, spot: &Spot, below: &mut Vec<Spot>) -> Result<(), Flaw> {
-    let mut low = spot.low;
-    for cell in page.cells.iter() {
-        wants(is_up_to(low, cell.key) && is_up_to(cell.key, spot.high))?;
-        let left = Spot {
-            page: cell.left,
-            from: spot.page,
-            low,
-            high: cell.key,
-        };
-        add_to(below, left)?;
-        low = cell.key;
-    }
-    let right = Spot {
-        page: page.right,
-        from: spot.page,
-        low,
-        high: spot.high,
-    };
-    Ok(add_to(below, right)?)
-}
-
-// The rows of the schema.
-fn rows_of(alloc: Global, file: &File<'_>, payloads: &[Vec<u8>]) -> Result<Vec<SchemaRow>, Flaw> {
-    let mut rows = Vec::new(alloc);
-    for payload in payloads {
-        let row = schema_row(alloc, payload.as_slice(), file.number(56))?;
-        add_to(&mut rows, row)?;
-    }
-    Ok(rows)
-}
-
-// That the file of these bytes is sound.
-fn check_all(alloc: Global, bytes: &[u8]) -> Result<(), Flaw> {
-    let file = File::open(bytes)?;
+// Whether a file is sound whose header is, with room for a list of all its pages, and for a payload.
+fn is_whole_sound(file: File<'_>, uses: &mut [Use], payload: &mut [u8]) -> bool {
     let mut terms = Terms {
-        alloc,
         file,
-        uses: Vec::new(alloc),
+        uses,
+        count: 0,
+        rows: 0,
+        roots: 0,
+        greatest: 1,
+        is_sound: true,
     };
-    let mut payloads = Vec::new(alloc);
-    terms.add_tree(1, true, &mut payloads)?;
-    let rows = rows_of(alloc, &file, payloads.as_slice())?;
-    wants(rows.iter().filter(|row| row.root != 0).count() <= 65536)?;
-    terms.add_trees(rows.as_slice())?;
-    let free = terms.add_freelist()?;
-    wants(terms.are_all_pages_once())?;
-    wants(file.number(36) == free)?;
-    let greatest = rows.iter().fold(1, |most: u32, row| most.max(row.root));
-    wants(file.number(52) == 0 || file.number(52) == greatest)?;
-    wants(rows.is_empty() || (file.number(44) != 0 && file.number(56) != 0))?;
-    terms.are_mapped()?;
-    wants(file.number(52) == 0 || terms.are_roots_first())
+    terms.add_tree(1, true);
+    terms.add_rows(payload);
+    terms.add_freelist();
+    terms.fits_together()
 }
 
 /// Whether the file of these bytes is sound.
 pub(crate) fn is_sound(alloc: Global, bytes: &[u8]) -> Result<bool, AllocError> {
-    match check_all(alloc, bytes) {
-        Ok(()) => Ok(true),
-        Err(Flaw::Unsound) => Ok(false),
-        Err(Flaw::NoMemory) => Err(AllocError),
+    let file = File::of(bytes);
+    if !file.is_headed() {
+        return Ok(false);
     }
+    let mut uses = Vec::from_elem(alloc, NOTHING, file.pages)?;
+    let mut payload = Vec::from_elem(alloc, 0u8, bytes.len())?;
+    Ok(is_whole_sound(file, uses.as_mut_slice(), payload.as_mut_slice()))
 }

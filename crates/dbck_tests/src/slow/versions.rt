@@ -1,45 +1,74 @@
 // A run over a file that is written meanwhile, where each read answers bytes of another version: it writes to both outs, and
 // answers, what a run over the one file does that the answers make up under the header that was read first. It is clean exactly
 // where the slow checker finds that file sound. Where a read fails, a beginning of what there would be is written.
+use crate::runs::{Found, check_of, found_of, is_same, stat_of};
 use crate::slow::sound::is_sound;
-use crate::support::check_tables::patched;
-use crate::support::files::forest;
-use crate::support::stat_tables::{ALL_PAGES, Outcome, PAGES, TREES, TREES_AND_ALL, written};
+use crate::support::cases::{file_of, lines};
 use crate::support::versions::{Answer, ChangingSource};
-use dbfiles::{Sample, patch};
+use dbfiles::patch;
 use dbreport::{Command, Verdict};
 use dbsource::{MemSource, RunError, Source};
 use std::alloc::{AllocError, Global};
 use std::process::Abort;
 use std::test::Fail;
 
-const CHECK: Command = Command::Check { limit: 1000000 };
+// Writes an answer over a file at its place.
+fn put_answer(file: &mut [u8], answer: &Answer) {
+    let at = usize::try_from(answer.offset).unwrap_or(usize::MAX);
+    patch(file, at, answer.bytes.as_slice());
+}
 
-// The file that answers make up: zeros, each answer at its place, and the header that was read first.
-fn together(alloc: Global, len: usize, answers: &[Answer]) -> Result<Vec<u8>, AllocError> {
-    let mut file = Vec::from_elem(alloc, 0u8, len)?;
-    for answer in answers.iter().skip(1).chain(answers.iter().take(1)) {
-        let at = usize::try_from(answer.offset).unwrap_or(len);
-        patch(file.as_mut_slice(), at, answer.bytes.as_slice());
+// Makes of zeros the file that answers make up: each answer at its place, and last the header that was read first.
+fn put_together(file: &mut [u8], answers: &[Answer]) {
+    for answer in answers {
+        put_answer(file, answer);
     }
-    Ok(file)
+    if let Some(header) = answers.first() {
+        put_answer(file, header);
+    }
+}
+
+// What is found in the file that answers make up.
+fn found_in(alloc: Global, case: Case<'_>, answers: &[Answer]) -> Result<Found, AllocError> {
+    let mut file = Vec::from_elem(alloc, 0u8, case.file.len())?;
+    put_together(file.as_mut_slice(), answers);
+    let mut source = MemSource::new(file.as_slice());
+    Ok(found_of(alloc, case.command, &mut source))
+}
+
+// Whether it is sound.
+fn is_sound_in(alloc: Global, case: Case<'_>, answers: &[Answer]) -> Result<bool, AllocError> {
+    let mut file = Vec::from_elem(alloc, 0u8, case.file.len())?;
+    put_together(file.as_mut_slice(), answers);
+    is_sound(alloc, file.as_slice())
+}
+
+// Whether a read of this number was of the header, or of a page: of page 1 first, and of none that was read before behind the
+// header.
+fn is_in_place(answers: &[Answer], number: usize) -> bool {
+    let Some(answer) = answers.get(number) else {
+        return true;
+    };
+    let size = answer.bytes.len() as u64;
+    if number == 0 {
+        return answer.offset == 0 && size == 100;
+    }
+    let is_page = size >= 512 && answer.offset.checked_rem(size) == Some(0);
+    let mut is_in_place = is_page && (number > 1 || answer.offset == 0);
+    for other in answers.iter().take(number).skip(1) {
+        let is_other = other.offset != answer.offset && other.bytes.len() as u64 == size;
+        is_in_place = is_in_place && is_other;
+    }
+    is_in_place
 }
 
 // That the header was read first, then page 1, if any, and no page twice behind the header.
 fn is_each_page_once(answers: &[Answer]) -> bool {
-    let is_headed = answers
-        .iter()
-        .take(1)
-        .all(|header| header.offset == 0 && header.bytes.len() == 100);
-    is_headed
-        && answers.iter().skip(1).take(1).all(|page| page.offset == 0)
-        && answers.iter().enumerate().skip(1).all(|(i, answer)| {
-            let size = answer.bytes.len() as u64;
-            size >= 512
-                && answer.offset.checked_rem(size) == Some(0)
-                && answers.iter().take(i).skip(1).all(|other| other.offset != answer.offset
-                    && other.bytes.len() as u64 == size)
-        })
+    let mut is_once = true;
+    for number in 0..answers.len() {
+        is_once = is_once && is_in_place(answers, number);
+    }
+    is_once
 }
 
 // A command, a file, and the first value of the counter that draws its versions.
@@ -53,7 +82,7 @@ struct Case<'a> {
 
 // How many runs were of each kind, and how many would have told otherwise of a later version of one page, and of the header
 // that stood on page 1 when that was read as a page.
-#[derive(Clone, Copy, Debug)]
+#[derive(Clone, Copy)]
 struct Counts {
     clean: u32,
     faulty: u32,
@@ -69,35 +98,19 @@ fn count(number: &mut u32, holds: bool) {
     *number = number.wrapping_add(u32::from(holds));
 }
 
-// Whether two runs answer and write the same.
-fn is_same(one: &Outcome, other: &Outcome) -> bool {
-    one.answer == other.answer
-        && one.out.bytes() == other.out.bytes()
-        && one.err.bytes() == other.err.bytes()
-}
-
 // Whether as many lines of faults were written as the verdict says, and nothing else beside the rows.
-fn has_its_lines(command: Command, found: &Outcome) -> bool {
+fn has_its_lines(command: Command, found: &Found) -> bool {
     let (out, err) = (found.out.bytes(), found.err.bytes());
-    let is_check = command == CHECK;
-    let lines = if is_check { out } else { err };
+    let is_check = command == check_of(LIMIT);
+    let told = if is_check { out } else { err };
     let clean = if is_check { "ok\n" } else { "" };
-    match found.answer {
-        _ if is_check && !err.is_empty() => false,
-        Ok(Verdict::Clean) => lines == clean.as_bytes(),
-        Ok(Verdict::Faulty(faults)) => {
-            faults == lines.iter().filter(|byte| **byte == b'\n').count() as u64
-        }
+    let is_told = match found.answer {
+        Ok(Verdict::Clean) => told == clean.as_bytes(),
+        Ok(Verdict::Faulty(faults)) => faults == lines(told) as u64,
         Err(RunError::Refused(_)) => out.is_empty() && err.is_empty(),
         Err(_) => false,
-    }
-}
-
-// What is found in the file that answers make up.
-fn found_in(alloc: Global, case: Case<'_>, answers: &[Answer]) -> Result<Outcome, AllocError> {
-    let file = together(alloc, case.file.len(), answers)?;
-    let mut source = MemSource::new(file.as_slice());
-    Ok(written(alloc, case.command, &mut source))
+    };
+    is_told && (err.is_empty() || !is_check)
 }
 
 // Reads one of the pages again that were read, which is a later version of it.
@@ -108,12 +121,79 @@ fn read_one_again(
 ) -> Result<(), AllocError> {
     let pages = source.answers().len().saturating_sub(1);
     let number = (seed as usize).checked_rem(pages).unwrap_or(0);
-    if let Some(answer) = source.answers().get(number.wrapping_add(1)) {
-        let offset = answer.offset;
-        let mut page = Vec::from_elem(alloc, 0u8, answer.bytes.len())?;
-        let _ = source.read_at(offset, page.as_mut_slice());
-    }
+    let (offset, len) = match source.answers().get(number.wrapping_add(1)) {
+        Some(answer) => (answer.offset, answer.bytes.len()),
+        None => return Ok(()),
+    };
+    let mut page = Vec::from_elem(alloc, 0u8, len)?;
+    let _ = source.read_at(offset, page.as_mut_slice());
     Ok(())
+}
+
+// Whether the file that answers make up is found otherwise.
+fn is_other_in(
+    alloc: Global,
+    case: Case<'_>,
+    answers: &[Answer],
+    found: &Found,
+) -> Result<bool, AllocError> {
+    let other = found_in(alloc, case, answers)?;
+    Ok(!is_same(found, &other))
+}
+
+// That a run to its end found what stands in the file that its answers make up.
+fn is_found_together(
+    rt: &impl Abort,
+    alloc: Global,
+    case: Case<'_>,
+    answers: &[Answer],
+    found: &Found,
+) -> Result<(), AllocError> {
+    let of = (case.name, case.seed);
+    let is_other = is_other_in(alloc, case, answers, found)?;
+    let is_sound = is_sound_in(alloc, case, answers)?;
+    holds!(*rt; !is_other, of);
+    holds!(*rt; (found.answer == Ok(Verdict::Clean)) == is_sound, of);
+    holds!(*rt; has_its_lines(case.command, found), of);
+    Ok(())
+}
+
+// Counts of what kind a run to its end was.
+fn count_whole_run(
+    alloc: Global,
+    case: Case<'_>,
+    source: &mut ChangingSource<'_>,
+    found: &Found,
+    counts: &mut Counts,
+) -> Result<(), AllocError> {
+    let is_clean = found.answer == Ok(Verdict::Clean);
+    count(&mut counts.clean, is_clean);
+    count(&mut counts.faulty, found.answer.is_ok() && !is_clean);
+    count(&mut counts.refused, found.answer.is_err());
+    let pages = source.answers().get(1..).unwrap_or(&[]);
+    let is_headed = is_other_in(alloc, case, pages, found)?;
+    count(&mut counts.headed, !pages.is_empty() && is_headed);
+    read_one_again(alloc, source, case.seed)?;
+    let is_later = is_other_in(alloc, case, source.answers(), found)?;
+    count(&mut counts.later, is_later);
+    Ok(())
+}
+
+// What is asserted of a run to its end, over a source that was read.
+fn holds_of_whole_run(
+    rt: &impl Abort,
+    alloc: Global,
+    case: Case<'_>,
+    source: &mut ChangingSource<'_>,
+    found: &Found,
+    counts: &mut Counts,
+) -> Result<(), AllocError> {
+    let of = (case.name, case.seed);
+    holds!(*rt; source.lens() == 1, of);
+    holds!(*rt; source.answers().len() == source.reads(), of);
+    holds!(*rt; is_each_page_once(source.answers()), of);
+    is_found_together(rt, alloc, case, source.answers(), found)?;
+    count_whole_run(alloc, case, source, found, counts)
 }
 
 // A run to its end, and how many reads it makes.
@@ -122,62 +202,47 @@ fn whole_run(
     alloc: Global,
     case: Case<'_>,
     counts: &mut Counts,
-) -> Result<usize, Fail> {
-    let (name, seed) = (case.name, case.seed);
-    let mut source = ChangingSource::new(alloc, case.file, seed, usize::MAX);
-    let found = written(alloc, case.command, &mut source);
+) -> Result<usize, AllocError> {
+    let mut source = ChangingSource::new(alloc, case.file, case.seed, usize::MAX);
+    let found = found_of(alloc, case.command, &mut source);
     let reads = source.reads();
-    assert!(rt; source.lens() == 1, "{name} from {seed}");
-    assert!(rt; source.answers().len() == reads, "{name} from {seed}");
-    assert!(rt; is_each_page_once(source.answers()), "{name} from {seed}");
-    let wanted = found_in(alloc, case, source.answers())?;
-    assert!(rt; is_same(&found, &wanted), "{name} from {seed}");
-    assert!(rt; has_its_lines(case.command, &found), "{name} from {seed}");
-    let file = together(alloc, case.file.len(), source.answers())?;
-    let is_clean = found.answer == Ok(Verdict::Clean);
-    assert!(rt;
-        is_clean == is_sound(alloc, file.as_slice())?,
-        "{name} from {seed}"
-    );
-    count(&mut counts.clean, is_clean);
-    count(&mut counts.faulty, found.answer.is_ok() && !is_clean);
-    count(&mut counts.refused, found.answer.is_err());
-    let headed = found_in(alloc, case, source.answers().get(1..).unwrap_or(&[]))?;
-    count(&mut counts.headed, reads > 1 && !is_same(&found, &headed));
-    read_one_again(alloc, &mut source, seed)?;
-    let later = found_in(alloc, case, source.answers())?;
-    count(&mut counts.later, !is_same(&found, &later));
+    holds_of_whole_run(rt, alloc, case, &mut source, &found, counts)?;
     Ok(reads)
 }
 
+// What is asserted of a run whose read of this number failed.
+fn holds_of_failing_run(
+    rt: &impl Abort,
+    alloc: Global,
+    case: Case<'_>,
+    source: &ChangingSource<'_>,
+    fails_at: usize,
+    found: &Found,
+) -> Result<(), AllocError> {
+    let of = (case.name, case.seed);
+    let (out, err) = (found.out.bytes(), found.err.bytes());
+    holds!(*rt; found.answer == Err(RunError::ReadFailed), of);
+    holds!(*rt; source.lens() == 1, of);
+    holds!(*rt; source.answers().len() == fails_at, of);
+    holds!(*rt; source.reads() == fails_at.wrapping_add(1), of);
+    let wanted = found_in(alloc, case, source.answers())?;
+    holds!(*rt; wanted.out.bytes().starts_with(out), of);
+    holds!(*rt; wanted.err.bytes().starts_with(err), of);
+    Ok(())
+}
+
 // The same run where one read fails: nothing is read behind it, and what is written is a beginning of what is written of a
-// file with zeros in its place.
+// file with zeros in its place. Whether anything is.
 fn failing_run(
     rt: &impl Abort,
     alloc: Global,
     case: Case<'_>,
     fails_at: usize,
-    counts: &mut Counts,
-) -> Result<(), Fail> {
-    let (name, seed) = (case.name, case.seed);
-    let mut source = ChangingSource::new(alloc, case.file, seed, fails_at);
-    let found = written(alloc, case.command, &mut source);
-    assert!(rt;
-        found.answer == Err(RunError::ReadFailed),
-        "{name} from {seed}"
-    );
-    assert!(rt; source.lens() == 1, "{name} from {seed}");
-    assert!(rt; source.answers().len() == fails_at, "{name} from {seed}");
-    assert!(rt;
-        source.reads() == fails_at.wrapping_add(1),
-        "{name} from {seed}"
-    );
-    let wanted = found_in(alloc, case, source.answers())?;
-    let (out, err) = (found.out.bytes(), found.err.bytes());
-    assert!(rt; wanted.out.bytes().starts_with(out), "{name} from {seed}");
-    assert!(rt; wanted.err.bytes().starts_with(err), "{name} from {seed}");
-    count(&mut counts.begun, !out.is_empty() || !err.is_empty());
-    Ok(())
+) -> Result<bool, AllocError> {
+    let mut source = ChangingSource::new(alloc, case.file, case.seed, fails_at);
+    let found = found_of(alloc, case.command, &mut source);
+    holds_of_failing_run(rt, alloc, case, &source, fails_at, &found)?;
+    Ok(!found.out.bytes().is_empty() || !found.err.bytes().is_empty())
 }
 
 // Runs a command over the versions of a file, from 100 first values.
@@ -187,7 +252,7 @@ fn runs_over_file(
     command: Command,
     name: &str,
     file: &[u8],
-) -> Result<(), Fail> {
+) -> Result<(), AllocError> {
     let mut counts = Counts {
         clean: 0,
         faulty: 0,
@@ -205,26 +270,25 @@ fn runs_over_file(
         };
         let reads = whole_run(rt, alloc, case, &mut counts)?;
         let fails_at = (seed as usize).checked_rem(reads).unwrap_or(0);
-        failing_run(rt, alloc, case, fails_at, &mut counts)?;
+        let is_begun = failing_run(rt, alloc, case, fails_at)?;
+        count(&mut counts.begun, is_begun);
     }
-    assert!(rt; counts.clean > 0 && counts.faulty > 0, "{name}: {counts:?}");
-    assert!(rt; counts.later > 0 && counts.headed > 0, "{name}: {counts:?}");
-    assert!(rt;
-        counts.refused > 0 && counts.begun > 0,
-        "{name}: {counts:?}"
-    );
+    holds!(*rt; counts.clean > 0 && counts.faulty > 0, name);
+    holds!(*rt; counts.later > 0 && counts.headed > 0, name);
+    holds!(*rt; counts.refused > 0 && counts.begun > 0, name);
     Ok(())
 }
 
 // Runs a command over the versions of each file.
 fn runs_over_versions(rt: &impl Abort, alloc: Global, command: Command) -> Result<(), Fail> {
-    for (name, file) in [
-        ("a mapped forest", forest(alloc, true)?),
-        ("a forest", forest(alloc, false)?),
-        ("a map", patched(alloc, 4, Sample::Mapped, &[])?),
-        ("two leaves", patched(alloc, 4, Sample::TwoLeaves, &[])?),
-        ("long SQL", patched(alloc, 3, Sample::LongSql, &[])?),
+    for name in [
+        "mapped-forest",
+        "forest",
+        "Mapped 4",
+        "TwoLeaves 4",
+        "LongSql 3",
     ] {
+        let file = file_of(alloc, name)?;
         runs_over_file(rt, alloc, command, name, file.as_slice())?;
     }
     Ok(())
@@ -233,34 +297,38 @@ fn runs_over_versions(rt: &impl Abort, alloc: Global, command: Command) -> Resul
 // What is changed is a sound file.
 #[test]
 fn forests_are_sound(rt: HostRuntime) -> Result<(), Fail> {
-    for is_mapped in [false, true] {
-        let file = forest(rt.alloc(), is_mapped)?;
-        assert!(rt; is_sound(rt.alloc(), file.as_slice())?, "{is_mapped}");
+    for name in ["forest", "mapped-forest"] {
+        let file = file_of(rt.alloc(), name)?;
+        let is_sound = is_sound(rt.alloc(), file.as_slice())?;
+        holds!(rt; is_sound, name);
     }
     Ok(())
 }
 
+// How many faults a check shows.
+const LIMIT: u32 = 1000000;
+
 #[test]
 fn checks_what_was_answered(rt: HostRuntime) -> Result<(), Fail> {
-    runs_over_versions(&rt, rt.alloc(), CHECK)
+    runs_over_versions(&rt, rt.alloc(), check_of(LIMIT))
 }
 
 #[test]
 fn shows_pages_as_they_were_answered(rt: HostRuntime) -> Result<(), Fail> {
-    runs_over_versions(&rt, rt.alloc(), PAGES)
+    runs_over_versions(&rt, rt.alloc(), stat_of(false, false))
 }
 
 #[test]
 fn shows_trees_as_they_were_answered(rt: HostRuntime) -> Result<(), Fail> {
-    runs_over_versions(&rt, rt.alloc(), TREES)
+    runs_over_versions(&rt, rt.alloc(), stat_of(true, false))
 }
 
 #[test]
 fn shows_all_pages_as_they_were_answered(rt: HostRuntime) -> Result<(), Fail> {
-    runs_over_versions(&rt, rt.alloc(), ALL_PAGES)
+    runs_over_versions(&rt, rt.alloc(), stat_of(false, true))
 }
 
 #[test]
 fn shows_trees_and_other_pages_as_they_were_answered(rt: HostRuntime) -> Result<(), Fail> {
-    runs_over_versions(&rt, rt.alloc(), TREES_AND_ALL)
+    runs_over_versions(&rt, rt.alloc(), stat_of(true, true))
 }

@@ -1,6 +1,6 @@
 // How the rows show the names of trees.
-use crate::support::check_tables::verdict_of;
-use crate::support::stat_tables::{PAGES, written};
+use crate::runs::found_of;
+use crate::support::cases::{command_of, verdict_of};
 use dbfiles::{Record, TestFile};
 use dbsource::MemSource;
 use std::alloc::{AllocError, Global};
@@ -41,30 +41,28 @@ fn text_serial(len: usize) -> usize {
     len.wrapping_mul(2).wrapping_add(13)
 }
 
-// That a name of some type is shown so, and whether it is told that it cannot be.
-fn shows(
-    rt: &impl Abort,
-    alloc: Global,
-    encoding: u8,
-    serial: usize,
-    name: &[u8],
-    shown: &[u8],
-    cannot: bool,
-) -> Result<(), Fail> {
-    let file = named(alloc, encoding, serial, name)?;
-    let found = written(alloc, PAGES, &mut MemSource::new(file.as_slice()));
-    let lines = if cannot { CANNOT_BE_SHOWN } else { "" };
-    assert!(rt;
-        found.answer == Ok(verdict_of(u64::from(cannot))),
-        "{name:?}"
-    );
-    assert!(rt; found.err.bytes() == lines.as_bytes(), "{name:?}");
-    // The row behind that of the schema.
+// Whether the row of the table shows this name, and these lines tell of it. The row of the schema stands before it.
+fn is_shown(alloc: Global, file: &[u8], shown: &[u8], lines: &str) -> bool {
+    let found = found_of(alloc, command_of("pages"), &mut MemSource::new(file));
     let out = found.out.bytes();
     let first = out.iter().position(|byte| *byte == b'\n').unwrap_or(0);
     let row = out.get(first.wrapping_add(1)..).unwrap_or(&[]);
-    assert!(rt; row.starts_with(shown), "{name:?}");
-    assert!(rt; row.get(shown.len()..) == Some(ROW_END), "{name:?}");
+    found.answer == Ok(verdict_of(lines))
+        && found.err.bytes() == lines.as_bytes()
+        && row.strip_prefix(shown) == Some(ROW_END)
+}
+
+// That a name of some type is shown so, and told where it cannot be.
+fn shows(
+    rt: &impl Abort,
+    alloc: Global,
+    (encoding, serial): (u8, usize),
+    name: &[u8],
+    shown: &[u8],
+    lines: &str,
+) -> Result<(), Fail> {
+    let file = named(alloc, encoding, serial, name)?;
+    holds!(*rt; is_shown(alloc, file.as_slice(), shown, lines), name);
     Ok(())
 }
 
@@ -106,7 +104,7 @@ const NAMES: [(u8, &[u8], &[u8]); 23] = [
 fn shows_names(rt: HostRuntime) -> Result<(), Fail> {
     for (encoding, name, shown) in NAMES {
         let serial = text_serial(name.len());
-        shows(&rt, rt.alloc(), encoding, serial, name, shown, false)?;
+        shows(&rt, rt.alloc(), (encoding, serial), name, shown, "")?;
     }
     Ok(())
 }
@@ -138,7 +136,14 @@ const MALFORMED: [(u8, &[u8]); 18] = [
 fn shows_a_question_mark(rt: HostRuntime) -> Result<(), Fail> {
     for (encoding, name) in MALFORMED {
         let serial = text_serial(name.len());
-        shows(&rt, rt.alloc(), encoding, serial, name, b"?", true)?;
+        shows(
+            &rt,
+            rt.alloc(),
+            (encoding, serial),
+            name,
+            b"?",
+            CANNOT_BE_SHOWN,
+        )?;
     }
     // No text: NULL, an integer, and a blob.
     for (serial, name) in [
@@ -146,14 +151,29 @@ fn shows_a_question_mark(rt: HostRuntime) -> Result<(), Fail> {
         (1, b"t".as_slice()),
         (14, b"t".as_slice()),
     ] {
-        shows(&rt, rt.alloc(), 1, serial, name, b"?", true)?;
+        shows(&rt, rt.alloc(), (1, serial), name, b"?", CANNOT_BE_SHOWN)?;
     }
     Ok(())
+}
+
+// The same of a text of any length.
+fn shows_long(
+    rt: &impl Abort,
+    alloc: Global,
+    encoding: u8,
+    name: &[u8],
+    shown: &[u8],
+    lines: &str,
+) -> Result<(), Fail> {
+    let of = (encoding, text_serial(name.len()));
+    shows(rt, alloc, of, name, shown, lines)
 }
 
 // A name of 1000 bytes is shown, each as four, and one of 1001 is not.
 #[test]
 fn shows_names_of_1000_bytes(rt: HostRuntime) -> Result<(), Fail> {
+    let stored = [1u8; 1002];
+    let (whole, longer) = (&stored[..1000], &stored[..1001]);
     let mut escaped = [b'1'; 4000];
     for (i, place) in escaped.iter_mut().enumerate() {
         *place = match i % 4 {
@@ -163,44 +183,16 @@ fn shows_names_of_1000_bytes(rt: HostRuntime) -> Result<(), Fail> {
             _ => b'1',
         };
     }
-    let stored = [1u8; 1001];
-    let whole = stored.get(1..).unwrap_or(&[]);
-    shows(
-        &rt,
-        rt.alloc(),
-        1,
-        text_serial(1000),
-        whole,
-        &escaped,
-        false,
-    )?;
-    shows(&rt, rt.alloc(), 1, text_serial(1001), &stored, b"?", true)?;
-    // 500 times U+0101 in UTF-16, which is of two bytes in UTF-8 too; and 1001 bytes, which are no UTF-16 anyway.
+    shows_long(&rt, rt.alloc(), 1, whole, &escaped, "")?;
+    shows_long(&rt, rt.alloc(), 1, longer, b"?", CANNOT_BE_SHOWN)?;
+    // U+0101 in UTF-16, which is of two bytes in UTF-8 too: 500 times, and 501 times.
     let mut letters = [0xc4u8; 1000];
     for (i, place) in letters.iter_mut().enumerate() {
         if i % 2 == 1 {
             *place = 0x81;
         }
     }
-    shows(
-        &rt,
-        rt.alloc(),
-        2,
-        text_serial(1000),
-        whole,
-        &letters,
-        false,
-    )?;
-    shows(
-        &rt,
-        rt.alloc(),
-        3,
-        text_serial(1000),
-        whole,
-        &letters,
-        false,
-    )?;
-    let longer = [1u8; 1002];
-    shows(&rt, rt.alloc(), 3, text_serial(1002), &longer, b"?", true)?;
-    Ok(())
+    shows_long(&rt, rt.alloc(), 2, whole, &letters, "")?;
+    shows_long(&rt, rt.alloc(), 3, whole, &letters, "")?;
+    shows_long(&rt, rt.alloc(), 3, &stored, b"?", CANNOT_BE_SHOWN)
 }

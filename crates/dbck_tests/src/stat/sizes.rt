@@ -1,8 +1,8 @@
 // Statistics of files of many pages: paths of many digits, and each page in one row.
-use crate::support::check_tables::verdict_of;
-use crate::support::stat_tables::{ALL_PAGES, PAGES, TREES_AND_ALL, is_text, written};
+use crate::runs::{Found, check_of, found_of};
+use crate::support::cases::{command_of, is_text};
 use dbfiles::{StatedSource, TestFile, draw, patch, schema_row};
-use dbreport::{Command, Verdict};
+use dbreport::Verdict;
 use dbsource::MemSource;
 use std::alloc::{AllocError, Global};
 use std::process::Abort;
@@ -53,23 +53,24 @@ fn many_children(alloc: Global) -> Result<Vec<u8>, AllocError> {
     Ok(bytes)
 }
 
+const CHILDREN: &str = "sqlite_schema|/|1|internal|4096|0|8060|0|0|16384\n\
+    sqlite_schema|/010/|3|leaf|0|0|16376|0|32768|16384\n\
+    sqlite_schema|/0ff/|4|leaf|0|0|16376|0|49152|16384\n\
+    sqlite_schema|/fff/|5|leaf|0|0|16376|0|65536|16384\n\
+    sqlite_schema|/1000/|2|leaf|0|0|16376|0|16384|16384\n";
+
 // The last child has a number of four digits. Of page 1 the bytes 112 + 2 * 4096 = 8304 to 16364 are free.
 #[test]
 fn shows_4097_children(rt: HostRuntime) -> Result<(), Fail> {
     let file = many_children(rt.alloc())?;
-    let found = written(rt.alloc(), PAGES, &mut MemSource::new(file.as_slice()));
-    // 4093 cells that name page 0, the bytes that they share, and four empty pages that are no roots.
-    assert!(rt; found.answer == Ok(verdict_of(4098)));
-    assert!(rt;
-        is_text(
-            "sqlite_schema|/|1|internal|4096|0|8060|0|0|16384\n\
-             sqlite_schema|/010/|3|leaf|0|0|16376|0|32768|16384\n\
-             sqlite_schema|/0ff/|4|leaf|0|0|16376|0|49152|16384\n\
-             sqlite_schema|/fff/|5|leaf|0|0|16376|0|65536|16384\n\
-             sqlite_schema|/1000/|2|leaf|0|0|16376|0|16384|16384\n",
-            found.out.bytes()
-        )
+    let found = found_of(
+        rt.alloc(),
+        command_of("pages"),
+        &mut MemSource::new(file.as_slice()),
     );
+    // 4093 cells that name page 0, the bytes that they share, and four empty pages that are no roots.
+    holds!(rt; found.answer == Ok(Verdict::Faulty(4098)));
+    holds!(rt; is_text(CHILDREN, found.out.bytes()));
     Ok(())
 }
 
@@ -87,45 +88,53 @@ fn long_chain(alloc: Global, root: u8, pages: u32) -> Result<TestFile, AllocErro
     Ok(file)
 }
 
+// That a run answers this, and that the rows of these numbers, from 0, are these. Behind the last there is none.
+fn has_some(rt: &impl Abort, found: &Found, verdict: Verdict, rows: &[(usize, &str)]) {
+    holds!(*rt; found.answer == Ok(verdict));
+    for (number, row) in rows {
+        holds!(*rt; is_text(row, line_of(found.out.bytes(), *number)), number);
+    }
+}
+
+const CHAIN_ROWS: [(usize, &str); 6] = [
+    (1, "t|/|2|leaf|1|92|403|9236|512|512\n"),
+    (2, "t|/000+000000|3|overflow|0|508|0|0|1024|512\n"),
+    (12, "t|/000+00000a|13|overflow|0|508|0|0|6144|512\n"),
+    (18, "t|/000+000010|19|overflow|0|508|0|0|9216|512\n"),
+    (19, "t|/000+000011|20|overflow|0|508|0|0|9728|512\n"),
+    (20, ""),
+];
+
 // Overflow page 16 has a number of two hexadecimal digits.
 #[test]
 fn shows_18_overflow_pages(rt: HostRuntime) -> Result<(), Fail> {
     let file = long_chain(rt.alloc(), 2, 20)?.into_bytes();
-    let found = written(rt.alloc(), PAGES, &mut MemSource::new(file.as_slice()));
-    assert!(rt; found.answer == Ok(verdict_of(0)));
-    let rows = found.out.bytes();
-    for (number, row) in [
-        (1usize, "t|/|2|leaf|1|92|403|9236|512|512\n"),
-        (2, "t|/000+000000|3|overflow|0|508|0|0|1024|512\n"),
-        (12, "t|/000+00000a|13|overflow|0|508|0|0|6144|512\n"),
-        (18, "t|/000+000010|19|overflow|0|508|0|0|9216|512\n"),
-        (19, "t|/000+000011|20|overflow|0|508|0|0|9728|512\n"),
-        (20, ""),
-    ] {
-        assert!(rt; is_text(row, line_of(rows, number)), "row {number}");
-    }
+    let found = found_of(
+        rt.alloc(),
+        command_of("pages"),
+        &mut MemSource::new(file.as_slice()),
+    );
+    has_some(&rt, &found, Verdict::Clean, &CHAIN_ROWS);
     Ok(())
 }
+
+// Nothing uses the pages but the first and the lock-byte page.
+const LOCK_ROWS: [(usize, &str); 6] = [
+    (0, "sqlite_schema|-|1|-|0|0|65428|0|-|65536\n"),
+    (1, "-|-|2|unowned|0|0|0|0|65536|65536\n"),
+    (16383, "-|-|16384|unowned|0|0|0|0|1073676288|65536\n"),
+    (16384, "-|-|16385|lock|0|0|0|0|1073741824|65536\n"),
+    (16385, "-|-|16386|unowned|0|0|0|0|1073807360|65536\n"),
+    (16386, ""),
+];
 
 // The lock-byte page is page 16385 of a file of pages of 65536 bytes.
 #[test]
 fn shows_the_lock_byte_page(rt: HostRuntime) -> Result<(), Fail> {
     let file = TestFile::new(rt.alloc(), 65536, 1)?.into_bytes();
     let mut source = StatedSource::new(file.as_slice(), 16386 * 65536, u64::MAX);
-    let found = written(rt.alloc(), TREES_AND_ALL, &mut source);
-    // Nothing uses the other pages.
-    assert!(rt; found.answer == Ok(verdict_of(16384)));
-    let rows = found.out.bytes();
-    for (number, row) in [
-        (0usize, "sqlite_schema|-|1|-|0|0|65428|0|-|65536\n"),
-        (1, "-|-|2|unowned|0|0|0|0|65536|65536\n"),
-        (16383, "-|-|16384|unowned|0|0|0|0|1073676288|65536\n"),
-        (16384, "-|-|16385|lock|0|0|0|0|1073741824|65536\n"),
-        (16385, "-|-|16386|unowned|0|0|0|0|1073807360|65536\n"),
-        (16386, ""),
-    ] {
-        assert!(rt; is_text(row, line_of(rows, number)), "row {number}");
-    }
+    let found = found_of(rt.alloc(), command_of("all trees"), &mut source);
+    has_some(&rt, &found, Verdict::Faulty(16384), &LOCK_ROWS);
     Ok(())
 }
 
@@ -169,38 +178,35 @@ fn count_rows(bytes: &[u8], seen: &mut [bool]) -> Option<Counted> {
     Some(counted)
 }
 
-// That a file of so many pages of 512 bytes has each of them in one row of both forms that show all pages, and that the lines
-// of faults are those that a check writes.
-fn has_each_page_once(
-    rt: &impl Abort,
-    alloc: Global,
-    bytes: &[u8],
-    pages: u32,
-    name: &str,
-) -> Result<(), Fail> {
+// Whether the rows count all pages, of 512 bytes, with no page in two rows. The first of the places is of no page.
+fn have_each_page(rows: &[u8], seen: &mut [bool]) -> bool {
+    let pages = seen.len().wrapping_sub(1) as u64;
     let all = Counted {
-        pages: u64::from(pages),
-        bytes: u64::from(pages).wrapping_mul(512),
+        pages,
+        bytes: pages.wrapping_mul(512),
     };
-    let checked = written(
-        alloc,
-        Command::Check { limit: 1000000 },
-        &mut MemSource::new(bytes),
-    );
-    for form in [ALL_PAGES, TREES_AND_ALL] {
-        let mut seen = Vec::from_elem(alloc, false, (pages as usize).wrapping_add(1))?;
-        let found = written(alloc, form, &mut MemSource::new(bytes));
-        let counted = count_rows(found.out.bytes(), seen.as_mut_slice());
-        assert!(rt; counted == Some(all), "{name}");
-        assert!(rt; found.answer == checked.answer, "{name}");
-        let is_clean = checked.answer == Ok(Verdict::Clean);
-        assert!(rt;
-            is_clean || found.err.bytes() == checked.out.bytes(),
-            "{name}"
-        );
-        assert!(rt; !is_clean || found.err.bytes().is_empty(), "{name}");
+    seen.fill(false);
+    count_rows(rows, seen) == Some(all)
+}
+
+// Whether the lines of faults are those that a check writes.
+fn has_lines_of(found: &Found, checked: &Found) -> bool {
+    let lines = if checked.answer == Ok(Verdict::Clean) {
+        b"".as_slice()
+    } else {
+        checked.out.bytes()
+    };
+    found.answer == checked.answer && found.err.bytes() == lines
+}
+
+// That a file of pages of 512 bytes has each of them in one row of both forms that show all pages, with the lines of a check.
+fn has_each_page_once(rt: &impl Abort, alloc: Global, file: &[u8], seen: &mut [bool]) {
+    let checked = found_of(alloc, check_of(1000000), &mut MemSource::new(file));
+    for form in ["all pages", "all trees"] {
+        let found = found_of(alloc, command_of(form), &mut MemSource::new(file));
+        holds!(*rt; have_each_page(found.out.bytes(), seen), form);
+        holds!(*rt; has_lines_of(&found, &checked), form);
     }
-    Ok(())
 }
 
 // So many numbers from one on.
@@ -229,7 +235,9 @@ fn many_pages(alloc: Global) -> Result<Vec<u8>, AllocError> {
 #[test]
 fn shows_each_of_100000_pages_once(rt: HostRuntime) -> Result<(), Fail> {
     let file = many_pages(rt.alloc())?;
-    has_each_page_once(&rt, rt.alloc(), file.as_slice(), 100000, "100000 pages")
+    let mut seen = Vec::from_elem(rt.alloc(), false, 100001)?;
+    has_each_page_once(&rt, rt.alloc(), file.as_slice(), seen.as_mut_slice());
+    Ok(())
 }
 
 // 64 pages whose bytes are drawn from a counter, behind the header of a file with a freelist and, for every other counter, a
@@ -252,9 +260,10 @@ fn drawn_file(alloc: Global, drawn: u32) -> Result<Vec<u8>, AllocError> {
 
 #[test]
 fn shows_each_drawn_page_once(rt: HostRuntime) -> Result<(), Fail> {
+    let mut seen = [false; 65];
     for drawn in 0..100u32 {
         let file = drawn_file(rt.alloc(), drawn)?;
-        has_each_page_once(&rt, rt.alloc(), file.as_slice(), 64, "drawn pages")?;
+        has_each_page_once(&rt, rt.alloc(), file.as_slice(), &mut seen);
     }
     Ok(())
 }

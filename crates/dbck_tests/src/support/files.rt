@@ -2,6 +2,15 @@
 use dbfiles::{TestFile, patch, schema_row};
 use std::alloc::{AllocError, Global};
 
+/// The line of a header whose file version is 3.
+pub(crate) const OLD_VERSION: &str = "H01 page 1 item 18 value 3: file version is not 1 or 2\n";
+
+/// The rows of the sample behind a pointer map, in which each tab is written `|`, with those of other pages.
+pub(crate) const MAPPED_ROWS: &str = "sqlite_schema|/|1|leaf|1|14|386|14|0|512\n\
+    t|/|3|leaf|1|92|403|600|1024|512\n\
+    t|/000+000000|4|overflow|0|508|0|0|1536|512\n\
+    -|-|2|map|0|0|0|0|512|512\n";
+
 /// The rows of the sample of one table and its row on an overflow page, in which each tab is written `|`.
 pub(crate) const LONG_ROW_ROWS: &str = "sqlite_schema|/|1|leaf|1|14|386|14|0|512\n\
     t|/|2|leaf|1|92|403|600|512|512\n\

@@ -1,61 +1,53 @@
 // Marks at the ends of their windows and lanes.
+use super::{Case, check_all};
+use crate::texts::write_bytes;
 use dbformat::Coverage;
 use dbpage::{PageView, uncounted_coverage};
 use std::process::Abort;
 
-// A page of 544 bytes, of which so many are usable.
-fn coverage_of(rt: &impl Abort, page: &[u8; 544], usable: u32) -> Coverage {
-    assert!(rt; usable >= 480 && usable <= 544);
-    let mut table = [255u8; 544];
-    match PageView::new(page, 2, usable) {
-        Ok(view) => uncounted_coverage(&view, &mut table),
-        Err(fault) => panic!(rt; "{fault:?}"),
-    }
-}
-
-fn page_with(head: &[u8], at_480: &[u8; 7]) -> [u8; 544] {
-    let mut page = [0u8; 544];
-    let mut i = 0;
-    for byte in head {
-        if i < 480 {
-            page[i] = *byte;
-            i += 1;
-        }
-    }
-    for (k, byte) in at_480.iter().enumerate() {
-        page[480 + k] = *byte;
-    }
-    page
-}
+const LAST_BYTES: [Case; 3] = [
+    [
+        "a freeblock of the last seven bytes",
+        "2 of 487",
+        "0 0d 01e0 0000 01e0 00, 480 00000007",
+        "coverage Unheld(0)",
+    ],
+    [
+        "a freeblock one byte shorter",
+        "2 of 487",
+        "0 0d 01e0 0000 01e0 00, 480 00000006",
+        "coverage Unheld(1)",
+    ],
+    [
+        "cells of four bytes at the last seven",
+        "2 of 487",
+        "0 0d 0000 0002 01e0 00 01e0 01e3, 480 03 01 'A' 02 02 'AA'",
+        "coverage Overlap(1)",
+    ],
+];
 
 #[test]
 fn covers_the_last_bytes(rt: HostRuntime) {
-    let freeblock: &[u8] = b"\x0d\x01\xe0\x00\x00\x01\xe0\x00";
-    let cells: &[u8] = b"\x0d\x00\x00\x00\x02\x01\xe0\x00\x01\xe0\x01\xe3";
-    let cases = [
-        (
-            freeblock,
-            b"\x00\x00\x00\x07\x00\x00\x00",
-            Coverage::Unheld(0),
-        ),
-        (
-            freeblock,
-            b"\x00\x00\x00\x06\x00\x00\x00",
-            Coverage::Unheld(1),
-        ),
-        (cells, b"\x03\x01\x41\x02\x02\x41\x41", Coverage::Overlap(1)),
-    ];
-    for (head, bytes, want) in cases {
-        let page = page_with(head, bytes);
-        holds!(rt; coverage_of(&rt, &page, 487) == want, (head, bytes));
+    check_all(&rt, &LAST_BYTES);
+}
+
+// Of a page of 2048 bytes, of which so many are usable.
+fn has_coverage(rt: &impl Abort, page: &[u8; 2048], usable: u32, want: Coverage) -> bool {
+    assert!(rt; 480 <= usable && usable <= 2048);
+    let mut table = [255u8; 2048];
+    match PageView::new(page, 2, usable) {
+        Ok(view) => uncounted_coverage(&view, &mut table) == want,
+        Err(_) => false,
     }
 }
 
 #[test]
 fn covers_pages_of_each_size(rt: HostRuntime) {
-    let page = page_with(b"\x0d\x00\x00\x00\x00\x00\x08\x00", b"\0\0\0\0\0\0\0");
+    let mut page = [0u8; 2048];
+    let _ = write_bytes(&mut page, 0, "0d 0000 0000 0008 00");
     for usable in 480..545 {
-        holds!(rt; coverage_of(&rt, &page, usable) == Coverage::Unheld(usable - 8), usable);
+        let want = Coverage::Unheld(usable - 8);
+        holds!(rt; has_coverage(&rt, &page, usable, want), usable);
     }
 }
 
@@ -73,48 +65,45 @@ fn put(page: &mut [u8; 2048], start: u32, bytes: &[u8]) {
 // Of a leaf with a cell of `len` bytes at `from` and one of four bytes at `one`, in either order, the bytes that are not held,
 // or that the second shares one with the first. No header stands on the other's.
 fn compare(rt: &impl Abort, from: u32, len: u32, one: u32) {
-    assert!(rt; 60 <= one && one < 2040 && 60 <= from && from < 1000 && 4 <= len && len <= 1000);
-    let is_free = one + 4 <= from || one >= from + len;
+    let is_free = one.wrapping_add(4) <= from || one >= from.wrapping_add(len);
     let want = if is_free {
-        Coverage::Unheld(2048 - 60 - 4 - len)
+        Coverage::Unheld((2048u32 - 60 - 4).wrapping_sub(len))
     } else {
         Coverage::Overlap(1)
     };
-    let size = len - 3;
+    let size = len.wrapping_sub(3);
     let mut page = [0u8; 2048];
     put(&mut page, one, &[2, 1]);
     put(
         &mut page,
         from,
-        &[128 + (size / 128) as u8, (size % 128) as u8, 1],
+        &[(size / 128 % 128) as u8 | 128, (size % 128) as u8, 1],
     );
     for (first, second) in [(from, one), (one, from)] {
         put(&mut page, 0, b"\x0d\x00\x00\x00\x02\x00\x3c\x00");
-        put(&mut page, 8, &(first as u16).to_be_bytes());
-        put(&mut page, 10, &(second as u16).to_be_bytes());
-        let mut table = [255u8; 2048];
-        match PageView::new(&page, 2, 2048) {
-            Ok(view) =>
-                holds!(rt; uncounted_coverage(&view, &mut table) == want, (len, first, second)),
-            Err(fault) => panic!(rt; "{fault:?}"),
-        }
+        put(
+            &mut page,
+            8,
+            &first.wrapping_mul(65536).wrapping_add(second).to_be_bytes(),
+        );
+        holds!(*rt; has_coverage(rt, &page, 2048, want), (len, first, second));
     }
 }
 
 // `compare`, with the small cell beside the long one, at its ends and within it.
 fn compare_all(rt: &impl Abort, from: u32, len: u32) {
-    assert!(rt; 64 <= from && from < 1000 && 4 <= len && len <= 1000);
-    for one in [
-        from - 4,
-        from - 3,
-        from + 3,
-        from + 7,
-        from + 3 + len / 2,
-        from + 260,
-        from + len - 1,
-        from + len,
+    let before = from.wrapping_sub(4);
+    for step in [
+        0,
+        1,
+        7,
+        11,
+        (len / 2).wrapping_add(7),
+        264,
+        len.wrapping_add(3),
+        len.wrapping_add(4),
     ] {
-        compare(rt, from, len, one);
+        compare(rt, from, len, before.wrapping_add(step));
     }
 }
 

@@ -1,284 +1,78 @@
 // Pages that SQLite 3.40.1 made by the commands of `sqlite_pages/make.sh`, as hexadecimal text. The numbers are those of
 // its dbstat, and freeblocks, fragments and children are read off the bytes.
-ghost use Rattle.std.specs.Prelude.{◌<◌};
+use super::{Case, check_all};
 
-use dbformat::{Coverage, PageKind};
-use dbpage::{PageView, uncounted_coverage};
-use std::alloc::{AllocError, Global};
-use std::process::Abort;
-use std::test::Fail;
-
-#[derive(Drop)]
-struct Made<'a> {
-    name: &'a str,
-    text: &'a str,
-    number: u32,
-    usable: u32,
-    kind: PageKind,
-    cells: u32,
-    // Bytes of payload on the page.
-    payload: u32,
-    // The largest payload.
-    largest: u32,
-    unused: u32,
-    fragments: u32,
-    freeblocks: &'a [(u32, u32)],
-    children: &'a [u32],
-}
-
-fn digit(text: &[u8], i: usize) -> u8 {
-    match text.get(i).copied() {
-        Some(c) if c >= b'0' && c <= b'9' => c - b'0',
-        Some(c) if c >= b'a' && c <= b'f' => c - b'a' + 10,
-        _ => 0,
-    }
-}
-
-// Byte `i` of a text of two digits a byte.
-fn byte(text: &str, i: usize) -> u8
-    requires { i < 65536 }
-{
-    let text = text.as_bytes();
-    digit(text, 2 * i) << 4 | digit(text, 2 * i + 1)
-}
-
-fn page_of(text: &str) -> [u8; 512] {
-    let mut page = [0u8; 512];
-    for i in 0..512 {
-        page[i] = byte(text, i);
-    }
-    page
-}
-
-// Cells, bytes of payload, and the largest payload of a page.
-fn totals(view: &PageView<'_>) -> (u32, usize, u32) {
-    let mut cells = 0u32;
-    let mut payload = 0usize;
-    let mut largest = 0;
-    for i in 0..view.cells() {
-        if let Ok(cell) = view.cell(i) {
-            cells = cells.wrapping_add(1);
-            payload = payload.wrapping_add(cell.local.len());
-            largest = largest.max(cell.size);
-        }
-    }
-    (cells, payload, largest)
-}
-
-fn check(rt: &impl Abort, made: &Made<'_>, page: &[u8]) {
-    let name = made.name;
-    let usable = made.usable;
-    assert!(rt; usable >= 480 && usable <= 512 && page.len() == 512);
-    let view = match PageView::new(page, made.number, usable) {
-        Ok(view) => view,
-        Err(fault) => panic!(rt; "{name}: {fault:?}"),
-    };
-    holds!(rt; view.kind() == made.kind, name);
-    holds!(rt; totals(&view) == (made.cells, made.payload as usize, made.largest), name);
-    holds!(rt; view.unused() == made.unused, name);
-    for i in 0..view.cells() {
-        holds!(rt; view.child(i) == made.children.get(i as usize).copied(), (name, i));
-    }
-    holds!(rt; view.child(view.cells()) == made.children.last().copied(), name);
-    let mut number = 0;
-    for freeblock in view.freeblocks() {
-        let want = made.freeblocks.get(number).copied();
-        holds!(rt; Some((freeblock.offset, freeblock.size)) == want, (name, number));
-        number = number.wrapping_add(1);
-    }
-    holds!(rt; number == made.freeblocks.len(), name);
-    holds!(rt; view.freeblocks().bad() == None, name);
-    let mut table = [7u8; 512];
-    holds!(rt; uncounted_coverage(&view, &mut table) == Coverage::Unheld(made.fragments), name);
-}
+const MADE_PAGES: [Case; 10] = [
+    [
+        "the page of the schema",
+        "1 of 512",
+        PAGE_0,
+        "kind LeafTable 2; totals 2 95 59; unused 301; children; freeblocks; coverage Unheld(0)",
+    ],
+    [
+        "a table's root",
+        "2 of 512",
+        PAGE_1,
+        "kind InteriorTable 2; totals 2 0 0; unused 485; children 0:4 1:5 2:11; freeblocks; coverage Unheld(0)",
+    ],
+    [
+        "an index's root",
+        "3 of 512",
+        PAGE_2,
+        "kind InteriorIndex 1; totals 1 10 10; unused 483; children 0:6 1:7; freeblocks; coverage Unheld(0)",
+    ],
+    [
+        "a leaf of a table, with freeblocks",
+        "4 of 512",
+        PAGE_3,
+        "kind LeafTable 20; totals 20 286 20; unused 98; children; freeblocks [128+19] [263+23] [366+17] [430+22]; coverage Unheld(0)",
+    ],
+    [
+        "a leaf of a table, with a long row",
+        "5 of 512",
+        PAGE_4,
+        "kind LeafTable 17; totals 17 329 604; unused 101; children; freeblocks; coverage Unheld(2)",
+    ],
+    [
+        "a leaf of an index, with freeblocks",
+        "6 of 512",
+        PAGE_5,
+        "kind LeafIndex 21; totals 21 334 22; unused 107; children; freeblocks [177+28] [301+20] [415+16]; coverage Unheld(2)",
+    ],
+    [
+        "a leaf of an index, with long rows",
+        "7 of 512",
+        PAGE_6,
+        "kind LeafIndex 16; totals 16 348 606; unused 99; children; freeblocks [404+56] [476+36]; coverage Unheld(3)",
+    ],
+    [
+        "a page with reserved bytes",
+        "2 of 480",
+        PAGE_7,
+        "kind LeafTable 2; totals 2 307 304; unused 148; children; freeblocks [471+9]; coverage Unheld(0)",
+    ],
+    // A page of 65536 bytes with one row and one freeblock at its end, and one without rows.
+    [
+        "a leaf of 65536 bytes",
+        "2 of 65536",
+        "0 0d fff6 0001 ffdf 00 ffdf, \
+            65503 1384a27003002d736576656e74792074686f7573616e640000000a000000000000",
+        "totals 1 19 19; unused 65503; freeblocks [65526+10]; coverage Unheld(0)",
+    ],
+    [
+        "an empty leaf of 65536 bytes",
+        "2 of 65536",
+        "0 0d 0000 0000 0000 00",
+        "totals 0 0 0; unused 65528; freeblocks; coverage Unheld(0)",
+    ],
+];
 
 #[test]
 fn reads_pages_of_sqlite(rt: HostRuntime) {
-    let pages = [
-        Made {
-            name: "the page of the schema",
-            text: PAGE_0,
-            number: 1,
-            usable: 512,
-            kind: PageKind::LeafTable,
-            cells: 2,
-            payload: 95,
-            largest: 59,
-            unused: 301,
-            fragments: 0,
-            freeblocks: &[],
-            children: &[],
-        },
-        Made {
-            name: "a table's root",
-            text: PAGE_1,
-            number: 2,
-            usable: 512,
-            kind: PageKind::InteriorTable,
-            cells: 2,
-            payload: 0,
-            largest: 0,
-            unused: 485,
-            fragments: 0,
-            freeblocks: &[],
-            children: &[4, 5, 11],
-        },
-        Made {
-            name: "an index's root",
-            text: PAGE_2,
-            number: 3,
-            usable: 512,
-            kind: PageKind::InteriorIndex,
-            cells: 1,
-            payload: 10,
-            largest: 10,
-            unused: 483,
-            fragments: 0,
-            freeblocks: &[],
-            children: &[6, 7],
-        },
-        Made {
-            name: "a leaf of a table, with freeblocks",
-            text: PAGE_3,
-            number: 4,
-            usable: 512,
-            kind: PageKind::LeafTable,
-            cells: 20,
-            payload: 286,
-            largest: 20,
-            unused: 98,
-            fragments: 0,
-            freeblocks: &[(128, 19), (263, 23), (366, 17), (430, 22)],
-            children: &[],
-        },
-        Made {
-            name: "a leaf of a table, with a long row",
-            text: PAGE_4,
-            number: 5,
-            usable: 512,
-            kind: PageKind::LeafTable,
-            cells: 17,
-            payload: 329,
-            largest: 604,
-            unused: 101,
-            fragments: 2,
-            freeblocks: &[],
-            children: &[],
-        },
-        Made {
-            name: "a leaf of an index, with freeblocks",
-            text: PAGE_5,
-            number: 6,
-            usable: 512,
-            kind: PageKind::LeafIndex,
-            cells: 21,
-            payload: 334,
-            largest: 22,
-            unused: 107,
-            fragments: 2,
-            freeblocks: &[(177, 28), (301, 20), (415, 16)],
-            children: &[],
-        },
-        Made {
-            name: "a leaf of an index, with long rows",
-            text: PAGE_6,
-            number: 7,
-            usable: 512,
-            kind: PageKind::LeafIndex,
-            cells: 16,
-            payload: 348,
-            largest: 606,
-            unused: 99,
-            fragments: 3,
-            freeblocks: &[(404, 56), (476, 36)],
-            children: &[],
-        },
-        Made {
-            name: "a page with reserved bytes",
-            text: PAGE_7,
-            number: 2,
-            usable: 480,
-            kind: PageKind::LeafTable,
-            cells: 2,
-            payload: 307,
-            largest: 304,
-            unused: 148,
-            fragments: 0,
-            freeblocks: &[(471, 9)],
-            children: &[],
-        },
-    ];
-    for made in &pages {
-        check(&rt, made, &page_of(made.text));
-    }
+    check_all(&rt, &MADE_PAGES);
 }
 
-// A page of 65536 bytes, with one row and one freeblock at its end, and one without rows.
-#[test]
-fn reads_the_largest_pages(rt: HostRuntime) -> Result<(), Fail> {
-    let cases = [
-        (LARGE_HEAD, LARGE_END, 1, 19, 65503, Some((65526, 10))),
-        (EMPTY_HEAD, "", 0, 0, 65528, None),
-    ];
-    for (head, end, cells, payload, unused, freeblock) in cases {
-        let page = large_page(rt.alloc(), 65536, head, end)?;
-        let mut table = large_page(rt.alloc(), 65536, "", "")?;
-        check_large(
-            &rt,
-            page.as_slice(),
-            table.as_mut_slice(),
-            (cells, payload, unused),
-            freeblock,
-        );
-    }
-    Ok(())
-}
-
-// A page of this many bytes, all 0 but for the text at its head and at its end.
-fn large_page(alloc: Global, size: usize, head: &str, end: &str) -> Result<Vec<u8>, AllocError> {
-    let mut page = Vec::from_elem(alloc, 0u8, size)?;
-    write_text(page.as_mut_slice(), 0, head);
-    let start = size.saturating_sub(end.len() / 2);
-    write_text(page.as_mut_slice(), start, end);
-    Ok(page)
-}
-
-fn write_text(page: &mut [u8], start: usize, text: &str) {
-    for i in 0..text.len() / 2 {
-        if i < 65536 && i < page.len() && start < page.len() - i {
-            page[start + i] = byte(text, i);
-        }
-    }
-}
-
-fn check_large(
-    rt: &impl Abort,
-    page: &[u8],
-    table: &mut [u8],
-    want: (u32, usize, u32),
-    freeblock: Option<(u32, u32)>,
-) {
-    let usable = 65536u32;
-    assert!(rt; page.len() >= usable as usize && table.len() >= usable as usize);
-    match PageView::new(page, 2, usable) {
-        Ok(view) => {
-            let read = totals(&view);
-            holds!(rt; (read.0, read.1, view.unused()) == want);
-            let first = view.freeblocks().next().map(|f| (f.offset, f.size));
-            holds!(rt; first == freeblock);
-            holds!(rt; uncounted_coverage(&view, table) == Coverage::Unheld(0));
-        },
-        Err(fault) => panic!(rt; "{fault:?}"),
-    }
-}
-
-const LARGE_HEAD: &str = "0dfff60001ffdf00ffdf";
-
-const LARGE_END: &str = "1384a27003002d736576656e74792074686f7573616e640000000a000000000000";
-
-const EMPTY_HEAD: &str = "0d00000000000000";
-
-const PAGE_0: &str = "\
+const PAGE_0: &str = "0 \
 53514c69746520666f726d61742033000200010100402020000000060000000b000000000000000000000002000000040000000000000000\
 00000001000000000000000000000000000000000000000000000000000000000000000000000006002e63010d00000002019d0001c3019d\
 0000000000000000000000000000000000000000000000000000000000000000000000000000000000000000000000000000000000000000\
@@ -290,7 +84,7 @@ const PAGE_0: &str = "\
 2862293b0106170f0f01677461626c65747402435245415445205441424c452074286120696e7465676572207072696d617279206b65792c\
 2062207465787429";
 
-const PAGE_1: &str = "\
+const PAGE_1: &str = "0 \
 050000000201f5000000000b01fb01f500000000000000000000000000000000000000000000000000000000000000000000000000000000\
 0000000000000000000000000000000000000000000000000000000000000000000000000000000000000000000000000000000000000000\
 0000000000000000000000000000000000000000000000000000000000000000000000000000000000000000000000000000000000000000\
@@ -302,7 +96,7 @@ const PAGE_1: &str = "\
 0000000000000000000000000000000000000000000000000000000000000000000000000000000000000000000000000000000000000000\
 0583740000000434";
 
-const PAGE_2: &str = "\
+const PAGE_2: &str = "0 \
 020000000101f1000000000701f1000000000000000000000000000000000000000000000000000000000000000000000000000000000000\
 0000000000000000000000000000000000000000000000000000000000000000000000000000000000000000000000000000000000000000\
 0000000000000000000000000000000000000000000000000000000000000000000000000000000000000000000000000000000000000000\
@@ -314,7 +108,7 @@ const PAGE_2: &str = "\
 00000000000000000000000000000000000000000000000000000000000000000000000000000000000019000000000000000000060a0319\
 0165666768333961";
 
-const PAGE_3: &str = "\
+const PAGE_3: &str = "0 \
 0d0080001400410001ed01d901c40197017f015c01490134011e00fc00f000e300d500c600b600a50093006c005700410041004100410041\
 000000000000000000143403002f6465666768696a6b6c6d6e6f7071723234133103002d636465666768696a6b6c6d6e6f703233122e0300\
 2b62636465666768696a6b6c6d6e32320107001300000000000000000000000000000010280300276768696a6b6c6d6e6f707132300f2503\
@@ -326,7 +120,7 @@ fe0300236768696a6b6c6d6e6f70360dfffffffffffffffffb030021666768696a6b6c6d6e350000
 000000000bfffffffffffffffff503001d6465666768696a330afffffffffffffffff203001b6364656667683209ffffffffffffffffef03\
 0019626364656631";
 
-const PAGE_4: &str = "\
+const PAGE_4: &str = "0 \
 0d00000011008d0201e901de01d201c501b701a80198018701750162014e01390123010c010100f5008d0000000000000000000000000000\
 0000000000000000000000000000000000000000000000000000000000000000000000000000000000000000000000000000000000000000\
 0000000000000000000000000000000000000000000000000000000000845c83740400893d78787878787878787878787878787878787878\
@@ -338,7 +132,7 @@ const PAGE_4: &str = "\
 66676832390b4003001d61626364656632380a3d03001b6768696a6b3237083a030017676869323600143703002f666768696a6b6c6d6e6f\
 7071727374323500";
 
-const PAGE_5: &str = "\
+const PAGE_5: &str = "0 \
 0a00b10015005b02012100ea015601f5011400dc018d009d014101e9010600cd017a008801c601dc00f7016a01af0072005b005b005b0136\
 004401af00c400000000000000d6004400000000000000000000000000000000000000160331016465666768696a6b6c6d6e6f7071727333\
 385e15032f016465666768696a6b6c6d6e6f70717232343414032d01636465666768696a6b6c6d6e6f7032333113032b0162636465666768\
@@ -350,7 +144,7 @@ const PAGE_5: &str = "\
 7131300a000015032f01636465666768696a6b6c6d6e6f707133375b0c031d016465666768696a33f50b031b0163646566676832f20a0319\
 01626364656631ef";
 
-const PAGE_6: &str = "\
+const PAGE_6: &str = "0 \
 0a01940010002c0301cc011300c0018501740101015d00cc015201460136012400ee00d80058002c002c00007e04817d0279797979797979\
 797979797979797979797979797979797979797979797979797979790000000a845e04893d02787878787878787878787878787878787878\
 7878787878787878787878787878787878787878787878787878787878787878787878787878787878787878787878787878787878787878\
@@ -362,7 +156,7 @@ const PAGE_6: &str = "\
 0000000000000000000000000f03230165666768696a6b6c6d31382200000024000000000000000000000000000000000000000000000000\
 0000000000000000";
 
-const PAGE_7: &str = "\
+const PAGE_7: &str = "0 \
 0d01d70002009700009700a400a4000000000000000000000000000000000000000000000000000000000000000000000000000000000000\
 0000000000000000000000000000000000000000000000000000000000000000000000000000000000000000000000000000000000000000\
 00000000000000000000000000000000000000000000000000000000000000000000000000000003fffffffffffffffffd03000c82300204\

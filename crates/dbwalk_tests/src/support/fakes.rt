@@ -1,38 +1,31 @@
 // Who is told and who takes rows in the tests: each may fail or answer as a test asks for.
 ghost use Rattle.std.specs.Prelude.{◌≡◌};
 
+use crate::support::Text;
 use dbbytes::SchemaRow;
 use dbsource::{Failures, WriteFailed};
 use dbwalk::{Fault, Row, Sink, Taken, Taker};
-use std::alloc::{AllocError, Global};
+use std::alloc::AllocError;
+use std::fmt;
+use std::fmt::Write;
 
 /// Keeps what it is told, a line an item. Its item number `fails_at`, from 0, is not taken.
 #[derive(Drop)]
 pub(crate) struct Told {
-    text: String,
+    pub(crate) text: Text,
     items: u64,
     fails_at: u64,
     failures: Failures,
 }
 
 impl Told {
-    pub(crate) fn new(alloc: Global, fails_at: u64) -> Told {
+    pub(crate) fn new(fails_at: u64) -> Told {
         Told {
-            text: String::new(alloc),
+            text: Text::new(),
             items: 0,
             fails_at,
             failures: Failures::new(),
         }
-    }
-
-    /// The lines of the items.
-    pub(crate) fn text(&self) -> &str {
-        self.text.as_str()
-    }
-
-    /// How many items were told, taken or not.
-    pub(crate) fn items(&self) -> u64 {
-        self.items
     }
 
     // Counts an item, and says whether it is to be taken.
@@ -80,13 +73,13 @@ impl Sink for Told {
 }
 
 // The start, the children on the way, the cell and the number of an overflow page, the page, and its numbers.
-fn write_row(text: &mut String, row: &Row<'_>) -> Result<(), AllocError> {
-    write!(text, "{} /", row.start)?;
+fn write_row(text: &mut Text, row: &Row<'_>) -> fmt::Result {
+    let _ = write!(text, "{} /", row.start);
     for child in row.path {
-        write!(text, "{child}/")?;
+        let _ = write!(text, "{child}/");
     }
     if let Some((cell, number)) = row.chain {
-        write!(text, "{cell}+{number}")?;
+        let _ = write!(text, "{cell}+{number}");
     }
     writeln!(
         text,
@@ -99,7 +92,7 @@ fn write_row(text: &mut String, row: &Row<'_>) -> Result<(), AllocError> {
 /// number `refused_at` memory is refused.
 #[derive(Drop)]
 pub(crate) struct Rows {
-    text: String,
+    pub(crate) text: Text,
     rows: u64,
     full_at: u64,
     refused_at: u64,
@@ -107,19 +100,14 @@ pub(crate) struct Rows {
 }
 
 impl Rows {
-    pub(crate) fn new(alloc: Global, full_at: u64, refused_at: u64) -> Rows {
+    pub(crate) fn new(full_at: u64, refused_at: u64) -> Rows {
         Rows {
-            text: String::new(alloc),
+            text: Text::new(),
             rows: 0,
             full_at,
             refused_at,
             refusals: Failures::new(),
         }
-    }
-
-    /// The lines of the rows.
-    pub(crate) fn text(&self) -> &str {
-        self.text.as_str()
     }
 }
 
@@ -139,7 +127,7 @@ impl Taker for Rows {
             .name
             .and_then(|name| str::from_utf8(name).ok())
             .unwrap_or("?");
-        let kept = writeln!(self.text, "{:?} {} {name}", row.kind, row.root);
+        let kept = writeln!(self.text, "takes {:?} {} {name}", row.kind, row.root);
         if number == self.refused_at || kept.is_err() {
             self.refusals.add();
             return Err(AllocError);

@@ -1,13 +1,12 @@
 // Sources that give other bytes at each read: the walks end, and no page is read twice, nor one of fixed use.
-use crate::support::fakes::{Rows, Told};
+use crate::support::quiet::Quiet;
+use crate::support::walk::SCHEMA;
 use dbfiles::DrawnSource;
 use dbformat::Encoding;
 use dbsource::{Bench, Geometry};
 use dbwalk::{Marks, Root, RootKind, walk_freelist, walk_tree};
 use std::process::Abort;
 use std::test::Fail;
-
-const NEVER: u64 = u64::MAX;
 
 // A file of 64 pages with a pointer map, whose page is page 2.
 const GEOMETRY: Geometry = Geometry {
@@ -17,59 +16,51 @@ const GEOMETRY: Geometry = Geometry {
     has_map: true,
 };
 
-// That each offset is that of a page, and comes once.
-fn are_pages_read_once(rt: &impl Abort, offsets: &[u64]) {
-    for (i, offset) in offsets.iter().enumerate() {
-        assert!(rt; offset % 512 == 0 && *offset < 32768 && *offset != 512);
-        assert!(rt; !offsets[..i].contains(offset));
-    }
-}
+const TABLE: Root = Root {
+    start: 1,
+    page: 3,
+    kind: RootKind::Own,
+    encoding: Encoding::Utf8,
+};
+
+const INDEX: Root = Root {
+    start: 2,
+    page: 4,
+    kind: RootKind::Index,
+    encoding: Encoding::Utf8,
+};
 
 #[test]
 fn reads_no_drawn_page_twice(rt: HostRuntime) -> Result<(), Fail> {
+    let mut bench = Bench::new(rt.alloc(), GEOMETRY)?;
+    let mut marks = Marks::new(rt.alloc(), &GEOMETRY)?;
     let mut reads: usize = 0;
     for first in 0..100u32 {
+        marks.clear();
         let mut source = DrawnSource::new(&[], 32768, first);
-        let mut bench = Bench::new(rt.alloc(), GEOMETRY)?;
-        let mut marks = Marks::new(rt.alloc(), &GEOMETRY)?;
-        let mut rows = Rows::new(rt.alloc(), NEVER, NEVER);
-        let mut told = Told::new(rt.alloc(), NEVER);
-        for root in [
-            Root {
-                start: 0,
-                page: 1,
-                kind: RootKind::Schema,
-                encoding: Encoding::Utf8,
-            },
-            Root {
-                start: 1,
-                page: 3,
-                kind: RootKind::Own,
-                encoding: Encoding::Utf8,
-            },
-            Root {
-                start: 2,
-                page: 4,
-                kind: RootKind::Index,
-                encoding: Encoding::Utf8,
-            },
-        ] {
-            let answer = walk_tree(
-                &mut source,
-                &mut bench,
-                &mut marks,
-                root,
-                &mut rows,
-                &mut told,
-            );
-            assert!(rt; answer == Ok(()));
-        }
-        let answer = walk_freelist(&mut source, &mut bench, &mut marks, 5, &mut told);
-        assert!(rt; answer == Ok(()));
+        walk_drawn(&rt, &mut source, &mut bench, &mut marks);
         are_pages_read_once(&rt, source.offsets());
         reads = reads.wrapping_add(source.offsets().len());
     }
     // The bytes lead somewhere: more pages are read than the starts.
-    assert!(rt; reads > 500, "{reads}");
+    holds!(rt; reads > 500, reads);
     Ok(())
+}
+
+fn walk_drawn(rt: &impl Abort, source: &mut DrawnSource<'_>, bench: &mut Bench, marks: &mut Marks) {
+    let (mut taker, mut sink) = (Quiet::default(), Quiet::default());
+    let schema = walk_tree(source, bench, marks, SCHEMA, &mut taker, &mut sink);
+    let table = walk_tree(source, bench, marks, TABLE, &mut taker, &mut sink);
+    let index = walk_tree(source, bench, marks, INDEX, &mut taker, &mut sink);
+    let freelist = walk_freelist(source, bench, marks, 5, &mut sink);
+    let answers = [schema, table, index, freelist];
+    holds!(*rt; answers == [Ok(()); 4], answers);
+}
+
+// That each offset is that of a page, and comes once.
+fn are_pages_read_once(rt: &impl Abort, offsets: &[u64]) {
+    for (i, offset) in offsets.iter().enumerate() {
+        holds!(*rt; offset % 512 == 0 && *offset < 32768 && *offset != 512, offset);
+        holds!(*rt; !offsets[..i].contains(offset), offset);
+    }
 }

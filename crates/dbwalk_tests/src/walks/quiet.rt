@@ -1,84 +1,59 @@
-// A sink and a taker of which nothing is claimed, as the documentation of these traits gives them to copy.
-use dbbytes::SchemaRow;
-use dbfiles::Sample;
-use dbformat::Encoding;
-use dbsource::{Bench, Header, MemSource, WriteFailed};
-use dbwalk::{Fault, Marks, Root, RootKind, Row, Sink, Taken, Taker, walk_tree};
-use std::alloc::AllocError;
+// Walks with a sink and a taker of which nothing is claimed, and what they ask for.
+use crate::support::quiet::Quiet;
+use crate::support::walk::SCHEMA;
+use crate::support::{Text, expect_text};
+use dbfiles::TestFile;
+use dbsource::{Bench, Header, LogSource};
+use dbwalk::{Marks, walk_tree};
+use std::alloc::Global;
+use std::fmt::Write;
+use std::process::Abort;
 use std::test::Fail;
 
-#[derive(Default, Drop)]
-struct Quiet {
-    rows: u64,
-    faults: u64,
-    roots: u64,
-}
+// Files, how many rows and faults are told and how many roots taken, and the ranges that are asked for: the header's, and then
+// each page's once, in the order of the walk.
+const CASES: [[&str; 2]; 2] = [
+    // Two rows of the schema, of which the second has a number for a name and the rowid of the first.
+    [
+        "SharedRoot 3: 1 481 01, 1 484 01, 1 495 03",
+        "rows 1 faults 2 roots 2, 0+100 0+512",
+    ],
+    ["LongSql 3", "rows 2 faults 0 roots 1, 0+100 0+512 1024+512"],
+];
 
-impl Sink for Quiet {
-    ghost use Rattle.std.specs.Prelude.{[], ⊤};
-
-    ghost takes = { λ _ _ _. ⊤ };
-
-    ghost drops = { λ _ _ _. ⊤ };
-
-    ghost held = { λ _. record { lent = []; failures = [] } };
-
-    fn fault(&mut self, _fault: &Fault) -> Result<(), WriteFailed> {
-        self.faults = self.faults.saturating_add(1);
-        Ok(())
-    }
-
-    fn row(&mut self, _row: &Row<'_>) -> Result<(), WriteFailed> {
-        self.rows = self.rows.saturating_add(1);
-        Ok(())
-    }
-}
-
-impl Taker for Quiet {
-    ghost use Rattle.std.specs.Prelude.{⊤};
-
-    ghost takes = { λ _ _ _ _. ⊤ };
-
-    ghost refuses = { λ _ _ _. ⊤ };
-
-    ghost refusals = { λ _. 0 };
-
-    fn take(&mut self, row: &SchemaRow<'_>) -> Result<Taken, AllocError> {
-        if row.root == 0 {
-            return Ok(Taken::NoRoot);
-        }
-        self.roots = self.roots.saturating_add(1);
-        Ok(Taken::Taken)
-    }
-}
-
-// Two rows of the schema, of which the second has a number for a name and the rowid of the first.
 #[test]
-fn a_quiet_sink_and_taker(rt: HostRuntime) -> Result<(), Fail> {
-    let mut file = Sample::SharedRoot.of_pages(rt.alloc(), 3)?;
-    for (at, digits) in [(481, "01"), (484, "01"), (495, "03")] {
-        file.hex(1, at, digits);
+fn asks_for_each_page_once(rt: HostRuntime) -> Result<(), Fail> {
+    for case in &CASES {
+        let file = TestFile::of(rt.alloc(), case[0])?.into_bytes();
+        check(&rt, rt.alloc(), file.as_slice(), case[1])?;
     }
-    let file = file.into_bytes();
-    let mut source = MemSource::new(file.as_slice());
-    let header = Header::read(&mut source)?;
-    let mut bench = Bench::new(rt.alloc(), header.geometry())?;
-    let mut marks = Marks::new(rt.alloc(), &header.geometry())?;
-    let schema = Root {
-        start: 0,
-        page: 1,
-        kind: RootKind::Schema,
-        encoding: Encoding::Utf8,
-    };
-    let (mut taker, mut sink) = (Quiet::default(), Quiet::default());
-    walk_tree(
-        &mut source,
-        &mut bench,
-        &mut marks,
-        schema,
-        &mut taker,
-        &mut sink,
-    )?;
-    assert!(rt; (sink.rows, sink.faults, taker.roots) == (1, 2, 2));
     Ok(())
+}
+
+fn check(rt: &impl Abort, alloc: Global, file: &[u8], want: &str) -> Result<(), Fail> {
+    let mut source = LogSource::new(file);
+    let geometry = Header::read(&mut source)?.geometry();
+    let mut marks = Marks::new(alloc, &geometry)?;
+    let mut bench = Bench::new(alloc, geometry)?;
+    walk_quietly(rt, &mut source, &mut bench, &mut marks, want);
+    Ok(())
+}
+
+fn walk_quietly(
+    rt: &impl Abort,
+    source: &mut LogSource<'_>,
+    bench: &mut Bench,
+    marks: &mut Marks,
+    want: &str,
+) {
+    let (mut taker, mut sink) = (Quiet::default(), Quiet::default());
+    let answer = walk_tree(source, bench, marks, SCHEMA, &mut taker, &mut sink);
+    holds!(*rt; answer == Ok(()), want);
+    let mut text = Text::new();
+    let (rows, faults, roots) = (sink.rows, sink.faults, taker.roots);
+    let _ = write!(text, "rows {rows} faults {faults} roots {roots},");
+    for range in source.ranges() {
+        let _ = write!(text, " {}+{}", range.offset, range.len);
+    }
+    expect_text(rt, &text, want, &"");
 }

@@ -1,0 +1,4 @@
+// The picture of a file's pages: of each kind of page, of names that would be markup, of squares that stand for runs of pages,
+// and of reads, writes and memory that are refused.
+mod pictures;
+mod refused;

@@ -1,0 +1,102 @@
+// Reads, writes and memory that are refused in turn.
+use crate::map::pictures::small;
+use dbfiles::StatedSource;
+use dbmap::{map, map_in};
+use dbreport::Verdict;
+use dbsource::{MemOut, MemSource, RunError, StreamOut};
+use linked_list_allocator::LocalHeap;
+use std::alloc::{AllocError, Global};
+use std::process::Abort;
+use std::test::Fail;
+
+// The call of the source with this number fails: nothing was written by then.
+fn fails_at_read(rt: &impl Abort, alloc: Global, file: &[u8], fails_at: u64) {
+    let mut source = StatedSource::new(file, file.len() as u64, fails_at);
+    let mut out = MemOut::new(alloc);
+    let verdict = map(alloc, "x", &mut source, &mut out);
+    holds!(*rt; verdict == Err(RunError::ReadFailed), fails_at);
+    holds!(*rt; out.bytes().is_empty(), fails_at);
+}
+
+// There is room for some bytes of the picture.
+fn fails_in(rt: &impl Abort, alloc: Global, file: &[u8], held: &mut [u8]) {
+    let room = held.len();
+    let mut source = MemSource::new(file);
+    let mut out = StreamOut::new(held);
+    let verdict = map(alloc, "x", &mut source, &mut out);
+    holds!(*rt; verdict == Err(RunError::WriteFailed), room);
+}
+
+#[test]
+fn each_read_fails_in_turn(rt: HostRuntime) -> Result<(), Fail> {
+    let file = small(rt.alloc())?;
+    for fails_at in 0..7u64 {
+        fails_at_read(&rt, rt.alloc(), file.as_slice(), fails_at);
+    }
+    Ok(())
+}
+
+#[test]
+fn writes_fail(rt: HostRuntime) -> Result<(), Fail> {
+    let file = small(rt.alloc())?;
+    for room in [0usize, 1, 100, 1000, 3000] {
+        let mut held = Vec::from_elem(rt.alloc(), 0u8, room)?;
+        fails_in(&rt, rt.alloc(), file.as_slice(), held.as_mut_slice());
+    }
+    Ok(())
+}
+
+// A heap of so many bytes answers so: nothing of it is held then, and nothing was put where it is an error.
+fn in_room(
+    rt: &impl Abort,
+    alloc: Global,
+    file: &[u8],
+    room: usize,
+    wanted: Result<Verdict, RunError>,
+) -> Result<(), AllocError> {
+    let heap = LocalHeap::new(alloc, room)?;
+    let mut source = MemSource::new(file);
+    let mut out = MemOut::new(alloc);
+    let answer = map_in(&heap, "x", &mut source, &mut out);
+    holds!(*rt; answer == wanted, room);
+    holds!(*rt; heap.used() == 0 && answer.is_err() == out.bytes().is_empty(), room);
+    Ok(())
+}
+
+// A buffer of a page for each of 22 levels, and four bytes a page of marks.
+const DESK: usize = 22 * 512 + 32;
+
+// Four bytes a page for the trees.
+const TREES: usize = DESK + 32;
+
+// 8 bytes for each of 65538 starts.
+const TALLY: usize = TREES + 65538 * 8;
+
+// A byte a page for the faulty ones. The heap gives units of 16 bytes.
+const FAULTY: usize = TALLY + 16;
+
+// As rows are read, the list of roots takes four rows of 20 bytes, and then 8 bytes of names.
+const ROOTS: usize = FAULTY + 80;
+
+// Each is refused where there is room for those before it alone.
+#[test]
+fn each_growth_is_refused(rt: HostRuntime) -> Result<(), Fail> {
+    let file = small(rt.alloc())?;
+    for room in [512usize, DESK - 16, DESK, TREES, TALLY, FAULTY, ROOTS] {
+        in_room(
+            &rt,
+            rt.alloc(),
+            file.as_slice(),
+            room,
+            Err(RunError::OutOfMemory),
+        )?;
+    }
+    in_room(
+        &rt,
+        rt.alloc(),
+        file.as_slice(),
+        ROOTS + 16,
+        Ok(Verdict::Faulty(1)),
+    )?;
+    Ok(())
+}

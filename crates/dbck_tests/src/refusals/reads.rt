@@ -1,0 +1,78 @@
+// Each read of a run fails in turn: the answer, and what was written by then.
+use crate::support::cases::{begins, command_of, file_of, lines, verdict_of};
+use crate::support::fakes::SmallOut;
+use crate::support::files::{LONG_ROW_ROWS, MAPPED_ROWS, OLD_VERSION};
+use dbfiles::StatedSource;
+use dbreport::{Command, run};
+use dbsource::RunError;
+use std::alloc::Global;
+use std::test::Fail;
+
+// What is run, the file, what is written to the first out, and how many lines of that stand after a failure of the length, the
+// header, and each page in turn.
+const READS: [[&str; 4]; 8] = [
+    // `ok` comes at the end.
+    ["check", "LongRow 3", "ok\n", "0 0 0 0 0"],
+    // The line of the header stands before page 1 is read.
+    ["check", "LongRow 3: 1 18 03", OLD_VERSION, "0 0 1 1 1"],
+    ["pages", "LongRow 3", LONG_ROW_ROWS, "0 0 0 1 2"],
+    // The row of a tree is written when its last page is read.
+    [
+        "trees",
+        "LongRow 3",
+        "sqlite_schema|-|1|-|1|14|386|14|-|512\nt|-|2|-|1|600|403|600|-|1024\n",
+        "0 0 0 1 1",
+    ],
+    // Behind page 4 the map page 2 is read, when all rows stand.
+    ["all pages", "Mapped 4", MAPPED_ROWS, "0 0 0 1 2 4"],
+    [
+        "all trees",
+        "Mapped 4",
+        "sqlite_schema|-|1|-|1|14|386|14|-|512\nt|-|2|-|1|600|403|600|-|1024\n-|-|2|map|0|0|0|0|512|512\n",
+        "0 0 0 1 1 3",
+    ],
+    // The trunk on page 3 is read behind page 2.
+    [
+        "all pages",
+        "LongRow 3: 1 32 00000003 00000001, 2 0 0d 0000 0000 0200 00, 2 508 00000000",
+        "sqlite_schema|/|1|leaf|1|14|386|14|0|512\nt|/|2|leaf|0|0|504|0|512|512\n-|-|3|trunk|0|0|0|0|1024|512\n",
+        "0 0 0 1 2",
+    ],
+    [
+        "all pages",
+        "Smallest 1",
+        "sqlite_schema|/|1|leaf|0|0|404|0|0|512\n",
+        "0 0 0",
+    ],
+];
+
+// Whether a run whose call of this number fails, from 0, wrote so many lines; or, where no call fails, all of the text.
+fn stands(alloc: Global, [what, _, text, stand]: &[&str; 4], file: &[u8], fails_at: usize) -> bool {
+    let mut source = StatedSource::new(file, file.len() as u64, fails_at as u64);
+    let mut out = SmallOut::new(2048);
+    let mut err = SmallOut::new(0);
+    let command = command_of(what);
+    let answer = run(alloc, command, &mut source, &mut out, &mut err);
+    // The files of the statistics have no fault.
+    let report = if *what == "check" { text } else { "" };
+    let wanted = match stand.split(' ').nth(fails_at) {
+        Some(stand) => (Err(RunError::ReadFailed), stand.parse::<usize>()),
+        None => (Ok(verdict_of(report)), Ok(lines(text.as_bytes()))),
+    };
+    (answer, Ok(lines(out.bytes()))) == wanted
+        && begins(text, out.bytes())
+        && (out.bytes().is_empty() || out.bytes().ends_with(b"\n"))
+}
+
+// Call 0 is the length, call 1 the header, and the others a page each. No line of a fault is written to the second out.
+#[test]
+fn each_read_fails_in_turn(rt: HostRuntime) -> Result<(), Fail> {
+    for case in &READS {
+        let file = file_of(rt.alloc(), case[1])?;
+        let calls = case[3].split(' ').count();
+        for fails_at in 0..calls.wrapping_add(2) {
+            holds!(rt; stands(rt.alloc(), case, file.as_slice(), fails_at), (case, fails_at));
+        }
+    }
+    Ok(())
+}
