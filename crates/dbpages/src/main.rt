@@ -8,7 +8,7 @@
 
 use anyhow::{Context, Result};
 use dbpage::{PageKind, PageView};
-use dbsource::{Bench, FileSource, Fixed, Header};
+use dbsource::{Bench, FileSource, Fixed, Header, Source};
 use std::env;
 
 fn kind_text(kind: PageKind) -> &'static str {
@@ -20,7 +20,7 @@ fn kind_text(kind: PageKind) -> &'static str {
     }
 }
 
-fn print_pages(rt: &(impl Print + AllocGlobal), source: &mut FileSource) -> Result<()> {
+fn print_pages(rt: &(impl Print + AllocGlobal), source: &mut impl Source) -> Result<()> {
     let header = Header::read(source)?;
     let mut bench = Bench::new(rt.alloc(), header.geometry())?;
     for number in 1..=header.geometry().pages {

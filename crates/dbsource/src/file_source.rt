@@ -2,22 +2,31 @@
 ghost use Rattle.std.specs.Prelude.{◌≡◌, IfOk};
 ghost use Rattle.dbsource.specs.Sources.{any_length, no_step, untold_source};
 
+use crate::read_ahead::{DEVICE_MICROS, ReadAhead};
+use crate::read_along::ReadAlong;
 use crate::{Failures, ReadFailed, Source};
 use std::fs::{File, Metadata};
 use std::io::{Seek, SeekFrom};
 use std::marker::Model;
 use std::os::unix::fs::{FileExt, FileTypeExt};
-use std::rt::Files;
+use std::rt::{Clock, Files};
+use std::time::Duration;
 use std::{fs, io};
 
 /// A file that is only read. Nothing is known of the bytes that it gives: it tells none.
+///
+/// It may ask the system for more than it is asked for. Where reads follow one another it makes longer ones, of at most 256 KiB,
+/// and answers from these; and of a file that is not in memory it reads each MiB in which it reads once more as a whole, so that
+/// the system has it in memory. It has memory for that where it finds some.
 #[derive(Drop)]
-pub struct FileSource {
+pub struct FileSource<'r, C> {
     file: File,
+    ahead: Option<ReadAhead<'r, C>>,
+    along: Option<ReadAlong>,
     failures: Failures,
 }
 
-impl Model for FileSource {
+impl<'r, C> Model for FileSource<'r, C> {
     ghost use Rattle.dbsource.specs.Sources.{SourceState, untold_source};
 
     ghost Value = { SourceState };
@@ -33,13 +42,29 @@ fn has_length(looked: io::Result<Metadata>) -> bool {
     }
 }
 
-impl FileSource {
+impl<'r, R: Files<File = File> + Clock + AllocGlobal> FileSource<'r, R> {
     /// Opens the file at `path` for reading.
     ///
     /// # Errors
     ///
     /// [`ReadFailed`] where it cannot be opened, or is neither a regular file nor a block device.
-    pub fn open<R: Files<File = File>>(rt: &R, path: &str) -> Result<FileSource, ReadFailed>
+    pub fn open(rt: &'r R, path: &str) -> Result<FileSource<'r, R>, ReadFailed>
+        ensures { IfOk result (λ s. s ≡ untold_source) }
+    {
+        FileSource::open_with(rt, path, Some(Duration::from_micros(DEVICE_MICROS)))
+    }
+
+    /// Opens the file as [`open`](FileSource::open) does, for tests and for measurements: a read that takes `bound` or longer
+    /// is taken to come from a device, so each at 0; and with no bound no MiB is read once more.
+    ///
+    /// # Errors
+    ///
+    /// [`ReadFailed`], as there.
+    pub fn open_with(
+        rt: &'r R,
+        path: &str,
+        bound: Option<Duration>,
+    ) -> Result<FileSource<'r, R>, ReadFailed>
         ensures { IfOk result (λ s. s ≡ untold_source) }
     {
         // Before it is opened, since a named pipe would wait for its writer, and since opening a device can do something.
@@ -48,16 +73,38 @@ impl FileSource {
         }
         match fs::open(rt, path) {
             // And again, since another file may have come to the path meanwhile.
-            Ok(file) if has_length(file.metadata()) => Ok(FileSource {
-                file,
-                failures: Failures::new(),
-            }),
+            Ok(mut file) if has_length(file.metadata()) => {
+                let len = file.seek(SeekFrom::End(0)).unwrap_or(0);
+                Ok(FileSource {
+                    file,
+                    ahead: bound.and_then(|bound| ReadAhead::new(rt.alloc(), rt, len, bound).ok()),
+                    along: ReadAlong::new(rt.alloc()).ok(),
+                    failures: Failures::new(),
+                })
+            }
             _ => Err(ReadFailed),
         }
     }
 }
 
-impl Source for FileSource {
+impl<C: Clock> FileSource<'_, C> {
+    // Reads as many bytes as `buf` has, from `offset` on: as the file does, where that was not done before.
+    fn read(&mut self, offset: u64, buf: &mut [u8]) -> io::Result<()>
+        ensures { self.new ≡ self.old }
+    {
+        if let Some(along) = &mut self.along
+            && along.read(&self.file, offset, buf)
+        {
+            return Ok(());
+        }
+        match &mut self.ahead {
+            Some(ahead) => ahead.read(&self.file, offset, buf),
+            None => self.file.read_exact_at(buf, offset),
+        }
+    }
+}
+
+impl<C: Clock> Source for FileSource<'_, C> {
     ghost held = { λ s. s };
 
     ghost step = { no_step };
@@ -76,7 +123,7 @@ impl Source for FileSource {
     }
 
     fn read_at(&mut self, offset: u64, buf: &mut [u8]) -> Result<(), ReadFailed> {
-        match self.file.read_exact_at(buf, offset) {
+        match self.read(offset, buf) {
             Ok(()) => Ok(()),
             Err(_) => {
                 self.failures.add();

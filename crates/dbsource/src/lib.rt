@@ -24,6 +24,8 @@ mod log_source;
 mod memory_out;
 mod memory_source;
 mod out;
+mod read_ahead;
+mod read_along;
 mod source;
 mod stream_out;
 

@@ -1,0 +1,91 @@
+// Reading ahead: a file that is not in memory is read by windows.
+use std::alloc::{AllocError, Global};
+use std::fs::File;
+use std::io;
+use std::os::unix::fs::FileExt;
+use std::rt::Clock;
+use std::time::{Duration, Instant};
+
+// How many bytes a window has. In one piece a disk that turns reads them in about the time that its head takes to a page, and
+// an SSD at the rate at which it reads a whole file. More would seldom be faster, and reads more that a run may not need.
+const WINDOW: usize = 1_048_576;
+
+// How many windows the greatest file has that is checked, of 67108864 pages of 65536 bytes: half a mebibyte of bits.
+const MOST_WINDOWS: u64 = 4_194_304;
+
+// How many bytes of a read are timed at most: a page of the usual size. One of 65536 bytes may take 20 microseconds from memory.
+const TIMED: usize = 4096;
+
+/// How many microseconds so many bytes take at least that come from a device. From memory they take one or two, from a fast SSD
+/// some forty.
+pub(crate) const DEVICE_MICROS: u64 = 15;
+
+/// The windows of a file. The beginning of the first read in each is timed: if it came from a device, the whole window is read
+/// once, so that the system has it in memory when its other pages are read. What that returns is not used.
+#[derive(Drop)]
+pub(crate) struct ReadAhead<'r, C> {
+    clock: &'r C,
+    bound: Duration,
+    // A bit a window: whether a read in it was timed.
+    seen: Vec<u64>,
+    buffer: Vec<u8>,
+}
+
+impl<'r, C: Clock> ReadAhead<'r, C> {
+    /// Of a file of `len` bytes, where a page that takes `bound` or longer comes from a device. All memory is taken here.
+    ///
+    /// # Errors
+    ///
+    /// [`AllocError`] where it was refused.
+    pub fn new(
+        alloc: Global,
+        clock: &'r C,
+        len: u64,
+        bound: Duration,
+    ) -> Result<ReadAhead<'r, C>, AllocError> {
+        let windows = len.div_ceil(WINDOW as u64).min(MOST_WINDOWS);
+        Ok(ReadAhead {
+            clock,
+            bound,
+            seen: vec![in alloc; 0; windows.div_ceil(64) as usize]?,
+            buffer: Vec::with_capacity(alloc, WINDOW)?,
+        })
+    }
+
+    // Whether no read in this window was timed yet. Behind the length that the file had there are no windows.
+    fn is_new(&mut self, window: u64) -> bool {
+        let bit = 1u64 << (window % 64);
+        match self.seen.get_mut((window / 64) as usize) {
+            Some(bits) if *bits & bit == 0 => {
+                *bits |= bit;
+                true
+            }
+            _ => false,
+        }
+    }
+
+    /// Reads from `offset` on, as the file does, and then ahead, if that is due. An error is that of the read itself.
+    pub fn read(&mut self, file: &File, offset: u64, buf: &mut [u8]) -> io::Result<()> {
+        let window = offset / WINDOW as u64;
+        if !self.is_new(window) {
+            return file.read_exact_at(buf, offset);
+        }
+        let (first, rest) = buf.split_at_mut(TIMED.min(buf.len()));
+        let start = Instant::now(self.clock);
+        file.read_exact_at(first, offset)?;
+        if let Ok(start) = start
+            && let Ok(time) = start.elapsed(self.clock)
+            && time >= self.bound
+        {
+            self.fetch(file, window * WINDOW as u64);
+        }
+        file.read_exact_at(rest, offset.wrapping_add(first.len() as u64))
+    }
+
+    // Reads a window. The buffer has its bytes only now, so that a file in memory costs none.
+    fn fetch(&mut self, file: &File, start: u64) {
+        if self.buffer.resize(WINDOW, 0).is_ok() {
+            let _ = file.read_at(&mut self.buffer, start);
+        }
+    }
+}
