@@ -1,5 +1,7 @@
 pub mod Address
 pub mod Cell
+pub mod Codes
+pub mod Counts
 pub mod Coverage
 pub mod EndFaults
 pub mod Errands
@@ -13,6 +15,7 @@ pub mod KeyFaults
 pub mod Laws
 pub mod Lines
 pub mod Log
+pub mod Looks
 pub mod Numbers
 pub mod Options
 pub mod PageFaults

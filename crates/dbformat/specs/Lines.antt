@@ -3,6 +3,7 @@ use Rattle.std.specs.Prelude.{◌≡◌, ℕ, zero, suc, ◌-◌, ◌*◌, ◌^�
 use Rattle.std.specs.List.{join_with_byte}
 use Rattle.std.specs.Option.{option_map_or}
 use Rattle.std.specs.Fmt.{signed_decimal}
+use Rattle.dbformat.specs.Counts.{no_counts}
 use Rattle.dbformat.specs.File.{geometry}
 use Rattle.dbformat.specs.Header.{encoding, page_size}
 use Rattle.dbformat.specs.SchemaRow.{SchemaRow}
@@ -10,6 +11,7 @@ use Rattle.dbformat.specs.Text.{hex_text, shown_name}
 use Rattle.dbformat.specs.Reference.{Reference}
 use Rattle.dbformat.specs.Schema.{schema, rooted_rows}
 use Rattle.dbformat.specs.Rows.{StatRow, OtherPage, trunk_page, leaf_page, map_page, lock_page, unowned_page, FormRow, page_row, tree_row, other_row, StatForm, form_rows}
+use Rattle.dbformat.specs.declared.counts.Counts.{Counts}
 use Rattle.dbformat.specs.declared.Fault.{Fault}
 use Rattle.dbformat.specs.declared.FaultCode.{FaultCode}
 use Rattle.dbformat.specs.declared.FaultCode.TheVariants.{H01, H02, H03, H04, H05, H06, H07, H08, H09, H10, P01, P02, P03, P04, P05, P06, P07, P08, P09, P10, R01, R02, R03, T04, T05, T06, O01, L01, S01, S02, S03, S04, N01, M01, M02}
@@ -147,6 +149,19 @@ columns texts = join_with_byte tab texts ++ line_feed ∷ []
 abbrev pub counted : ℕ → ℕ
 counted n = min n (2 ^ 64 - 1)
 
+-- what some pages count together: sums that stop at the greatest number of 64 bits, and the greatest payload
+abbrev pub total_counts : List Counts → Counts
+total_counts cs = record {
+  ncell = counted (sum_by (λ c. c.ncell) cs);
+  payload = counted (sum_by (λ c. c.payload) cs);
+  unused = counted (sum_by (λ c. c.unused) cs);
+  mx_payload = fold max 0 (map (λ c. c.mx_payload) cs);
+}
+
+-- the columns of what is counted
+abbrev pub counts_columns : Counts → List (List ℕ)
+counts_columns c = decimal c.ncell ∷ decimal c.payload ∷ decimal c.unused ∷ decimal c.mx_payload ∷ []
+
 -- the last column of a row, `pgsize`: the bytes of the pages that it counts, by the page size
 abbrev pub pgsize : ℕ → FormRow → ℕ
 pgsize size (page_row row) = size
@@ -160,11 +175,8 @@ page_line name size row = columns (
     ∷ path_text row.path row.chain
     ∷ decimal row.page
     ∷ pagetype_text row.pagetype
-    ∷ decimal row.ncell
-    ∷ decimal row.payload
-    ∷ decimal row.unused
-    ∷ decimal row.mx_payload
-    ∷ decimal ((row.page - 1) * size)
+    ∷ counts_columns row.counts
+    ++ decimal ((row.page - 1) * size)
     ∷ decimal (pgsize size (page_row row)) ∷ [])
 
 -- the text of what another page is (own)
@@ -179,19 +191,16 @@ other_text unowned_page = codes "unowned"
 abbrev pub no_text : List ℕ
 no_text = codes "-"
 
--- The line of a tree: the number of its page rows in place of a page, their sums, each of which stops at the greatest
--- number of 64 bits, and the greatest payload among them.
+-- The line of a tree: the number of its page rows in place of a page, which stops at the greatest number of 64 bits, and
+-- what they count together.
 abbrev pub tree_line : List ℕ → ℕ → List StatRow → List ℕ
 tree_line name size rows = columns (
     name
     ∷ no_text
     ∷ decimal (counted (length rows))
     ∷ no_text
-    ∷ decimal (counted (sum_by (λ row. row.ncell) rows))
-    ∷ decimal (counted (sum_by (λ row. row.payload) rows))
-    ∷ decimal (counted (sum_by (λ row. row.unused) rows))
-    ∷ decimal (fold max 0 (map (λ row. row.mx_payload) rows))
-    ∷ no_text
+    ∷ counts_columns (total_counts (map (λ row. row.counts) rows))
+    ++ no_text
     ∷ decimal (pgsize size (tree_row 0 rows)) ∷ [])
 
 -- the line of another page
@@ -201,11 +210,8 @@ other_line size p what = columns (
     ∷ no_text
     ∷ decimal p
     ∷ other_text what
-    ∷ decimal 0
-    ∷ decimal 0
-    ∷ decimal 0
-    ∷ decimal 0
-    ∷ decimal ((p - 1) * size)
+    ∷ counts_columns no_counts
+    ++ decimal ((p - 1) * size)
     ∷ decimal (pgsize size (other_row p what)) ∷ [])
 
 -- the line of a row of a form

@@ -6,7 +6,7 @@
 //! ```
 #![tactic(auto)]
 
-ghost use Rattle.std.specs.Prelude.{◌≡◌, ℕ, List, pos};
+ghost use Rattle.std.specs.Prelude.{◌≡◌, ℕ, List, length, pos};
 ghost use Rattle.dbformat.specs.Coverage.{AreFreeblocksAll};
 ghost use Rattle.dbformat.specs.Faults.{fault};
 ghost use Rattle.dbformat.specs.Head.{View, is_interior};
@@ -15,14 +15,23 @@ ghost use Rattle.dbformat.specs.Errands.{IsByLeaf, IsOneLeafMore, IsNoneAtFreeLe
 ghost use Rattle.dbformat.specs.Errands.{AreCellsApart};
 ghost use Rattle.dbformat.specs.Laws.{HasOneSurvey, FollowsTheUnrefused, IsRefusedByMarks, IsInTheTheory, IsToldInOrder, LooksBackAlone};
 ghost use Rattle.dbformat.specs.Laws.{IsByStarts, IsSchemaBelowItsStart, FollowsAllWhereFaultless, HasWholeChains};
+ghost use Rattle.dbformat.specs.Lines.{counted};
 ghost use Rattle.dbformat.specs.Log.{RunsReadOnce};
+ghost use Rattle.dbformat.specs.Report.{verdict, verdict_of};
 ghost use Rattle.dbformat.specs.Samples.{long_row_file};
 ghost use Rattle.dbformat.specs.Sound.{Sound};
+ghost use Rattle.dbformat.specs.declared.Fault.{Fault};
 
+mod codes;
+mod counts;
 mod fixed_pages;
 mod numbers;
+mod starts;
 
+pub use codes::codes_are_listed;
+pub use counts::Counts;
 pub use numbers::{u16_at, u32_at};
+pub use starts::{FREELIST_START, MOST_ROOTS, SCHEMA_START};
 use thiserror::Error;
 
 /// What is wrong with a file that is read. Each variant is the code that a fault line begins with.
@@ -271,6 +280,34 @@ pub enum RowFault {
     Root(i64),
 }
 
+/// The first and the last rowid of a leaf.
+#[derive(Clone, Copy, Debug, PartialEq, Eq)]
+pub struct Rowids {
+    pub first: i64,
+    pub last: i64,
+}
+
+/// A page whose head is that of a page of a tree.
+#[derive(Clone, Copy, Debug, PartialEq, Eq)]
+pub struct TreeLook {
+    pub kind: PageKind,
+    /// How many cells it has, readable or not.
+    pub cells: u32,
+    /// Of a leaf of a table whose first and last cell can be read as far as their rowid: these two.
+    pub rowids: Option<Rowids>,
+}
+
+/// What a page looks like by its bytes alone, whatever refers to it.
+#[derive(Clone, Copy, Debug, PartialEq, Eq)]
+pub enum Look {
+    /// All its usable bytes are 0.
+    Zeros,
+    /// Its head is that of a page of a tree.
+    Tree(TreeLook),
+    /// Neither: its first 16 bytes.
+    Other([u8; 16]),
+}
+
 /// What a row of the statistics shows.
 #[derive(Clone, Copy, Debug, PartialEq, Eq)]
 pub enum PageType {
@@ -295,6 +332,20 @@ pub enum Command {
 pub enum Verdict {
     Clean,
     Faulty(u64),
+}
+
+impl Verdict {
+    /// The verdict of a count of faults. The count is that of all, or the greatest number of 64 bits where there are more.
+    #[inline(always)]
+    pub fn of(count: u64) -> Verdict
+        ensures count { result ≡ verdict_of count }
+        ensures faults { (fs : List Fault) → count ≡ counted (length fs) → result ≡ verdict fs }
+    {
+        match count {
+            0 => Verdict::Clean,
+            count => Verdict::Faulty(count),
+        }
+    }
 }
 
 /// A file has one survey: there is one, which a traversal finds, and no other. A reference of a start or of a visited

@@ -14,6 +14,7 @@ use Rattle.dbformat.specs.Survey.{Survey}
 use Rattle.dbformat.specs.declared.Geometry.{Geometry}
 use Rattle.dbformat.specs.declared.Fault.{Fault}
 use Rattle.dbformat.specs.declared.FaultCode.TheVariants.{N01, M01, M02}
+use Rattle.dbmarks.specs.declared.entry.MapEntry as entry
 use Rattle.dbmarks.specs.declared.marks.Mark.{Mark}
 use Rattle.dbmarks.specs.declared.marks.Mark.TheVariants.{Unmarked, Fixed, Root, Trunk, FreeLeaf, FirstOverflow, LaterOverflow, Child}
 use Rattle.dbmarks.specs.Marking.{mark_of, marks_of, page_mark}
@@ -32,6 +33,10 @@ mark_entry (FirstOverflow from) = record { type = 3; number = from }
 mark_entry (LaterOverflow from) = record { type = 4; number = from }
 mark_entry (Child from) = record { type = 5; number = from }
 mark_entry _ = record { type = 0; number = 0 }
+
+-- an entry of the program as one of the format
+abbrev pub entry_value : entry.MapEntry → MapEntry
+entry_value e = record { type = e.kind; number = e.number }
 
 -- that the map has another entry
 abbrev pub other_entry : ℕ → Option MapEntry → MapEntry → List Fault

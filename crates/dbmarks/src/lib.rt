@@ -8,7 +8,9 @@
 //! the freelist is and which root is the greatest (specs/EndMarks, [`marks_tell_the_end`]).
 #![tactic(auto)]
 
+mod entry;
 mod marks;
 
 pub use dbformat::{FaultCode, Geometry};
+pub use entry::MapEntry;
 pub use marks::{Mark, Marks, marks_tell_the_end, walks_read_each_page_once};

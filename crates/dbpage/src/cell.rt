@@ -173,7 +173,7 @@ impl<'a> PageView<'a> {
 
     // The number at `offset` and its length, where it ends within the usable bytes.
     #[inline(always)]
-    fn varint_at(&self, offset: u32) -> Option<(u64, u32)>
+    pub(crate) fn varint_at(&self, offset: u32) -> Option<(u64, u32)>
         requires { offset ≤ self.now.usable }
         ensures value { result ≡ varint (bytes_from self.now offset) }
         ensures within { IfSome result (λ r. (r.1 ≤ 9) × (offset + r.1 ≤ self.now.usable)) }

@@ -20,6 +20,7 @@
 mod byte_use;
 mod cell;
 mod freeblocks;
+mod looks;
 mod marks;
 mod packed;
 mod run;
@@ -27,8 +28,9 @@ mod steps;
 mod view;
 
 pub use cell::Cell;
-pub use dbformat::{CellFault, Coverage, HeadFault, PageKind};
+pub use dbformat::{CellFault, Coverage, HeadFault, Look, PageKind, Rowids, TreeLook};
 pub use freeblocks::{Freeblock, Freeblocks};
+pub use looks::look_of;
 pub use marks::{coverage, uncounted_coverage};
 pub use packed::{CellSums, Packed, is_rising};
 pub use steps::Steps;

@@ -1,5 +1,6 @@
 // Pages written out by hand. What is expected of them is counted from their bytes.
 mod heads;
+mod looks;
 mod marks;
 mod packed;
 mod sqlite_pages;
@@ -9,7 +10,7 @@ ghost use Rattle.std.specs.Prelude.{◌≤◌, length};
 
 use crate::texts::{Text, expect_text, write_bytes};
 use dbformat::CellFault;
-use dbpage::{Cell, PageView, content_start, type_byte, uncounted_coverage};
+use dbpage::{Cell, PageView, content_start, look_of, type_byte, uncounted_coverage};
 use std::fmt::Write;
 use std::process::Abort;
 
@@ -76,6 +77,10 @@ fn answer(
             type_byte(page, number),
             content_start(page, number)
         );
+        return;
+    }
+    if word == "look" {
+        let _ = write!(text, " {:?}", look_of(page, number, usable));
         return;
     }
     match PageView::new(page, number, usable) {
