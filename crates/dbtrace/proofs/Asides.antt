@@ -1,6 +1,6 @@
 -- Below a page of no tree stands no page of a tree; so what is told there leaves the progress.
-use Rattle.std.proofs.Common.{◌≡◌, ℕ, zero, suc, ◌<◌, inl, inr, Bool, true, false, cond, not, ◌&&◌, List, [], ◌∷◌, ◌++◌, map, length, Option, Some, None, refl, sym, ap, subst, arith, ◌∙◌}
-use Rattle.std.specs.Prelude.{option_to_list, unwrap_or, pos, ◌==◌}
+use Rattle.std.proofs.Common.{◌≡◌, ℕ, zero, suc, ◌<◌, inl, inr, cond, not, ◌&&◌, List, [], ◌∷◌, ◌++◌, map, length, Option, Some, None, refl, sym, ap, subst, arith, ◌∙◌}
+use Rattle.std.specs.Prelude.{option_to_list, pos, ◌==◌}
 use Rattle.std.proofs.lemmas.List.{append-nil, length-append}
 use Rattle.dbsurvey.specs.Address.{IsIn, Address}
 use Rattle.dbsurvey.specs.Run.{run, up_to}
@@ -14,20 +14,23 @@ use Rattle.dbformat.specs.Tests.{told_if}
 use Rattle.dbformat.specs.Faults.{fault}
 use Rattle.dbformat.specs.Address.{start_of, depth}
 use Rattle.dbformat.specs.Reference.{Reference, role_of, tree_kind, tree_view}
-use Rattle.dbformat.specs.PageFaults.{is_leaf_of, page_faults}
+use Rattle.dbformat.specs.PageFaults.{page_faults}
 use Rattle.dbformat.specs.Report.{event_faults}
 use Rattle.dbformat.specs.Laws.{event_row}
 use Rattle.dbformat.specs.Story.{Event, at_page, at_key, at_refused, own_visit}
 use Rattle.dbformat.specs.Survey.{rules_of}
 use Rattle.dbformat.specs.declared.FaultCode.TheVariants.{T05}
 use Rattle.dbformat.specs.declared.TreeKind.{TreeKind}
-use Rattle.dbtrace.specs.Finding.{told_row, told_fault, told_at}
+use Rattle.dbtrace.specs.Causes.{leaf_at, cause_of}
+use Rattle.dbtrace.specs.Finding.{told_row, told_by, told_at}
+use Rattle.dbtrace.specs.declared.TreeLeaf.{TreeLeaf}
 use Rattle.dbtrace.specs.Item.{finding_in, given_rows, readable, rows_at_event, faults_at}
-use Rattle.dbtrace.specs.Progress.{Progress, leaf_after, depth_faults, step}
+use Rattle.dbtrace.specs.Progress.{Progress, cause_by, leaf_after, depth_of, depth_faults, step}
 use Rattle.dbtrace.specs.Steps.{AreAside}
 use Rattle.dbtrace.specs.Walk.{Walk, machine, advance}
 use Rattle.dbtrace.proofs.Depths.{page_parts, not_leaf, no_leaf}
-use Rattle.dbtrace.proofs.Folding.{findings_at, given_are}
+use Rattle.dbtrace.proofs.Causing.{page_same}
+use Rattle.dbtrace.proofs.Folding.{page_of_progress, page_of_visits, findings_at, given_are}
 use Rattle.dbtrace.proofs.RowsTold.{rows_told}
 use Rattle.dbtrace.proofs.SchemaOrder.{parent_inside}
 use Rattle.dbtrace.proofs.Told.{visited, trace, part, tells, IsOf, told_as}
@@ -46,17 +49,19 @@ module _ (file : List ℕ) where
   step_off : (U : List Reference) (p : Progress) (e : Event) → IsOff e → step file U p e ≡ p
   step_off U p (at_page r) h = ap (λ leaf. record { greatest = p.greatest; leaf = leaf; roots = p.roots }) (kept p.leaf)
     where
-      kept : (leaf : Option ℕ) → leaf_after file leaf r ≡ leaf
-      kept None = ap (λ b. cond b (Some (depth r.address)) None) (not_leaf file (start_of r.address) r h)
+      kept : (leaf : Option TreeLeaf) → leaf_after file leaf r ≡ leaf
+      kept None = ap (λ b. cond b (Some (leaf_at r)) None) (not_leaf file (start_of r.address) r h)
       kept (Some d) = refl
   step_off U p (at_key r v x) h = absurd h
   step_off U p (at_refused r) h = refl
 
-  faults_off : (U : List Reference) (p : Progress) (e : Event) → IsOff e → faults_at file U p e ≡ event_faults file U e
-  faults_off U p (at_page r) h = ap (λ l. page_faults file [] r ++ l) (quiet ∙ sym (no_leaf file U r h)) ∙ sym (page_parts file U r)
+  faults_off : (U : List Reference) (p : Progress) (e : Event) → IsOff e → told_by (cause_by file U p e) (faults_at file U p e) ≡ told_by (cause_of file U e) (event_faults file U e)
+  faults_off U p (at_page r) h = ap (λ l. told_by (cause_by file U p (at_page r)) (page_faults file [] r ++ l)) quiet ∙ ap (told_by (cause_by file U p (at_page r))) (append-nil (page_faults file [] r))
+      ∙ page_same file (cause_by file U p (at_page r)) (cause_of file U (at_page r)) (page_of_progress file U p r) (page_of_visits file U r) refl refl refl r
+      ∙ ap (told_by (cause_of file U (at_page r))) (sym (page_parts file U r ∙ ap (λ l. page_faults file [] r ++ l) (no_leaf file U r h) ∙ append-nil (page_faults file [] r)))
     where
       quiet : depth_faults file p.leaf r ≡ []
-      quiet = ap (λ b. told_if (b && not (depth r.address == unwrap_or p.leaf (depth r.address))) (fault T05 r.page 0 (pos (depth r.address)))) (not_leaf file (start_of r.address) r h)
+      quiet = ap (λ b. told_if (b && not (depth r.address == depth_of p.leaf (depth r.address))) (fault T05 r.page 0 (pos (depth r.address)))) (not_leaf file (start_of r.address) r h)
   faults_off U p (at_key r v x) h = absurd h
   faults_off U p (at_refused r) h = refl
 
@@ -105,6 +110,6 @@ are_aside file now c none = record {
   findings_are = run_reads (machine file) finding_in (told_at file) now (trace file now.visits c) (λ A B t split.
       let m = run (machine file) now A in
       findings_at file (up_to (machine file) m t.event) m.state t.event
-      ∙ ap (λ fs. map told_row (option_to_list (event_row file t.event)) ++ map told_fault fs) (faults_off file (up_to (machine file) m t.event) m.state t.event (off file now.visits c none t (subst (IsIn t) (sym split) (IsIn-right t A (t ∷ B) (inl refl))))));
+      ∙ ap (λ fs. map told_row (option_to_list (event_row file t.event)) ++ fs) (faults_off file (up_to (machine file) m t.event) m.state t.event (off file now.visits c none t (subst (IsIn t) (sym split) (IsIn-right t A (t ∷ B) (inl refl))))));
   rows = given_are file now (trace file now.visits c) ∙ ap (λ rows. given_rows now.items ++ readable rows) (rows_told_off file now.visits (trace file now.visits c) (off file now.visits c none)) ∙ append-nil (given_rows now.items);
 }

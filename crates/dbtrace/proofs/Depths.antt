@@ -1,10 +1,11 @@
 -- The depth of the first leaf is a fold over the visits, and by it the faults of a page are told.
 use Rattle.std.proofs.Common.{◌≡◌, ℕ, inl, inr, Bool, true, false, cond, not, ◌&&◌, List, [], ◌∷◌, ◌++◌, Option, Some, None, refl, sym, ap, arith, ◌∙◌, subst}
-use Rattle.std.specs.Prelude.{find, ◌==◌, unwrap_or, pos}
-use Rattle.std.specs.Option.{option_map_or}
+use Rattle.std.specs.Prelude.{find, option_map, ◌==◌, pos}
+use Rattle.std.specs.Option.{option_map_or, option_or}
 use Rattle.std.proofs.lemmas.Bool.{eq-eqb}
 use Rattle.std.proofs.lemmas.Bool.Decides.{nat_tests}
 use Rattle.std.proofs.lemmas.List.{append-nil}
+use Rattle.std.proofs.lemmas.List.Folds.{find-append}
 use Rattle.dbsurvey.specs.Address.{IsIn, Address}
 use Rattle.dbformat.specs.Tests.{told_if}
 use Rattle.dbformat.specs.Faults.{fault}
@@ -13,12 +14,23 @@ use Rattle.dbformat.specs.Head.{is_interior}
 use Rattle.dbformat.specs.Reference.{Role, root, child, first_overflow, later_overflow, trunk, free_leaf, Reference, role_of, tree_view}
 use Rattle.dbformat.specs.PageFaults.{is_leaf_of, leaf_depth, depth_fault, page_faults, role_faults}
 use Rattle.dbformat.specs.declared.Fault.{Fault}
+use Rattle.dbformat.specs.declared.FaultCode.{FaultCode}
 use Rattle.dbformat.specs.declared.FaultCode.TheVariants.{T05}
-use Rattle.dbtrace.specs.Progress.{leaf_after, depth_faults}
+use Rattle.dbtrace.specs.Causes.{leaf_at, first_leaf}
+use Rattle.dbtrace.specs.Finding.{told_fault, told_by}
+use Rattle.dbtrace.specs.Progress.{leaf_after, depth_of, depth_faults}
+use Rattle.dbtrace.specs.declared.Cause.{Cause}
+use Rattle.dbtrace.specs.declared.Cause.TheVariants as cause
+use Rattle.dbtrace.specs.declared.TreeLeaf.{TreeLeaf}
 use Rattle.dbtrace.specs.Starts.{IsOfEarlierStart, AreOfEarlierStarts}
 
--- the depth of the first leaf after some visits
-abbrev pub leaf_from : List ℕ → Option ℕ → List Reference → Option ℕ
+-- where two readings agree on a code, they tell its fault as one
+pub told_same : (why other : FaultCode → Cause) (b : Bool) (f : Fault) → why f.code ≡ other f.code → told_by why (told_if b f) ≡ told_by other (told_if b f)
+told_same why other true f e = ap (λ c. told_fault f c ∷ []) e
+told_same why other false f e = refl
+
+-- the first leaf after some visits
+abbrev pub leaf_from : List ℕ → Option TreeLeaf → List Reference → Option TreeLeaf
 leaf_from file leaf [] = leaf
 leaf_from file leaf (r ∷ X) = leaf_from file (leaf_after file leaf r) X
 
@@ -36,39 +48,69 @@ module _ (file : List ℕ) (k : ℕ) where
   past_earlier (u ∷ W) X early = ap (λ b. cond (b && option_map_or (λ v. not (is_interior v.kind)) (tree_view file u) false) (Some u) (find (is_leaf_of file k) (W ++ X))) (other_start k u.address (early u (inl refl)))
       ∙ past_earlier W X (λ w i. early w (inr i))
 
-  leaf_kept : (d : ℕ) (X : List Reference) → leaf_from file (Some d) X ≡ Some d
+  leaf_kept : (d : TreeLeaf) (X : List Reference) → leaf_from file (Some d) X ≡ Some d
   leaf_kept d [] = refl
   leaf_kept d (r ∷ X) = leaf_kept d X
 
-  -- at a leaf the first one is that of the fold, or the leaf itself
-  first_is : (X : List Reference) (r : Reference) → AreOfStart X → is_leaf_of file k r ≡ true
-      → leaf_depth file (X ++ r ∷ []) k (depth r.address) ≡ unwrap_or (leaf_from file None X) (depth r.address)
-  first_is [] r same e = ap (λ b. option_map_or (λ r. depth r.address) (cond b (Some r) None) (depth r.address)) e
-  first_is (x ∷ X) r same e = by_leaf (is_leaf_of file k x) refl (first_is X r (λ u i. same u (inr i)) e)
+  after : (x : Reference) → start_of x.address ≡ k → leaf_after file None x ≡ cond (is_leaf_of file k x) (Some (leaf_at x)) None
+  after x e = ap (λ s. cond (is_leaf_of file s x) (Some (leaf_at x)) None) e
+
+  -- the first leaf that is found is that of the fold
+  found_is : (X : List Reference) → AreOfStart X → option_map leaf_at (find (is_leaf_of file k) X) ≡ leaf_from file None X
+  found_is [] same = refl
+  found_is (x ∷ X) same = by_leaf (is_leaf_of file k x) refl (found_is X (λ u i. same u (inr i)))
     where
-      after : leaf_after file None x ≡ cond (is_leaf_of file k x) (Some (depth x.address)) None
-      after = ap (λ s. cond (is_leaf_of file s x) (Some (depth x.address)) None) (same x (inl refl))
+      by_leaf : (b : Bool) → is_leaf_of file k x ≡ b → option_map leaf_at (find (is_leaf_of file k) X) ≡ leaf_from file None X
+          → option_map leaf_at (find (is_leaf_of file k) (x ∷ X)) ≡ leaf_from file None (x ∷ X)
+      by_leaf true f h = ap (λ b. option_map leaf_at (cond b (Some x) (find (is_leaf_of file k) X))) f
+          ∙ sym (ap (λ o. leaf_from file o X) (after x (same x (inl refl)) ∙ ap (λ b. cond b (Some (leaf_at x)) None) f) ∙ leaf_kept (leaf_at x) X)
+      by_leaf false f h = ap (λ b. option_map leaf_at (cond b (Some x) (find (is_leaf_of file k) X))) f
+          ∙ h ∙ sym (ap (λ o. leaf_from file o X) (after x (same x (inl refl)) ∙ ap (λ b. cond b (Some (leaf_at x)) None) f))
 
-      by_leaf : (b : Bool) → is_leaf_of file k x ≡ b → leaf_depth file (X ++ r ∷ []) k (depth r.address) ≡ unwrap_or (leaf_from file None X) (depth r.address)
-          → leaf_depth file (x ∷ (X ++ r ∷ [])) k (depth r.address) ≡ unwrap_or (leaf_from file None (x ∷ X)) (depth r.address)
-      by_leaf true f h = ap (λ b. option_map_or (λ r. depth r.address) (cond b (Some x) (find (is_leaf_of file k) (X ++ r ∷ []))) (depth r.address)) f
-          ∙ sym (ap (λ o. unwrap_or (leaf_from file o X) (depth r.address)) (after ∙ ap (λ b. cond b (Some (depth x.address)) None) f) ∙ ap (λ o. unwrap_or o (depth r.address)) (leaf_kept (depth x.address) X))
-      by_leaf false f h = ap (λ b. option_map_or (λ r. depth r.address) (cond b (Some x) (find (is_leaf_of file k) (X ++ r ∷ []))) (depth r.address)) f
-          ∙ h ∙ sym (ap (λ o. unwrap_or (leaf_from file o X) (depth r.address)) (after ∙ ap (λ b. cond b (Some (depth x.address)) None) f))
+  -- at a visit, as the definitions have it
+  module _ (W X : List Reference) (r : Reference) (early : AreOfEarlierStarts k W) (same : AreOfStart X) (at : start_of r.address ≡ k) where
+    abbrev U : List Reference
+    U = W ++ (X ++ r ∷ [])
 
-  pub depth_is : (W X : List Reference) (r : Reference) → AreOfEarlierStarts k W → AreOfStart X → start_of r.address ≡ k
-      → depth_fault file (W ++ (X ++ r ∷ [])) r ≡ depth_faults file (leaf_from file None X) r
-  unfolding depth_fault
-  depth_is W X r early same at = by_leaf (is_leaf_of file (start_of r.address) r) refl
-    where
-      first : is_leaf_of file (start_of r.address) r ≡ true → leaf_depth file (W ++ (X ++ r ∷ [])) (start_of r.address) (depth r.address) ≡ unwrap_or (leaf_from file None X) (depth r.address)
-      first e = ap (λ s. leaf_depth file (W ++ (X ++ r ∷ [])) s (depth r.address)) at
-          ∙ ap (λ o. option_map_or (λ r. depth r.address) o (depth r.address)) (past_earlier W (X ++ r ∷ []) early)
-          ∙ first_is X r same (subst (λ s. is_leaf_of file s r ≡ true) at e)
+    -- the first leaf so far is found first, and else the visit itself
+    first_found : find (is_leaf_of file (start_of r.address)) U ≡ option_or (find (is_leaf_of file k) X) (find (is_leaf_of file k) (r ∷ []))
+    first_found = ap (λ s. find (is_leaf_of file s) U) at ∙ past_earlier W (X ++ r ∷ []) early ∙ find-append (is_leaf_of file k) X (r ∷ [])
 
-      by_leaf : (b : Bool) → is_leaf_of file (start_of r.address) r ≡ b → depth_fault file (W ++ (X ++ r ∷ [])) r ≡ depth_faults file (leaf_from file None X) r
-      by_leaf true e = rw (first e) refl
-      by_leaf false e = rw e refl
+    -- the depth and the cause, by the first leaf so far
+    pub depth_told : (why : FaultCode → Cause) → why T05 ≡ option_map_or (λ l. cause.Leaf l.page) (first_leaf file U r) cause.Itself
+        → (why' : FaultCode → Cause) → why' T05 ≡ option_map_or (λ l. cause.Leaf l.page) (leaf_from file None X) cause.Itself
+        → told_by why' (depth_faults file (leaf_from file None X) r) ≡ told_by why (depth_fault file U r)
+    unfolding depth_fault
+    depth_told why e why' e' = by_leaf (is_leaf_of file (start_of r.address) r) refl (find (is_leaf_of file k) X) refl
+      where
+        d : ℕ
+        d = depth r.address
+
+        Same : Bool → Option TreeLeaf → Option Reference → Type 0
+        Same b leaf o = told_by why' (told_if (b && not (d == depth_of leaf d)) (fault T05 r.page 0 (pos d)))
+            ≡ told_by why (told_if (b && not (d == option_map_or (λ r. depth r.address) o d)) (fault T05 r.page 0 (pos d)))
+
+        by_leaf : (b : Bool) → is_leaf_of file (start_of r.address) r ≡ b → (o : Option Reference) → find (is_leaf_of file k) X ≡ o
+            → Same (is_leaf_of file (start_of r.address) r) (leaf_from file None X) (find (is_leaf_of file (start_of r.address)) U)
+        by_leaf false f o g = subst (λ b. Same b (leaf_from file None X) (find (is_leaf_of file (start_of r.address)) U)) (sym f) refl
+        by_leaf true f (Some u) g =
+            let first : find (is_leaf_of file (start_of r.address)) U ≡ Some u = first_found ∙ ap (λ o. option_or o (find (is_leaf_of file k) (r ∷ []))) g in
+            let kept : leaf_from file None X ≡ Some (leaf_at u) = sym (found_is X same) ∙ ap (option_map leaf_at) g in
+            let causes : why' T05 ≡ why T05 = e' ∙ ap (λ l. option_map_or (λ l. cause.Leaf l.page) l cause.Itself) kept
+            ∙ sym (e ∙ ap (λ o. option_map_or (λ l. cause.Leaf l.page) (option_map_or (λ u. Some (leaf_at u)) o None) cause.Itself) first) in
+            subst (λ l. Same (is_leaf_of file (start_of r.address) r) l (find (is_leaf_of file (start_of r.address)) U)) (sym kept)
+            (subst (λ o. Same (is_leaf_of file (start_of r.address) r) (Some (leaf_at u)) o) (sym first)
+            (told_same why' why (is_leaf_of file (start_of r.address) r && not (d == depth u.address)) (fault T05 r.page 0 (pos d)) causes))
+        by_leaf true f None g =
+            let itself : find (is_leaf_of file k) (r ∷ []) ≡ Some r = ap (λ b. cond b (Some r) None) (subst (λ s. is_leaf_of file s r ≡ true) at f) in
+            let first : find (is_leaf_of file (start_of r.address)) U ≡ Some r = first_found ∙ ap (λ o. option_or o (find (is_leaf_of file k) (r ∷ []))) g ∙ itself in
+            let kept : leaf_from file None X ≡ None = sym (found_is X same) ∙ ap (option_map leaf_at) g in
+            subst (λ l. Same (is_leaf_of file (start_of r.address) r) l (find (is_leaf_of file (start_of r.address)) U)) (sym kept)
+            (subst (λ o. Same (is_leaf_of file (start_of r.address) r) None o) (sym first)
+            (none why' ∙ sym (none why)))
+          where
+            none : (w : FaultCode → Cause) → told_by w (told_if (is_leaf_of file (start_of r.address) r && not (d == d)) (fault T05 r.page 0 (pos d))) ≡ []
+            none w = ap (λ b. told_by w (told_if (b && not (d == d)) (fault T05 r.page 0 (pos d)))) f ∙ ap (λ b. told_by w (told_if (not b) (fault T05 r.page 0 (pos d)))) (eq-eqb d d refl)
 
 -- the faults of a page for itself, and that of its depth
 module _ (file : List ℕ) where

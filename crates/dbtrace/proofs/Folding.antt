@@ -1,6 +1,7 @@
 -- What is told of a start is read off the progress of its walk.
-use Rattle.std.proofs.Common.{◌≡◌, ℕ, inl, inr, Bool, true, false, cond, not, ◌&&◌, List, [], ◌∷◌, ◌++◌, map, length, None, refl, sym, ap, subst, arith, ◌∙◌, append_assoc}
-use Rattle.std.specs.Prelude.{flat_map, option_to_list, nat_le, ◌==◌}
+use Rattle.std.proofs.Common.{◌≡◌, ℕ, inl, inr, Bool, true, false, cond, not, ◌&&◌, List, [], ◌∷◌, ◌++◌, map, length, ℤ, Option, Some, None, refl, sym, ap, subst, arith, ◌∙◌, append_assoc}
+use Rattle.std.specs.Prelude.{flat_map, option_map, option_to_list, nat_le, ◌==◌}
+use Rattle.std.specs.Option.{option_map_or}
 use Rattle.std.proofs.lemmas.Bool.{and_parts, eqb-true}
 use Rattle.std.proofs.lemmas.List.{append-nil}
 use Rattle.std.proofs.lemmas.List.Elements.{filter_map-append}
@@ -21,23 +22,44 @@ use Rattle.dbformat.specs.Reference.{Reference}
 use Rattle.dbformat.specs.Schema.{SchemaCell, schema_cell, schema, rooted_rows}
 use Rattle.dbformat.specs.SchemaRow.{SchemaRow}
 use Rattle.dbformat.specs.Survey.{rules_of}
-use Rattle.dbformat.specs.PageFaults.{page_faults}
-use Rattle.dbformat.specs.KeyFaults.{earlier_roots, key_of, key_faults, row_faults_if, row_faults, row_faults_at, cell_place_faults}
+use Rattle.dbformat.specs.PageFaults.{page_faults, depth_fault}
+use Rattle.dbformat.specs.KeyFaults.{Key, earlier_roots, key_of, key_faults, row_faults_if, row_faults, row_faults_at, cell_place_faults}
 use Rattle.dbformat.specs.Story.{Event, at_page, at_key, at_refused, own_visit, story_of}
 use Rattle.dbformat.specs.Report.{event_faults}
 use Rattle.dbformat.specs.Laws.{event_row}
 use Rattle.dbformat.proofs.Places.{key_place}
 use Rattle.dbformat.proofs.Theory.{are_rules, is_story, shows_visits}
-use Rattle.dbtrace.specs.Finding.{Finding, told_row, told_fault, told_at, visited_below}
+use Rattle.dbformat.specs.declared.Fault.{Fault}
+use Rattle.dbformat.specs.declared.FaultCode.{FaultCode}
+use Rattle.dbformat.specs.declared.FaultCode.TheVariants.{T06}
+use Rattle.dbtrace.specs.Causes.{cell_key, first_leaf, top_before, cause_of}
+use Rattle.dbtrace.specs.Finding.{Finding, told_row, told_by, told_at, visited_below}
+use Rattle.dbtrace.specs.declared.Cause.{Cause}
+use Rattle.dbtrace.specs.declared.Cause.TheVariants as cause
 use Rattle.dbtrace.specs.Fold.{IsFold}
 use Rattle.dbtrace.specs.Item.{found, given, finding_in, row_in, findings, given_rows, readable, faults_at, rows_at_event, items_at}
-use Rattle.dbtrace.specs.Progress.{Progress, rows_of, late_faults, depth_faults}
+use Rattle.dbtrace.specs.Progress.{Progress, cause_by, rows_of, late_faults, depth_faults}
 use Rattle.dbtrace.specs.Starts.{IsOfEarlierStart, AreOfEarlierStarts}
 use Rattle.dbtrace.specs.Walk.{Walk, machine, begin, advance, run_below}
-use Rattle.dbtrace.proofs.Depths.{leaf_from, depth_is, page_parts}
-use Rattle.dbtrace.proofs.Keys.{greatest_is, started, late_is}
+use Rattle.dbtrace.proofs.Causing.{IsOfPage, IsOfRow, told_by-append, page_same, rows_alone}
+use Rattle.dbtrace.proofs.Depths.{leaf_from, told_same, depth_told, page_parts}
+use Rattle.dbtrace.proofs.Keys.{greatest_is, started, top_is, late_is}
 use Rattle.dbtrace.proofs.RowsTold.{rows_told, roots_are, schema_told, rows_before}
 use Rattle.dbtrace.proofs.Told.{visited, trace, tells, IsOf, told_as, below_start, visited_before}
+
+-- which codes have a cause at an event
+
+pub page_of_progress : (file : List ℕ) (U : List Reference) (p : Progress) (r : Reference) → IsOfPage (cause_by file U p (at_page r))
+page_of_progress file U p r = record { p02 = refl; p03 = refl; p04 = refl; p05 = refl; p06 = refl; p07 = refl; p08 = refl; p09 = refl; p10 = refl }
+
+pub page_of_visits : (file : List ℕ) (U : List Reference) (r : Reference) → IsOfPage (cause_of file U (at_page r))
+page_of_visits file U r = record { p02 = refl; p03 = refl; p04 = refl; p05 = refl; p06 = refl; p07 = refl; p08 = refl; p09 = refl; p10 = refl }
+
+pub row_of_progress : (file : List ℕ) (U : List Reference) (p : Progress) (r : Reference) (v : View) (x : ℕ × Cell) → IsOfRow (cause_by file U p (at_key r v x))
+row_of_progress file U p r v x = record { s01 = refl; s02 = refl; s03 = refl; s04 = refl }
+
+pub row_of_visits : (file : List ℕ) (U : List Reference) (r : Reference) (v : View) (x : ℕ × Cell) → IsOfRow (cause_of file U (at_key r v x))
+row_of_visits file U r v x = record { s01 = refl; s02 = refl; s03 = refl; s04 = refl }
 
 -- items, by what they are for
 
@@ -50,16 +72,16 @@ given_only [] = (refl, refl)
 given_only (r ∷ rows) = let h = given_only rows in (ap (λ l. r ∷ l) h.0, h.1)
 
 module _ (file : List ℕ) where
-  pub findings_at : (U : List Reference) (p : Progress) (e : Event) → findings (items_at file U p e) ≡ map told_row (option_to_list (event_row file e)) ++ map told_fault (faults_at file U p e)
+  pub findings_at : (U : List Reference) (p : Progress) (e : Event) → findings (items_at file U p e) ≡ map told_row (option_to_list (event_row file e)) ++ told_by (cause_by file U p e) (faults_at file U p e)
   findings_at U p e =
       let rows = readable (rows_at_event file U e) in
-      let fs = map told_row (option_to_list (event_row file e)) ++ map told_fault (faults_at file U p e) in
+      let fs = map told_row (option_to_list (event_row file e)) ++ told_by (cause_by file U p e) (faults_at file U p e) in
       filter_map-append finding_in (map given rows) (map found fs) ∙ ap (λ l. l ++ findings (map found fs)) (given_only rows).1 ∙ (found_only fs).0
 
   pub rows_at_item : (U : List Reference) (p : Progress) (e : Event) → given_rows (items_at file U p e) ≡ readable (rows_at_event file U e)
   rows_at_item U p e =
       let rows = readable (rows_at_event file U e) in
-      let fs = map told_row (option_to_list (event_row file e)) ++ map told_fault (faults_at file U p e) in
+      let fs = map told_row (option_to_list (event_row file e)) ++ told_by (cause_by file U p e) (faults_at file U p e) in
       filter_map-append row_in (map given rows) (map found fs) ∙ ap (λ l. given_rows (map given rows) ++ l) (found_only fs).1 ∙ append-nil (given_rows (map given rows)) ∙ (given_only rows).0
 
   -- the rows that were given
@@ -83,6 +105,14 @@ module _ (file : List ℕ) where
       by_event (at_page r) h = h (advance file now (at_page r))
       by_event (at_key r v x) h = h (advance file now (at_key r v x))
       by_event (at_refused r) h = h (advance file now (at_refused r))
+
+-- a cell has one key at most
+one_key : (r : Reference) (v : View) (x : ℕ × Cell) (key other : Key) (ks : List Key) → key_of r v x ≡ key ∷ other ∷ ks → ⊥
+one_key r v (i, x) key other ks e = by_key x.key e
+  where
+    by_key : (o : Option ℤ) → key_of r v (i, record x { key = o }) ≡ key ∷ other ∷ ks → ⊥
+    by_key None e = cc
+    by_key (Some value) e = cc
 
 -- no start is before the schema's
 none_earlier : (W : List Reference) → AreOfEarlierStarts schema_start W → W ≡ []
@@ -110,14 +140,38 @@ module _ (file : List ℕ) (k : ℕ) (W : List Reference) (c : Reference) (at : 
     at_start : (r : Reference) → IsIn r (visited file W c) → start_of r.address ≡ k
     at_start r i = ap start_of (below_start file W c k at r i).1
 
-    -- a page: by the depth of the first leaf
-    page : (r : Reference) → IsIn r (visited file W c) → faults_at file (up_to (machine file) (after A) (at_page r)) (after A).state (at_page r) ≡ page_faults file (up_to (machine file) (after A) (at_page r)) r
-    page r i = sym (
-        ap (λ U. page_faults file (U ++ r ∷ []) r) visits_so_far
-        ∙ ap (λ U. page_faults file U r) (append_assoc W X (r ∷ []))
-        ∙ page_parts file (W ++ (X ++ r ∷ [])) r
-        ∙ ap (λ fs. page_faults file [] r ++ fs) (depth_is file k W X r early (λ u j. at_start u ((visited_before file W c A B t split u).0 j).0) (at_start r i)
-        ∙ ap (λ leaf. depth_faults file leaf r) (sym (leaf_is file (begin W) A))))
+    abbrev at_event : Event → List Reference
+    at_event e = up_to (machine file) (after A) e
+
+    -- what is told at an event, by the progress and by the definitions
+    abbrev by_progress : Event → List Fault → List Finding
+    by_progress e fs = told_by (cause_by file (at_event e) (after A).state e) fs
+
+    abbrev by_visits : Event → List Fault → List Finding
+    by_visits e fs = told_by (cause_of file (at_event e) e) fs
+
+    -- a page: by the first leaf
+    page : (r : Reference) → IsIn r (visited file W c) → by_progress (at_page r) (faults_at file (at_event (at_page r)) (after A).state (at_page r)) ≡ by_visits (at_page r) (page_faults file (at_event (at_page r)) r)
+    page r i =
+        told_by-append (cause_by file (at_event (at_page r)) (after A).state (at_page r)) (page_faults file [] r) (depth_faults file (after A).state.leaf r)
+        ∙ ap (λ l. l ++ by_progress (at_page r) (depth_faults file (after A).state.leaf r))
+        (page_same file (cause_by file (at_event (at_page r)) (after A).state (at_page r)) (cause_of file (at_event (at_page r)) (at_page r)) (page_of_progress file (at_event (at_page r)) (after A).state r) (page_of_visits file (at_event (at_page r)) r) refl refl refl r)
+        ∙ ap (λ l. by_visits (at_page r) (page_faults file [] r) ++ l) depths
+        ∙ sym (told_by-append (cause_of file (at_event (at_page r)) (at_page r)) (page_faults file [] r) (depth_fault file (at_event (at_page r)) r))
+        ∙ ap (by_visits (at_page r)) (sym (page_parts file (at_event (at_page r)) r))
+      where
+        all : at_event (at_page r) ≡ W ++ (X ++ r ∷ [])
+        all = ap (λ U. U ++ r ∷ []) visits_so_far ∙ append_assoc W X (r ∷ [])
+
+        leaf : (after A).state.leaf ≡ leaf_from file None X
+        leaf = leaf_is file (begin W) A
+
+        depths : by_progress (at_page r) (depth_faults file (after A).state.leaf r) ≡ by_visits (at_page r) (depth_fault file (at_event (at_page r)) r)
+        depths = ap (λ l. by_progress (at_page r) (depth_faults file l r)) leaf
+            ∙ depth_told file k W X r early (λ u j. at_start u ((visited_before file W c A B t split u).0 j).0) (at_start r i)
+            (cause_of file (at_event (at_page r)) (at_page r)) (ap (λ U. option_map_or (λ l. cause.Leaf l.page) (first_leaf file U r) cause.Itself) all)
+            (cause_by file (at_event (at_page r)) (after A).state (at_page r)) (ap (λ l. option_map_or (λ l. cause.Leaf l.page) l cause.Itself) leaf)
+            ∙ ap (λ U. by_visits (at_page r) (depth_fault file U r)) (sym all)
 
     -- a key: by the greatest
     keys : (r : Reference) (v : View) (x : ℕ × Cell) → IsIn r (visited file W c) → t.key ≡ then_step r.address (key_step x.0)
@@ -126,6 +180,15 @@ module _ (file : List ℕ) (k : ℕ) (W : List Reference) (c : Reference) (at : 
         let stands = key_place r v x key j in
         ap (λ top. late_faults top key) (greatest_is file (begin W) A)
         ∙ sym (late_is file k W c at early A B t split key (stands ∙ sym place) (ap start_of stands ∙ started file k W c at early r (key_step x.0) i)))
+
+    -- its cause
+    key_cause : (r : Reference) (v : View) (x : ℕ × Cell) → IsIn r (visited file W c) → t.key ≡ then_step r.address (key_step x.0)
+        → (key : Key) → key_of r v x ≡ key ∷ [] → option_map cell_key (top_before file (W ++ X) (key_of r v x)) ≡ (after A).state.greatest
+    key_cause r v x i place key e =
+        let stands = key_place r v x key (subst (IsIn key) (sym e) (inl refl)) in
+        ap (λ ks. option_map cell_key (top_before file (W ++ X) ks)) e
+        ∙ top_is file k W c at early A B t split key (stands ∙ sym place) (ap start_of stands ∙ started file k W c at early r (key_step x.0) i)
+        ∙ sym (greatest_is file (begin W) A)
 
     -- a row of the schema: by how many have a root
     full : k ≡ schema_start → own_visit t.event ≡ None → earlier_roots file (W ++ X) t.key ≡ (after A).state.roots
@@ -152,17 +215,59 @@ module _ (file : List ℕ) (k : ℕ) (W : List Reference) (c : Reference) (at : 
         by_test true f = append-nil (row_faults_if (nat_le last_root_start (after A).state.roots) d)
             ∙ ap (λ n. row_faults_if (nat_le last_root_start n) d) (sym (roots (and_parts (start_of r.address == schema_start) (not (is_interior v.kind)) f).0))
 
+    -- rows and keys, with their causes
+    cell_told : (r : Reference) (v : View) (x : ℕ × Cell) → t.event ≡ at_key r v x → IsIn r (visited file W c) → t.key ≡ then_step r.address (key_step x.0)
+        → told_by (cause_by file (W ++ X) (after A).state (at_key r v x)) (flat_map (row_faults_if (nat_le last_root_start (after A).state.roots)) (rows_of file (W ++ X) r v x) ++ flat_map (late_faults (after A).state.greatest) (key_of r v x))
+        ≡ told_by (cause_of file (W ++ X) (at_key r v x)) (cell_place_faults file (W ++ X) r v x)
+    unfolding key_faults
+    cell_told r v x f i place =
+        told_by-append why' R K ∙ ap (λ l. l ++ told_by why' K) row_told ∙ ap (λ l. told_by why R ++ l) (ap (told_by why') (keys r v x i place) ∙ by_keys (key_of r v x) refl)
+        ∙ ap (λ l. told_by why l ++ told_by why K') (rows r v x f i place) ∙ sym (told_by-append why (row_faults_at file (W ++ X) r v x) K')
+      where
+        why : FaultCode → Cause
+        why = cause_of file (W ++ X) (at_key r v x)
+
+        why' : FaultCode → Cause
+        why' = cause_by file (W ++ X) (after A).state (at_key r v x)
+
+        R : List Fault
+        R = flat_map (row_faults_if (nat_le last_root_start (after A).state.roots)) (rows_of file (W ++ X) r v x)
+
+        K : List Fault
+        K = flat_map (late_faults (after A).state.greatest) (key_of r v x)
+
+        K' : List Fault
+        K' = flat_map (key_faults file (W ++ X)) (key_of r v x)
+
+        row_told : told_by why' R ≡ told_by why R
+        row_told = rows_alone why' (row_of_progress file (W ++ X) (after A).state r v x) (nat_le last_root_start (after A).state.roots) (rows_of file (W ++ X) r v x)
+            ∙ sym (rows_alone why (row_of_visits file (W ++ X) r v x) (nat_le last_root_start (after A).state.roots) (rows_of file (W ++ X) r v x))
+
+        causes : (key : Key) → key_of r v x ≡ key ∷ [] → why' T06 ≡ why T06
+        causes key e = ap (λ top. option_map_or cause.Key top cause.Itself) (sym (key_cause r v x i place key e)) ∙ mapped (top_before file (W ++ X) (key_of r v x))
+          where
+            mapped : (o : Option Key) → option_map_or cause.Key (option_map cell_key o) cause.Itself ≡ option_map_or (λ k. cause.Key (cell_key k)) o cause.Itself
+            mapped None = refl
+            mapped (Some k) = refl
+
+        by_keys : (ks : List Key) → key_of r v x ≡ ks → told_by why' (flat_map (key_faults file (W ++ X)) (key_of r v x)) ≡ told_by why (flat_map (key_faults file (W ++ X)) (key_of r v x))
+        by_keys [] e = subst (λ ks. told_by why' (flat_map (key_faults file (W ++ X)) ks) ≡ told_by why (flat_map (key_faults file (W ++ X)) ks)) (sym e) refl
+        by_keys (key ∷ []) e = subst (λ ks. told_by why' (flat_map (key_faults file (W ++ X)) ks) ≡ told_by why (flat_map (key_faults file (W ++ X)) ks)) (sym e)
+            (ap (told_by why') (append-nil (key_faults file (W ++ X) key)) ∙ told_same why' why _ _ (causes key e) ∙ sym (ap (told_by why) (append-nil (key_faults file (W ++ X) key))))
+        by_keys (key ∷ other ∷ ks) e = absurd (one_key r v x key other ks e)
+
     faults : (e : Event) → t.event ≡ e → IsOf file (visited file W c) t.key e
-        → faults_at file (up_to (machine file) (after A) e) (after A).state e ≡ event_faults file (up_to (machine file) (after A) e) e
+        → by_progress e (faults_at file (at_event e) (after A).state e) ≡ by_visits e (event_faults file (at_event e) e)
     faults (at_page r) f h = page r h.0
     faults (at_refused r) f h = refl
-    faults (at_key r v x) f h = subst (λ U. flat_map (row_faults_if (nat_le last_root_start (after A).state.roots)) (rows_of file U r v x) ++ flat_map (late_faults (after A).state.greatest) (key_of r v x) ≡ cell_place_faults file U r v x)
+    faults (at_key r v x) f h = subst (λ U. told_by (cause_by file U (after A).state (at_key r v x)) (flat_map (row_faults_if (nat_le last_root_start (after A).state.roots)) (rows_of file U r v x) ++ flat_map (late_faults (after A).state.greatest) (key_of r v x))
+        ≡ told_by (cause_of file U (at_key r v x)) (cell_place_faults file U r v x))
         (sym (append-nil (after A).visits ∙ visits_so_far))
-        (ap (λ l. l ++ flat_map (late_faults (after A).state.greatest) (key_of r v x)) (rows r v x f h.0 h.3) ∙ ap (λ l. row_faults_at file (W ++ X) r v x ++ l) (keys r v x h.0 h.3))
+        (cell_told r v x f h.0 h.3)
 
-    told : findings (items_at file (up_to (machine file) (after A) t.event) (after A).state t.event) ≡ told_at file (up_to (machine file) (after A) t.event) t.event
-    told = findings_at file (up_to (machine file) (after A) t.event) (after A).state t.event
-        ∙ ap (λ fs. map told_row (option_to_list (event_row file t.event)) ++ map told_fault fs) (faults t.event refl here)
+    told : findings (items_at file (at_event t.event) (after A).state t.event) ≡ told_at file (at_event t.event) t.event
+    told = findings_at file (at_event t.event) (after A).state t.event
+        ∙ ap (λ fs. map told_row (option_to_list (event_row file t.event)) ++ fs) (faults t.event refl here)
 
   -- the rows of the schema are given at the schema's start alone
   no_rows : (k == schema_start) ≡ false → rows_told file W (trace file W c) ≡ []

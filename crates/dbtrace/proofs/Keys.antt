@@ -1,17 +1,17 @@
 -- The greatest key so far is a fold over the events, and by it a key is found to be out of order exactly where it is so after
 -- a key of the tree at a smaller place.
 use Rattle.std.proofs.Common.{◌≡◌, ℕ, ℤ, int_lt, ◌↔◌, inl, inr, Bool, true, false, cond, not, ◌&&◌, List, [], ◌∷◌, ◌++◌, map, Option, Some, None, refl, sym, ap, subst, arith, ◌∙◌}
-use Rattle.std.specs.Prelude.{flat_map, int_le, ◌==◌}
+use Rattle.std.specs.Prelude.{flat_map, int_le, option_map, ◌==◌}
 use Rattle.std.specs.List.{list_any}
 use Rattle.std.proofs.lemmas.Bool.{and_parts, and_from, eqb-true, eq-eqb, both_ways}
 use Rattle.std.proofs.lemmas.Int.{ints}
-use Rattle.dbsurvey.specs.Address.{IsIn, Address, IsBefore}
-use Rattle.dbsurvey.specs.Greatest.{IsOut, IsOutAfter, is_out}
+use Rattle.dbsurvey.specs.Address.{IsIn, Address, IsBefore, IsAscending}
+use Rattle.dbsurvey.specs.Greatest.{IsOut, IsOutAfter, is_out, greatest_from}
 use Rattle.dbsurvey.specs.Run.{run}
 use Rattle.dbsurvey.specs.Story.{Told}
 use Rattle.dbsurvey.specs.InOrder.{is_before, visits_in}
 use Rattle.dbsurvey.proofs.Lists.{filter-from, filter-has, any_true, any_one}
-use Rattle.dbsurvey.proofs.Order.{IsIn-right, IsIn-cases}
+use Rattle.dbsurvey.proofs.Order.{IsIn-right, IsIn-cases, EachPair-append, EachPair-left}
 use Rattle.dbsurvey.proofs.Ordering.{is_before-means, is_before-from, IsIn-map, IsIn-from_map, IsIn-flat_map, IsIn-from_flat_map}
 use Rattle.dbsurvey.proofs.Running.{running_greatest, int_line}
 use Rattle.dbformat.specs.Tests.{told_if}
@@ -24,11 +24,14 @@ use Rattle.dbformat.specs.KeyFaults.{Key, key_of, keys_of_view, keys_at, keys, e
 use Rattle.dbformat.specs.Story.{Event, at_page, at_key, at_refused, own_visit}
 use Rattle.dbformat.specs.declared.FaultCode.TheVariants.{T06}
 use Rattle.dbformat.proofs.Places.{key_place}
-use Rattle.dbtrace.specs.Progress.{key_entry, greatest_after, late_faults}
+use Rattle.dbtrace.specs.Causes.{cell_key, top_key}
+use Rattle.dbtrace.specs.Progress.{key_entry, greatest_after, value_of, late_faults}
+use Rattle.dbtrace.specs.declared.CellKey.{CellKey}
 use Rattle.dbtrace.specs.Starts.{IsOfEarlierStart, AreOfEarlierStarts}
 use Rattle.dbtrace.specs.Walk.{Walk, machine, advance}
 use Rattle.dbtrace.proofs.Depths.{other_start}
-use Rattle.dbtrace.proofs.Told.{visited, trace, IsOf, told_as, key_told, below_start, before, visited_before, page_before}
+use Rattle.dbtrace.proofs.Tops.{values, top_found}
+use Rattle.dbtrace.proofs.Told.{visited, trace, tells, IsOf, told_as, key_told, below_start, before, visited_before, page_before}
 
 -- the keys of what was told
 abbrev pub keys_told_at : Event → List Key
@@ -39,7 +42,7 @@ keys_told_at (at_refused r) = []
 abbrev pub keys_told : List (Told Event) → List Key
 keys_told A = flat_map (λ t. keys_told_at t.event) A
 
-greatest_both : (top : Option ℤ) (ks js : List Key) → greatest_after top (ks ++ js) ≡ greatest_after (greatest_after top ks) js
+greatest_both : (top : Option CellKey) (ks js : List Key) → greatest_after top (ks ++ js) ≡ greatest_after (greatest_after top ks) js
 greatest_both top [] js = refl
 greatest_both top (k ∷ ks) js = greatest_both (greatest_after top (k ∷ [])) ks js
 
@@ -52,6 +55,23 @@ greatest_is file now (t ∷ A) = by_event t.event (λ m. greatest_is file m A)
     by_event (at_page r) h = h (advance file now (at_page r))
     by_event (at_key r v x) h = h (advance file now (at_key r v x)) ∙ sym (greatest_both now.state.greatest (key_of r v x) (keys_told A))
     by_event (at_refused r) h = h (advance file now (at_refused r))
+
+-- keys that are told at rising places, at most one at each
+ascending_keys : (A : List (Told Event)) → IsAscending (λ (t : Told Event). t.key) A → ((m : Told Event) → IsIn m A → (j : Key) → IsIn j (keys_told_at m.event) → j.place ≡ m.key)
+    → IsAscending (λ (k : Key). k.place) (keys_told A)
+ascending_keys [] asc at = tt
+ascending_keys (t ∷ A) asc at = EachPair-append (λ (j : Key) (k : Key). IsBefore j.place k.place) (keys_told_at t.event) (keys_told A) (one t.event) (ascending_keys A asc.1 (λ m i. at m (inr i)))
+    (λ j k i l. let m = IsIn-from_flat_map (λ t. keys_told_at t.event) A k l in
+    subst (λ a. IsBefore a k.place) (sym (at t (inl refl) j i)) (subst (IsBefore t.key) (sym (at m.0 (inr m.1) k m.2)) (asc.0 m.0 m.1)))
+  where
+    one : (e : Event) → IsAscending (λ (k : Key). k.place) (keys_told_at e)
+    one (at_page r) = tt
+    one (at_refused r) = tt
+    one (at_key r v (i, x)) = by_key x.key
+      where
+        by_key : (o : Option ℤ) → IsAscending (λ (k : Key). k.place) (key_of r v (i, record x { key = o }))
+        by_key None = tt
+        by_key (Some value) = ((λ k i. absurd i), tt)
 
 -- the two tests for a key out of order are one
 
@@ -123,14 +143,20 @@ module _ (file : List ℕ) (k : ℕ) (W : List Reference) (c : Reference) (at : 
             (eq-eqb (start_of j.place) (start_of key.place) (ap start_of stands ∙ started r (key_step x.0) h.0 ∙ sym start))
             (is_before-from j.place key.place (subst (IsBefore j.place) (sym is_at) (subst (λ a. IsBefore a t.key) (sym stands) b'))))
 
-    abbrev top : Option ℤ
+    abbrev top : Option CellKey
     top = greatest_after None (keys_told A)
 
     -- by the greatest key so far
-    late : list_any (is_out_of_order key) (earlier_keys file U key) ≡ is_out int_lt top (key_entry key)
-    late = by_both (list_any (is_out_of_order key) (earlier_keys file U key)) (is_out int_lt top (key_entry key)) (λ e. exact.1 (there e)) (λ e. back (exact.0 e))
+    late : list_any (is_out_of_order key) (earlier_keys file U key) ≡ is_out int_lt (value_of top) (key_entry key)
+    late = by_both (list_any (is_out_of_order key) (earlier_keys file U key)) (is_out int_lt (value_of top) (key_entry key)) (λ e. by_value.1 (exact.1 (there e))) (λ e. back (exact.0 (by_value.0 e)))
       where
-        exact : (is_out int_lt top (key_entry key) ≡ true) ↔ IsOut int_lt (map key_entry (keys_told A)) (key_entry key)
+        out : Option ℤ → Type 0
+        out v = is_out int_lt v (key_entry key) ≡ true
+
+        by_value : out (value_of top) ↔ out (greatest_from int_lt None (map key_entry (keys_told A)))
+        by_value = (subst out (values None (keys_told A)), subst out (sym (values None (keys_told A))))
+
+        exact : out (greatest_from int_lt None (map key_entry (keys_told A))) ↔ IsOut int_lt (map key_entry (keys_told A)) (key_entry key)
         exact = running_greatest int_lt int_line (map key_entry (keys_told A)) (key_entry key)
 
         there : list_any (is_out_of_order key) (earlier_keys file U key) ≡ true → IsOut int_lt (map key_entry (keys_told A)) (key_entry key)
@@ -140,6 +166,20 @@ module _ (file : List ℕ) (k : ℕ) (W : List Reference) (c : Reference) (at : 
         back : IsOut int_lt (map key_entry (keys_told A)) (key_entry key) → list_any (is_out_of_order key) (earlier_keys file U key) ≡ true
         back h = let m = IsIn-from_map key_entry (keys_told A) h.0 h.1 in
             any_true (is_out_of_order key) (earlier_keys file U key) m.0 (was_earlier m.0 m.1) (same_test key m.0 ∙ subst (λ d. IsOutAfter int_lt d (key_entry key)) m.2 h.2)
+
+    -- the keys that were told rise by place
+    rising : IsAscending (λ (k : Key). k.place) (keys_told A)
+    rising = ascending_keys A (EachPair-left (λ (s : Told Event) (t : Told Event). IsBefore s.key t.key) A (t ∷ B) (subst (IsAscending (λ (t : Told Event). t.key)) split (tells file W c).ascending))
+        (λ m i j l. at_place m.key m.event (told_as file W c m ((before file W c A B t split m).0 i).0) j l)
+      where
+        at_place : (place : Address) (e : Event) → IsOf file (visited file W c) place e → (j : Key) → IsIn j (keys_told_at e) → j.place ≡ place
+        at_place place (at_page r) h j l = absurd l
+        at_place place (at_refused r) h j l = absurd l
+        at_place place (at_key r v x) h j l = key_place r v x j l ∙ sym h.3
+
+    -- the greatest so far is the one that no earlier key is above
+    pub top_is : option_map cell_key (top_key (earlier_keys file U key)) ≡ top
+    top_is = top_found (earlier_keys file U key) (keys_told A) rising (λ j. (was_told j, was_earlier j))
 
     pub late_is : key_faults file U key ≡ late_faults top key
     unfolding key_faults

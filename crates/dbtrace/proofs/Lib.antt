@@ -1,8 +1,12 @@
 pub mod Asides
+pub mod ByStarts
+pub mod Causing
 pub mod Depths
 pub mod Folding
 pub mod Keys
+pub mod LookBack
 pub mod RowsTold
 pub mod SchemaOrder
 pub mod Stepping
 pub mod Told
+pub mod Tops

@@ -4,7 +4,7 @@ use Rattle.std.specs.Prelude.{flat_map}
 use Rattle.dbsurvey.specs.Address.{IsIn, Address, IsBefore, IsAscending}
 use Rattle.dbsurvey.specs.Survey.{IsPart}
 use Rattle.dbsurvey.specs.Traverse.{part_of}
-use Rattle.dbsurvey.specs.Story.{Told, Item, Follow, Place, Go, told_own, IsTold, of_errand, of_page, of_place, of_refused, IsTelling, telling_of}
+use Rattle.dbsurvey.specs.Story.{Told, Item, Follow, Place, Errand, Go, Tell, told_own, IsTold, of_errand, of_page, of_place, of_refused, IsTelling, telling_of}
 use Rattle.dbsurvey.specs.InOrder.{visits_in}
 use Rattle.dbsurvey.proofs.Order.{IsIn-cases, IsIn-right, EachPair-right, IsBefore-trans, IsBefore-beginning}
 use Rattle.dbsurvey.proofs.Ordering.{IsIn-from_flat_map}
@@ -75,6 +75,17 @@ module _ (file : List ℕ) where
   )
   of_place_at V u step (at_refused r) i h = absurd h
 
+  -- of what is told below errands that are all references
+  pub told_of : (errands : List (Errand Way Event)) (V : List Reference) → ((e : Told Event) → IsIn (Tell e) errands → ⊥) → (e : Told Event)
+      → IsTold (rules_of file) (story_of file) errands V e → IsOf V e.key e.event
+  unfolding story_of
+  told_of errands V none e (of_errand i) = absurd (none e i)
+  told_of errands V none e (of_page r i f) = subst (λ e. IsOf V e.key e.event) (sym f) (i, refl)
+  told_of errands V none e (of_place u i j) =
+      let m = key_at u.address ((story_of file).items u) e j in
+      subst (λ a. IsOf V a e.event) (sym m.2) (of_place_at V u m.0 e.event i (of_items u m.0 e.event m.1))
+  told_of errands V none e (of_refused r n out f) = subst (λ e. IsOf V e.key e.event) (sym f) refl
+
 -- the tree of a start, after W
 module _ (file : List ℕ) (W : List Reference) (c : Reference) where
   abbrev pub visited : List Reference
@@ -98,14 +109,7 @@ module _ (file : List ℕ) (W : List Reference) (c : Reference) where
       (b.2.0, b.2.1 ∙ ap (λ a. a ++ b.2.0) (elim b.1 [ inl e ↦ ap (λ c. c.address) e ∙ at | inr n ↦ absurd n ]))
 
   pub told_as : (e : Told Event) → IsToldBelow e → IsOf file visited e.key e.event
-  unfolding story_of
-  told_as e (of_errand (inl f)) = cc
-  told_as e (of_errand (inr n)) = absurd n
-  told_as e (of_page r i f) = subst (λ e. IsOf file visited e.key e.event) (sym f) (i, refl)
-  told_as e (of_place u i j) =
-      let m = key_at u.address ((story_of file).items u) e j in
-      subst (λ a. IsOf file visited a e.event) (sym m.2) (of_place_at file visited u m.0 e.event i (of_items file u m.0 e.event m.1))
-  told_as e (of_refused r n out f) = subst (λ e. IsOf file visited e.key e.event) (sym f) refl
+  told_as e t = told_of file (Go c ∷ []) visited (λ e j. elim j [ inl f ↦ cc | inr n ↦ n ]) e t
 
   pub key_told : (r : Reference) (v : View) (x : ℕ × Cell) → IsIn r visited → tree_view file r ≡ Some v → IsIn x (cells v) → IsToldBelow (record { key = then_step r.address (key_step x.0); event = at_key r v x })
   unfolding story_of

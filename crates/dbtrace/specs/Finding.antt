@@ -11,16 +11,28 @@ use Rattle.dbformat.specs.Rows.{StatRow}
 use Rattle.dbformat.specs.Report.{event_faults}
 use Rattle.dbformat.specs.Laws.{event_row}
 use Rattle.dbformat.specs.declared.Fault.{Fault}
+use Rattle.dbformat.specs.declared.FaultCode.{FaultCode}
+use Rattle.dbtrace.specs.Causes.{cause_of}
+use Rattle.dbtrace.specs.declared.Cause.{Cause}
+use Rattle.dbtrace.specs.declared.Cause.TheVariants.{Itself}
 use Rattle.std.specs.Prelude.{ℕ}
 
--- a row or a fault
+-- a row, or a fault with its cause
 pub data Finding : Type 0 where
   told_row : StatRow → Finding
-  told_fault : Fault → Finding
+  told_fault : Fault → Cause → Finding
+
+-- a fault that goes back to nothing else
+abbrev pub told_alone : Fault → Finding
+told_alone f = told_fault f Itself
+
+-- faults, with the cause that their codes have
+abbrev pub told_by : (FaultCode → Cause) → List Fault → List Finding
+told_by why fs = map (λ f. told_fault f (why f.code)) fs
 
 -- what is told at an event, where the visits so far are those of U: its row, if it has one, and then its faults
 abbrev pub told_at : List ℕ → List Reference → Event → List Finding
-told_at file U event = map told_row (option_to_list (event_row file event)) ++ map told_fault (event_faults file U event)
+told_at file U event = map told_row (option_to_list (event_row file event)) ++ told_by (cause_of file U event) (event_faults file U event)
 
 -- what is told below some errands, after the visits of W
 abbrev pub told_below : List ℕ → List Reference → List (Errand Way Event) → List Finding

@@ -11,8 +11,8 @@ use Rattle.dbformat.specs.ReferenceFaults.{reference_faults}
 use Rattle.dbformat.specs.Story.{Event, at_page, at_key, at_refused}
 use Rattle.dbformat.specs.Laws.{event_row}
 use Rattle.dbformat.specs.declared.Fault.{Fault}
-use Rattle.dbtrace.specs.Finding.{Finding, told_row, told_fault}
-use Rattle.dbtrace.specs.Progress.{Progress, depth_faults, late_faults, rows_of}
+use Rattle.dbtrace.specs.Finding.{Finding, told_row, told_by}
+use Rattle.dbtrace.specs.Progress.{Progress, cause_by, depth_faults, late_faults, rows_of}
 
 -- for the report, or for the taker of the schema's rows
 pub data Item : Type 0 where
@@ -55,4 +55,4 @@ rows_at_event file U (at_refused r) = []
 -- the items of an event: the row of the schema goes to the taker before its faults are told
 abbrev pub items_at : List ℕ → List Reference → Progress → Event → List Item
 items_at file U p event = map given (readable (rows_at_event file U event))
-    ++ map found (map told_row (option_to_list (event_row file event)) ++ map told_fault (faults_at file U p event))
+    ++ map found (map told_row (option_to_list (event_row file event)) ++ told_by (cause_by file U p event) (faults_at file U p event))

@@ -1,6 +1,8 @@
+pub mod Causes
 pub mod Finding
 pub mod Fold
 pub mod Item
+pub mod LookBack
 pub mod Progress
 pub mod Starts
 pub mod Steps

@@ -1,6 +1,7 @@
 -- What a walk over one tree keeps of the events so far, beside the visits: a fold over them.
-use Rattle.std.specs.Prelude.{ℕ, ◌+◌, not, ◌&&◌, List, [], ◌∷◌, length, map, Option, Some, None, unwrap_or, ℤ, int_lt, pos, ◌==◌, if◌then◌else◌}
-use Rattle.dbsurvey.specs.Greatest.{Entry, is_out, greatest_from}
+use Rattle.std.specs.Prelude.{ℕ, ◌+◌, not, ◌&&◌, List, [], ◌∷◌, length, Option, Some, None, option_map, ℤ, int_lt, pos, ◌==◌, if◌then◌else◌}
+use Rattle.std.specs.Option.{option_map_or}
+use Rattle.dbsurvey.specs.Greatest.{Entry, is_out}
 use Rattle.dbformat.specs.Tests.{told_if}
 use Rattle.dbformat.specs.Faults.{fault}
 use Rattle.dbformat.specs.Address.{start_of, depth, schema_start}
@@ -12,12 +13,18 @@ use Rattle.dbformat.specs.PageFaults.{is_leaf_of}
 use Rattle.dbformat.specs.KeyFaults.{Key, key_of}
 use Rattle.dbformat.specs.Story.{Event, at_page, at_key, at_refused}
 use Rattle.dbformat.specs.declared.Fault.{Fault}
+use Rattle.dbformat.specs.declared.FaultCode.{FaultCode}
 use Rattle.dbformat.specs.declared.FaultCode.TheVariants.{T05, T06}
+use Rattle.dbtrace.specs.Causes.{cell_key, leaf_at, cause_of}
+use Rattle.dbtrace.specs.declared.CellKey.{CellKey}
+use Rattle.dbtrace.specs.declared.TreeLeaf.{TreeLeaf}
+use Rattle.dbtrace.specs.declared.Cause.{Cause}
+use Rattle.dbtrace.specs.declared.Cause.TheVariants as cause
 
--- the greatest key, the depth of the first undamaged leaf, and how many rows of the schema had a root page
+-- the greatest key, at the first cell that has it, the first undamaged leaf, and how many rows of the schema had a root page
 pub record Progress : Type 0 where
-  pub greatest : Option ℤ
-  pub leaf : Option ℕ
+  pub greatest : Option CellKey
+  pub leaf : Option TreeLeaf
   pub roots : ℕ
 
 -- before the first event of a tree
@@ -28,23 +35,45 @@ at_start = record { greatest = None; leaf = None; roots = 0 }
 abbrev pub key_entry : Key → Entry ℤ
 key_entry key = record { key = key.value; strict = key.is_rowid }
 
+-- the greatest key so far, or a further one that is greater
+abbrev pub greater_key : Option CellKey → CellKey → Option CellKey
+greater_key None key = Some key
+greater_key (Some top) key = if int_lt top.value key.value then Some key else Some top
+
 -- the greatest key after those of a cell
-abbrev pub greatest_after : Option ℤ → List Key → Option ℤ
-greatest_after top keys = greatest_from int_lt top (map key_entry keys)
+abbrev pub greatest_after : Option CellKey → List Key → Option CellKey
+greatest_after top [] = top
+greatest_after top (key ∷ keys) = greatest_after (greater_key top (cell_key key)) keys
+
+-- its value
+abbrev pub value_of : Option CellKey → Option ℤ
+value_of top = option_map (λ k. k.value) top
 
 -- a key out of order, by the greatest so far
-abbrev pub late_faults : Option ℤ → Key → List Fault
-late_faults top key = told_if (is_out int_lt top (key_entry key)) (fault T06 key.page key.item key.value)
+abbrev pub late_faults : Option CellKey → Key → List Fault
+late_faults top key = told_if (is_out int_lt (value_of top) (key_entry key)) (fault T06 key.page key.item key.value)
 
--- the depth of the first leaf after a visit
-abbrev pub leaf_after : List ℕ → Option ℕ → Reference → Option ℕ
-leaf_after file (Some d) r = Some d
-leaf_after file None r = if is_leaf_of file (start_of r.address) r then Some (depth r.address) else None
+-- the first leaf after a visit
+abbrev pub leaf_after : List ℕ → Option TreeLeaf → Reference → Option TreeLeaf
+leaf_after file (Some l) r = Some l
+leaf_after file None r = if is_leaf_of file (start_of r.address) r then Some (leaf_at r) else None
+
+-- the depth of the first leaf, or else d
+abbrev pub depth_of : Option TreeLeaf → ℕ → ℕ
+depth_of leaf d = option_map_or (λ l. l.depth) leaf d
 
 -- a leaf at another depth than the first, by the depth of the first
-abbrev pub depth_faults : List ℕ → Option ℕ → Reference → List Fault
-depth_faults file leaf r = told_if (is_leaf_of file (start_of r.address) r && not (depth r.address == unwrap_or leaf (depth r.address)))
+abbrev pub depth_faults : List ℕ → Option TreeLeaf → Reference → List Fault
+depth_faults file leaf r = told_if (is_leaf_of file (start_of r.address) r && not (depth r.address == depth_of leaf (depth r.address)))
     (fault T05 r.page 0 (pos (depth r.address)))
+
+-- The cause of a fault of this code at an event, by the progress so far, where U has the visits up to it.
+abbrev pub cause_by : List ℕ → List Reference → Progress → Event → FaultCode → Cause
+cause_by file U p (at_page r) T05 = option_map_or (λ l. cause.Leaf l.page) p.leaf cause.Itself
+cause_by file U p (at_page r) code = cause_of file U (at_page r) code
+cause_by file U p (at_key r v cell) T06 = option_map_or cause.Key p.greatest cause.Itself
+cause_by file U p (at_key r v cell) code = cause.Itself
+cause_by file U p (at_refused r) code = cause_of file U (at_refused r) code
 
 -- the row of the schema that a cell spells, by the visits so far, where it is in a leaf of the schema's tree
 abbrev pub rows_of : List ℕ → List Reference → Reference → View → ℕ × Cell → List SchemaCell

@@ -5,7 +5,69 @@
 
 ghost use Rattle.std.specs.Prelude.{ℕ, List};
 ghost use Rattle.dbtrace.specs.Fold.{IsFold};
+ghost use Rattle.dbtrace.specs.LookBack.{CausesLookBack, FindingsLookBack};
 ghost use Rattle.dbtrace.specs.Steps.{AreAside, HasSteps};
+
+use dbformat::{Fault, Look};
+
+/// A key of a cell: where it stands, and what it is.
+#[derive(Clone, Copy, Debug, PartialEq, Eq)]
+pub struct CellKey {
+    pub page: u32,
+    pub item: u32,
+    pub value: i64,
+}
+
+/// A leaf of a tree: its page, and its depth, where the root has depth 1.
+#[derive(Clone, Copy, Debug, PartialEq, Eq)]
+pub struct TreeLeaf {
+    pub page: u32,
+    pub depth: u32,
+}
+
+/// The overflow chain of a cell: where the cell stands, how many pages the payload takes that is left to place, and how many
+/// were found.
+#[derive(Clone, Copy, Debug, PartialEq, Eq)]
+pub struct CellChain {
+    pub page: u32,
+    pub item: u32,
+    pub pages: u32,
+    pub found: u32,
+}
+
+/// What a fault goes back to.
+#[derive(Clone, Copy, Debug, PartialEq, Eq)]
+pub enum Cause {
+    /// Nothing but what stands at its own place.
+    Itself,
+    /// The key that a key is not above: the greatest before it, at the first cell that has it.
+    Key(CellKey),
+    /// The page of the first leaf, which has another depth.
+    Leaf(u32),
+    /// The chain that it breaks.
+    Chain(CellChain),
+    /// What the page looks like.
+    Look(Look),
+}
+
+/// A part of a report: the header of a file, what is found from a start on, and what is found when all pages have been visited.
+#[derive(Clone, Copy, Debug, PartialEq, Eq)]
+pub enum Part {
+    /// The header.
+    Header,
+    /// What is reached from this start: 0 is the schema, 1 to 65536 are its rows that have a root page, 65537 is the freelist.
+    Start(u32),
+    /// The end.
+    End,
+}
+
+/// A fault, the part of the report that it belongs to, and what it goes back to.
+#[derive(Clone, Copy, Debug, PartialEq, Eq)]
+pub struct Reported {
+    pub part: Part,
+    pub fault: Fault,
+    pub cause: Cause,
+}
 
 /// What a walk keeps beside the visits is a fold over the events so far: the greatest key, the depth of the first leaf and the
 /// number of rows with a root. All that is told of a start is read off it, word for word as the definitions have it.
@@ -17,4 +79,11 @@ pub fn progress_is_enough()
 pub fn walks_go_by_steps()
     ensures steps { (file : List ℕ) → HasSteps file }
     ensures aside { (file : List ℕ) → AreAside file }
+{}
+
+/// Causes look back alone, as faults do: each rests on the pages that are visited up to the place at which its fault is told.
+/// So a fault can be told with its cause on the way.
+pub fn causes_look_back()
+    ensures causes { (file : List ℕ) → CausesLookBack file }
+    ensures findings { (file : List ℕ) → FindingsLookBack file }
 {}

@@ -1,0 +1,168 @@
+-- Causes look back alone: the cause of a fault rests on the pages that were visited before it.
+use Rattle.std.proofs.Common.{◌≡◌, ℕ, zero, suc, ◌+◌, ◌-◌, inl, inr, Bool, true, false, cond, not, ◌&&◌, List, [], ◌∷◌, ◌++◌, map, length, take, Option, Some, None, refl, sym, ap, ap₂, subst, ◌∙◌, append_assoc}
+use Rattle.std.specs.Prelude.{find, flat_map, option_to_list, ◌==◌}
+use Rattle.std.specs.Option.{option_map_or}
+use Rattle.dbsurvey.specs.Address.{IsIn, Address, IsBefore}
+use Rattle.dbsurvey.specs.InOrder.{is_before, visits_in, read_back}
+use Rattle.dbsurvey.specs.Story.{Told}
+use Rattle.dbsurvey.proofs.Order.{IsIn-right}
+use Rattle.dbsurvey.proofs.Ordering.{is_before-from}
+use Rattle.dbformat.specs.Address.{start_of, then_step, key_step}
+use Rattle.dbformat.specs.Cell.{Cell}
+use Rattle.dbformat.specs.Head.{View}
+use Rattle.dbformat.specs.Header.{usable_size}
+use Rattle.dbformat.specs.KeyFaults.{Key, key_of}
+use Rattle.dbformat.specs.Laws.{event_row}
+use Rattle.dbformat.specs.PageFaults.{is_leaf_of, depth_fault, page_faults}
+use Rattle.dbformat.specs.Reference.{Reference, role_of, bytes_left}
+use Rattle.dbformat.specs.Report.{event_faults}
+use Rattle.dbformat.specs.Story.{Event, at_page, at_key, at_refused, own_visit, start_errands, telling}
+use Rattle.dbformat.specs.Survey.{Survey}
+use Rattle.dbformat.specs.declared.Fault.{Fault}
+use Rattle.dbformat.specs.declared.FaultCode.{FaultCode}
+use Rattle.dbformat.specs.declared.FaultCode.TheVariants.{T06}
+use Rattle.dbformat.proofs.LookBack.{find_front, keys_front, tells, all_of, later, here, listed, one_of, visits-append}
+use Rattle.dbformat.proofs.Places.{key_place}
+use Rattle.dbformat.proofs.Theory.{no_tell, told_in_order}
+use Rattle.dbformat.specs.Schema.{starts}
+use Rattle.dbtrace.specs.Causes.{cell_key, leaf_at, top_key, top_before, first_leaf, chain_number, head_address, is_same, chain_head, chain_of, chain_cause, cause_of}
+use Rattle.dbtrace.specs.Finding.{Finding, told_row, told_fault, told_by, told_at}
+use Rattle.dbtrace.specs.LookBack.{visits_up_to, CausesLookBack, FindingsLookBack}
+use Rattle.dbtrace.specs.declared.Cause.{Cause}
+use Rattle.dbtrace.specs.declared.Cause.TheVariants as cause
+use Rattle.dbtrace.proofs.Causing.{told_by-append, page_same}
+use Rattle.dbtrace.proofs.Depths.{told_same, page_parts}
+use Rattle.dbtrace.proofs.Folding.{page_of_visits}
+use Rattle.dbtrace.proofs.Told.{IsOf, told_of}
+
+-- lists
+
+-- no element of the second list passes the test
+none_after : {X : Type 0} (p : X → Bool) (xs ys : List X) → ((y : X) → IsIn y ys → p y ≡ false) → find p (xs ++ ys) ≡ find p xs
+none_after p [] [] h = refl
+none_after p [] (y ∷ ys) h = ap (λ b. cond b (Some y) (find p ys)) (h y (inl refl)) ∙ none_after p [] ys (λ z i. h z (inr i))
+none_after p (x ∷ xs) ys h = ap (cond (p x) (Some x)) (none_after p xs ys h)
+
+-- two readings of the codes that agree
+same_by : (why other : FaultCode → Cause) → ((code : FaultCode) → why code ≡ other code) → (fs : List Fault) → told_by why fs ≡ told_by other fs
+same_by why other h [] = refl
+same_by why other h (f ∷ fs) = ap₂ (λ c l. told_fault f c ∷ l) (h f.code) (same_by why other h fs)
+
+-- the cause that a fault is told with
+abbrev cause_in : Cause → List Finding → Cause
+cause_in none (told_fault f why ∷ fs) = why
+cause_in none fs = none
+
+abbrev rest_of : List Finding → List Finding
+rest_of [] = []
+rest_of (f ∷ fs) = fs
+
+same_causes : (why other : FaultCode → Cause) (fs : List Fault) → told_by why fs ≡ told_by other fs → (f : Fault) → IsIn f fs → why f.code ≡ other f.code
+same_causes why other [] e f i = absurd i
+same_causes why other (g ∷ fs) e f (inl h) = subst (λ f. why f.code ≡ other f.code) (sym h) (ap (cause_in (why g.code)) e)
+same_causes why other (g ∷ fs) e f (inr i) = same_causes why other fs (ap rest_of e) f i
+
+-- addresses
+
+-- a beginning of an address is before all that the address is before
+begins_before : (n : ℕ) (a b : Address) → IsBefore a b → IsBefore (take n a) b
+begins_before n a [] h = absurd h
+begins_before zero a (y ∷ b) h = tt
+begins_before (suc n) [] (y ∷ b) h = h
+begins_before (suc n) (x ∷ a) (y ∷ b) (inl l) = inl l
+begins_before (suc n) (x ∷ a) (y ∷ b) (inr h) = inr (h.0, begins_before n a b h.1)
+
+not_same : (a b : Address) → IsBefore b a → is_same a b ≡ false
+not_same a b h = by_other (not (is_before a b)) (not (is_before b a)) (ap not (is_before-from b a h))
+  where
+    by_other : (x y : Bool) → y ≡ false → (x && y) ≡ false
+    by_other true y e = e
+    by_other false y e = refl
+
+-- Beyond a place nothing counts: T has pages at greater addresses.
+module _ (file : List ℕ) (U T : List Reference) (place : Address) (after : (t : Reference) → IsIn t T → IsBefore place t.address) where
+  top_front : (ks : List Key) → ((k : Key) → IsIn k ks → k.place ≡ place) → top_before file (U ++ T) ks ≡ top_before file U ks
+  top_front [] h = refl
+  top_front (k ∷ ks) h = ap top_key (keys_front file U T place after k (h k (inl refl)))
+
+  leaf_front : (r : Reference) → IsIn r U → is_leaf_of file (start_of r.address) r ≡ true → first_leaf file (U ++ T) r ≡ first_leaf file U r
+  leaf_front r i e = ap (λ o. option_map_or (λ u. Some (leaf_at u)) o None) (find_front (is_leaf_of file (start_of r.address)) U T r i e)
+
+  -- the first page of a chain is at a beginning of the address
+  head_front : (r : Reference) → r.address ≡ place → chain_head (U ++ T) r ≡ chain_head U r
+  head_front r e = ap (cond (chain_number r.address == 0) (Some r)) (none_after (λ u. is_same u.address (head_address r.address)) U T
+      (λ t i. not_same t.address (head_address r.address) (begins_before (length r.address - chain_number r.address) r.address t.address (subst (λ a. IsBefore a t.address) (sym e) (after t i)))))
+
+  chain_front : (r : Reference) → r.address ≡ place → (left : Option ℕ) (more : ℕ) → chain_cause file (U ++ T) r left more ≡ chain_cause file U r left more
+  chain_front r e None more = refl
+  chain_front r e (Some left) more =
+      ap (λ head. option_map_or (λ head. cause.Chain (chain_of (usable_size file) head (chain_number r.address) left (chain_number r.address + more))) head cause.Itself) (head_front r e)
+
+  abbrev by_all : Event → FaultCode → Cause
+  by_all e = cause_of file (U ++ T) e
+
+  abbrev by_front : Event → FaultCode → Cause
+  by_front e = cause_of file U e
+
+  -- a page has the fault of its depth only where it is a leaf
+  depth_front : (r : Reference) → IsIn r U → told_by (by_all (at_page r)) (depth_fault file U r) ≡ told_by (by_front (at_page r)) (depth_fault file U r)
+  unfolding depth_fault
+  depth_front r i = by_leaf (is_leaf_of file (start_of r.address) r) refl
+    where
+      by_leaf : (b : Bool) → is_leaf_of file (start_of r.address) r ≡ b → told_by (by_all (at_page r)) (depth_fault file U r) ≡ told_by (by_front (at_page r)) (depth_fault file U r)
+      by_leaf true e = told_same (by_all (at_page r)) (by_front (at_page r)) _ _ (ap (λ l. option_map_or (λ l. cause.Leaf l.page) l cause.Itself) (leaf_front r i e))
+      by_leaf false e = rw e refl
+
+  page_front : (r : Reference) → r.address ≡ place → IsIn r U → told_by (by_all (at_page r)) (page_faults file U r) ≡ told_by (by_front (at_page r)) (page_faults file U r)
+  page_front r e i =
+      ap (told_by (by_all (at_page r))) (page_parts file U r)
+      ∙ told_by-append (by_all (at_page r)) (page_faults file [] r) (depth_fault file U r)
+      ∙ ap₂ (λ a b. a ++ b)
+      (page_same file (by_all (at_page r)) (by_front (at_page r)) (page_of_visits file (U ++ T) r) (page_of_visits file U r) refl (chain_front r e (bytes_left (role_of r)) 1) refl r)
+      (depth_front r i)
+      ∙ sym (ap (told_by (by_front (at_page r))) (page_parts file U r) ∙ told_by-append (by_front (at_page r)) (page_faults file [] r) (depth_fault file U r))
+
+  key_front : (r : Reference) (v : View) (x : ℕ × Cell) → then_step r.address (key_step x.0) ≡ place → (code : FaultCode) → by_all (at_key r v x) code ≡ by_front (at_key r v x) code
+  key_front r v x e T06 = ap (λ k. option_map_or (λ k. cause.Key (cell_key k)) k cause.Itself) (top_front (key_of r v x) (λ k i. key_place r v x k i ∙ e))
+  key_front r v x e _ = refl
+
+  event_front : (V : List Reference) (e : Event) → IsOf file V place e → ((r : Reference) → own_visit e ≡ Some r → IsIn r U)
+      → told_by (by_all e) (event_faults file U e) ≡ told_by (by_front e) (event_faults file U e)
+  event_front V (at_page r) h own = page_front r (sym h.1) (own r refl)
+  event_front V (at_key r v x) h own = same_by (by_all (at_key r v x)) (by_front (at_key r v x)) (key_front r v x (sym h.3)) (event_faults file U (at_key r v x))
+  event_front V (at_refused r) h own = same_by (by_all (at_refused r)) (by_front (at_refused r)) (λ code. chain_front r (sym h) (bytes_left (role_of r)) 0) (event_faults file U (at_refused r))
+
+-- at an event of all that is told
+
+module _ (file : List ℕ) (V : List Reference) (s : Survey file V) where
+  -- its faults with their causes
+  told_here : (A : List (Told Event)) (t : Told Event) (L : List (Told Event)) → A ++ t ∷ L ≡ telling file V
+      → told_by (cause_of file V t.event) (event_faults file V t.event) ≡ told_by (cause_of file (visits_up_to A t) t.event) (event_faults file (visits_up_to A t) t.event)
+  told_here A t L e =
+      ap (told_by (cause_of file V t.event)) (here file V s A t L e)
+      ∙ ap (λ X. told_by (cause_of file X t.event) (event_faults file (visits_up_to A t) t.event)) (sym (all_of file V s A t L e))
+      ∙ event_front file (visits_up_to A t) (visits_in own_visit L) t.key (later file V s A t L e) V t.event
+      (told_of file (start_errands file V) V (no_tell [] (starts file V)) t (((tells file V s).exact t).0 (subst (λ l. IsIn t l) e (IsIn-right t A (t ∷ L) (inl refl)))))
+      (λ r f. IsIn-right r (visits_in own_visit A) (option_to_list (own_visit t.event)) (listed (own_visit t.event) r f))
+
+  -- its row, and these
+  pub findings_here : (A : List (Told Event)) (t : Told Event) (L : List (Told Event)) → A ++ t ∷ L ≡ telling file V → told_at file V t.event ≡ told_at file (visits_up_to A t) t.event
+  findings_here A t L e = ap (λ fs. map told_row (option_to_list (event_row file t.event)) ++ fs) (told_here A t L e)
+
+  -- the visits before the rest
+  pub visits_more : (A : List (Told Event)) (t : Told Event) → visits_in own_visit (A ++ t ∷ []) ≡ visits_up_to A t
+  visits_more A t = visits-append A (t ∷ []) ∙ ap (λ l. visits_in own_visit A ++ l) (one_of (own_visit t.event))
+
+  from_here : (A L : List (Told Event)) → A ++ L ≡ telling file V → flat_map (λ t. told_at file V t.event) L ≡ read_back own_visit (told_at file) (visits_in own_visit A) L
+  from_here A [] e = refl
+  from_here A (t ∷ L) e =
+      ap (λ l. l ++ flat_map (λ t. told_at file V t.event) L) (findings_here A t L e)
+      ∙ ap (λ l. told_at file (visits_up_to A t) t.event ++ l) (from_here (A ++ t ∷ []) L (append_assoc A (t ∷ []) L ∙ e) ∙ ap (λ X. read_back own_visit (told_at file) X L) (visits_more A t))
+
+pub causes_look_back : (file : List ℕ) → CausesLookBack file
+causes_look_back file V s A L t e f i =
+    same_causes (cause_of file V t.event) (cause_of file (visits_up_to A t) t.event) (event_faults file V t.event)
+    (told_here file V s A t L e ∙ ap (told_by (cause_of file (visits_up_to A t) t.event)) (sym (here file V s A t L e))) f i
+
+pub findings_look_back : (file : List ℕ) → FindingsLookBack file
+findings_look_back file V s = from_here file V s [] (telling file V) refl ∙ ap (read_back own_visit (told_at file) []) (told_in_order file V s).1

@@ -1,0 +1,97 @@
+-- What a fault goes back to (own), by the pages that are visited up to it: a key out of order to the first cell with the greatest
+-- key before it, a leaf at another depth to the first leaf, a fault along an overflow chain to the cell of the chain, and a page
+-- of an unknown type to what it looks like.
+use Rattle.std.specs.Prelude.{ℕ, ◌+◌, ◌-◌, ◌/◌, not, Bool, ◌&&◌, ◌||◌, List, [], ◌∷◌, find, length, take, Option, Some, None, int_lt, if◌then◌else◌, ◌==◌}
+use Rattle.std.specs.List.{list_any}
+use Rattle.std.specs.Option.{option_map_or}
+use Rattle.dbsurvey.specs.Address.{Address}
+use Rattle.dbsurvey.specs.InOrder.{is_before}
+use Rattle.dbformat.specs.Header.{usable_size}
+use Rattle.dbformat.specs.Address.{start_of, depth, chain_place}
+use Rattle.dbformat.specs.Reference.{Reference, role_of, from_of, item_of, bytes_left}
+use Rattle.dbformat.specs.Looks.{look_at}
+use Rattle.dbformat.specs.PageFaults.{is_leaf_of}
+use Rattle.dbformat.specs.KeyFaults.{Key, key_of, earlier_keys}
+use Rattle.dbformat.specs.Story.{Event, at_page, at_key, at_refused}
+use Rattle.dbformat.specs.declared.FaultCode.{FaultCode}
+use Rattle.dbformat.specs.declared.FaultCode.TheVariants.{P01, T05, T06, O01}
+use Rattle.dbtrace.specs.declared.CellKey.{CellKey}
+use Rattle.dbtrace.specs.declared.TreeLeaf.{TreeLeaf}
+use Rattle.dbtrace.specs.declared.CellChain.{CellChain}
+use Rattle.dbtrace.specs.declared.Cause.{Cause}
+use Rattle.dbtrace.specs.declared.Cause.TheVariants as cause
+
+-- Keys.
+
+-- a key, without its address
+abbrev pub cell_key : Key → CellKey
+cell_key k = record { page = k.page; item = k.item; value = k.value }
+
+-- whether a key is above another: it is greater, or it is as great and stands before it
+abbrev pub is_above : Key → Key → Bool
+is_above j k = int_lt k.value j.value || (not (int_lt j.value k.value) && is_before j.place k.place)
+
+-- the greatest of some keys, and of equal ones the first: none is above it
+abbrev pub top_key : List Key → Option Key
+top_key ks = find (λ k. not (list_any (λ j. is_above j k) ks)) ks
+
+-- the greatest of the earlier keys of the tree, of the cell's key
+abbrev pub top_before : List ℕ → List Reference → List Key → Option Key
+top_before file V [] = None
+top_before file V (key ∷ keys) = top_key (earlier_keys file V key)
+
+-- Leaves.
+
+-- the page and the depth of a visit
+abbrev pub leaf_at : Reference → TreeLeaf
+leaf_at r = record { page = r.page; depth = depth r.address }
+
+-- the first undamaged leaf of the tree of a visit
+abbrev pub first_leaf : List ℕ → List Reference → Reference → Option TreeLeaf
+first_leaf file V r = option_map_or (λ u. Some (leaf_at u)) (find (is_leaf_of file (start_of r.address)) V) None
+
+-- Overflow chains.
+
+-- the number of an overflow page in its chain, from 0
+abbrev pub chain_number : Address → ℕ
+chain_number a = option_map_or (λ p. p.1) (chain_place a) 0
+
+-- the address of the first page of its chain
+abbrev pub head_address : Address → Address
+head_address a = take (length a - chain_number a) a
+
+-- whether two addresses are one
+abbrev pub is_same : Address → Address → Bool
+is_same a b = not (is_before a b) && not (is_before b a)
+
+-- the reference of the cell to the first page of the chain
+abbrev pub chain_head : List Reference → Reference → Option Reference
+chain_head V r = if chain_number r.address == 0 then Some r else find (λ u. is_same u.address (head_address r.address)) V
+
+-- how many overflow pages so many bytes take
+abbrev pub pages_for : ℕ → ℕ → ℕ
+pages_for usable left = (left + (usable - 5)) / (usable - 4)
+
+-- The chain that begins with this head, where so many bytes are left at page `number` of it, and so many pages were found.
+abbrev pub chain_of : ℕ → Reference → ℕ → ℕ → ℕ → CellChain
+chain_of usable head number left found = record { page = from_of head; item = item_of head; pages = number + pages_for usable left; found = found }
+
+-- the cause of a fault at page `number` of a chain, where so many bytes are left; `more` is 1 where this page was found
+abbrev pub chain_cause : List ℕ → List Reference → Reference → Option ℕ → ℕ → Cause
+chain_cause file V r None more = cause.Itself
+chain_cause file V r (Some left) more =
+    option_map_or (λ head. cause.Chain (chain_of (usable_size file) head (chain_number r.address) left (chain_number r.address + more))) (chain_head V r) cause.Itself
+
+-- the cause of the fault of a reference that is refused
+abbrev pub refusal_cause : List ℕ → List Reference → Reference → Cause
+refusal_cause file V r = chain_cause file V r (bytes_left (role_of r)) 0
+
+-- The cause of a fault of this code that is told at an event.
+abbrev pub cause_of : List ℕ → List Reference → Event → FaultCode → Cause
+cause_of file V (at_page r) P01 = cause.Look (look_at file r.page)
+cause_of file V (at_page r) T05 = option_map_or (λ l. cause.Leaf l.page) (first_leaf file V r) cause.Itself
+cause_of file V (at_page r) O01 = chain_cause file V r (bytes_left (role_of r)) 1
+cause_of file V (at_page r) _ = cause.Itself
+cause_of file V (at_key r v cell) T06 = option_map_or (λ k. cause.Key (cell_key k)) (top_before file V (key_of r v cell)) cause.Itself
+cause_of file V (at_key r v cell) _ = cause.Itself
+cause_of file V (at_refused r) _ = refusal_cause file V r
