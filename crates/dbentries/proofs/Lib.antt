@@ -1,0 +1,4 @@
+pub mod Adding
+pub mod Bytes
+pub mod Numbers
+pub mod Weaving

@@ -1,0 +1,68 @@
+-- What is kept of an entry.
+use Rattle.std.specs.Prelude.{ℕ, ◌+◌, ◌-◌, Bool, ◌&&◌, List, replicate, fold, nat_lt, nat_le, slice_index_or, slice_set, ◌==◌, if◌then◌else◌}
+use Rattle.dbformat.specs.Lines.{counted}
+use Rattle.dbformat.specs.declared.Look.TheVariants as look
+use Rattle.dbtrace.specs.declared.Cause.{Cause}
+use Rattle.dbtrace.specs.declared.Cause.TheVariants as cause
+use Rattle.dbtrace.specs.declared.Reported.{Reported}
+use Rattle.dbentries.specs.declared.entry.Entry.{Entry}
+use Rattle.dbentries.specs.declared.entry.Others.{Others}
+use Rattle.dbentries.specs.declared.runs.Run.{Run}
+use Rattle.dbentries.specs.declared.runs.Runs.{Runs}
+use Rattle.dbentries.specs.Listing as listing
+
+-- ---- runs of pages
+
+abbrev pub no_run : Run
+no_run = record { first = 0; last = 0 }
+
+abbrev pub no_runs : Runs
+no_runs = record { kept = replicate 10 no_run; count = 0; last = 0 }
+
+-- whether a page follows the last one
+abbrev pub is_next : Runs → ℕ → Bool
+is_next r page = nat_lt 0 r.count && (page == r.last + 1)
+
+-- the last run with a page more, if it is kept
+abbrev pub run_grown : Runs → ℕ → List Run
+run_grown r page =
+    if nat_le r.count 10 then slice_set r.kept (r.count - 1) (record (slice_index_or r.kept (r.count - 1) no_run) { last = page }) else r.kept
+
+-- a run more, if there is room
+abbrev pub run_begun : Runs → ℕ → List Run
+run_begun r page = if nat_lt r.count 10 then slice_set r.kept r.count (record { first = page; last = page }) else r.kept
+
+-- a page more
+abbrev pub run_added : Runs → ℕ → Runs
+run_added r page =
+    if is_next r page
+    then record { kept = run_grown r page; count = r.count; last = page }
+    else record { kept = run_begun r page; count = counted (r.count + 1); last = page }
+
+-- ---- an entry
+
+-- how many cells a page has that looks like one of a tree
+abbrev pub cells_of : Cause → ℕ
+cells_of (cause.Look (look.Tree t)) = t.cells
+cells_of _ = 0
+
+-- of one fault alone
+abbrev pub entry_of : Reported → Entry
+entry_of x = record { first = x; others = record { count = 0; page = 0; item = 0; runs = no_runs; cells = 0 } }
+
+-- with one more
+abbrev pub others_added : Others → Reported → Others
+others_added o x = record {
+  count = counted (o.count + 1);
+  page = x.fault.page;
+  item = x.fault.item;
+  runs = run_added o.runs x.fault.page;
+  cells = counted (o.cells + cells_of x.cause);
+}
+
+abbrev pub entry_added : Entry → Reported → Entry
+entry_added e x = record e { others = others_added e.others x }
+
+-- what is kept of an entry
+abbrev pub kept_of : listing.Entry → Entry
+kept_of e = fold entry_added (entry_of e.first) e.others

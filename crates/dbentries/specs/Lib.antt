@@ -1,0 +1,5 @@
+pub mod Kept
+pub mod Lines
+pub mod Listing
+pub mod Store
+pub mod Woven

@@ -1,0 +1,83 @@
+-- What is written of an entry below its fault line (own), but for the lines that say where a page is: the cause, and the faults
+-- that belong to it.
+use Rattle.std.specs.Prelude.{ℕ, ◌+◌, ◌-◌, Bool, ◌||◌, List, [], ◌∷◌, ◌++◌, length, map, codes, decimal, nat_lt, ◌==◌, if◌then◌else◌}
+use Rattle.std.specs.Fmt.{signed_decimal}
+use Rattle.std.specs.List.{flat_map}
+use Rattle.std.specs.Option.{option_map_or}
+use Rattle.dbformat.specs.Lines.{line_feed}
+use Rattle.dbformat.specs.Text.{hex_text}
+use Rattle.dbformat.specs.declared.Look.{Look}
+use Rattle.dbformat.specs.declared.Look.TheVariants as look
+use Rattle.dbformat.specs.declared.PageKind.{PageKind}
+use Rattle.dbformat.specs.declared.PageKind.TheVariants.{InteriorIndex, InteriorTable, LeafIndex, LeafTable}
+use Rattle.dbformat.specs.declared.Rowids.{Rowids}
+use Rattle.dbformat.specs.declared.TreeLook.{TreeLook}
+use Rattle.dbtrace.specs.declared.Cause.{Cause}
+use Rattle.dbtrace.specs.declared.Cause.TheVariants as cause
+use Rattle.dbtrace.specs.declared.CellChain.{CellChain}
+use Rattle.dbtrace.specs.declared.CellKey.{CellKey}
+
+-- a line below the line of a fault
+abbrev pub indented : List ℕ → List ℕ
+indented text = codes "    " ++ text ++ line_feed ∷ []
+
+-- ---- the cause
+
+-- the key that a key is not above
+abbrev pub key_text : CellKey → List ℕ
+key_text k = indented (codes "not above key " ++ signed_decimal k.value ++ codes " of page " ++ decimal k.page ++ codes " item " ++ decimal k.item)
+
+-- the first leaf of the tree
+abbrev pub leaf_text : ℕ → List ℕ
+leaf_text page = indented (codes "the first leaf of the tree is page " ++ decimal page)
+
+-- the overflow chain that is broken, and how much of it was found
+abbrev pub chain_text : CellChain → List ℕ
+chain_text c = indented (codes "chain of page " ++ decimal c.page ++ codes " item " ++ decimal c.item ++ codes ": " ++ decimal c.found ++ codes " of "
+    ++ decimal c.pages ++ (if c.pages == 1 then codes " page" else codes " pages"))
+
+-- the kind of a page of a tree
+abbrev pub page_kind_text : PageKind → List ℕ
+page_kind_text LeafTable = codes "a leaf of a table"
+page_kind_text InteriorTable = codes "an interior page of a table"
+page_kind_text LeafIndex = codes "a leaf of an index"
+page_kind_text InteriorIndex = codes "an interior page of an index"
+
+-- so many cells
+abbrev pub cells_text : ℕ → List ℕ
+cells_text n = decimal n ++ (if n == 1 then codes " cell" else codes " cells")
+
+-- from the first rowid to the last
+abbrev pub rowids_text : Rowids → List ℕ
+rowids_text r = codes ", rowids " ++ signed_decimal r.first ++ codes " to " ++ signed_decimal r.last
+
+-- a page that looks like one of a tree
+abbrev pub tree_look_text : TreeLook → List ℕ
+tree_look_text l =
+    indented (codes "looks like " ++ page_kind_text l.kind ++ codes " with " ++ cells_text l.cells ++ option_map_or rowids_text l.rowids [])
+
+-- a byte in hexadecimal, after a blank
+abbrev pub hex_column : ℕ → List ℕ
+hex_column byte = codes " " ++ hex_text 2 byte
+
+-- a byte as ASCII: a full stop where it is not printable
+abbrev pub shown_byte : ℕ → ℕ
+shown_byte byte = if nat_lt byte 32 || nat_lt 126 byte then 46 else byte
+
+-- the first bytes of a page
+abbrev pub first_bytes_text : List ℕ → List ℕ
+first_bytes_text bytes = indented (codes "begins with" ++ flat_map hex_column bytes ++ codes "  " ++ map shown_byte bytes)
+
+-- what a page looks like
+abbrev pub look_text : Look → List ℕ
+look_text look.Zeros = indented (codes "all zeros")
+look_text (look.Tree l) = tree_look_text l
+look_text (look.Other bytes) = first_bytes_text bytes
+
+-- what a fault goes back to, if that is not its own place
+abbrev pub cause_text : Cause → List ℕ
+cause_text cause.Itself = []
+cause_text (cause.Key k) = key_text k
+cause_text (cause.Leaf page) = leaf_text page
+cause_text (cause.Chain c) = chain_text c
+cause_text (cause.Look l) = look_text l

@@ -1,0 +1,62 @@
+// Whether two faults go back to the same, and how many of a code are listed.
+ghost use Rattle.std.specs.Prelude.{◌≡◌, ◌≤◌};
+ghost use Rattle.dbentries.specs.Kept.{cells_of};
+ghost use Rattle.dbentries.specs.Listing.{most, same_cause, same_kind, same_look};
+
+use dbformat::{FaultCode, Look, PageKind};
+use dbtrace::Cause;
+
+// Whether two causes are the same: the same cell, or pages that look alike.
+pub(crate) fn same_cause(one: Cause, other: Cause) -> bool
+    ensures { result ≡ same_cause one other }
+{
+    match (one, other) {
+        (Cause::Key(a), Cause::Key(b)) => a.page == b.page && a.item == b.item,
+        (Cause::Look(a), Cause::Look(b)) => same_look(a, b),
+        _ => false,
+    }
+}
+
+// Whether two pages look alike: both are all zeros, or pages of trees of one kind, or neither.
+fn same_look(one: Look, other: Look) -> bool
+    ensures { result ≡ same_look one other }
+{
+    match (one, other) {
+        (Look::Zeros, Look::Zeros) | (Look::Other(_), Look::Other(_)) => true,
+        (Look::Tree(a), Look::Tree(b)) => same_kind(a.kind, b.kind),
+        _ => false,
+    }
+}
+
+fn same_kind(one: PageKind, other: PageKind) -> bool
+    ensures { result ≡ same_kind one other }
+{
+    matches!(
+        (one, other),
+        (PageKind::LeafTable, PageKind::LeafTable)
+            | (PageKind::InteriorTable, PageKind::InteriorTable)
+            | (PageKind::LeafIndex, PageKind::LeafIndex)
+            | (PageKind::InteriorIndex, PageKind::InteriorIndex)
+    )
+}
+
+// How many cells a page has that looks like one of a tree.
+pub(crate) fn cells_of(cause: Cause) -> u64
+    ensures { result ≡ cells_of cause }
+{
+    match cause {
+        Cause::Look(Look::Tree(look)) => u64::from(look.cells),
+        _ => 0,
+    }
+}
+
+// How many entries a code has in one part at most.
+pub(crate) fn most(code: FaultCode) -> usize
+    ensures most { result ≡ most code }
+    ensures few { (1 ≤ result) × (result ≤ 6) }
+{
+    match code {
+        FaultCode::N01 => 6,
+        _ => 3,
+    }
+}

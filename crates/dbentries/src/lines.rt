@@ -1,0 +1,149 @@
+// The lines of an entry below its fault line: its cause, and the faults that belong to it.
+ghost use Rattle.arrayvec.specs.ArrayVec.{array_vec_len};
+ghost use Rattle.std.specs.Prelude.{◌≡◌, ◌+◌, ◌≤◌, [], ◌++◌, length};
+ghost use Rattle.std.specs.Fmt.{signed_decimal};
+ghost use Rattle.std.specs.Option.{option_map_or};
+ghost use Rattle.dbsource.specs.Outs.{Puts};
+ghost use Rattle.dbentries.specs.Lines.{cause_text, cells_text, chain_text, key_text, leaf_text, look_text, page_kind_text, rowids_text, tree_look_text};
+
+use crate::first_bytes::first_bytes_text;
+use arrayvec::ArrayVec;
+use dbformat::{Look, PageKind, Rowids, TreeLook};
+use dblines::{append, append_number};
+use dbsource::{Out, WriteFailed};
+use dbtrace::{Cause, CellChain, CellKey};
+use itoa::Buffer;
+
+// Adds a number with its sign.
+fn append_signed<const CAP: usize>(line: &mut ArrayVec<u8, CAP>, number: i64)
+    requires { array_vec_len line.old + 20 ≤ CAP }
+    ensures text { line.new.items ≡ line.old.items ++ signed_decimal number }
+    ensures short { array_vec_len line.new ≤ array_vec_len line.old + 20 }
+{
+    let mut buffer = Buffer::new();
+    append(line, buffer.format(number));
+}
+
+// Adds a number of cells.
+fn append_cells<const CAP: usize>(line: &mut ArrayVec<u8, CAP>, cells: u64)
+    requires { array_vec_len line.old + 26 ≤ CAP }
+    ensures text { line.new.items ≡ line.old.items ++ cells_text cells }
+    ensures short { array_vec_len line.new ≤ array_vec_len line.old + 26 }
+{
+    append_number(line, cells);
+    append(line, if cells == 1 { " cell" } else { " cells" });
+}
+
+fn key_text(key: CellKey) -> ArrayVec<u8, 128>
+    ensures { result.items ≡ key_text key }
+{
+    let mut line = ArrayVec::new();
+    append(&mut line, "    not above key ");
+    append_signed(&mut line, key.value);
+    append(&mut line, " of page ");
+    append_number(&mut line, u64::from(key.page));
+    append(&mut line, " item ");
+    append_number(&mut line, u64::from(key.item));
+    append(&mut line, "\n");
+    line
+}
+
+fn leaf_text(page: u32) -> ArrayVec<u8, 64>
+    ensures { result.items ≡ leaf_text page }
+{
+    let mut line = ArrayVec::new();
+    append(&mut line, "    the first leaf of the tree is page ");
+    append_number(&mut line, u64::from(page));
+    append(&mut line, "\n");
+    line
+}
+
+fn chain_text(chain: CellChain) -> ArrayVec<u8, 160>
+    ensures { result.items ≡ chain_text chain }
+{
+    let mut line = ArrayVec::new();
+    append(&mut line, "    chain of page ");
+    append_number(&mut line, u64::from(chain.page));
+    append(&mut line, " item ");
+    append_number(&mut line, u64::from(chain.item));
+    append(&mut line, ": ");
+    append_number(&mut line, u64::from(chain.found));
+    append(&mut line, " of ");
+    append_number(&mut line, u64::from(chain.pages));
+    append(
+        &mut line,
+        if chain.pages == 1 {
+            " page\n"
+        } else {
+            " pages\n"
+        },
+    );
+    line
+}
+
+fn page_kind_text(kind: PageKind) -> &'static str
+    ensures text { result.now ≡ page_kind_text kind }
+    ensures short { length result.now ≤ 28 }
+{
+    match kind {
+        PageKind::LeafTable => "a leaf of a table",
+        PageKind::InteriorTable => "an interior page of a table",
+        PageKind::LeafIndex => "a leaf of an index",
+        PageKind::InteriorIndex => "an interior page of an index",
+    }
+}
+
+// Adds the first and the last rowid, if they are known.
+fn append_rowids<const CAP: usize>(line: &mut ArrayVec<u8, CAP>, rowids: Option<Rowids>)
+    requires { array_vec_len line.old + 53 ≤ CAP }
+    ensures text { line.new.items ≡ line.old.items ++ option_map_or rowids_text rowids [] }
+    ensures short { array_vec_len line.new ≤ array_vec_len line.old + 53 }
+{
+    if let Some(rowids) = rowids {
+        append(line, ", rowids ");
+        append_signed(line, rowids.first);
+        append(line, " to ");
+        append_signed(line, rowids.last);
+    }
+}
+
+fn tree_look_text(look: TreeLook) -> ArrayVec<u8, 160>
+    ensures { result.items ≡ tree_look_text look }
+{
+    let mut line = ArrayVec::new();
+    append(&mut line, "    looks like ");
+    append(&mut line, page_kind_text(look.kind));
+    append(&mut line, " with ");
+    append_cells(&mut line, u64::from(look.cells));
+    append_rowids(&mut line, look.rowids);
+    append(&mut line, "\n");
+    line
+}
+
+// Puts what a page looks like.
+fn put_look<O: Out>(out: &mut O, look: Look) -> Result<(), WriteFailed>
+    ensures { Puts result (O.held out.old) (O.held out.new) (look_text look) }
+{
+    match look {
+        Look::Zeros => out.put(b"    all zeros\n"),
+        Look::Tree(look) => out.put(tree_look_text(look).as_slice()),
+        Look::Other(first) => out.put(first_bytes_text(first).as_slice()),
+    }
+}
+
+/// Puts what a fault goes back to, if that is not its own place: one line.
+///
+/// # Errors
+///
+/// [`WriteFailed`] where the Out failed: it took a beginning of the line.
+pub fn put_cause<O: Out>(out: &mut O, cause: &Cause) -> Result<(), WriteFailed>
+    ensures { Puts result (O.held out.old) (O.held out.new) (cause_text cause.now) }
+{
+    match *cause {
+        Cause::Itself => Ok(()),
+        Cause::Key(key) => out.put(key_text(key).as_slice()),
+        Cause::Leaf(page) => out.put(leaf_text(page).as_slice()),
+        Cause::Chain(chain) => out.put(chain_text(chain).as_slice()),
+        Cause::Look(look) => put_look(out, look),
+    }
+}
