@@ -12,18 +12,19 @@ use Rattle.dbformat.specs.Survey.{Survey}
 use Rattle.dbformat.specs.declared.Encoding.{Encoding}
 use Rattle.dbformat.specs.declared.Fault.{Fault}
 use Rattle.dbformat.specs.declared.FaultCode.{FaultCode}
-use Rattle.dbformat.specs.declared.FaultCode.TheVariants.{H01, H02, H03, H04, H05, H06, H07, H08, H09, H10, P01, P02, P03, P04, P05, P06, P07, P08, P09, P10, R01, R02, R03, T04, T05, T06, O01, L01, S01, S02, S03, S04, N01, M01, M02}
+use Rattle.dbformat.specs.declared.FaultCode.TheVariants.{H01}
 use Rattle.dbformat.specs.declared.Geometry.{Geometry}
 use Rattle.dbsource.specs.HeaderBytes.{HeaderBytes}
 use Rattle.dbsource.specs.Headers.{IsHeaderOf}
 use Rattle.dbmarks.specs.Marking.{role_mark, marks_of, page_mark, AreMarksOf}
+use Rattle.dbmarks.specs.EndMarks.{entry_value}
+use Rattle.dbmarks.specs.declared.entry.MapEntry.{MapEntry}
 use Rattle.dbmarks.specs.declared.marks.Mark.{Mark}
 use Rattle.dbmarks.proofs.EndMarking.{found_in}
 use Rattle.dbowner.specs.Roots.{AreListed}
 use Rattle.dbformat.proofs.HeaderPrefix.{encoding_within}
 use Rattle.dbowner.specs.Explained.{own_line, both_lines, header_line, line_of_entry, entry_line, lines_below, tree_of_row, tree_text}
-use Rattle.dbowner.specs.Notes.{below_of, entry_value, wanted_entry, notes_text}
-use Rattle.dbowner.specs.declared.explain.notes.Entry.{Entry}
+use Rattle.dbowner.specs.Notes.{below_of, wanted_entry, notes_text}
 use Rattle.dbowner.specs.declared.explain.notes.Note.{Note}
 use Rattle.dbowner.specs.declared.explain.owners.Below.{Below}
 use Rattle.dbowner.specs.declared.explain.owners.Below.TheVariants as below
@@ -44,40 +45,7 @@ module _ (file : List ℕ) (V : List Reference) (f : Fault) where
 
   by_code : (code : FaultCode) → lines_by (below_of code) ≡ lines_below file V f code
   by_code H01 = refl
-  by_code H02 = refl
-  by_code H03 = refl
-  by_code H04 = refl
-  by_code H05 = refl
-  by_code H06 = refl
-  by_code H07 = refl
-  by_code H08 = refl
-  by_code H09 = refl
-  by_code H10 = refl
-  by_code P01 = refl
-  by_code P02 = refl
-  by_code P03 = refl
-  by_code P04 = refl
-  by_code P05 = refl
-  by_code P06 = refl
-  by_code P07 = refl
-  by_code P08 = refl
-  by_code P09 = refl
-  by_code P10 = refl
-  by_code R01 = refl
-  by_code R02 = refl
-  by_code R03 = refl
-  by_code T04 = refl
-  by_code T05 = refl
-  by_code T06 = refl
-  by_code O01 = refl
-  by_code L01 = refl
-  by_code S01 = refl
-  by_code S02 = refl
-  by_code S03 = refl
-  by_code S04 = refl
-  by_code N01 = refl
-  by_code M01 = refl
-  by_code M02 = refl
+  by_code _ = refl
 
   pub lines_of : (b : Below) → b ≡ below_of f.code → lines_by b ≡ lines_below file V f f.code
   lines_of b e = ap lines_by e ∙ by_code f.code
@@ -113,7 +81,7 @@ entry_is file V s p = by_case (visit_of V p) refl
         ∙ ap (λ o. option_map_or line_of_entry o []) (role_entry (role_of r) (from_of r))
         ∙ sym (ap entry_line e)
 
-pub entry_said : (file : List ℕ) (V : List Reference) (marks : List Mark) (p : ℕ) (o : Option Entry) → Survey file V → AreMarksOf file V marks
+pub entry_said : (file : List ℕ) (V : List Reference) (marks : List Mark) (p : ℕ) (o : Option MapEntry) → Survey file V → AreMarksOf file V marks
     → option_map entry_value o ≡ wanted_entry (page_mark marks p) → option_map_or line_of_entry (option_map entry_value o) [] ≡ entry_line (visit_of V p)
 entry_said file V marks p o s m e =
     ap (λ o. option_map_or line_of_entry o []) (e ∙ ap (λ marks. wanted_entry (page_mark marks p)) m) ∙ entry_is file V s p

@@ -18,7 +18,8 @@ use Rattle.dbformat.specs.declared.FaultCode.{FaultCode}
 use Rattle.dbsource.specs.HeaderBytes.{HeaderBytes}
 use Rattle.dbsource.specs.Headers.{IsHeaderOf}
 use Rattle.dbowner.specs.Roots.{AreListed}
-use Rattle.dbowner.specs.Explained.{aligned, all_codes, code_line, count_text, indented, sum_line, summary, tree_line, tree_of_row, tree_text, whole_line}
+use Rattle.dbformat.specs.Codes.{all_codes}
+use Rattle.dbowner.specs.Explained.{aligned, code_line, count_text, indented, sum_line, summary, tree_line, tree_of_row, tree_text, whole_line}
 use Rattle.dbowner.specs.Sums.{AreCounts, code_count, code_sum, counted_code, start_count, start_sum, summary_by, whole_count}
 use Rattle.dbowner.specs.declared.explain.summary.Counts.{Counts}
 use Rattle.dbowner.proofs.Below.{known_trees}

@@ -6,18 +6,20 @@ use Rattle.std.proofs.lemmas.Bool.Decides.{nat_tests}
 use Rattle.std.proofs.lemmas.Option.{get_or_from_slice_get, slice_get_within}
 use Rattle.std.specs.List.{range_with_len}
 use Rattle.std.specs.Option.{option_map_or}
-use Rattle.std.specs.Str.{bytes_eq}
 use Rattle.std.proofs.lemmas.List.{length-append, length-map, length-take-le, map-append, take-append-le, take_all, take_more_set}
 use Rattle.dbsurvey.proofs.Lists.{count-append}
 use Rattle.dbformat.specs.Address.{freelist_start, last_root_start}
+use Rattle.dbformat.specs.Codes.{all_codes, is_code, code_index}
 use Rattle.dbformat.specs.Header.{first_trunk}
-use Rattle.dbformat.specs.Lines.{code_text, counted}
+use Rattle.dbformat.specs.Lines.{counted}
+use Rattle.dbformat.proofs.CodeTables.{is_itself, entry_at, entry_set}
 use Rattle.dbformat.specs.declared.Fault.{Fault}
 use Rattle.dbformat.specs.declared.FaultCode.{FaultCode}
-use Rattle.dbowner.specs.Explained.{all_codes, is_start_number}
+use Rattle.dbowner.specs.Explained.{is_start_number}
 use Rattle.dbowner.specs.Sums.{AreCounts, code_count, counted_code, start_count}
-use Rattle.dbowner.specs.Tallies.{Tallied, counted_at, has_room, kept_in, recounted, taken_in, IsStart, IsTallyOf}
+use Rattle.dbowner.specs.Tallies.{Tallied, counted_at, counted_in, has_room, kept_in, one_more, taken_in, IsStart, IsTallyOf}
 use Rattle.dbowner.specs.declared.explain.summary.Counts.{Counts}
+use Rattle.dbowner.specs.declared.explain.sums.CodeCount.{CodeCount}
 use Rattle.dbowner.proofs.Slots.{get_set, get_set_other}
 
 -- ---- lists
@@ -64,8 +66,8 @@ faults_of fs = map (λ x. x.1) fs
 
 -- ---- counts
 
-one_more : {X : Type 0} (p : X → Bool) (xs : List X) (x : X) → p x ≡ true → count_by p (xs ++ x ∷ []) ≡ count_by p xs + 1
-one_more p xs x e = count-append p xs (x ∷ []) ∙ ap (λ n. count_by p xs + n) (rw e refl)
+one_longer : {X : Type 0} (p : X → Bool) (xs : List X) (x : X) → p x ≡ true → count_by p (xs ++ x ∷ []) ≡ count_by p xs + 1
+one_longer p xs x e = count-append p xs (x ∷ []) ∙ ap (λ n. count_by p xs + n) (rw e refl)
 
 none_more : {X : Type 0} (p : X → Bool) (xs : List X) (x : X) → p x ≡ false → count_by p (xs ++ x ∷ []) ≡ count_by p xs
 none_more p xs x e = count-append p xs (x ∷ []) ∙ ap (λ n. count_by p xs + n) (rw e refl) ∙ (let f : count_by p xs + 0 ≡ count_by p xs = omega arith in f)
@@ -77,17 +79,22 @@ module _ (fs : List (Option ℕ × Fault)) (start : Option ℕ) (f : Fault) wher
   abbrev more : List (Option ℕ × Fault)
   more = fs ++ (start, f) ∷ []
 
-  code_more : (c : FaultCode) → recounted f.code (counted_code fs c) ≡ counted_code more c
-  code_more c = by_case (bytes_eq (code_text f.code) (code_text c)) refl
-    where
-      by_case : (b : Bool) → bytes_eq (code_text f.code) (code_text c) ≡ b
-          → cond b (record { code = c; count = counted (counted (code_count fs c) + 1) }) (counted_code fs c) ≡ counted_code more c
-      by_case true e = ap (λ n. record { code = c; count = n }) (counted_next (code_count fs c) (code_count more c) (one_more (λ (x : Option ℕ × Fault). bytes_eq (code_text x.1.code) (code_text c)) fs (start, f) e))
-      by_case false e = ap (λ n. record { code = c; count = counted n }) (sym (none_more (λ (x : Option ℕ × Fault). bytes_eq (code_text x.1.code) (code_text c)) fs (start, f) e))
+  same_count : (c : FaultCode) → is_code f.code c ≡ false → counted_code fs c ≡ counted_code more c
+  same_count c e = ap (λ n. record { code = c; count = counted n }) (sym (none_more (λ (x : Option ℕ × Fault). is_code x.1.code c) fs (start, f) e))
 
-  pub codes_more : (cs : List FaultCode) → map (recounted f.code) (map (counted_code fs) cs) ≡ map (counted_code more) cs
-  codes_more [] = refl
-  codes_more (c ∷ cs) = ap₂ (λ x xs. x ∷ xs) (code_more c) (codes_more cs)
+  next_count : one_more (counted_code fs f.code) ≡ counted_code more f.code
+  next_count =
+      ap (λ n. record { code = f.code; count = n })
+      (counted_next (code_count fs f.code) (code_count more f.code) (one_longer (λ (x : Option ℕ × Fault). is_code x.1.code f.code) fs (start, f) (is_itself f.code)))
+
+  -- the counts of all codes
+  pub codes_more : (cs : List CodeCount) → cs ≡ map (counted_code fs) all_codes → counted_in f.code cs ≡ map (counted_code more) all_codes
+  codes_more cs e =
+      ap (counted_in f.code) e
+      ∙ ap (λ c. slice_set (map (counted_code fs) all_codes) (code_index f.code) (one_more c))
+      (get_or_from_slice_get (map (counted_code fs) all_codes) (code_index f.code) (counted_code fs f.code) (record { code = f.code; count = 0 }) (entry_at (counted_code fs) f.code))
+      ∙ ap (slice_set (map (counted_code fs) all_codes) (code_index f.code)) next_count
+      ∙ entry_set (counted_code fs) (counted_code more) f.code same_count
 
 -- a fault is kept where there is room
 pub kept_with : (t : Tallied) (f : Fault) (b : Bool) → has_room t ≡ b → record t { kept = cond b (t.kept ++ f ∷ []) t.kept; more = cond b t.more (counted (t.more + 1)) } ≡ kept_in f t
@@ -142,15 +149,15 @@ module _ (fs : List (Option ℕ × Fault)) (f : Fault) (t : Tallied) (is : IsTal
           let long : t.limit ≤ length (faults_of fs) = long_of (faults_of fs) t.limit (rw (sym is.kept) most) in
           ap (λ n. counted (n + 1)) is.more ∙ counted_next (length fs - t.limit) (length (fs ++ (start, f) ∷ []) - t.limit) (omega (arith, size, longer))
 
-  codes_now : (start : Option ℕ) → map (recounted f.code) t.codes ≡ map (counted_code (fs ++ (start, f) ∷ [])) all_codes
-  codes_now start = ap (map (recounted f.code)) is.codes ∙ codes_more fs start f all_codes
+  codes_now : (start : Option ℕ) → counted_in f.code t.codes ≡ map (counted_code (fs ++ (start, f) ∷ [])) all_codes
+  codes_now start = codes_more fs start f t.codes is.codes
 
   -- a count that stays, and one that goes up
   stays : (p : Option ℕ × Fault → Bool) (start : Option ℕ) (n : ℕ) → p (start, f) ≡ false → n ≡ counted (count_by p fs) → n ≡ counted (count_by p (fs ++ (start, f) ∷ []))
   stays p start n off e = e ∙ ap counted (sym (none_more p fs (start, f) off))
 
   rises : (p : Option ℕ × Fault → Bool) (start : Option ℕ) (n : ℕ) → p (start, f) ≡ true → n ≡ counted (count_by p fs) → counted (n + 1) ≡ counted (count_by p (fs ++ (start, f) ∷ []))
-  rises p start n on e = ap (λ n. counted (n + 1)) e ∙ counted_next (count_by p fs) (count_by p (fs ++ (start, f) ∷ [])) (one_more p fs (start, f) on)
+  rises p start n on e = ap (λ n. counted (n + 1)) e ∙ counted_next (count_by p fs) (count_by p (fs ++ (start, f) ∷ [])) (one_longer p fs (start, f) on)
 
   of_file : IsTallyOf (fs ++ (None, f) ∷ []) (counted_at None (taken_in f t))
   of_file = record {

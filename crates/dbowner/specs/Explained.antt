@@ -1,16 +1,15 @@
 -- What `dbck explain` writes of a file with survey V (own): what `check` writes, and below each fault the lines that say where
 -- its pages are; and then how many faults there are, by code and by start.
-use Rattle.std.specs.Prelude.{◌≡◌, ℕ, zero, suc, ◌-◌, ◌*◌, ℤ, pos, Bool, true, false, ◌&&◌, List, [], ◌∷◌, ◌++◌, length, replicate, take, drop, map, flat_map, count_by, Option, Some, None, Result, Ok, Err, slice_get, codes, decimal, nat_lt, ◌==◌, if◌then◌else◌}
+use Rattle.std.specs.Prelude.{◌≡◌, ℕ, zero, suc, ◌-◌, ◌*◌, ℤ, pos, Bool, true, false, ◌&&◌, List, [], ◌∷◌, ◌++◌, length, replicate, take, drop, map, flat_map, count_by, Option, Some, None, Ok, slice_get, codes, decimal, nat_lt, ◌==◌, if◌then◌else◌}
 use Rattle.std.specs.Option.{option_map_or}
-use Rattle.std.specs.Str.{bytes_eq}
-use Rattle.dbformat.specs.Cell.{count}
 use Rattle.dbformat.specs.Address.{start_of, last_root_start, freelist_start}
+use Rattle.dbformat.specs.Codes.{all_codes, is_code}
 use Rattle.dbformat.specs.EndFaults.{visit_of, end_faults}
-use Rattle.dbformat.specs.File.{MapEntry, geometry, page_bytes, refusal}
+use Rattle.dbformat.specs.File.{MapEntry, geometry, refusal}
 use Rattle.dbformat.specs.FixedPages.{is_page, fixed_use}
-use Rattle.dbformat.specs.Head.{View, view}
 use Rattle.dbformat.specs.Header.{encoding, stated_pages, greatest_root, freelist_count}
 use Rattle.dbformat.specs.HeaderFaults.{header_faults}
+use Rattle.dbformat.specs.Looks.{look_at}
 use Rattle.dbformat.specs.Lines.{line_feed, code_text, code_words, fault_line, ok_line, counted}
 use Rattle.dbformat.specs.Reference.{Reference, role_of, from_of, entry_of}
 use Rattle.dbformat.specs.Report.{Report, event_faults, faults, verdict, more_text, refused_report}
@@ -21,17 +20,18 @@ use Rattle.dbformat.specs.Text.{shown_name}
 use Rattle.dbformat.specs.declared.Encoding.{Encoding}
 use Rattle.dbformat.specs.declared.Fault.{Fault}
 use Rattle.dbformat.specs.declared.FaultCode.{FaultCode}
-use Rattle.dbformat.specs.declared.FaultCode.TheVariants.{H01, H02, H03, H04, H05, H06, H07, H08, H09, H10, P01, P02, P03, P04, P05, P06, P07, P08, P09, P10, R01, R02, R03, T04, T05, T06, O01, L01, S01, S02, S03, S04, N01, M01, M02}
+use Rattle.dbformat.specs.declared.FaultCode.TheVariants.{H01, H02, H03, H04, H05, H06, H07, H08, H09, H10, R02, R03, T04, O01, M01, M02}
 use Rattle.dbformat.specs.declared.Fixed.{Fixed}
 use Rattle.dbformat.specs.declared.Geometry.{Geometry}
-use Rattle.dbformat.specs.declared.HeadFault.{HeadFault}
+use Rattle.dbformat.specs.declared.Look.{Look}
+use Rattle.dbformat.specs.declared.Look.TheVariants.{Zeros, Tree, Other}
 use Rattle.dbformat.specs.declared.PageKind.{PageKind}
 use Rattle.dbformat.specs.declared.PageKind.TheVariants.{InteriorIndex, InteriorTable, LeafIndex, LeafTable}
 use Rattle.dbformat.specs.declared.Fixed.TheVariants.{Lock}
+use Rattle.dbformat.specs.declared.TreeLook.{TreeLook}
 use Rattle.dbformat.specs.declared.RowKind.{RowKind}
 use Rattle.dbformat.specs.declared.RowKind.TheVariants as row
 use Rattle.dbowner.specs.Owners.{start_at, place_of}
-use Rattle.dbowner.specs.declared.explain.look.Look.{Look}
 use Rattle.dbowner.specs.declared.place.Place.{Place}
 use Rattle.dbowner.specs.declared.place.Place.TheVariants as place
 
@@ -159,22 +159,15 @@ page_kind_text LeafIndex = codes "a leaf of an index"
 page_kind_text InteriorIndex = codes "an interior page of an index"
 
 -- the line of it
-abbrev pub look_text : Look → List ℕ
+abbrev pub look_text : TreeLook → List ℕ
 look_text l =
     indented (codes "looks like " ++ page_kind_text l.kind ++ codes " with " ++ decimal l.cells ++ (if l.cells == 1 then codes " cell" else codes " cells"))
 
 -- a page whose head is not that of a page of a tree gets none
-abbrev pub look_line : Option Look → List ℕ
-look_line look = option_map_or look_text look []
-
--- the head of a page, where it is sound
-abbrev pub look_of : Result View HeadFault → Option Look
-look_of (Err e) = None
-look_of (Ok v) = Some (record { kind = v.kind; cells = count v })
-
--- what page p of a file looks like
-abbrev pub look_at : List ℕ → ℕ → Option Look
-look_at file p = look_of (view p (geometry file).usable (page_bytes file p))
+abbrev pub look_line : Look → List ℕ
+look_line Zeros = []
+look_line (Tree l) = look_text l
+look_line (Other first) = []
 
 -- in no tree, overflow chain or freelist
 abbrev pub is_nowhere : Place → Bool
@@ -225,15 +218,9 @@ aligned most n = replicate (length (decimal most) - length (decimal n)) 32 ++ de
 abbrev pub sum_line : ℕ → ℕ → List ℕ → List ℕ
 sum_line all n text = if n == 0 then [] else indented (aligned (counted all) (counted n) ++ codes " " ++ text)
 
--- the codes in their order
-abbrev pub all_codes : List FaultCode
-all_codes =
-    H01 ∷ H02 ∷ H03 ∷ H04 ∷ H05 ∷ H06 ∷ H07 ∷ H08 ∷ H09 ∷ H10 ∷ P01 ∷ P02 ∷ P03 ∷ P04 ∷ P05 ∷ P06 ∷ P07 ∷ P08 ∷ P09 ∷ P10
-    ∷ R01 ∷ R02 ∷ R03 ∷ T04 ∷ T05 ∷ T06 ∷ O01 ∷ L01 ∷ S01 ∷ S02 ∷ S03 ∷ S04 ∷ N01 ∷ M01 ∷ M02 ∷ []
-
 -- how many faults have a code
 abbrev pub code_line : List (Option ℕ × Fault) → FaultCode → List ℕ
-code_line fs code = sum_line (length fs) (count_by (λ x. bytes_eq (code_text x.1.code) (code_text code)) fs) (code_text code ++ codes " " ++ code_words code)
+code_line fs code = sum_line (length fs) (count_by (λ x. is_code x.1.code code) fs) (code_text code ++ codes " " ++ code_words code)
 
 -- whether a start is start k
 abbrev pub is_start_number : ℕ → Option ℕ → Bool

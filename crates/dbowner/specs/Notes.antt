@@ -12,7 +12,7 @@ use Rattle.dbformat.specs.declared.FaultCode.TheVariants.{H01, H02, H03, H04, H0
 use Rattle.dbformat.specs.declared.Fixed.{Fixed}
 use Rattle.dbformat.specs.declared.Geometry.{Geometry}
 use Rattle.dbsource.specs.Headers.{IsHeaderOf}
-use Rattle.dbmarks.specs.EndMarks.{mark_entry}
+use Rattle.dbmarks.specs.EndMarks.{entry_value, mark_entry}
 use Rattle.dbmarks.specs.Marking.{AreMarksOf}
 use Rattle.dbmarks.specs.declared.marks.Mark.{Mark}
 use Rattle.dbmarks.specs.declared.marks.Mark.TheVariants.{Unmarked}
@@ -21,7 +21,6 @@ use Rattle.dbowner.specs.Roots.{AreListed}
 use Rattle.dbowner.specs.Explained.{use_text, page_line, line_of_start, header_line, line_of_entry, value_page}
 use Rattle.dbowner.specs.declared.place.Place.{Place}
 use Rattle.dbowner.specs.declared.place.Place.TheVariants as place
-use Rattle.dbowner.specs.declared.explain.notes.Entry.{Entry}
 use Rattle.dbowner.specs.declared.explain.notes.Note.{Note}
 use Rattle.dbowner.specs.declared.explain.notes.Note.TheVariants as note
 use Rattle.dbowner.specs.declared.explain.owners.Below.{Below}
@@ -76,10 +75,6 @@ start_front k = codes "    start " ++ decimal k ++ codes ": " ++ (if k == freeli
 -- the start whose tree it is
 abbrev pub start_tree : ℕ → Option ℕ
 start_tree k = if k == freelist_start then None else Some k
-
--- an entry of the pointer map
-abbrev pub entry_value : Entry → MapEntry
-entry_value e = record { type = e.kind; number = e.number }
 
 -- the entry that a page with this mark has, if it is in use
 abbrev pub wanted_entry : Option Mark → Option MapEntry

@@ -2,13 +2,13 @@
 use Rattle.std.specs.Prelude.{◌≡◌, ℕ, suc, true, false, List, ◌++◌, length, map, count_by, Option, codes, ◌==◌, if◌then◌else◌}
 use Rattle.std.specs.List.{enumerate_from, flat_map, range_with_len}
 use Rattle.std.specs.Option.{option_map_or}
-use Rattle.std.specs.Str.{bytes_eq}
 use Rattle.dbformat.specs.Address.{freelist_start}
+use Rattle.dbformat.specs.Codes.{all_codes, is_code}
 use Rattle.dbformat.specs.Header.{first_trunk}
 use Rattle.dbformat.specs.Lines.{code_text, code_words, counted}
 use Rattle.dbformat.specs.declared.Fault.{Fault}
 use Rattle.dbformat.specs.declared.FaultCode.{FaultCode}
-use Rattle.dbowner.specs.Explained.{aligned, all_codes, count_text, is_start_number, sum_line}
+use Rattle.dbowner.specs.Explained.{aligned, count_text, is_start_number, sum_line}
 use Rattle.dbowner.specs.declared.explain.summary.Counts.{Counts}
 use Rattle.dbowner.specs.declared.explain.sums.CodeCount.{CodeCount}
 
@@ -36,7 +36,7 @@ summary_by tree c =
 
 -- how many faults have a code, are told at addresses of a start, and are told of the whole file
 abbrev pub code_count : List (Option ℕ × Fault) → FaultCode → ℕ
-code_count fs code = count_by (λ x. bytes_eq (code_text x.1.code) (code_text code)) fs
+code_count fs code = count_by (λ x. is_code x.1.code code) fs
 
 -- those of a start
 abbrev pub start_count : List (Option ℕ × Fault) → ℕ → ℕ

@@ -1,11 +1,10 @@
 -- The tally of the faults that were told: the first of them, and how many there are by code and by start.
-use Rattle.std.specs.Prelude.{◌≡◌, ℕ, ◌+◌, ◌-◌, ◌≤◌, Bool, List, [], ◌∷◌, ◌++◌, length, map, take, nat_lt, vec_len, Option, slice_get, slice_set, slice_index, None, Some, IfSome, ◌==◌, if◌then◌else◌}
-use Rattle.std.specs.Str.{bytes_eq}
+use Rattle.std.specs.Prelude.{◌≡◌, ℕ, ◌+◌, ◌-◌, ◌≤◌, Bool, List, [], ◌∷◌, ◌++◌, length, map, take, nat_lt, vec_len, Option, slice_get, slice_set, slice_index, slice_index_or, None, Some, IfSome, ◌==◌, if◌then◌else◌}
 use Rattle.dbformat.specs.Address.{freelist_start, last_root_start}
-use Rattle.dbformat.specs.Lines.{code_text, counted}
+use Rattle.dbformat.specs.Codes.{all_codes, code_index}
+use Rattle.dbformat.specs.Lines.{counted}
 use Rattle.dbformat.specs.declared.Fault.{Fault}
 use Rattle.dbformat.specs.declared.FaultCode.{FaultCode}
-use Rattle.dbowner.specs.Explained.{all_codes}
 use Rattle.dbowner.specs.Sums.{counted_code, start_count, whole_count}
 use Rattle.dbowner.specs.declared.explain.sums.CodeCount.{CodeCount}
 use Rattle.dbowner.specs.declared.explain.tally.Tally.TheInside.{Inside}
@@ -42,9 +41,13 @@ pub record IsWhole {A : Type 0} (t : Inside A) : Type 0 where
 abbrev pub IsStart : Option ℕ → Type 0
 IsStart start = IfSome start (λ k. k ≤ freelist_start)
 
--- a code with its count, where a fault with some code was told
-abbrev pub recounted : FaultCode → CodeCount → CodeCount
-recounted code c = if bytes_eq (code_text code) (code_text c.code) then record c { count = counted (c.count + 1) } else c
+-- a code with its count, where one more fault with it was told
+abbrev pub one_more : CodeCount → CodeCount
+one_more c = record c { count = counted (c.count + 1) }
+
+-- the counts of all codes, where one more fault with this code was told
+abbrev pub counted_in : FaultCode → List CodeCount → List CodeCount
+counted_in code cs = slice_set cs (code_index code) (one_more (slice_index_or cs (code_index code) (record { code = code; count = 0 })))
 
 -- whether there is room for one fault more
 abbrev pub has_room : Tallied → Bool
@@ -56,7 +59,7 @@ kept_in f t = record t { kept = if has_room t then t.kept ++ f ∷ [] else t.kep
 
 -- and counted by its code, wherever it is told
 abbrev pub taken_in : Fault → Tallied → Tallied
-taken_in f t = record (kept_in f t) { codes = map (recounted f.code) t.codes }
+taken_in f t = record (kept_in f t) { codes = counted_in f.code t.codes }
 
 -- one more at a start, or of the whole file
 abbrev pub counted_at : Option ℕ → Tallied → Tallied

@@ -8,7 +8,7 @@ mod sums;
 mod tally;
 mod tree_line;
 
-pub use look::{Look, put_look};
+pub use look::put_look;
 pub use owners::Owners;
 pub use page_line::{place_from, place_front, place_tree, place_words};
 pub use summary::Counts;

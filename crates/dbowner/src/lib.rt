@@ -23,11 +23,11 @@ mod place;
 mod roots;
 
 pub use explain::{
-    CodeCount, Counts, Look, Owners, Tally, TreeNames, place_from, place_front, place_tree,
-    place_words, put_look,
+    CodeCount, Counts, Owners, Tally, TreeNames, place_from, place_front, place_tree, place_words,
+    put_look,
 };
 pub use explained::summary_counts_all_faults;
 pub use owner::visited_pages_are_owned;
-pub use page_trees::{FREELIST_START, PageTrees, SCHEMA_START};
+pub use page_trees::PageTrees;
 pub use place::{Place, place_of};
 pub use roots::RootList;

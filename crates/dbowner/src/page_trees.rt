@@ -14,16 +14,10 @@ ghost use Rattle.dbowner.specs.Steps as steps;
 
 use crate::place::mark_of;
 use crate::roots::RootList;
-use dbformat::Geometry;
+use dbformat::{FREELIST_START, Geometry, SCHEMA_START};
 use dbwalk::{Mark, Marks};
 use std::alloc::{AllocError, Allocator, Global};
 use std::marker::Model;
-
-/// The start of the schema, whose root is page 1.
-pub const SCHEMA_START: u32 = 0;
-
-/// The start of the freelist, behind the schema's and those of 65536 rows.
-pub const FREELIST_START: u32 = 65537;
 
 /// Of each page the start of its tree, as far as it is known, in four bytes.
 #[derive(Drop)]

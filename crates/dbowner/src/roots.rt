@@ -5,14 +5,12 @@ ghost use Rattle.dbwalk.specs.Rows.{schema_row_of};
 ghost use Rattle.dbowner.specs.Roots.{kept_row, short_name, name_in, IsWithin, Grows};
 
 use dbbytes::SchemaRow;
-use dbformat::RowKind;
+use dbformat::{MOST_ROOTS, RowKind};
 use dbsource::Failures;
 use dbwalk::{Taken, Taker};
 use std::alloc::{AllocError, Allocator, Global};
 use std::marker::Model;
 
-// How many roots are taken: a limit of our own.
-const MAX_ROOTS: usize = 65536;
 // How many bytes of a name are kept: a limit of our own.
 const MAX_NAME: usize = 1000;
 
@@ -149,7 +147,7 @@ impl<A: Allocator> Taker for RootList<A> {
         if row.root == 0 {
             return Ok(Taken::NoRoot);
         }
-        if self.entries.len() >= MAX_ROOTS {
+        if self.entries.len() >= MOST_ROOTS as usize {
             return Ok(Taken::Full);
         }
         match self.add(row) {

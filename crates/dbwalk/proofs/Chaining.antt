@@ -2,3 +2,4 @@
 pub mod Overflows
 pub mod ChainTurns
 pub mod Feedings
+pub mod Heads

@@ -13,7 +13,8 @@ use Rattle.dbformat.specs.Story.{Event, at_page, own_visit, story_of}
 use Rattle.dbformat.proofs.Looping.{none_at_free_leaf, by_leaf, all_quiet}
 use Rattle.dbmarks.specs.declared.marks.Mark.{Mark}
 use Rattle.dbwalk.specs.Entered.{IsNext, Enters}
-use Rattle.dbtrace.specs.Finding.{Finding, told_row, told_fault, told_at, told_below}
+use Rattle.dbtrace.specs.Causes.{cause_of}
+use Rattle.dbtrace.specs.Finding.{Finding, told_row, told_alone, told_by, told_at, told_below}
 use Rattle.dbwalk.specs.Trunks.{leaves_from, IsFirstTrunk, IsOnTrunks, TrunkTurns, trunk_step, next_step}
 use Rattle.dbwalk.specs.Done.{IsLeft, IsDone}
 use Rattle.dbwalk.proofs.Telling.Lefts.{left_refused, left_visit, left_start, left_none, left_stop}
@@ -46,7 +47,7 @@ leaves_more d page j (suc n) h = let e : n ≡ suc n - 1 = omega arith in ap (λ
 -- nothing is told of a free leaf
 told_free : (file : List ℕ) (V : List Reference) (c : Reference) → role_of c ≡ free_leaf → told_at file V (at_page c) ≡ []
 unfolding page_faults
-told_free file V c r = ap (λ role. map told_row (option_to_list (row_in role file c)) ++ map told_fault (role_faults role file V c)) r
+told_free file V c r = ap (λ role. map told_row (option_to_list (row_in role file c)) ++ told_by (cause_of file V (at_page c)) (role_faults role file V c)) r
 
 module _ {S : Type 0} (takes drops : S → Finding → S → Type 0) (file : List ℕ) (W : List Reference) (errands : List (Errand Way Event)) (before : S) (U : List Reference) (c : Reference) (es : List (Errand Way Event)) (marks marks' : List Mark) (s t : S) (left : IsLeft takes file W errands before U (Go c ∷ es) (marks, s)) where
   pub next_of_left : IsNext U c
@@ -66,21 +67,21 @@ module _ {S : Type 0} (takes drops : S → Finding → S → Type 0) (file : Lis
 -- The trunks of the freelist, one after another.
 
 -- what is told of a trunk
-pub told_trunk : (file : List ℕ) (V : List Reference) (d : Reference) → role_of d ≡ trunk → told_at file V (at_page d) ≡ map told_fault (trunk_fault (usable_size file) d.page (page_bytes file d.page))
+pub told_trunk : (file : List ℕ) (V : List Reference) (d : Reference) → role_of d ≡ trunk → told_at file V (at_page d) ≡ told_by (cause_of file V (at_page d)) (trunk_fault (usable_size file) d.page (page_bytes file d.page))
 unfolding page_faults
-told_trunk file V d r = ap (λ role. map told_row (option_to_list (row_in role file d)) ++ map told_fault (role_faults role file V d)) r
+told_trunk file V d r = ap (λ role. map told_row (option_to_list (row_in role file d)) ++ told_by (cause_of file V (at_page d)) (role_faults role file V d)) r
 
 -- its leaves fit, or they are too many
 pub told_fitting : (file : List ℕ) (V : List Reference) (d : Reference) → role_of d ≡ trunk → leaf_count (page_bytes file d.page) ≤ most_leaves (usable_size file) → told_at file V (at_page d) ≡ []
 told_fitting file V d r l =
     let e : nat_lt (most_leaves (usable_size file)) (leaf_count (page_bytes file d.page)) ≡ false = grind (arith, nat_tests) in
-    told_trunk file V d r ∙ ap (λ b. map told_fault (cond b (fault L01 d.page 0 (pos (leaf_count (page_bytes file d.page))) ∷ []) [])) e
+    told_trunk file V d r ∙ ap (λ b. told_by (cause_of file V (at_page d)) (cond b (fault L01 d.page 0 (pos (leaf_count (page_bytes file d.page))) ∷ []) [])) e
 
 pub told_too_many : (file : List ℕ) (V : List Reference) (d : Reference) → role_of d ≡ trunk → most_leaves (usable_size file) < leaf_count (page_bytes file d.page)
-    → told_at file V (at_page d) ≡ told_fault (fault L01 d.page 0 (pos (leaf_count (page_bytes file d.page)))) ∷ []
+    → told_at file V (at_page d) ≡ told_alone (fault L01 d.page 0 (pos (leaf_count (page_bytes file d.page)))) ∷ []
 told_too_many file V d r l =
     let e : nat_lt (most_leaves (usable_size file)) (leaf_count (page_bytes file d.page)) ≡ true = grind (arith, nat_tests) in
-    told_trunk file V d r ∙ ap (λ b. map told_fault (cond b (fault L01 d.page 0 (pos (leaf_count (page_bytes file d.page))) ∷ []) [])) e
+    told_trunk file V d r ∙ ap (λ b. told_by (cause_of file V (at_page d)) (cond b (fault L01 d.page 0 (pos (leaf_count (page_bytes file d.page))) ∷ []) [])) e
 
 -- what it leads to
 pub fitting_errands : (file : List ℕ) (d : Reference) → role_of d ≡ trunk → leaf_count (page_bytes file d.page) ≤ most_leaves (usable_size file)
@@ -127,14 +128,14 @@ module _ {S : Type 0} (takes drops : S → Finding → S → Type 0) (file : Lis
 
   -- one with too many, when that was told: the next trunk is left
   pub opened_crowded : (t : S) → most_leaves (usable_size file) < leaf_count (page_bytes file d.page)
-      → Moves takes s (told_fault (fault L01 d.page 0 (pos (leaf_count (page_bytes file d.page)))) ∷ []) t
+      → Moves takes s (told_alone (fault L01 d.page 0 (pos (leaf_count (page_bytes file d.page)))) ∷ []) t
       → IsLeft takes file W (Go c ∷ []) before (U ++ d ∷ []) (map (go d) (next_trunk d.page (page_bytes file d.page) 0)) (marks, t)
   opened_crowded t l m = subst (λ es. IsLeft takes file W (Go c ∷ []) before (U ++ d ∷ []) es (marks, t)) (append-nil (errands_of (story_of file) d) ∙ crowded_errands file d role l)
       (left_visit takes file W (Go c ∷ []) before U old s t marks d [] left followed (quiet_trunk file d role) marked (subst (λ L. Moves takes s L t) (sym (told_too_many file (U ++ d ∷ []) d role l)) m))
 
   -- and when that could not be told
   pub opened_untold : (t : S) (x : RunError) → most_leaves (usable_size file) < leaf_count (page_bytes file d.page)
-      → StopsBy takes drops x s (told_fault (fault L01 d.page 0 (pos (leaf_count (page_bytes file d.page)))) ∷ []) t
+      → StopsBy takes drops x s (told_alone (fault L01 d.page 0 (pos (leaf_count (page_bytes file d.page)))) ∷ []) t
       → IsDone {A = Unit {0}} takes drops file W (Go c ∷ []) (Err x) marks before t
   opened_untold t x l k = left_stop takes file W (Go c ∷ []) before U old s drops t marks x (Go d ∷ [])
       (told_at file (U ++ d ∷ []) (at_page d)) (told_below file (U ++ d ∷ []) (errands_of (story_of file) d ++ [])) left

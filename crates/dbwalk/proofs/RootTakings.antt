@@ -9,7 +9,7 @@ use Rattle.dbformat.specs.SchemaRow.{SchemaRow}
 use Rattle.dbwalk.specs.declared.taker.Taken.{Taken}
 use Rattle.dbwalk.specs.Taking.{answer_to, held_after, held_of, is_full, HasRootRoom, roots_after, ListTakes, first_roots, StartsEmpty, HasRoom, gives, fault_of, taken_faults, TellsOrStops, TellsRow}
 use Rattle.dbsurvey.specs.Moves.{Moves}
-use Rattle.dbtrace.specs.Finding.{Finding, told_fault}
+use Rattle.dbtrace.specs.Finding.{Finding, told_alone}
 use Rattle.dbtrace.specs.Item.{Item, given_rows, found, given}
 use Rattle.dbtrace.specs.Steps.{has_root, roots_in}
 use Rattle.dbwalk.specs.Watching.{watches, fails, Handed}
@@ -196,9 +196,9 @@ module _ {S T : Type 0} (takes drops : S → Finding → S → Type 0) (keeps : 
 
         by_row : (row : Result SchemaRow RowFault) → TellsRow takes drops keeps refuses (at, row) r (s, t) (s', t') → Hands r (s, t) (row_items roots (with_row row ∷ [])) (s', t')
         by_row (Err f) h =
-            subst (λ fs. Hands r (s, t) (map found (map told_fault fs)) (s', t')) (bad_row f ∙ sym (append-nil (faults (Err f))))
-            (subst (λ t'. Hands r (s, t) (map found (map told_fault (fault_of at f ∷ []))) (s', t')) (sym h.0) (tells_handed r (map told_fault (fault_of at f ∷ [])) s s' t h.1))
+            subst (λ fs. Hands r (s, t) (map found (map told_alone fs)) (s', t')) (bad_row f ∙ sym (append-nil (faults (Err f))))
+            (subst (λ t'. Hands r (s, t) (map found (map told_alone (fault_of at f ∷ []))) (s', t')) (sym h.0) (tells_handed r (map told_alone (fault_of at f ∷ [])) s s' t h.1))
         by_row (Ok row) (inl h) =
-            let told = subst (λ fs. Hands r (s, t') (map found (map told_fault fs)) (s', t')) (good_row row h.0 h.1 ∙ sym (append-nil (faults (Ok row)))) (tells_handed r (map told_fault (taken_faults at row h.0)) s s' t' h.2) in
-            handed_after (watches takes keeps) (fails drops refuses) r (s, t) (s, t') (s', t') (given row ∷ []) (map found (map told_fault (faults (Ok row) ++ []))) ((s, t'), ((h.0, h.1), refl), refl) told
+            let told = subst (λ fs. Hands r (s, t') (map found (map told_alone fs)) (s', t')) (good_row row h.0 h.1 ∙ sym (append-nil (faults (Ok row)))) (tells_handed r (map told_alone (taken_faults at row h.0)) s s' t' h.2) in
+            handed_after (watches takes keeps) (fails drops refuses) r (s, t) (s, t') (s', t') (given row ∷ []) (map found (map told_alone (faults (Ok row) ++ []))) ((s, t'), ((h.0, h.1), refl), refl) told
         by_row (Ok row) (inr h) = refused row OutOfMemory (sym h.0) refl h.1 h.2

@@ -6,6 +6,7 @@ use Rattle.dbformat.specs.Schema.{held_bytes}
 use Rattle.dbformat.specs.declared.Encoding.{Encoding}
 use Rattle.dbbytes.specs.Sieve.{HasTaken}
 use Rattle.dbbytes.specs.declared.sieve.RowSieve.{RowSieve}
+use Rattle.dbtrace.specs.Causes.{chain_head}
 use Rattle.dbtrace.specs.Finding.{visited_below, Finding, told_at}
 use Rattle.dbformat.specs.Address.{start_of, then_step, child_path, chain_place}
 use Rattle.dbformat.specs.File.{page_bytes}
@@ -64,11 +65,18 @@ pub record IsChainOf (chain : Chain) (c : Reference) : Type 0 where
 abbrev pub next_of : Reference → ℕ → ℕ → Reference
 next_of c left page = record { address = then_step c.address 0; page = page; role = record { role = later_overflow left; from = c.page; item = 0 } }
 
+-- By the visits of V the chain of a reference begins with one from the cell that it belongs to.
+pub record HasHead (chain : Chain) (V : List Reference) (d : Reference) : Type 0 where
+  pub head : Reference
+  pub found : chain_head V d ≡ Some head
+  pub from : from_of head ≡ chain.page
+  pub item : item_of head ≡ chain.cell
+
 -- What the visit of a page of a chain leaves: the number of the next page, what was told, and what a sieve was fed.
 pub record IsOverflowVisited {S : Type 0} (takes drops : S → Finding → S → Type 0) (file : List ℕ) (chain : Chain) (number page left : ℕ) (r : Result ℕ RunError) (old new : Option RowSieve) (before after : S) : Type 0 where
   pub next : IfOk r (λ next. next ≡ overflow_next (page_bytes file page))
   pub told : (U : List Reference) (c : Reference) → c.page ≡ page → bytes_left (role_of c) ≡ Some left → IsOnChain chain number c
-      → Tells takes drops r before (told_at file U (at_page c)) after
+      → HasHead chain U c → Tells takes drops r before (told_at file U (at_page c)) after
   pub fed : OnOk r ((c : Reference) → c.page ≡ page → bytes_left (role_of c) ≡ Some left → Feeds old (held_bytes file c) new)
 
 -- On the way along the chain below c: the reference at this place is left, and a sieve was fed the pages so far.
@@ -81,6 +89,7 @@ pub record IsOnWay {S : Type 0} (takes : S → Finding → S → Type 0) (file :
   pub step : IsStepOf place.step d
   pub left : bytes_left (role_of d) ≡ Some place.left
   pub on : IsOnChain chain place.number d
+  pub head : HasHead chain visited d
   pub rest : IsLeft takes file W (Go c ∷ []) before visited (Go d ∷ []) (marks, now)
 
 -- after a turn: at the next place, or at the end, or stopped by an error

@@ -1,14 +1,18 @@
 -- What a page of a tree was found to be, by the bytes at a level, and what is told of it.
-use Rattle.std.specs.Prelude.{◌≡◌, ℕ, false, List, Option, Some, None, slice_get, IfSome, Bool, [], ◌∷◌, ◌++◌, length, map, option_to_list, fold, max, sum_by, if◌then◌else◌}
-use Rattle.dbformat.specs.Head.{View, undamaged, is_interior}
+use Rattle.std.specs.Prelude.{◌≡◌, ℕ, false, pos, List, Option, Some, None, slice_get, IfSome, Bool, [], ◌∷◌, ◌++◌, length, map, option_to_list, fold, max, sum_by, if◌then◌else◌}
+use Rattle.dbformat.specs.Faults.{fault}
+use Rattle.dbformat.specs.Head.{View, undamaged, is_interior, content_start, type_byte}
+use Rattle.dbformat.specs.Looks.{look_at}
+use Rattle.dbformat.specs.declared.Look.{Look}
 use Rattle.dbformat.specs.declared.TreeKind.{TreeKind}
 use Rattle.dbwalk.specs.LeafCells.{HasSpan}
 use Rattle.dbwalk.specs.Walking.{IsOpen}
+use Rattle.dbwalk.specs.declared.page.Damage.{Damage}
+use Rattle.dbwalk.specs.declared.page.Damage.TheVariants as damage
 use Rattle.dbwalk.specs.declared.state.KeySpan.{KeySpan}
 use Rattle.dbwalk.specs.declared.visit.PageFound.{PageFound}
 use Rattle.dbwalk.specs.declared.visit.PageFound.TheVariants.{Damaged, Interior, Leaf}
-use Rattle.dbformat.specs.Cell.{cells, count}
-use Rattle.dbformat.specs.Coverage.{unused}
+use Rattle.dbformat.specs.Counts.{no_counts, view_counts}
 use Rattle.dbformat.specs.Laws.{event_row}
 use Rattle.dbformat.specs.PageFaults.{inner_faults, page_faults}
 use Rattle.dbformat.specs.Reference.{Reference}
@@ -16,8 +20,14 @@ use Rattle.dbformat.specs.Story.{at_page}
 use Rattle.dbformat.specs.Rows.{StatRow}
 use Rattle.dbformat.specs.declared.Fault.{Fault}
 use Rattle.dbformat.specs.declared.PageType.TheVariants.{Internal, Leaf, Damaged}
-use Rattle.dbtrace.specs.Finding.{Finding, told_row, told_fault}
+use Rattle.dbtrace.specs.Finding.{Finding, told_row, told_by}
 use Rattle.dbtrace.specs.Progress.{depth_faults}
+use Rattle.dbtrace.specs.declared.TreeLeaf.{TreeLeaf}
+use Rattle.dbtrace.specs.declared.Cause.{Cause}
+use Rattle.dbtrace.specs.declared.Cause.TheVariants as cause
+use Rattle.dbformat.specs.declared.FaultCode.{FaultCode}
+use Rattle.dbformat.specs.declared.FaultCode.TheVariants.{P01, P02, P03, T05}
+use Rattle.dbwalk.specs.LeafCells.{leaf_cause}
 use Rattle.dbwalk.specs.Telling.{findings}
 
 -- the bytes that stand at a level are those of a page
@@ -56,10 +66,7 @@ view_row start path v = record {
   chain = None;
   page = v.number;
   pagetype = if is_interior v.kind then Internal else Leaf;
-  ncell = count v;
-  payload = sum_by (λ (i, c). length c.local) (cells v);
-  unused = unused v;
-  mx_payload = fold max 0 (map (λ (i, c). c.size) (cells v));
+  counts = view_counts v;
 }
 
 -- of a damaged one
@@ -70,20 +77,30 @@ damaged_row start path page = record {
   chain = None;
   page = page;
   pagetype = Damaged;
-  ncell = 0;
-  payload = 0;
-  unused = 0;
-  mx_payload = 0;
+  counts = no_counts;
 }
 
 -- what is told of an undamaged page: its row, and then the faults within it
 abbrev pub undamaged_findings : ℕ → List ℕ → View → Bool → List Finding
 undamaged_findings start path v is_child = told_row (view_row start path v) ∷ findings (inner_faults v is_child)
 
--- and of a damaged one: its row, and its one fault
-abbrev pub damaged_findings : ℕ → List ℕ → ℕ → Fault → List Finding
-damaged_findings start path page damage = told_row (damaged_row start path page) ∷ findings (damage ∷ [])
+-- the cause of a fault of a page of a tree, by what it looks like and by the first leaf before it
+abbrev pub page_cause : Look → Option TreeLeaf → FaultCode → Cause
+page_cause look leaf P01 = cause.Look look
+page_cause look leaf T05 = leaf_cause leaf
+page_cause look leaf _ = cause.Itself
 
--- what is told of the visit of a page of a tree: its row, and its faults, by the depth of the first leaf before it
-abbrev pub page_findings : List ℕ → Option ℕ → Reference → List Finding
-page_findings file leaf c = map told_row (option_to_list (event_row file (at_page c))) ++ map told_fault (page_faults file [] c ++ depth_faults file leaf c)
+-- the one fault of page p, which is damaged
+abbrev pub damage_fault : ℕ → List ℕ → Damage → Fault
+damage_fault p page damage.UnknownType = fault P01 p 0 (pos (type_byte p page))
+damage_fault p page damage.OtherTree = fault P02 p 0 (pos (type_byte p page))
+damage_fault p page damage.ContentStart = fault P03 p 0 (pos (content_start p page))
+
+-- and of a damaged one: its row, and its one fault, by what it looks like
+abbrev pub damaged_findings : ℕ → List ℕ → ℕ → Look → Fault → List Finding
+damaged_findings start path page look damage = told_row (damaged_row start path page) ∷ told_by (page_cause look None) (damage ∷ [])
+
+-- what is told of the visit of a page of a tree: its row, and its faults, by the first leaf before it
+abbrev pub page_findings : List ℕ → Option TreeLeaf → Reference → List Finding
+page_findings file leaf c = map told_row (option_to_list (event_row file (at_page c)))
+    ++ told_by (page_cause (look_at file c.page) leaf) (page_faults file [] c ++ depth_faults file leaf c)

@@ -17,7 +17,12 @@ use Rattle.dbformat.specs.Errands.{go}
 use Rattle.dbformat.specs.Faults.{fault}
 use Rattle.dbformat.specs.Story.{Event}
 use Rattle.dbformat.specs.Tests.{told_if}
-use Rattle.dbformat.specs.declared.Fault.{Fault}
+use Rattle.dbtrace.specs.Finding.{Finding, told_fault}
+use Rattle.dbtrace.specs.Progress.{value_of, greater_key, depth_of}
+use Rattle.dbtrace.specs.declared.CellKey.{CellKey}
+use Rattle.dbtrace.specs.declared.TreeLeaf.{TreeLeaf}
+use Rattle.dbtrace.specs.declared.Cause.{Cause}
+use Rattle.dbtrace.specs.declared.Cause.TheVariants as cause
 use Rattle.dbformat.specs.declared.FaultCode.TheVariants.{T05, T06}
 
 -- the cells of a page are readable and have no overflow pages, and their keys rise from the first to the last
@@ -27,26 +32,31 @@ pub record HasSpan (v : View) (keys : KeySpan) : Type 0 where
   pub first_is : 0 < count v → key_at v 0 ≡ keys.first
   pub last_is : (i : ℕ) → i + 1 ≡ count v → key_at v i ≡ keys.last
   pub none : count v ≡ 0 → keys.last ≡ None
+  pub cells_are : keys.cells ≡ count v
+
+-- a key of a cell, if it has one, with its place
+abbrev pub placed : ℕ → ℕ → Option ℤ → Option CellKey
+placed page item key = option_map (λ value. record { page = page; item = item; value = value }) key
 
 -- Below a start that is not the schema's the keys of such a leaf come behind the greatest so far; the last of them is the
 -- greatest then.
-pub record ArePassed (start : ℕ) (greatest : Option ℤ) (keys : KeySpan) (after : Option ℤ) : Type 0 where
+pub record ArePassed (page start : ℕ) (greatest : Option CellKey) (keys : KeySpan) (after : Option CellKey) : Type 0 where
   pub other : 1 ≤ start
-  pub above : IsAbove greatest keys.first
-  pub after_is : after ≡ option_or keys.last greatest
+  pub above : IsAbove (value_of greatest) keys.first
+  pub after_is : after ≡ option_or (placed page (keys.cells - 1) keys.last) greatest
 
 -- So many cells from one on are readable and have no overflow pages, and their keys rise from above the greatest before
 -- them; the greatest behind them is the last of these keys, where there is one.
-abbrev pub AreRisingFrom : View → ℕ → ℕ → Option ℤ → Option ℤ → Type 0
-AreRisingFrom v from zero greatest after = after ≡ greatest
-AreRisingFrom v from (suc n) greatest after = (before : Option ℤ) × AreRisingFrom v from n greatest before × IsAllLocal v (from + n)
-    × IsAbove before (key_at v (from + n)) × (after ≡ option_or (key_at v (from + n)) before)
+abbrev pub AreRisingFrom : ℕ → View → ℕ → ℕ → Option CellKey → Option CellKey → Type 0
+AreRisingFrom page v from zero greatest after = after ≡ greatest
+AreRisingFrom page v from (suc n) greatest after = (before : Option CellKey) × AreRisingFrom page v from n greatest before × IsAllLocal v (from + n)
+    × IsAbove (value_of before) (key_at v (from + n)) × (after ≡ option_or (placed page (from + n) (key_at v (from + n))) before)
 
 -- the same of the page at a level: the cells from one on to another
-pub record ArePassedAt (usable : ℕ) (kind : TreeKind) (levels : List (List ℕ)) (level page from end : ℕ) (greatest after : Option ℤ) : Type 0 where
+pub record ArePassedAt (usable : ℕ) (kind : TreeKind) (levels : List (List ℕ)) (level page from end : ℕ) (greatest after : Option CellKey) : Type 0 where
   pub ahead : from ≤ end
   pub rising : (bytes : List ℕ) (v : View) → slice_get levels level ≡ Some bytes → undamaged kind page usable bytes ≡ Some v → from ≤ count v
-      → (end ≤ count v) × AreRisingFrom v from (end - from) greatest after
+      → (end ≤ count v) × AreRisingFrom page v from (end - from) greatest after
 
 -- The greatest key of a walk so far, and visits that stand before a place.
 
@@ -58,11 +68,6 @@ AreBefore W p = (u : Reference) → IsIn u W → IsBefore u.address p
 abbrev pub is_late : Bool → Option ℤ → ℤ → Bool
 is_late is_rowid None value = false
 is_late is_rowid (Some top) value = if is_rowid then int_le value top else int_lt value top
-
--- the greatest key after one more
-abbrev pub greater_key : Option ℤ → ℤ → Option ℤ
-greater_key None value = Some value
-greater_key (Some top) value = if int_lt top value then Some value else Some top
 
 -- What is read off the leaf at a level.
 
@@ -81,24 +86,31 @@ abbrev pub overflow_errands : Reference → ℕ → Option (ℕ × ℕ) → List
 overflow_errands c i None = []
 overflow_errands c i (Some o) = go c (link c.page (overflow_step i) i (first_overflow o.1) o.0) ∷ []
 
--- the fault of a key, or of a rowid, behind keys of which this is the greatest
-abbrev pub order_faults : Bool → Option ℤ → ℕ → ℕ → ℤ → List Fault
-order_faults is_rowid top page item key = told_if (is_late is_rowid top key) (fault T06 page item key)
+-- what a key out of order goes back to, and a leaf at another depth: the greatest key so far, and the first leaf
+abbrev pub key_cause : Option CellKey → Cause
+key_cause top = option_map_or cause.Key top cause.Itself
+
+abbrev pub leaf_cause : Option TreeLeaf → Cause
+leaf_cause leaf = option_map_or (λ l. cause.Leaf l.page) leaf cause.Itself
+
+-- the fault of a key, or of a rowid, behind keys of which this is the greatest, with its cause
+abbrev pub order_told : Bool → Option CellKey → ℕ → ℕ → ℤ → List Finding
+order_told is_rowid top page item key = told_if (is_late is_rowid (value_of top) key) (told_fault (fault T06 page item key) (key_cause top))
 
 -- that of the rowid of a cell, if it has one
-abbrev pub late_faults : Option ℤ → ℕ → ℕ → Option ℤ → List Fault
-late_faults top page item None = []
-late_faults top page item (Some key) = order_faults true top page item key
+abbrev pub late_told : Option CellKey → ℕ → ℕ → Option ℤ → List Finding
+late_told top page item None = []
+late_told top page item (Some key) = order_told true top page item key
 
--- the depth of the first leaf, once one of this depth was come to
-abbrev pub first_depth : Option ℕ → ℕ → ℕ
-first_depth leaf depth = option_map_or (λ n. n) leaf depth
+-- the first leaf, once one of this page and depth was come to
+abbrev pub first_of : Option TreeLeaf → ℕ → ℕ → TreeLeaf
+first_of leaf page depth = option_map_or (λ l. l) leaf (record { page = page; depth = depth })
 
--- the fault of a leaf whose depth is another one
-abbrev pub depth_faults : Option ℕ → ℕ → ℕ → List Fault
-depth_faults leaf page depth = told_if (not (depth == first_depth leaf depth)) (fault T05 page 0 (pos depth))
+-- the fault of a leaf whose depth is another one, with its cause
+abbrev pub depth_told : Option TreeLeaf → ℕ → ℕ → List Finding
+depth_told leaf page depth = told_if (not (depth == depth_of leaf depth)) (told_fault (fault T05 page 0 (pos depth)) (leaf_cause leaf))
 
--- the greatest key after it
-abbrev pub top_after : Option ℤ → Option ℤ → Option ℤ
-top_after top None = top
-top_after top (Some key) = greater_key top key
+-- the greatest key after that of a cell
+abbrev pub top_after : Option CellKey → ℕ → ℕ → Option ℤ → Option CellKey
+top_after top page item None = top
+top_after top page item (Some key) = greater_key top (record { page = page; item = item; value = key })

@@ -13,10 +13,7 @@ row_of r = record {
   chain = r.chain;
   page = r.page;
   pagetype = r.pagetype;
-  ncell = r.ncell;
-  payload = r.payload;
-  unused = r.unused;
-  mx_payload = r.mx_payload;
+  counts = r.counts;
 }
 
 -- a row of the schema

@@ -4,9 +4,10 @@ ghost use Rattle.dbformat.specs.Cell.{count};
 ghost use Rattle.dbwalk.specs.LeafCells.{ArePassedAt, AreRisingFrom, HasCell, HasCells};
 ghost use Rattle.dbwalk.specs.Standing.{IsSameButGreatest};
 
+use crate::CellKey;
 use crate::page::undamaged;
-use crate::state::Tree;
-use dbformat::TreeKind;
+use crate::state::{Tree, key_value};
+use dbformat::{SCHEMA_START, TreeKind};
 use dbpage::{PageView, is_rising};
 use dbsource::Bench;
 use std::alloc::Allocator;
@@ -94,7 +95,7 @@ pub(crate) fn pass_cells<A: Allocator>(
     ensures other { from < result → 1 ≤ tree.old.start }
     ensures others { IsSameButGreatest tree.old tree.new }
 {
-    if tree.start == 0 {
+    if tree.start == SCHEMA_START {
         return from;
     }
     let usable = bench.geometry().usable;
@@ -104,7 +105,7 @@ pub(crate) fn pass_cells<A: Allocator>(
     if from >= view.cells() {
         return from;
     }
-    let rise = rise_from(&view, from, tree.greatest);
+    let rise = rise_from(&view, page, from, tree.greatest);
     tree.greatest = rise.greatest;
     rise.end
 }
@@ -113,24 +114,30 @@ pub(crate) fn pass_cells<A: Allocator>(
 #[derive(Clone, Copy)]
 struct Rise {
     end: u32,
-    greatest: Option<i64>,
+    greatest: Option<CellKey>,
 }
 
 // The cells from one on that are readable and without overflow pages, as long as their keys rise from above the greatest
 // before them.
-fn rise_from(view: &PageView<'_>, from: u32, mut greatest: Option<i64>) -> Rise
+fn rise_from(view: &PageView<'_>, page: u32, from: u32, mut greatest: Option<CellKey>) -> Rise
     requires { from ≤ count view.now }
     ensures within { (from ≤ result.end) × (result.end ≤ count view.now) }
-    ensures rising { AreRisingFrom view.now from (result.end - from) greatest result.greatest }
+    ensures rising { AreRisingFrom page view.now from (result.end - from) greatest result.greatest }
 {
     for i in from..view.cells() {
         let Ok(cell) = view.cell(i) else {
             return Rise { end: i, greatest };
         };
-        if cell.overflow.is_some() || !is_rising(greatest, cell.key) {
+        if cell.overflow.is_some() || !is_rising(key_value(greatest), cell.key) {
             return Rise { end: i, greatest };
         }
-        greatest = cell.key.or(greatest);
+        if let Some(value) = cell.key {
+            greatest = Some(CellKey {
+                page,
+                item: i,
+                value,
+            });
+        }
     }
     Rise {
         end: view.cells(),

@@ -18,7 +18,7 @@ ghost use Rattle.dbsource.specs.Failures.{failures_after};
 ghost use Rattle.dbsource.specs.Sources.{HasLog};
 
 use crate::entering::{Step, enter};
-use crate::overflow::{feed_page, last_fault, next_page, overflow_row, tell};
+use crate::overflow::{chain_cause, feed_page, last_fault, next_page, overflow_row, tell};
 use crate::{Mark, Marks, Sink};
 use dbbytes::RowSieve;
 use dbsource::{Bench, RunError, Source};
@@ -63,7 +63,8 @@ fn visit_overflow<S: Source, K: Sink, A: Allocator>(
     sieve: &mut Option<RowSieve>,
     sink: &mut K,
 ) -> Result<u32, RunError>
-    requires { 1 ≤ page }
+    requires page { 1 ≤ page }
+    requires counted { number + left ≤ most_payload }
     ensures log { HasLog S.step (λ log. log ≡ page_range bench.old.geometry.page_size page ∷ []) (λ file. bench.old.geometry ≡ geometry file
         → IsOverflowVisited K.takes K.drops file chain.now number page left result sieve.old sieve.new sink.old sink.new)
         (S.held source.old) (S.held source.new) }
@@ -78,7 +79,8 @@ fn visit_overflow<S: Source, K: Sink, A: Allocator>(
     let next = next_page(bench.page(CHAIN));
     feed_page(bench.page(CHAIN), usable, left, sieve);
     let row = overflow_row(chain, number, page, usable, left);
-    tell(&row, last_fault(usable, left, page, next), sink)?;
+    let cause = chain_cause(chain, number, usable, left, number + 1);
+    tell(&row, last_fault(usable, left, page, next), &cause, sink)?;
     Ok(next)
 }
 
@@ -104,11 +106,13 @@ fn turn<S: Source, K: Sink, A: Allocator>(
     ensures kept { is_some sieve.new ≡ is_some sieve.old }
     ensures next { IfOk result (λ o. IfSome o (λ next. IsPlace next × (next.left < place.left))) }
 {
-    if !enter(marks, place.step, sink)? {
+    let usable = bench.geometry().usable;
+    let cause = chain_cause(chain, place.number, usable, place.left, place.number);
+    if !enter(marks, place.step, &cause, sink)? {
         return Ok(None);
     }
     let page = place.step.page;
-    let room = bench.geometry().usable - 4;
+    let room = usable - 4;
     let next = visit_overflow(
         source,
         bench,

@@ -6,10 +6,11 @@ ghost use Rattle.dbsource.specs.declared.error.RunError.TheVariants as run_error
 ghost use Rattle.dbmarks.specs.declared.marks.Mark.TheVariants as use_mark;
 ghost use Rattle.dbmarks.specs.Marking.{AreMarksOf, page_mark, named_page};
 ghost use Rattle.dbwalk.specs.Entered.{IsNext, IsStepOf, Enters};
+ghost use Rattle.dbtrace.specs.Causes.{refusal_cause};
 ghost use Rattle.dbsource.specs.Errors.{is_write_failed};
 ghost use Rattle.dbwalk.specs.Telling.{SinkAfter};
 
-use crate::{Fault, Mark, Marks, Sink};
+use crate::{Cause, Fault, Mark, Marks, Sink};
 use dbformat::FaultCode;
 use dbsource::RunError;
 use std::alloc::Allocator;
@@ -29,7 +30,7 @@ pub(crate) struct Step {
     pub(crate) is_too_deep: bool,
 }
 
-/// Marks the page of a reference that may be followed, or tells why it may not.
+/// Marks the page of a reference that may be followed, or tells why it may not, and what that goes back to.
 ///
 /// # Errors
 ///
@@ -37,6 +38,7 @@ pub(crate) struct Step {
 pub(crate) fn enter<K: Sink, A: Allocator>(
     marks: &mut Marks<A>,
     step: Step,
+    cause: &Cause,
     sink: &mut K,
 ) -> Result<bool, RunError>
     requires { IsPageNumber (named_page step.mark) }
@@ -48,13 +50,13 @@ pub(crate) fn enter<K: Sink, A: Allocator>(
     ensures after_error { IfErr result (λ e. (e ≡ run_error.WriteFailed) × (marks.new ≡ marks.old)) }
     ensures writes { SinkAfter is_write_failed result (K.held sink.old) (K.held sink.new) }
     ensures entered { (file : List ℕ) (W : List Reference) (c : Reference) → IsStepOf step c → IsNext W c → AreMarksOf file W marks.old
-        → Enters K.takes K.drops file W c result marks.new sink.old sink.new }
+        → refusal_cause file W c ≡ cause.now → Enters K.takes K.drops file W c result marks.new sink.old sink.new }
 {
     match marks.follow(step.page, step.mark, step.is_too_deep) {
         None => Ok(true),
         Some(code) => {
             let fault = Fault::new(code, step.from, step.item, step.page);
-            sink.fault(&fault)?;
+            sink.fault(&fault, cause)?;
             Ok(false)
         }
     }

@@ -24,13 +24,10 @@ ghost use Rattle.dbsource.specs.Sources.{Asks, HasLog};
 
 use crate::chain::CHAIN;
 use crate::entering::{Step, enter};
-use crate::{Fault, Mark, Marks, Sink};
-use dbformat::{FaultCode, u32_at};
+use crate::{Cause, Fault, Mark, Marks, Sink};
+use dbformat::{FREELIST_START, FaultCode, u32_at};
 use dbsource::{Bench, RunError, Source};
 use std::alloc::Allocator;
-
-// The number of the freelist in the list of starts.
-const FREELIST_START: u32 = 65537;
 
 /// Enters the leaves of a trunk, one after another, by the bytes of its page.
 ///
@@ -63,7 +60,7 @@ pub(crate) fn walk_leaves<K: Sink, A: Allocator>(
             item: index,
             is_too_deep: false,
         };
-        enter(marks, step, sink)?;
+        enter(marks, step, &Cause::Itself, sink)?;
     }
     Ok(())
 }
@@ -92,7 +89,7 @@ fn open_trunk<K: Sink, A: Allocator>(
         Ok(count)
     } else {
         let fault = Fault::new(FaultCode::L01, page, 0, count);
-        sink.fault(&fault)?;
+        sink.fault(&fault, &Cause::Itself)?;
         Ok(0)
     }
 }
@@ -136,7 +133,7 @@ fn turn<S: Source, K: Sink, A: Allocator>(
     ensures trunk { IfOk result (λ o. IfSome o (λ next. next.mark ≡ use_mark.Trunk)) }
     ensures less { IfOk result (λ o. IfSome o (λ next. unmarked_pages marks.new < unmarked_pages marks.old)) }
 {
-    if !enter(marks, step, sink)? {
+    if !enter(marks, step, &Cause::Itself, sink)? {
         return Ok(None);
     }
     bench.load(CHAIN, source, step.page)?;

@@ -1,7 +1,10 @@
 // An overflow page: what it holds, and what is told of it (Database File Format, 1.7).
-ghost use Rattle.std.specs.Prelude.{◌≡◌, ◌-◌, ◌≤◌, ◌&&◌, ◌==◌, ◌∷◌, length, map, not, nat_le, option_to_list, pos, Some, IfErr, is_some};
+ghost use Rattle.std.specs.Prelude.{◌≡◌, ◌+◌, ◌-◌, ◌≤◌, ◌&&◌, ◌==◌, ◌∷◌, length, map, not, nat_le, option_to_list, pos, Some, IfErr, is_some};
+ghost use Rattle.dbformat.specs.Counts.{overflow_counts};
 ghost use Rattle.dbformat.specs.Faults.{fault};
-ghost use Rattle.dbformat.specs.Payload.{overflow_bytes, overflow_len, overflow_next};
+ghost use Rattle.dbtrace.specs.Causes.{pages_for};
+ghost use Rattle.dbtrace.specs.declared.Cause.TheVariants as cause;
+ghost use Rattle.dbformat.specs.Payload.{most_payload, overflow_bytes, overflow_next};
 ghost use Rattle.dbformat.specs.Tests.{told_if};
 ghost use Rattle.dbformat.specs.declared.FaultCode.TheVariants as fault_code;
 ghost use Rattle.dbformat.specs.declared.PageType.TheVariants as page_type;
@@ -13,9 +16,9 @@ ghost use Rattle.dbwalk.specs.Rows.{row_of};
 ghost use Rattle.dbsource.specs.Errors.{is_write_failed};
 
 use crate::chain::Chain;
-use crate::{Fault, PageType, Row, Sink};
+use crate::{Cause, CellChain, Fault, PageType, Row, Sink};
 use dbbytes::RowSieve;
-use dbformat::{FaultCode, u32_at};
+use dbformat::{Counts, FaultCode, u32_at};
 use dbsource::RunError;
 
 // The number at the start of an overflow page.
@@ -38,9 +41,8 @@ pub(crate) fn overflow_row<'a>(
     ensures start { result.start ≡ chain.now.start }
     ensures path { result.path.now ≡ chain.now.path.now }
     ensures chain { result.chain ≡ Some (chain.now.cell, number) }
-    ensures page { (result.page ≡ page) × (result.pagetype ≡ page_type.Overflow) × (result.ncell ≡ 0) × (result.mx_payload ≡ 0) }
-    ensures payload { result.payload ≡ overflow_len usable left }
-    ensures unused { result.unused ≡ usable - 4 - overflow_len usable left }
+    ensures page { (result.page ≡ page) × (result.pagetype ≡ page_type.Overflow) }
+    ensures counts { result.counts ≡ overflow_counts usable left }
 {
     let room = usable - 4;
     let payload = left.min(room);
@@ -50,10 +52,11 @@ pub(crate) fn overflow_row<'a>(
         chain: Some((chain.cell, number)),
         page,
         pagetype: PageType::Overflow,
-        ncell: 0,
-        payload: u64::from(payload),
-        unused: u64::from(room - payload),
-        mx_payload: 0,
+        counts: Counts {
+            payload: u64::from(payload),
+            unused: u64::from(room - payload),
+            ..Counts::NONE
+        },
     }
 }
 
@@ -69,19 +72,42 @@ pub(crate) fn last_fault(usable: u32, left: u32, page: u32, next: u32) -> Option
     }
 }
 
-// Tells a row, and then a fault, if there is one.
+// What a fault at page `number` of a chain goes back to, where so many bytes are left there and so many pages were found.
+#[inline(always)]
+pub(crate) fn chain_cause(
+    chain: &Chain<'_>,
+    number: u32,
+    usable: u32,
+    left: u32,
+    found: u32,
+) -> Cause
+    requires usable { (480 ≤ usable) × (usable ≤ 65536) }
+    requires counted { number + left ≤ most_payload }
+    ensures { result ≡ cause.Chain (record { page = chain.now.page; item = chain.now.cell; pages = number + pages_for usable left; found = found }) }
+{
+    let room = usable - 4;
+    Cause::Chain(CellChain {
+        page: chain.page,
+        item: chain.cell,
+        pages: number + (left + (room - 1)) / room,
+        found,
+    })
+}
+
+// Tells a row, and then a fault, if there is one, with its cause.
 pub(crate) fn tell<K: Sink>(
     row: &Row<'_>,
     fault: Option<Fault>,
+    cause: &Cause,
     sink: &mut K,
 ) -> Result<(), RunError>
     ensures only { IfErr result (λ e. e ≡ run_error.WriteFailed) }
     ensures writes { SinkAfter is_write_failed result (K.held sink.old) (K.held sink.new) }
-    ensures told { Tells K.takes K.drops result sink.old (told_row (row_of row.now) ∷ map told_fault (option_to_list fault)) sink.new }
+    ensures told { Tells K.takes K.drops result sink.old (told_row (row_of row.now) ∷ map (λ f. told_fault f cause.now) (option_to_list fault)) sink.new }
 {
     sink.row(row)?;
     if let Some(fault) = fault {
-        sink.fault(&fault)?;
+        sink.fault(&fault, cause)?;
     }
     Ok(())
 }

@@ -7,28 +7,41 @@ ghost use Rattle.dbformat.specs.Coverage.{coverage};
 ghost use Rattle.dbformat.specs.Head.{tree_of, is_same_tree, undamaged};
 ghost use Rattle.dbformat.specs.PageFaults.{fragment_fault, cell_fault, cell_faults, freeblock_fault};
 ghost use Rattle.dbformat.specs.PageFaults.{coverage_fault, empty_fault, inner_faults, tree_page_faults};
+ghost use Rattle.dbwalk.specs.Found.{damage_fault, page_cause};
+ghost use Rattle.dbformat.specs.Looks.{look_of};
 ghost use Rattle.dbwalk.specs.Telling.{IsTold, findings};
 
-use crate::Sink;
+use crate::{Cause, Sink};
 use dbformat::{CellFault, Coverage, Fault, FaultCode, HeadFault, PageKind, TreeKind};
-use dbpage::{PageView, content_start, type_byte, uncounted_coverage};
+use dbpage::{PageView, content_start, look_of, type_byte, uncounted_coverage};
 use dbsource::WriteFailed;
 
-/// Page `number` as a page of a tree of this kind. It is an error where it is damaged: the one fault that is told of it.
+/// Why a page of a tree is damaged.
+#[derive(Clone, Copy)]
+pub(crate) enum Damage {
+    /// Its type is none of the four.
+    UnknownType,
+    /// It is a page of the other kind of tree.
+    OtherTree,
+    /// Its content area is out of bounds.
+    ContentStart,
+}
+
+/// Page `number` as a page of a tree of this kind. It is an error where it is damaged.
 #[tactic(auto, unfolding(dbformat::specs::PageFaults::tree_page_faults))]
 pub(crate) fn undamaged<'a>(
     page: &'a [u8],
     number: u32,
     usable: u32,
     kind: TreeKind,
-) -> Result<PageView<'a>, Fault>
+) -> Result<PageView<'a>, Damage>
     requires whole { usable ≤ length page.now }
     requires least { 480 ≤ usable }
     requires most { usable ≤ 65536 }
     ensures view { MatchResult result (λ v. undamaged kind number usable page.now ≡ Some v) (λ _. undamaged kind number usable page.now ≡ None) }
     ensures faults { (is_child : Bool) → MatchResult result
         (λ v. tree_page_faults kind is_child number usable page.now ≡ inner_faults v is_child)
-        (λ fault. tree_page_faults kind is_child number usable page.now ≡ fault ∷ []) }
+        (λ damage. tree_page_faults kind is_child number usable page.now ≡ damage_fault number page.now damage ∷ []) }
     ensures of { IfOk result (λ v. (v.number ≡ number) × (v.usable ≡ usable) × (v.bytes ≡ page.now)) }
 {
     match PageView::new(page, number, usable) {
@@ -36,26 +49,48 @@ pub(crate) fn undamaged<'a>(
             if is_of_tree(view.kind(), kind) {
                 Ok(view)
             } else {
-                Err(Fault::new(
-                    FaultCode::P02,
-                    number,
-                    0,
-                    u32::from(type_byte(page, number)),
-                ))
+                Err(Damage::OtherTree)
             }
         }
-        Err(HeadFault::UnknownType) => Err(Fault::new(
+        Err(HeadFault::UnknownType) => Err(Damage::UnknownType),
+        Err(HeadFault::ContentStart) => Err(Damage::ContentStart),
+    }
+}
+
+/// The one fault of a damaged page.
+pub(crate) fn damage_fault(page: &[u8], number: u32, damage: Damage) -> Fault
+    requires { 480 ≤ length page.now }
+    ensures { result ≡ damage_fault number page.now damage }
+{
+    match damage {
+        Damage::UnknownType => Fault::new(
             FaultCode::P01,
             number,
             0,
             u32::from(type_byte(page, number)),
-        )),
-        Err(HeadFault::ContentStart) => Err(Fault::new(
-            FaultCode::P03,
+        ),
+        Damage::OtherTree => Fault::new(
+            FaultCode::P02,
             number,
             0,
-            content_start(page, number),
-        )),
+            u32::from(type_byte(page, number)),
+        ),
+        Damage::ContentStart => {
+            Fault::new(FaultCode::P03, number, 0, content_start(page, number))
+        }
+    }
+}
+
+/// What this fault goes back to: a page of an unknown type has what it looks like.
+pub(crate) fn damage_cause(page: &[u8], number: u32, usable: u32, damage: Damage) -> Cause
+    requires whole { usable ≤ length page.now }
+    requires least { 480 ≤ usable }
+    requires most { usable ≤ 65536 }
+    ensures { result ≡ page_cause (look_of number usable page.now) None (damage_fault number page.now damage).code }
+{
+    match damage {
+        Damage::UnknownType => Cause::Look(look_of(page, number, usable)),
+        Damage::OtherTree | Damage::ContentStart => Cause::Itself,
     }
 }
 
@@ -138,7 +173,7 @@ fn tell_found<K: Sink>(found: Option<Fault>, sink: &mut K) -> Result<(), WriteFa
     ensures { IsTold K.takes K.drops K.held result sink.old (findings (option_to_list found)) sink.new }
 {
     match found {
-        Some(fault) => sink.fault(&fault),
+        Some(fault) => sink.fault(&fault, &Cause::Itself),
         None => Ok(()),
     }
 }
@@ -185,7 +220,10 @@ fn tell_cell<K: Sink>(
         Err(CellFault::Offset) => FaultCode::P05,
         Err(CellFault::Unreadable) => FaultCode::P06,
     };
-    sink.fault(&Fault::new(code, number, i, view.pointer(i)))?;
+    sink.fault(
+        &Fault::new(code, number, i, view.pointer(i)),
+        &Cause::Itself,
+    )?;
     Ok(false)
 }
 

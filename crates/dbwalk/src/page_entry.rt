@@ -14,7 +14,7 @@ ghost use Rattle.dbwalk.specs.Standing.{AtPage, AtReference};
 use crate::entering::{Step, enter};
 use crate::tree_walk::TreeWalk;
 use crate::visit::{PageFound, tell_page};
-use crate::{Mark, Sink, Taker};
+use crate::{Cause, Mark, Sink, Taker};
 use dbsource::{Bench, RunError, Source};
 use std::alloc::Allocator;
 
@@ -66,7 +66,7 @@ impl<A: Allocator, S: Source, K: Sink, T: Taker> TreeWalk<'_, '_, '_, '_, A, S, 
             PageFound::Interior => Ok(true),
             PageFound::Damaged => Ok(false),
             PageFound::Leaf(keys) => {
-                if self.tree.pass_over(keys) {
+                if self.tree.pass_over(keys, page) {
                     return Ok(false);
                 }
                 self.walk_leaf(bench, page)?;
@@ -104,7 +104,7 @@ impl<A: Allocator, S: Source, K: Sink, T: Taker> TreeWalk<'_, '_, '_, '_, A, S, 
     {
         let level = self.tree.path.len();
         let step = tree_step(level, page, from, item);
-        if !enter(self.marks, step, self.sink)? {
+        if !enter(self.marks, step, &Cause::Itself, self.sink)? {
             return Ok(false);
         }
         bench.load(level, self.source, page)?;

@@ -14,9 +14,9 @@ ghost use Rattle.dbformat.specs.Address.{schema_start};
 
 use crate::page::undamaged;
 use crate::state::Tree;
-use crate::{Sink, Taken, Taker};
+use crate::{Cause, Sink, Taken, Taker};
 use dbbytes::{RowSieve, SchemaRow};
-use dbformat::{Encoding, Fault, FaultCode, RowFault};
+use dbformat::{Encoding, Fault, FaultCode, RowFault, SCHEMA_START};
 use dbsource::{Bench, RunError, WriteFailed};
 use std::alloc::Allocator;
 
@@ -67,7 +67,11 @@ impl RowPlace {
 fn tell_if<K: Sink>(is_fault: bool, fault: &Fault, sink: &mut K) -> Result<(), WriteFailed>
     ensures { IsTold K.takes K.drops K.held result sink.old (findings (told_if is_fault fault.now)) sink.new }
 {
-    if is_fault { sink.fault(fault) } else { Ok(()) }
+    if is_fault {
+        sink.fault(fault, &Cause::Itself)
+    } else {
+        Ok(())
+    }
 }
 
 // Tells what is wrong with a row that was taken.
@@ -98,7 +102,7 @@ fn take_row<K: Sink, T: Taker>(
     ensures told { TellsRow K.takes K.drops T.takes T.refuses (place, seen row.entry) result (sink.old, taker.old) (sink.new, taker.new) }
 {
     match row {
-        Err(fault) => sink.fault(&place.row_fault(fault))?,
+        Err(fault) => sink.fault(&place.row_fault(fault), &Cause::Itself)?,
         Ok(row) => {
             let taken = taker.take(&row)?;
             tell_taken(&row, taken, place, sink)?;
@@ -193,7 +197,7 @@ pub(crate) fn begin_row<A: Allocator>(
         → HasSieve bench.now.geometry.usable tree.now.kind bench.now.levels (length tree.now.path.items) page i encoding sieve.new }
     ensures other { 1 ≤ tree.now.start → sieve.new ≡ sieve.old }
 {
-    if tree.start == 0 {
+    if tree.start == SCHEMA_START {
         put_sieve(bench, tree, page, i, encoding, sieve);
     }
 }

@@ -5,7 +5,8 @@ ghost use Rattle.dbwalk.specs.Rows.{row_of};
 ghost use Rattle.dbwalk.specs.Telling.{SinkAfter};
 ghost use Rattle.dbsource.specs.Failures.{is_any};
 
-use crate::{Fault, PageType};
+use crate::{Cause, Fault, PageType};
+use dbformat::Counts;
 use dbsource::WriteFailed;
 
 /// A row of the statistics: a page of a tree or of an overflow chain.
@@ -21,14 +22,8 @@ pub struct Row<'a> {
     pub page: u32,
     /// What it is.
     pub pagetype: PageType,
-    /// How many cells it has.
-    pub ncell: u32,
-    /// The payload bytes on it.
-    pub payload: u64,
-    /// The bytes on it that nothing uses.
-    pub unused: u64,
-    /// The greatest payload of its cells.
-    pub mx_payload: u64,
+    /// What it counts.
+    pub counts: Counts,
 }
 
 /// What rows and faults are told to, one after another.
@@ -47,7 +42,7 @@ pub struct Row<'a> {
 ///
 ///     ghost held = { λ _. record { lent = []; failures = [] } };
 ///
-///     fn fault(&mut self, _fault: &Fault) -> Result<(), WriteFailed> {
+///     fn fault(&mut self, _fault: &Fault, _cause: &Cause) -> Result<(), WriteFailed> {
 ///         self.faults = self.faults.saturating_add(1);
 ///         Ok(())
 ///     }
@@ -72,13 +67,14 @@ pub trait Sink {
     // What it is lent, and how many calls of each Out failed, in 64 bits.
     ghost held: { Self → SinkState };
 
-    /// Takes a fault.
+    /// Takes a fault, and what it goes back to.
     ///
     /// # Errors
     ///
     /// [`WriteFailed`] where it was not taken whole; one failure is counted then.
-    fn fault(&mut self, fault: &Fault) -> Result<(), WriteFailed>
-        ensures item { MatchResult result (λ _. takes self.old (told_fault fault.now) self.new) (λ _. drops self.old (told_fault fault.now) self.new) }
+    fn fault(&mut self, fault: &Fault, cause: &Cause) -> Result<(), WriteFailed>
+        ensures item { MatchResult result (λ _. takes self.old (told_fault fault.now cause.now) self.new)
+            (λ _. drops self.old (told_fault fault.now cause.now) self.new) }
         ensures count { SinkAfter is_any result (held self.old) (held self.new) };
 
     /// Takes a row.

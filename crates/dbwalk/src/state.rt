@@ -1,32 +1,70 @@
 // What the walk over one tree keeps beside marks, buffers and frames.
-ghost use Rattle.std.specs.Prelude.{◌≡◌, [], Some, None, false, IsTrue, IsSomeAnd};
-ghost use Rattle.dbwalk.specs.LeafCells.{ArePassed, greater_key, depth_faults, first_depth, order_faults};
+ghost use Rattle.dbformat.specs.Faults.{fault};
+ghost use Rattle.dbformat.specs.declared.FaultCode.TheVariants as fault_code;
+ghost use Rattle.dbtrace.specs.Finding.{told_fault};
+ghost use Rattle.dbtrace.specs.declared.Cause.TheVariants as cause;
+ghost use Rattle.std.specs.Prelude.{◌≡◌, [], ◌∷◌, Some, None, false, IsTrue, IsSomeAnd};
+ghost use Rattle.dbwalk.specs.LeafCells.{ArePassed, depth_told, first_of, order_told};
+ghost use Rattle.dbtrace.specs.Progress.{greater_key, value_of};
 ghost use Rattle.dbwalk.specs.Standing.{IsSameButGreatest, IsSameButLeaf};
-ghost use Rattle.dbwalk.specs.Telling.{IsTold, findings};
+ghost use Rattle.dbwalk.specs.Telling.{IsTold};
 
-use crate::Sink;
+use crate::{Cause, CellKey, Sink, TreeLeaf};
 use arrayvec::ArrayVec;
-use dbformat::{Fault, FaultCode, TreeKind};
+use dbformat::{Fault, FaultCode, SCHEMA_START, TreeKind};
 use dbpage::is_rising;
 use dbsource::WriteFailed;
 
-/// The keys of a leaf whose cells are all readable, without overflow pages and in the order of their keys: that of its first
-/// cell and that of its last, where there are cells and they have keys.
+/// The keys of a leaf whose cells are all readable, without overflow pages and in the order of their keys: how many cells there
+/// are, and the key of the first and that of the last, where there are cells and they have keys.
 #[derive(Clone, Copy)]
 pub(crate) struct KeySpan {
+    pub(crate) cells: u32,
     pub(crate) first: Option<i64>,
     pub(crate) last: Option<i64>,
 }
 
-/// The number of the tree's start, its kind, the greatest key so far, the depth of its first leaf, and the numbers of the
+/// The number of the tree's start, its kind, the greatest key so far, at the first cell that has it, its first leaf, and the numbers of the
 /// children on the way to the page at which the walk is.
 #[derive(Drop)]
 pub(crate) struct Tree {
     pub(crate) start: u32,
     pub(crate) kind: TreeKind,
-    pub(crate) greatest: Option<i64>,
-    pub(crate) leaf: Option<u32>,
+    pub(crate) greatest: Option<CellKey>,
+    pub(crate) leaf: Option<TreeLeaf>,
     pub(crate) path: ArrayVec<u32, 20>,
+}
+
+/// The value of a key, where there is one.
+#[inline(always)]
+pub(crate) fn key_value(key: Option<CellKey>) -> Option<i64>
+    ensures { result ≡ value_of key }
+{
+    match key {
+        None => None,
+        Some(key) => Some(key.value),
+    }
+}
+
+// Tells that a key is out of order, behind the greatest before it.
+// Most keys are in order, and do not come here.
+#[inline(never)]
+fn tell_late<K: Sink>(
+    top: CellKey,
+    page: u32,
+    item: u32,
+    key: i64,
+    sink: &mut K,
+) -> Result<(), WriteFailed>
+    ensures { IsTold K.takes K.drops K.held result sink.old (told_fault (fault fault_code.T06 page item key) (cause.Key top) ∷ []) sink.new }
+{
+    let fault = Fault {
+        code: FaultCode::T06,
+        page,
+        item,
+        value: key,
+    };
+    sink.fault(&fault, &Cause::Key(top))
 }
 
 impl Tree {
@@ -53,44 +91,55 @@ impl Tree {
         is_rowid: bool,
         sink: &mut K,
     ) -> Result<(), WriteFailed>
-        ensures told { IsTold K.takes K.drops K.held result sink.old (findings (order_faults is_rowid self.old.greatest page item key)) sink.new }
-        ensures greatest { self.new.greatest ≡ greater_key self.old.greatest key }
+        ensures told { IsTold K.takes K.drops K.held result sink.old (order_told is_rowid self.old.greatest page item key) sink.new }
+        ensures greatest { self.new.greatest ≡ greater_key self.old.greatest (record { page = page; item = item; value = key }) }
         ensures others { IsSameButGreatest self.old self.new }
     {
-        let is_late = match self.greatest {
-            None => false,
-            Some(top) => { if is_rowid { key <= top } else { key < top } }
-        };
-        self.greatest = match self.greatest {
-            None => Some(key),
-            Some(top) => Some(if top < key { key } else { top }),
-        };
-        if !is_late {
-            return Ok(());
+        if let Some(top) = self.greatest {
+            let is_late = if is_rowid {
+                key <= top.value
+            } else {
+                key < top.value
+            };
+            if is_late {
+                return tell_late(top, page, item, key, sink);
+            }
         }
-        sink.fault(&Fault {
-            code: FaultCode::T06,
-            page,
-            item,
-            value: key,
-        })
+        let is_greater = match self.greatest {
+            None => true,
+            Some(top) => top.value < key,
+        };
+        if is_greater {
+            self.greatest = Some(CellKey {
+                page,
+                item,
+                value: key,
+            });
+        }
+        Ok(())
     }
 
     /// Passes over a leaf of whose cells nothing but the keys is left to look at, where it has these keys, they come behind the
     /// greatest so far, and the tree is not the schema's, whose rows are wanted. Where it answers false, the cells have to be
     /// walked over one by one.
-    pub(crate) fn pass_over(&mut self, keys: Option<KeySpan>) -> bool
-        ensures passed { IsTrue result → IsSomeAnd keys (λ span. ArePassed self.old.start self.old.greatest span self.new.greatest) }
+    pub(crate) fn pass_over(&mut self, keys: Option<KeySpan>, page: u32) -> bool
+        ensures passed { IsTrue result → IsSomeAnd keys (λ span. ArePassed page self.old.start self.old.greatest span self.new.greatest) }
         ensures kept { result ≡ false → self.new.greatest ≡ self.old.greatest }
         ensures others { IsSameButGreatest self.old self.new }
     {
         let Some(keys) = keys else {
             return false;
         };
-        if self.start == 0 || !is_rising(self.greatest, keys.first) {
+        if self.start == SCHEMA_START || !is_rising(key_value(self.greatest), keys.first) {
             return false;
         }
-        self.greatest = keys.last.or(self.greatest);
+        if let Some(value) = keys.last {
+            self.greatest = Some(CellKey {
+                page,
+                item: keys.cells.saturating_sub(1),
+                value,
+            });
+        }
         true
     }
 
@@ -101,20 +150,23 @@ impl Tree {
         depth: u32,
         sink: &mut K,
     ) -> Result<(), WriteFailed>
-        ensures told { IsTold K.takes K.drops K.held result sink.old (findings (depth_faults self.old.leaf page depth)) sink.new }
-        ensures leaf { self.new.leaf ≡ Some (first_depth self.old.leaf depth) }
+        ensures told { IsTold K.takes K.drops K.held result sink.old (depth_told self.old.leaf page depth) sink.new }
+        ensures leaf { self.new.leaf ≡ Some (first_of self.old.leaf page depth) }
         ensures others { IsSameButLeaf self.old self.new }
     {
-        let first = self.leaf.unwrap_or(depth);
-        self.leaf = Some(first);
-        if depth == first {
+        let Some(first) = self.leaf else {
+            self.leaf = Some(TreeLeaf { page, depth });
+            return Ok(());
+        };
+        if depth == first.depth {
             return Ok(());
         }
-        sink.fault(&Fault {
+        let fault = Fault {
             code: FaultCode::T05,
             page,
             item: 0,
             value: i64::from(depth),
-        })
+        };
+        sink.fault(&fault, &Cause::Leaf(first.page))
     }
 }

@@ -1,15 +1,16 @@
 // What is told of one page of a tree: its row, and its faults.
 ghost use Rattle.std.specs.Prelude.{◌≡◌, ◌≤◌, length, IfOk, IfSome};
 ghost use Rattle.dbwalk.specs.LeafCells.{HasSpan};
-ghost use Rattle.dbwalk.specs.Found.{undamaged_findings, damaged_findings};
+ghost use Rattle.dbwalk.specs.Found.{damage_fault, undamaged_findings, damaged_findings};
+ghost use Rattle.dbformat.specs.Looks.{look_of};
 ghost use Rattle.dbwalk.specs.Telling.{IsTold};
 ghost use Rattle.dbformat.specs.Cell.{cells};
 ghost use Rattle.dbpage.specs.Packed.{payload_of, greatest_of};
 
-use crate::page::{tell_inner, tell_readable};
+use crate::page::{Damage, damage_cause, damage_fault, tell_inner, tell_readable};
 use crate::state::KeySpan;
 use crate::{Row, Sink};
-use dbformat::{Fault, PageType};
+use dbformat::{Counts, PageType};
 use dbpage::PageView;
 use dbsource::WriteFailed;
 
@@ -42,11 +43,11 @@ pub(crate) fn tell_undamaged<K: Sink>(
 {
     let packed = view.packed(uses);
     let sums = match packed {
-        Some(page) => CellSums {
-            payload: u64::from(page.sums.payload),
+        Some(page) => PayloadSums {
+            all: u64::from(page.sums.payload),
             greatest: u64::from(page.sums.greatest),
         },
-        None => cell_sums(view),
+        None => payload_sums(view),
     };
     let pagetype = if view.kind().is_interior() {
         PageType::Internal
@@ -59,10 +60,12 @@ pub(crate) fn tell_undamaged<K: Sink>(
         chain: None,
         page: place.page,
         pagetype,
-        ncell: view.cells(),
-        payload: sums.payload,
-        unused: u64::from(view.unused()),
-        mx_payload: sums.greatest,
+        counts: Counts {
+            ncell: u64::from(view.cells()),
+            payload: sums.all,
+            unused: u64::from(view.unused()),
+            mx_payload: sums.greatest,
+        },
     })?;
     let Some(page) = packed else {
         tell_inner(view, place.page, is_child, uses, sink)?;
@@ -73,22 +76,29 @@ pub(crate) fn tell_undamaged<K: Sink>(
         return Ok(None);
     }
     Ok(Some(KeySpan {
+        cells: view.cells(),
         first: page.sums.first,
         last: page.sums.last,
     }))
 }
 
-/// Tells the row of a damaged page, and then its one fault.
+/// Tells the row of a damaged page of these bytes, and then its one fault.
 ///
 /// # Errors
 ///
 /// [`WriteFailed`] where the sink failed: it was told a beginning of this.
 pub(crate) fn tell_damaged<K: Sink>(
     place: &PagePlace<'_>,
-    damage: &Fault,
+    bytes: &[u8],
+    usable: u32,
+    damage: Damage,
     sink: &mut K,
 ) -> Result<(), WriteFailed>
-    ensures { IsTold K.takes K.drops K.held result sink.old (damaged_findings place.now.start place.now.path.now place.now.page damage.now) sink.new }
+    requires whole { usable ≤ length bytes.now }
+    requires least { 480 ≤ usable }
+    requires most { usable ≤ 65536 }
+    ensures { IsTold K.takes K.drops K.held result sink.old (damaged_findings place.now.start place.now.path.now place.now.page
+        (look_of place.now.page usable bytes.now) (damage_fault place.now.page bytes.now damage)) sink.new }
 {
     sink.row(&Row {
         start: place.start,
@@ -96,39 +106,35 @@ pub(crate) fn tell_damaged<K: Sink>(
         chain: None,
         page: place.page,
         pagetype: PageType::Damaged,
-        ncell: 0,
-        payload: 0,
-        unused: 0,
-        mx_payload: 0,
+        counts: Counts::NONE,
     })?;
-    sink.fault(damage)
+    let fault = damage_fault(bytes, place.page, damage);
+    let cause = damage_cause(bytes, place.page, usable, damage);
+    sink.fault(&fault, &cause)
 }
 
-/// What the readable cells of a page come to: the bytes of payload that stand in them, and the greatest payload of one.
+/// The payload of the readable cells of a page: its bytes in the cells, and the greatest of one cell.
 #[derive(Clone, Copy)]
-pub(crate) struct CellSums {
-    pub(crate) payload: u64,
+pub(crate) struct PayloadSums {
+    pub(crate) all: u64,
     pub(crate) greatest: u64,
 }
 
-/// What the readable cells of a page come to.
+/// The payload of the readable cells of a page.
 // Most pages are packed, and are not asked for this.
 #[inline(never)]
-pub(crate) fn cell_sums(view: &PageView<'_>) -> CellSums
+pub(crate) fn payload_sums(view: &PageView<'_>) -> PayloadSums
     requires { view.now.usable ≤ 65536 }
-    ensures local { result.payload ≡ payload_of (cells view.now) }
+    ensures all { result.all ≡ payload_of (cells view.now) }
     ensures greatest { result.greatest ≡ greatest_of (cells view.now) }
 {
-    let mut local = 0;
+    let mut all = 0;
     let mut greatest = 0;
     for i in 0..view.cells() {
         if let Ok(cell) = view.cell(i) {
-            local += cell.local.len() as u64;
+            all += cell.local.len() as u64;
             greatest = greatest.max(u64::from(cell.size));
         }
     }
-    CellSums {
-        payload: local,
-        greatest,
-    }
+    PayloadSums { all, greatest }
 }

@@ -25,7 +25,7 @@ use crate::root::{Root, root_kind};
 use crate::state::Tree;
 use crate::steps::Frame;
 use crate::tree_walk::TreeWalk;
-use crate::{Marks, Sink, Taker};
+use crate::{Cause, Marks, Sink, Taker};
 use arrayvec::ArrayVec;
 use dbsource::{Bench, RunError, Source};
 use std::alloc::Allocator;
@@ -81,7 +81,7 @@ pub fn walk_tree<A: Allocator, S: Source, K: Sink, T: Taker>(
     ensures others { 1 ≤ root.start → (taker.new ≡ taker.old) × IfErr result IsReadOrWrite }
 {
     let step = tree_step(0, root.page, 0, root.start);
-    if !enter(marks, step, sink)? {
+    if !enter(marks, step, &Cause::Itself, sink)? {
         return Ok(());
     }
     bench.load(0, source, root.page)?;

@@ -64,7 +64,7 @@ pub(crate) fn tell_page<A: Allocator, K: Sink>(
             keys
         }
         Err(damage) => {
-            tell_damaged(&place, &damage, sink)?;
+            tell_damaged(&place, bytes, usable, damage, sink)?;
             return Ok(PageFound::Damaged);
         }
     };

@@ -5,16 +5,9 @@ ghost use Rattle.dbsource.specs.Outs.{Puts};
 ghost use Rattle.dbowner.specs.Explained.{look_line, look_text, page_kind_text};
 
 use arrayvec::ArrayVec;
-use dbformat::PageKind;
+use dbformat::{Look, PageKind, TreeLook};
 use dblines::{append, append_number};
 use dbsource::{Out, WriteFailed};
-
-/// What a page looks like: the kind of page of a tree that its head is of, and how many cells that has.
-#[derive(Clone, Copy, Debug, PartialEq, Eq)]
-pub struct Look {
-    pub kind: PageKind,
-    pub cells: u32,
-}
 
 fn page_kind_text(kind: PageKind) -> &'static str
     ensures text { result.now ≡ page_kind_text kind }
@@ -28,7 +21,7 @@ fn page_kind_text(kind: PageKind) -> &'static str
     }
 }
 
-fn look_text(look: Look) -> ArrayVec<u8, 128>
+fn look_text(look: TreeLook) -> ArrayVec<u8, 128>
     ensures { result.items ≡ look_text look }
 {
     let mut line = ArrayVec::new();
@@ -48,11 +41,11 @@ fn look_text(look: Look) -> ArrayVec<u8, 128>
 }
 
 /// Puts what a page looks like, if it looks like a page of a tree.
-pub fn put_look<O: Out>(out: &mut O, look: Option<Look>) -> Result<(), WriteFailed>
+pub fn put_look<O: Out>(out: &mut O, look: Look) -> Result<(), WriteFailed>
     ensures { Puts result (O.held out.old) (O.held out.new) (look_line look) }
 {
     match look {
-        Some(look) => out.put(look_text(look).as_slice()),
-        None => Ok(()),
+        Look::Tree(look) => out.put(look_text(look).as_slice()),
+        Look::Zeros | Look::Other(_) => Ok(()),
     }
 }

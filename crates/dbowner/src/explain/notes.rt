@@ -2,24 +2,19 @@
 ghost use Rattle.std.specs.Prelude.{◌≡◌, [], option_map};
 ghost use Rattle.std.specs.Option.{option_map_or};
 ghost use Rattle.dbformat.specs.FixedPages.{IsInRange};
+ghost use Rattle.dbmarks.specs.EndMarks.{entry_value};
 ghost use Rattle.dbsource.specs.Outs.{Puts};
 ghost use Rattle.dbowner.specs.Explained.{header_line, line_of_entry, tree_of_row};
-ghost use Rattle.dbowner.specs.Notes.{entry_value, note_text, notes_text, wanted_entry};
+ghost use Rattle.dbowner.specs.Notes.{note_text, notes_text, wanted_entry};
 
 use crate::explain::page_line::Spot;
 use crate::explain::tree_line::TreeNames;
 use arrayvec::ArrayVec;
 use dblines::{append, append_number};
+use dbmarks::MapEntry;
 use dbsource::{Geometry, Out, WriteFailed};
 use dbwalk::Mark;
 use std::alloc::Allocator;
-
-/// An entry of the pointer map.
-#[derive(Clone, Copy, Debug, PartialEq, Eq)]
-pub struct Entry {
-    pub kind: u8,
-    pub number: u32,
-}
 
 /// What a line below a fault says.
 #[derive(Clone, Copy, Debug, PartialEq, Eq)]
@@ -31,22 +26,17 @@ pub enum Note {
     /// A number of the header.
     Header(u32),
     /// The entry that was wanted.
-    Entry(Entry),
+    Entry(MapEntry),
 }
 
 // The entry that a page with this mark has, if it is in use.
-pub(crate) fn wanted_entry(mark: Option<Mark>) -> Option<Entry>
+pub(crate) fn wanted_entry(mark: Option<Mark>) -> Option<MapEntry>
     ensures { option_map entry_value result ≡ wanted_entry mark }
 {
-    let (kind, number) = match mark? {
-        Mark::Root => (1, 0),
-        Mark::Trunk | Mark::FreeLeaf => (2, 0),
-        Mark::FirstOverflow(from) => (3, from),
-        Mark::LaterOverflow(from) => (4, from),
-        Mark::Child(from) => (5, from),
-        Mark::Unmarked | Mark::Fixed => return None,
-    };
-    Some(Entry { kind, number })
+    match mark? {
+        Mark::Unmarked | Mark::Fixed => None,
+        mark => Some(mark.entry()),
+    }
 }
 
 fn header_line(number: u32) -> ArrayVec<u8, 64>
@@ -59,7 +49,7 @@ fn header_line(number: u32) -> ArrayVec<u8, 64>
     line
 }
 
-fn entry_line(entry: Entry) -> ArrayVec<u8, 96>
+fn entry_line(entry: MapEntry) -> ArrayVec<u8, 96>
     ensures { result.items ≡ line_of_entry (entry_value entry) }
 {
     let mut line = ArrayVec::new();

@@ -8,9 +8,9 @@ ghost use Rattle.dbowner.specs.Explained.{page_line, line_of_start, tree_of_row}
 ghost use Rattle.dbowner.specs.Notes.{page_front, place_end, place_from, place_front, place_tree, place_words, start_front, start_tree};
 
 use crate::explain::tree_line::TreeNames;
-use crate::page_trees::FREELIST_START;
 use crate::place::Place;
 use arrayvec::ArrayVec;
+use dbformat::FREELIST_START;
 use dblines::{append, append_number};
 use dbsource::{Fixed, Geometry, Out, WriteFailed};
 use std::alloc::Allocator;

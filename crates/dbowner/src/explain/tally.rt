@@ -4,20 +4,19 @@ ghost use Rattle.dbformat.specs.Address.{last_root_start};
 ghost use Rattle.dbformat.specs.Reference.{Reference};
 ghost use Rattle.dbformat.specs.Survey.{Survey};
 ghost use Rattle.dbformat.specs.declared.Fault.{Fault};
-ghost use Rattle.dbowner.specs.Explained.{all_codes, placed_faults};
+ghost use Rattle.dbformat.specs.Codes.{all_codes};
+ghost use Rattle.dbowner.specs.Explained.{placed_faults};
 ghost use Rattle.dbowner.specs.Sums.{counted_code, AreCounts};
-ghost use Rattle.dbowner.specs.Tallies.{counted_at, kept_in, recounted, taken_in, IsStart, IsTallyOf};
+ghost use Rattle.dbowner.specs.Tallies.{counted_at, counted_in, kept_in, taken_in, IsStart, IsTallyOf};
 
 use crate::explain::summary::Counts;
 use crate::explain::sums::CodeCount;
-use crate::page_trees::FREELIST_START;
-use dbformat::{Fault, FaultCode};
-use dblines::code_text;
+use dbformat::{FREELIST_START, Fault, FaultCode, MOST_ROOTS};
 use std::alloc::{AllocError, Allocator, Global};
 use std::marker::Model;
 
-// How many starts have a root page: the schema's, and those of 65536 rows.
-const ROOT_STARTS: usize = 65537;
+// How many starts have a root page: the schema's, and those of rows.
+const ROOT_STARTS: usize = MOST_ROOTS as usize + 1;
 
 /// The first faults that were told, as many as there is room for, and how many more there are; and how many were told in all with
 /// each code, at addresses of each start, and of the whole file. A count stops at the greatest number of 64 bits.
@@ -26,7 +25,7 @@ pub struct Tally<A: Allocator = Global> {
     kept: Vec<Fault, A>,
     shown: usize,
     more: u64,
-    codes: [CodeCount; 35],
+    codes: [CodeCount; FaultCode::COUNT],
     starts: Vec<u64, A>,
     freelist: u64,
     whole: u64,
@@ -60,69 +59,23 @@ fn zero_count(code: FaultCode) -> CodeCount
 }
 
 // All codes in their order, none of them told yet.
-fn zero_counts() -> [CodeCount; 35]
+fn zero_counts() -> [CodeCount; FaultCode::COUNT]
     ensures { result ≡ map (counted_code []) all_codes }
 {
-    [
-        zero_count(FaultCode::H01),
-        zero_count(FaultCode::H02),
-        zero_count(FaultCode::H03),
-        zero_count(FaultCode::H04),
-        zero_count(FaultCode::H05),
-        zero_count(FaultCode::H06),
-        zero_count(FaultCode::H07),
-        zero_count(FaultCode::H08),
-        zero_count(FaultCode::H09),
-        zero_count(FaultCode::H10),
-        zero_count(FaultCode::P01),
-        zero_count(FaultCode::P02),
-        zero_count(FaultCode::P03),
-        zero_count(FaultCode::P04),
-        zero_count(FaultCode::P05),
-        zero_count(FaultCode::P06),
-        zero_count(FaultCode::P07),
-        zero_count(FaultCode::P08),
-        zero_count(FaultCode::P09),
-        zero_count(FaultCode::P10),
-        zero_count(FaultCode::R01),
-        zero_count(FaultCode::R02),
-        zero_count(FaultCode::R03),
-        zero_count(FaultCode::T04),
-        zero_count(FaultCode::T05),
-        zero_count(FaultCode::T06),
-        zero_count(FaultCode::O01),
-        zero_count(FaultCode::L01),
-        zero_count(FaultCode::S01),
-        zero_count(FaultCode::S02),
-        zero_count(FaultCode::S03),
-        zero_count(FaultCode::S04),
-        zero_count(FaultCode::N01),
-        zero_count(FaultCode::M01),
-        zero_count(FaultCode::M02),
-    ]
-}
-
-// A code with its count, where a fault with some code was told.
-fn recount(count: CodeCount, code: FaultCode) -> CodeCount
-    ensures { result ≡ recounted code count }
-{
-    if code_text(code) == code_text(count.code) {
-        CodeCount {
-            code: count.code,
-            count: count.count.saturating_add(1),
-        }
-    } else {
-        count
+    let codes = FaultCode::all();
+    let mut counts = [zero_count(FaultCode::H01); FaultCode::COUNT];
+    for index in 0..FaultCode::COUNT {
+        counts[index] = zero_count(codes[index]);
     }
+    counts
 }
 
 // Counts a fault with this code.
-fn count_code(counts: &mut [CodeCount], code: FaultCode)
-    ensures { counts.new ≡ map (recounted code) counts.old }
+fn count_code(counts: &mut [CodeCount; FaultCode::COUNT], code: FaultCode)
+    ensures { counts.new ≡ counted_in code counts.old }
 {
-    for index in 0..counts.len() {
-        counts[index] = recount(counts[index], code);
-    }
+    let index = code.index();
+    counts[index].count = counts[index].count.saturating_add(1);
 }
 
 impl<A: Allocator + Copy> Tally<A> {

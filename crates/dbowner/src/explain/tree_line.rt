@@ -7,7 +7,7 @@ ghost use Rattle.dbowner.specs.Explained.{kind_text, row_text, tree_of_row};
 
 use crate::roots::RootList;
 use dbbytes::name_text;
-use dbformat::{Encoding, RowKind};
+use dbformat::{Encoding, RowKind, SCHEMA_START};
 use dbsource::{Out, WriteFailed};
 use dbwalk::SchemaRow;
 use std::alloc::{Allocator, Global};
@@ -28,7 +28,7 @@ impl<A: Allocator> TreeNames<'_, A> {
     pub fn put_tree<O: Out>(&self, out: &mut O, start: u32) -> Result<(), WriteFailed>
         ensures { Puts result (O.held out.old) (O.held out.new) (tree_of_row self.now.encoding self.now.roots.now.rows start) }
     {
-        if start == 0 {
+        if start == SCHEMA_START {
             return out.put(b"sqlite_schema");
         }
         match self.roots.get(start) {

@@ -27,6 +27,7 @@ use Rattle.dbwalk.specs.Telling.{StopsBy}
 use Rattle.dbwalk.proofs.Telling.Belows.{told_visit}
 use Rattle.dbwalk.proofs.Chaining.Feedings.{feeds_none, feeds_page, fed_whole, fed_refused}
 use Rattle.dbwalk.proofs.Telling.Lefts.{left_start, left_refused, left_visit, left_none, left_stop}
+use Rattle.dbwalk.proofs.Chaining.Heads.{head_next, head_start, chain_few}
 use Rattle.dbwalk.proofs.Chaining.Overflows.{more_errands, last_errands, next_on_chain, overflow_shallow}
 
 pub if_some_all : {X : Type 0} (Q : X → Type 0) (o : Option X) → ((x : X) → Q x) → IfSome o Q
@@ -91,6 +92,7 @@ module _ {S : Type 0} (takes drops : S → Finding → S → Type 0) (file : Lis
     step = record { page = ap (λ p. overflow_next (page_bytes file p)) on.step.page ∙ sym n; mark = ap LaterOverflow on.step.page; from = on.step.page; item = refl; deep = refl };
     left = refl;
     on = next_on_chain chain place.number on.d (place.left - (usable_size file - 4)) (overflow_next (page_bytes file on.d.page)) on.on;
+    head = head_next chain on.visited place.number on.d on.on on.head on.rest.past (chain_few chain place.number on.d on.on) (place.left - (usable_size file - 4)) (overflow_next (page_bytes file on.d.page));
     rest = subst (λ es. IsLeft takes file W (Go c ∷ []) before (on.visited ++ (on.d ∷ [])) es (marks', t)) (ap (λ es. es ++ []) (more_errands file on.d place.left on.left l)) (turn_visited marks' m t e h);
   }
 
@@ -126,5 +128,6 @@ way_start takes file W c chain marks s sieve h next m = record {
   };
   left = ap bytes_left h.role;
   on = h.place;
+  head = head_start chain W c h;
   rest = left_start takes file W (Go c ∷ []) s marks m next ((λ e i. absurd i), tt);
 }

@@ -6,16 +6,18 @@ use Rattle.std.proofs.lemmas.List.{length-append}
 use Rattle.dbsurvey.specs.Moves.{MovesBySome}
 use Rattle.dbsurvey.specs.Story.{Go, errands_of}
 use Rattle.dbformat.specs.Address.{start_of, then_step, is_child_step, cell_of_step, children_on, chain_on, child_path, chain_place}
+use Rattle.dbformat.specs.Counts.{overflow_counts}
 use Rattle.dbformat.specs.Errands.{go}
 use Rattle.dbformat.specs.Faults.{fault}
 use Rattle.dbformat.specs.File.{geometry, page_bytes}
 use Rattle.dbformat.specs.Header.{usable_size}
-use Rattle.dbformat.specs.Payload.{overflow_len, overflow_next}
+use Rattle.dbformat.specs.Payload.{overflow_next}
 use Rattle.dbformat.specs.PageFaults.{overflow_fault, role_faults, page_faults}
 use Rattle.dbformat.specs.Reference.{Role, root, child, first_overflow, later_overflow, trunk, free_leaf, Reference, role_of, bytes_left, link}
 use Rattle.dbformat.specs.Rows.{StatRow, overflow_page_row, row_in}
 use Rattle.dbformat.specs.Story.{at_page, story_of}
 use Rattle.dbformat.specs.Survey.{is_too_deep}
+use Rattle.dbformat.specs.declared.counts.Counts.{Counts}
 use Rattle.dbformat.specs.declared.Fault.{Fault}
 use Rattle.dbformat.specs.Tests.{told_if}
 use Rattle.dbformat.specs.declared.FaultCode.TheVariants.{O01}
@@ -27,7 +29,9 @@ use Rattle.dbformat.proofs.Looping.{by_chain}
 use Rattle.dbsource.specs.Answers.{IsRangeOf}
 use Rattle.dbwalk.specs.declared.chain.Chain.{Chain}
 use Rattle.dbwalk.specs.Chains.{IsOnChain, next_of}
-use Rattle.dbtrace.specs.Finding.{told_row, told_fault, told_at}
+use Rattle.dbtrace.specs.Causes.{cause_of}
+use Rattle.dbtrace.specs.declared.Cause.{Cause}
+use Rattle.dbtrace.specs.Finding.{told_row, told_fault, told_by, told_at}
 
 -- nothing is a beginning of anything
 pub moves_none : {S E : Type 0} (takes : S → E → S → Type 0) (s : S) (es : List E) → MovesBySome takes s es s
@@ -42,16 +46,16 @@ page_read file bytes size p l h e =
 
 -- what is told of it
 pub told_overflow : (file : List ℕ) (U : List Reference) (c : Reference) (left : ℕ) → bytes_left (role_of c) ≡ Some left
-    → told_at file U (at_page c) ≡ told_row (overflow_page_row c (usable_size file) left) ∷ map told_fault (overflow_fault (usable_size file) left c.page (page_bytes file c.page))
+    → told_at file U (at_page c) ≡ told_row (overflow_page_row c (usable_size file) left) ∷ told_by (cause_of file U (at_page c)) (overflow_fault (usable_size file) left c.page (page_bytes file c.page))
 unfolding page_faults
 told_overflow file U c left h = by_role (role_of c) h
   where
-    by_left : (l : ℕ) → Some l ≡ Some left → told_row (overflow_page_row c (usable_size file) l) ∷ map told_fault (overflow_fault (usable_size file) l c.page (page_bytes file c.page))
-        ≡ told_row (overflow_page_row c (usable_size file) left) ∷ map told_fault (overflow_fault (usable_size file) left c.page (page_bytes file c.page))
-    by_left l e = let k : l ≡ left = cc in ap (λ l. told_row (overflow_page_row c (usable_size file) l) ∷ map told_fault (overflow_fault (usable_size file) l c.page (page_bytes file c.page))) k
+    by_left : (l : ℕ) → Some l ≡ Some left → told_row (overflow_page_row c (usable_size file) l) ∷ told_by (cause_of file U (at_page c)) (overflow_fault (usable_size file) l c.page (page_bytes file c.page))
+        ≡ told_row (overflow_page_row c (usable_size file) left) ∷ told_by (cause_of file U (at_page c)) (overflow_fault (usable_size file) left c.page (page_bytes file c.page))
+    by_left l e = let k : l ≡ left = cc in ap (λ l. told_row (overflow_page_row c (usable_size file) l) ∷ told_by (cause_of file U (at_page c)) (overflow_fault (usable_size file) l c.page (page_bytes file c.page))) k
 
-    by_role : (role : Role) → bytes_left role ≡ Some left → map told_row (option_to_list (row_in role file c)) ++ map told_fault (role_faults role file U c)
-        ≡ told_row (overflow_page_row c (usable_size file) left) ∷ map told_fault (overflow_fault (usable_size file) left c.page (page_bytes file c.page))
+    by_role : (role : Role) → bytes_left role ≡ Some left → map told_row (option_to_list (row_in role file c)) ++ told_by (cause_of file U (at_page c)) (role_faults role file U c)
+        ≡ told_row (overflow_page_row c (usable_size file) left) ∷ told_by (cause_of file U (at_page c)) (overflow_fault (usable_size file) left c.page (page_bytes file c.page))
     by_role (root kind) e = cc
     by_role (child kind) e = cc
     by_role (first_overflow l) e = by_left l e
@@ -59,30 +63,37 @@ told_overflow file U c left h = by_role (role_of c) h
     by_role trunk e = cc
     by_role free_leaf e = cc
 
-pub row_is : (start start' : ℕ) (path path' : List ℕ) (chain chain' : Option (ℕ × ℕ)) (page page' : ℕ) (type type' : PageType) (ncell ncell' payload payload' unused unused' most most' : ℕ)
-    → start ≡ start' → path ≡ path' → chain ≡ chain' → page ≡ page' → type ≡ type' → ncell ≡ ncell' → payload ≡ payload' → unused ≡ unused' → most ≡ most'
-    → (let r : StatRow = record { start = start; path = path; chain = chain; page = page; pagetype = type; ncell = ncell; payload = payload; unused = unused; mx_payload = most } in r)
-    ≡ record { start = start'; path = path'; chain = chain'; page = page'; pagetype = type'; ncell = ncell'; payload = payload'; unused = unused'; mx_payload = most' }
-row_is start start' path path' chain chain' page page' type type' ncell ncell' payload payload' unused unused' most most' a b c d e f g h i = cc
+pub row_is : (start start' : ℕ) (path path' : List ℕ) (chain chain' : Option (ℕ × ℕ)) (page page' : ℕ) (type type' : PageType) (counts counts' : Counts)
+    → start ≡ start' → path ≡ path' → chain ≡ chain' → page ≡ page' → type ≡ type' → counts ≡ counts'
+    → (let r : StatRow = record { start = start; path = path; chain = chain; page = page; pagetype = type; counts = counts } in r)
+    ≡ record { start = start'; path = path'; chain = chain'; page = page'; pagetype = type'; counts = counts' }
+row_is start start' path path' chain chain' page page' type type' counts counts' a b c d e f = cc
 
 -- a row and a fault that were made of these numbers are what is told of the page
 pub told_is : (file : List ℕ) (U : List Reference) (d : Reference) (chain : Chain) (number page usable left next : ℕ) (row : Row) (f : Option Fault)
     → usable ≡ usable_size file → next ≡ overflow_next (page_bytes file page) → d.page ≡ page → bytes_left (role_of d) ≡ Some left → IsOnChain chain number d
     → row.start ≡ chain.start → row.path.now ≡ chain.path.now → row.chain ≡ Some (chain.cell, number)
-    → row.page ≡ page → row.pagetype ≡ Overflow → row.ncell ≡ 0 → row.mx_payload ≡ 0 → row.payload ≡ overflow_len usable left → row.unused ≡ usable - 4 - overflow_len usable left
+    → row.page ≡ page → row.pagetype ≡ Overflow → row.counts ≡ overflow_counts usable left
     → option_to_list f ≡ told_if (nat_le left (usable - 4) && not (next == 0)) (fault O01 page 0 (pos next))
-    → told_row (row_of row) ∷ map told_fault (option_to_list f) ≡ told_at file U (at_page d)
-told_is file U d chain number page usable left next row f u n p l on a b c e g h i j k m =
+    → (why : Cause) → why ≡ cause_of file U (at_page d) O01
+    → told_row (row_of row) ∷ map (λ f. told_fault f why) (option_to_list f) ≡ told_at file U (at_page d)
+told_is file U d chain number page usable left next row f u n p l on a b c e g h m why causes =
     let same : row_of row ≡ overflow_page_row d (usable_size file) left =
-    row_is row.start (start_of d.address) row.path.now (child_path d.address) row.chain (chain_place d.address) row.page d.page row.pagetype Overflow row.ncell 0 row.payload (overflow_len (usable_size file) left) row.unused (usable_size file - 4 - overflow_len (usable_size file) left) row.mx_payload 0
-    (a ∙ sym on.start) (b ∙ sym on.path) (c ∙ sym on.place) (e ∙ sym p) g h (j ∙ ap (λ x. overflow_len x left) u) (k ∙ ap (λ x. x - 4 - overflow_len x left) u) i in
+    row_is row.start (start_of d.address) row.path.now (child_path d.address) row.chain (chain_place d.address) row.page d.page row.pagetype Overflow row.counts (overflow_counts (usable_size file) left)
+    (a ∙ sym on.start) (b ∙ sym on.path) (c ∙ sym on.place) (e ∙ sym p) g (h ∙ ap (λ x. overflow_counts x left) u) in
     let faults : option_to_list f ≡ overflow_fault (usable_size file) left d.page (page_bytes file d.page) =
     m ∙ ap (λ x. told_if (nat_le left (x - 4) && not (next == 0)) (fault O01 page 0 (pos next))) u
     ∙ ap (λ x. told_if (nat_le left (usable_size file - 4) && not (x == 0)) (fault O01 page 0 (pos x))) n
     ∙ ap (λ x. overflow_fault (usable_size file) left x (page_bytes file x)) (sym p) in
-    ap (λ r. told_row r ∷ map told_fault (option_to_list f)) same
-    ∙ ap (λ fs. told_row (overflow_page_row d (usable_size file) left) ∷ map told_fault fs) faults
+    ap (λ r. told_row r ∷ map (λ f. told_fault f why) (option_to_list f)) same
+    ∙ ap (λ fs. told_row (overflow_page_row d (usable_size file) left) ∷ map (λ f. told_fault f why) fs) faults
+    ∙ ap (λ w. told_row (overflow_page_row d (usable_size file) left) ∷ map (λ f. told_fault f w) (overflow_fault (usable_size file) left d.page (page_bytes file d.page))) causes
+    ∙ ap (λ L. told_row (overflow_page_row d (usable_size file) left) ∷ L) (once (nat_le left (usable_size file - 4) && not (overflow_next (page_bytes file d.page) == 0)) _)
     ∙ sym (told_overflow file U d left l)
+  where
+    once : (b : Bool) (n : ℕ) → map (λ f. told_fault f (cause_of file U (at_page d) O01)) (told_if b (fault O01 d.page 0 (pos n))) ≡ told_by (cause_of file U (at_page d)) (told_if b (fault O01 d.page 0 (pos n)))
+    once true n = refl
+    once false n = refl
 
 -- it is in no tree
 pub overflow_shallow : (c : Reference) (left : ℕ) → bytes_left (role_of c) ≡ Some left → is_too_deep c ≡ false

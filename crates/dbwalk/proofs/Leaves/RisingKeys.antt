@@ -14,7 +14,9 @@ use Rattle.dbformat.specs.declared.PageKind.TheVariants.{InteriorIndex, Interior
 use Rattle.dbformat.specs.declared.PayloadKind.{PayloadKind}
 use Rattle.dbformat.specs.declared.PayloadKind.TheVariants.{TableLeaf, Index}
 use Rattle.dbpage.specs.Packed.{IsAbove, IsAllLocal, key_at}
-use Rattle.dbwalk.specs.LeafCells.{HasSpan, AreRisingFrom}
+use Rattle.dbtrace.specs.Progress.{value_of}
+use Rattle.dbtrace.specs.declared.CellKey.{CellKey}
+use Rattle.dbwalk.specs.LeafCells.{HasSpan, AreRisingFrom, placed}
 use Rattle.dbwalk.specs.declared.state.KeySpan.{KeySpan}
 
 -- the cells of a table have keys, and those of an index have none
@@ -89,19 +91,19 @@ whole_key v i w = ap (λ r. is_some (option_and_then (λ c. c.key) (result_ok r)
 keys_alike : (v : View) (i j : ℕ) → IsAllLocal v i → IsAllLocal v j → is_some (key_at v i) ≡ is_some (key_at v j)
 keys_alike v i j a b = whole_key v i a ∙ sym (whole_key v j b)
 
-module _ (v : View) (keys : KeySpan) (span : HasSpan v keys) (greatest : Option ℤ) (above : IsAbove greatest keys.first) where
+module _ (page : ℕ) (v : View) (keys : KeySpan) (span : HasSpan v keys) (greatest : Option CellKey) (above : IsAbove (value_of greatest) keys.first) where
   -- the greatest key before cell n
-  top_at : ℕ → Option ℤ
+  top_at : ℕ → Option CellKey
   top_at zero = greatest
-  top_at (suc n) = option_or (key_at v n) greatest
+  top_at (suc n) = option_or (placed page n (key_at v n)) greatest
 
   -- a cell's key is above it
-  above_at : (n : ℕ) → n < count v → IsAbove (top_at n) (key_at v n)
+  above_at : (n : ℕ) → n < count v → IsAbove (value_of (top_at n)) (key_at v n)
   unfolding top_at
   above_at zero low = λ a b e f. above a b e (sym (span.first_is low) ∙ f)
   above_at (suc n) low = λ a b e f. by_key a b f (key_at v n) refl e
     where
-      by_key : (a b : ℤ) → key_at v (suc n) ≡ Some b → (o : Option ℤ) → key_at v n ≡ o → option_or o greatest ≡ Some a → a <ℤ b
+      by_key : (a b : ℤ) → key_at v (suc n) ≡ Some b → (o : Option ℤ) → key_at v n ≡ o → value_of (option_or (placed page n o) greatest) ≡ Some a → a <ℤ b
       by_key a b f None g e =
           let same = keys_alike v n (suc n) (span.whole n (omega arith)) (span.whole (suc n) low) in
           let h : false ≡ true = sym (ap is_some g) ∙ same ∙ ap is_some f in cc
@@ -116,30 +118,34 @@ module _ (v : View) (keys : KeySpan) (span : HasSpan v keys) (greatest : Option 
   top_without zero low e = refl
   top_without (suc n) low e = by_key (key_at v n) refl
     where
-      by_key : (o : Option ℤ) → key_at v n ≡ o → option_or o greatest ≡ greatest
+      by_key : (o : Option ℤ) → key_at v n ≡ o → option_or (placed page n o) greatest ≡ greatest
       by_key None g = refl
       by_key (Some d) g =
           let same = keys_alike v n (suc n) (span.whole n (omega arith)) (span.whole (suc n) low) in
           let h : true ≡ false = sym (ap is_some g) ∙ same ∙ ap is_some e in cc
 
-  top_step : (n : ℕ) → n < count v → option_or (key_at v n) (top_at n) ≡ top_at (suc n)
+  top_step : (n : ℕ) → n < count v → option_or (placed page n (key_at v n)) (top_at n) ≡ top_at (suc n)
   unfolding top_at
   top_step n low = by_key (key_at v n) refl
     where
-      by_key : (o : Option ℤ) → key_at v n ≡ o → option_or o (top_at n) ≡ option_or o greatest
+      by_key : (o : Option ℤ) → key_at v n ≡ o → option_or (placed page n o) (top_at n) ≡ option_or (placed page n o) greatest
       by_key None e = top_without n low e
       by_key (Some b) e = refl
 
-  top_end : top_at (count v) ≡ option_or keys.last greatest
+  top_end : top_at (count v) ≡ option_or (placed page (keys.cells - 1) keys.last) greatest
   unfolding top_at
   top_end = by_count (count v) refl
     where
-      by_count : (n : ℕ) → count v ≡ n → top_at n ≡ option_or keys.last greatest
-      by_count zero e = ap (λ o. option_or o greatest) (sym (span.none e))
-      by_count (suc n) e = let i : n + 1 ≡ count v = omega arith in ap (λ o. option_or o greatest) (span.last_is n i)
+      by_count : (n : ℕ) → count v ≡ n → top_at n ≡ option_or (placed page (keys.cells - 1) keys.last) greatest
+      by_count zero e = ap (λ o. option_or (placed page (keys.cells - 1) o) greatest) (sym (span.none e))
+      by_count (suc n) e =
+          let i : n + 1 ≡ count v = omega arith in
+          let cells = span.cells_are in
+          let last : n ≡ keys.cells - 1 = omega arith in
+          ap (λ o. option_or (placed page n o) greatest) (span.last_is n i) ∙ ap (λ m. option_or (placed page m keys.last) greatest) last
 
   -- so many cells from the first on
-  rising_to : (n : ℕ) → n ≤ count v → AreRisingFrom v 0 n greatest (top_at n)
+  rising_to : (n : ℕ) → n ≤ count v → AreRisingFrom page v 0 n greatest (top_at n)
   unfolding top_at
   rising_to zero low = refl
   rising_to (suc n) low =
@@ -147,10 +153,10 @@ module _ (v : View) (keys : KeySpan) (span : HasSpan v keys) (greatest : Option 
         top_at n,
         rising_to n (omega arith),
         subst (IsAllLocal v) e (span.whole n (omega arith)),
-        subst (λ i. IsAbove (top_at n) (key_at v i)) e (above_at n (omega arith)),
-        sym (top_step n (omega arith)) ∙ ap (λ i. option_or (key_at v i) (top_at n)) e,
+        subst (λ i. IsAbove (value_of (top_at n)) (key_at v i)) e (above_at n (omega arith)),
+        sym (top_step n (omega arith)) ∙ ap (λ i. option_or (placed page i (key_at v i)) (top_at n)) e,
       )
 
   -- and all of them: the last key is the greatest
-  pub rising_all : AreRisingFrom v 0 (count v) greatest (option_or keys.last greatest)
-  rising_all = subst (AreRisingFrom v 0 (count v) greatest) top_end (rising_to (count v) (omega arith))
+  pub rising_all : AreRisingFrom page v 0 (count v) greatest (option_or (placed page (keys.cells - 1) keys.last) greatest)
+  rising_all = subst (AreRisingFrom page v 0 (count v) greatest) top_end (rising_to (count v) (omega arith))

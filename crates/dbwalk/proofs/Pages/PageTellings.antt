@@ -6,15 +6,24 @@ use Rattle.dbformat.specs.Header.{usable_size}
 use Rattle.dbformat.specs.File.{page_bytes}
 use Rattle.dbformat.specs.Address.{start_of, child_path, chain_place}
 use Rattle.dbformat.specs.Head.{View, undamaged}
-use Rattle.dbformat.specs.Reference.{Role, root, child, first_overflow, later_overflow, trunk, free_leaf, Reference, role_of, tree_kind, tree_view}
+use Rattle.dbformat.specs.Reference.{Role, root, child, first_overflow, later_overflow, trunk, free_leaf, Reference, role_of, tree_kind, tree_view, bytes_left}
 use Rattle.dbformat.specs.PageFaults.{tree_page_faults, depth_fault, role_faults, page_faults, fragment_fault, cell_fault, cell_faults, freeblock_fault, coverage_fault, empty_fault, inner_faults}
 use Rattle.dbformat.specs.Rows.{tree_page_row, row_in}
 use Rattle.dbformat.specs.declared.Fault.{Fault}
 use Rattle.dbformat.specs.declared.TreeKind.{TreeKind}
-use Rattle.dbtrace.specs.Finding.{told_row, told_fault, Finding}
-use Rattle.dbtrace.specs.Progress.{depth_faults}
-use Rattle.dbtrace.proofs.Depths.{no_depth}
-use Rattle.dbwalk.specs.Found.{view_row, damaged_row, page_findings}
+use Rattle.dbtrace.specs.Causes.{chain_cause}
+use Rattle.dbtrace.specs.Finding.{told_row, told_alone, told_by, Finding}
+use Rattle.dbtrace.specs.Progress.{Progress, cause_by, depth_faults}
+use Rattle.dbtrace.specs.declared.Cause.{Cause}
+use Rattle.dbtrace.specs.declared.TreeLeaf.{TreeLeaf}
+use Rattle.dbformat.specs.declared.FaultCode.{FaultCode}
+use Rattle.dbformat.specs.Story.{at_page}
+use Rattle.dbformat.specs.Looks.{look_at}
+use Rattle.dbformat.specs.declared.Look.{Look}
+use Rattle.dbtrace.proofs.Causing.{IsOfPage, told_by-append, tree_same, page_same}
+use Rattle.dbtrace.proofs.Depths.{no_depth, told_same as told_alike}
+use Rattle.dbtrace.proofs.Folding.{page_of_progress}
+use Rattle.dbwalk.specs.Found.{view_row, damaged_row, page_cause, page_findings}
 use Rattle.dbwalk.specs.Telling.{findings, IsTold, HasFailed, SinkState}
 use Rattle.std.specs.List.{range_with_len, cons_option}
 use Rattle.std.specs.Option.{is_none}
@@ -39,6 +48,29 @@ use Rattle.dbwalk.specs.declared.state.KeySpan.{KeySpan}
 abbrev pub is_child : Role → Bool
 is_child (child kind) = true
 is_child _ = false
+
+-- by the progress of a walk the faults of the page have the same causes
+pub page_of_look : (look : Look) (leaf : Option TreeLeaf) → IsOfPage (page_cause look leaf)
+page_of_look look leaf = record { p02 = refl; p03 = refl; p04 = refl; p05 = refl; p06 = refl; p07 = refl; p08 = refl; p09 = refl; p10 = refl }
+
+pub page_causes : (file : List ℕ) (U : List Reference) (p : Progress) (c : Reference) {kind : TreeKind} → tree_kind (role_of c) ≡ Some kind
+    → told_by (cause_by file U p (at_page c)) (page_faults file [] c ++ depth_faults file p.leaf c) ≡ told_by (page_cause (look_at file c.page) p.leaf) (page_faults file [] c ++ depth_faults file p.leaf c)
+page_causes file U p c {kind} role =
+    told_by-append why (page_faults file [] c) (depth_faults file p.leaf c)
+    ∙ ap (λ L. L ++ told_by why (depth_faults file p.leaf c)) (page_same file why (page_cause (look_at file c.page) p.leaf) (page_of_progress file U p c) (page_of_look (look_at file c.page) p.leaf) refl (ap (λ o. chain_cause file U c o 1) (no_chain (role_of c) role)) refl c)
+    ∙ ap (λ L. told_by (page_cause (look_at file c.page) p.leaf) (page_faults file [] c) ++ L) (told_alike why (page_cause (look_at file c.page) p.leaf) _ _ refl)
+    ∙ sym (told_by-append (page_cause (look_at file c.page) p.leaf) (page_faults file [] c) (depth_faults file p.leaf c))
+  where
+    why : FaultCode → Cause
+    why = cause_by file U p (at_page c)
+
+    no_chain : (r : Role) → tree_kind r ≡ Some kind → bytes_left r ≡ None
+    no_chain (root k) e = refl
+    no_chain (child k) e = refl
+    no_chain (first_overflow left) e = cc
+    no_chain (later_overflow left) e = cc
+    no_chain trunk e = cc
+    no_chain free_leaf e = cc
 
 module _ (file : List ℕ) (c : Reference) (kind : TreeKind) (role : tree_kind (role_of c) ≡ Some kind) where
   faults_are : page_faults file [] c ≡ tree_page_faults kind (is_child (role_of c)) c.page (usable_size file) (page_bytes file c.page)
@@ -76,11 +108,17 @@ module _ (file : List ℕ) (c : Reference) (kind : TreeKind) (role : tree_kind (
   view_is = ap (λ o. option_and_then (λ kind. undamaged kind c.page (usable_size file) (page_bytes file c.page)) o) role
 
   -- its row first, and then its faults: those within it, and that of its depth
-  pub page_told : (leaf : Option ℕ) (o : Option View) → tree_view file c ≡ o
-      → page_findings file leaf c ≡ (told_row (tree_page_row c o) ∷ findings (tree_page_faults kind (is_child (role_of c)) c.page (usable_size file) (page_bytes file c.page))) ++ findings (depth_faults file leaf c)
-  page_told leaf o f = ap (λ r. map told_row (option_to_list r) ++ map told_fault (page_faults file [] c ++ depth_faults file leaf c)) (row_is o f)
-      ∙ ap (λ fs. told_row (tree_page_row c o) ∷ map told_fault (fs ++ depth_faults file leaf c)) faults_are
-      ∙ ap (λ fs. told_row (tree_page_row c o) ∷ fs) (map-append told_fault (tree_page_faults kind (is_child (role_of c)) c.page (usable_size file) (page_bytes file c.page)) (depth_faults file leaf c))
+  pub page_told : (leaf : Option TreeLeaf) (o : Option View) → tree_view file c ≡ o
+      → page_findings file leaf c ≡ (told_row (tree_page_row c o) ∷ told_by (page_cause (look_at file c.page) None) (tree_page_faults kind (is_child (role_of c)) c.page (usable_size file) (page_bytes file c.page))) ++ told_by (page_cause (look_at file c.page) leaf) (depth_faults file leaf c)
+  page_told leaf o f =
+      let look = look_at file c.page in
+      let why = page_cause look leaf in
+      let fs = tree_page_faults kind (is_child (role_of c)) c.page (usable_size file) (page_bytes file c.page) in
+      ap (λ r. map told_row (option_to_list r) ++ told_by why (page_faults file [] c ++ depth_faults file leaf c)) (row_is o f)
+      ∙ ap (λ fs. told_row (tree_page_row c o) ∷ told_by why (fs ++ depth_faults file leaf c)) faults_are
+      ∙ ap (λ L. told_row (tree_page_row c o) ∷ L) (told_by-append why fs (depth_faults file leaf c))
+      ∙ ap (λ L. told_row (tree_page_row c o) ∷ (L ++ told_by why (depth_faults file leaf c)))
+      (tree_same why (page_cause look None) (page_of_look look leaf) (page_of_look look None) refl kind (is_child (role_of c)) c.page (usable_size file) (page_bytes file c.page))
 
 -- the rows, where the address has no chain
 pub row_of_view : (c : Reference) (v : View) (start : ℕ) (path : List ℕ) → start_of c.address ≡ start → child_path c.address ≡ path → chain_place c.address ≡ None → v.number ≡ c.page → view_row start path v ≡ tree_page_row c (Some v)
@@ -116,10 +154,10 @@ told_ok b (Err a) e h = cc
 
 -- the same of faults
 pub faults_then : {S A B E : Type 0} {takes drops : S → Finding → S → Type 0} {held : S → SinkState} {a : A} (r0 : Result A E) (r : Result B E) {s m t : S} (L M : List Fault) → r0 ≡ Ok a → IsTold takes drops held r0 s (findings L) m → IsTold takes drops held r m (findings M) t → IsTold takes drops held r s (findings (L ++ M)) t
-faults_then {takes = takes} {drops = drops} {held = held} r0 r {s} {m} {t} L M e h k = subst (λ l. IsTold takes drops held r s l t) (sym (map-append told_fault L M)) (told_then r0 r (findings L) (findings M) e h k)
+faults_then {takes = takes} {drops = drops} {held = held} r0 r {s} {m} {t} L M e h k = subst (λ l. IsTold takes drops held r s l t) (sym (map-append told_alone L M)) (told_then r0 r (findings L) (findings M) e h k)
 
 pub faults_stop : {S A B E F : Type 0} {takes drops : S → Finding → S → Type 0} {held : S → SinkState} {e : E} {f : F} (r0 : Result A E) (r : Result B F) {s t : S} (L rest fs : List Fault) → L ++ rest ≡ fs → r0 ≡ Err e → r ≡ Err f → IsTold takes drops held r0 s (findings L) t → IsTold takes drops held r s (findings fs) t
-faults_stop {takes = takes} {drops = drops} {held = held} r0 r {s} {t} L rest fs whole e f h = subst (λ l. IsTold takes drops held r s l t) (sym (map-append told_fault L rest) ∙ ap findings whole) (told_stop r0 r (findings L) (findings rest) e f h)
+faults_stop {takes = takes} {drops = drops} {held = held} r0 r {s} {t} L rest fs whole e f h = subst (λ l. IsTold takes drops held r s l t) (sym (map-append told_alone L rest) ∙ ap findings whole) (told_stop r0 r (findings L) (findings rest) e f h)
 
 -- one element more of a range
 

@@ -1,6 +1,6 @@
 -- What is told of a page, by what a program finds of it.
 use Rattle.std.proofs.Common.{◌≡◌, ℕ, ◌+◌, true, false, not, ◌&&◌, cond, List, [], ◌∷◌, ◌++◌, length, Option, Some, None, refl, sym, ap, arith, ◌∙◌, Bool, Result, Ok, Err, subst, ◌-◌}
-use Rattle.std.specs.Prelude.{nat_lt, pos, unwrap_or, ◌==◌, OnOk, slice_get}
+use Rattle.std.specs.Prelude.{nat_lt, pos, ◌==◌, OnOk, slice_get}
 use Rattle.std.specs.Option.{option_map_or}
 use Rattle.std.proofs.lemmas.List.{append-nil}
 use Rattle.std.proofs.lemmas.Bool.Decides.{nat_tests}
@@ -9,6 +9,8 @@ use Rattle.dbformat.specs.File.{page_bytes}
 use Rattle.dbformat.specs.Address.{start_of, depth}
 use Rattle.dbformat.specs.Head.{View, undamaged, is_interior}
 use Rattle.dbformat.specs.Faults.{fault}
+use Rattle.dbformat.specs.Looks.{look_at, look_of}
+use Rattle.dbformat.specs.declared.Look.{Look}
 use Rattle.dbformat.specs.Tests.{told_if}
 use Rattle.dbformat.specs.Reference.{Reference, role_of, tree_kind, tree_view}
 use Rattle.dbformat.specs.PageFaults.{inner_faults, tree_page_faults, is_leaf_of}
@@ -16,35 +18,43 @@ use Rattle.dbformat.specs.Rows.{tree_page_row}
 use Rattle.dbformat.specs.declared.Fault.{Fault}
 use Rattle.dbformat.specs.declared.FaultCode.TheVariants.{T05}
 use Rattle.dbformat.specs.declared.TreeKind.{TreeKind}
-use Rattle.dbtrace.specs.Finding.{told_row, Finding}
-use Rattle.dbtrace.specs.Progress.{leaf_after, depth_faults}
-use Rattle.dbwalk.specs.LeafCells.{first_depth}
-use Rattle.dbwalk.specs.Found.{damaged_row, undamaged_findings, page_findings, damaged_findings, StandsAt, IsDamagedAt, IsOpenLeaf}
+use Rattle.dbtrace.specs.Causes.{leaf_at}
+use Rattle.dbtrace.specs.Finding.{told_row, told_fault, told_by, Finding}
+use Rattle.dbtrace.specs.declared.Cause.{Cause}
+use Rattle.dbtrace.specs.declared.TreeLeaf.{TreeLeaf}
+use Rattle.dbformat.specs.declared.FaultCode.{FaultCode}
+use Rattle.dbtrace.specs.Progress.{leaf_after, depth_faults, depth_of}
+use Rattle.dbwalk.specs.LeafCells.{first_of, depth_told}
+use Rattle.dbwalk.specs.Found.{undamaged_findings, page_cause, page_findings, damaged_findings, StandsAt, IsDamagedAt, IsOpenLeaf}
 use Rattle.dbwalk.specs.Telling.{findings, IsTold, SinkState}
 use Rattle.dbwalk.specs.Walking.{IsCandidate, role_at, IsOpen, IsLeafAt}
-use Rattle.dbwalk.proofs.Pages.PageTellings.{is_child, page_told, view_is, row_of_view, row_of_damage, told_then, told_stop, told_same, told_ok}
+use Rattle.dbtrace.proofs.Causing.{inner_alone}
+use Rattle.dbwalk.proofs.Pages.PageTellings.{is_child, page_of_look, page_told, view_is, row_of_view, row_of_damage, told_then, told_stop, told_same, told_ok}
 use Rattle.dbsurvey.specs.Traverse.{is_followed}
 use Rattle.dbformat.specs.Survey.{rules_of}
 use Rattle.dbtrace.specs.Walk.{Walk}
 use Rattle.dbwalk.specs.Underway.{IsInterior}
-use Rattle.dbwalk.specs.LeafCells as depths
 
 -- a page that is no leaf has no fault of its depth, and leaves the depth of the first leaf
-no_leaf : (file : List ℕ) (leaf : Option ℕ) (c : Reference) → is_leaf_of file (start_of c.address) c ≡ false → (depth_faults file leaf c ≡ []) × (leaf_after file leaf c ≡ leaf)
-no_leaf file leaf c e = (ap (λ b. told_if (b && not (depth c.address == unwrap_or leaf (depth c.address))) (fault T05 c.page 0 (pos (depth c.address)))) e, by_first leaf)
+no_leaf : (file : List ℕ) (leaf : Option TreeLeaf) (c : Reference) → is_leaf_of file (start_of c.address) c ≡ false → (depth_faults file leaf c ≡ []) × (leaf_after file leaf c ≡ leaf)
+no_leaf file leaf c e = (ap (λ b. told_if (b && not (depth c.address == depth_of leaf (depth c.address))) (fault T05 c.page 0 (pos (depth c.address)))) e, by_first leaf)
   where
-    by_first : (leaf : Option ℕ) → leaf_after file leaf c ≡ leaf
+    by_first : (leaf : Option TreeLeaf) → leaf_after file leaf c ≡ leaf
     by_first (Some d) = refl
-    by_first None = ap (λ b. cond b (Some (depth c.address)) None) e
+    by_first None = ap (λ b. cond b (Some (leaf_at c)) None) e
 
 -- a leaf has one where its depth is not that of the first, which is its own where there is none yet
-at_leaf : (file : List ℕ) (leaf : Option ℕ) (c : Reference) (n : ℕ) → is_leaf_of file (start_of c.address) c ≡ true → depth c.address ≡ n
-    → (depth_faults file leaf c ≡ depths.depth_faults leaf c.page n) × (leaf_after file leaf c ≡ Some (first_depth leaf n))
-at_leaf file leaf c n e d = by_first leaf
+at_leaf : (file : List ℕ) (look : Look) (leaf : Option TreeLeaf) (c : Reference) (n : ℕ) → is_leaf_of file (start_of c.address) c ≡ true → depth c.address ≡ n
+    → (told_by (page_cause look leaf) (depth_faults file leaf c) ≡ depth_told leaf c.page n) × (leaf_after file leaf c ≡ Some (first_of leaf c.page n))
+at_leaf file look leaf c n e d = by_first leaf
   where
-    by_first : (leaf : Option ℕ) → (depth_faults file leaf c ≡ depths.depth_faults leaf c.page n) × (leaf_after file leaf c ≡ Some (first_depth leaf n))
-    by_first (Some m) = (rw (e, d) refl, refl)
-    by_first None = (rw (e, d) refl, rw (e, d) refl)
+    one : (why : FaultCode → Cause) (b : Bool) (f : Fault) → told_by why (told_if b f) ≡ told_if b (told_fault f (why f.code))
+    one why true f = refl
+    one why false f = refl
+
+    by_first : (leaf : Option TreeLeaf) → (told_by (page_cause look leaf) (depth_faults file leaf c) ≡ depth_told leaf c.page n) × (leaf_after file leaf c ≡ Some (first_of leaf c.page n))
+    by_first (Some m) = (one (page_cause look (Some m)) _ _ ∙ rw (e, d) refl, refl)
+    by_first None = (one (page_cause look None) _ _ ∙ rw (e, d) refl, rw (e, d) refl)
 
 module _ (file : List ℕ) (kind : TreeKind) (k : ℕ) (path : List ℕ) (p from item : ℕ) (c : Reference) (candidate : IsCandidate kind k path p from item c) where
   role_is : role_of c ≡ role_at kind path
@@ -88,43 +98,51 @@ module _ (file : List ℕ) (kind : TreeKind) (k : ℕ) (path : List ℕ) (p from
       itself : (n : ℕ) → (n == n) ≡ true
       itself n = grind (arith, nat_tests)
 
-  module _ (leaf : Option ℕ) where
+  module _ (leaf : Option TreeLeaf) where
     -- a damaged page: its row, and its one fault
     pub told_damaged : (f : Fault) → undamaged kind p (usable_size file) bytes ≡ None → tree_page_faults kind (nat_lt 1 (length path + 1)) p (usable_size file) bytes ≡ f ∷ []
-        → page_findings file leaf c ≡ told_row (damaged_row k path p) ∷ findings (f ∷ [])
-    told_damaged f e g = page_told file c kind kind_is leaf None (viewed_as None e)
-        ∙ ap (λ fs. (told_row (tree_page_row c None) ∷ findings fs) ++ findings (depth_faults file leaf c)) (faults_as (f ∷ []) g)
-        ∙ ap (λ fs. (told_row (tree_page_row c None) ∷ findings (f ∷ [])) ++ findings fs) (no_leaf file leaf c (leaf_is None e)).0
-        ∙ append-nil (told_row (tree_page_row c None) ∷ findings (f ∷ []))
-        ∙ ap (λ r. told_row r ∷ findings (f ∷ [])) (sym (row_of_damage c p k path candidate.start candidate.path candidate.chain candidate.page))
+        → page_findings file leaf c ≡ damaged_findings k path p (look_at file p) f
+    told_damaged f e g =
+        let why = page_cause (look_at file c.page) None in
+        page_told file c kind kind_is leaf None (viewed_as None e)
+        ∙ ap (λ fs. (told_row (tree_page_row c None) ∷ told_by why fs) ++ told_by (page_cause (look_at file c.page) leaf) (depth_faults file leaf c)) (faults_as (f ∷ []) g)
+        ∙ ap (λ fs. (told_row (tree_page_row c None) ∷ told_by why (f ∷ [])) ++ told_by (page_cause (look_at file c.page) leaf) fs) (no_leaf file leaf c (leaf_is None e)).0
+        ∙ append-nil (told_row (tree_page_row c None) ∷ told_by why (f ∷ []))
+        ∙ ap (λ r. told_row r ∷ told_by why (f ∷ [])) (sym (row_of_damage c p k path candidate.start candidate.path candidate.chain candidate.page))
+        ∙ ap (λ q. damaged_findings k path p (look_at file q) f) candidate.page
 
     -- it is no leaf
     pub leaf_after_damaged : undamaged kind p (usable_size file) bytes ≡ None → leaf_after file leaf c ≡ leaf
     leaf_after_damaged e = (no_leaf file leaf c (leaf_is None e)).1
 
     module _ (v : View) (viewed : undamaged kind p (usable_size file) bytes ≡ Some v) (number : v.number ≡ p) (within : tree_page_faults kind (nat_lt 1 (length path + 1)) p (usable_size file) bytes ≡ inner_faults v (nat_lt 1 (length path + 1))) where
-      pub row_and_faults : page_findings file leaf c ≡ undamaged_findings k path v (nat_lt 1 (length path + 1)) ++ findings (depth_faults file leaf c)
-      row_and_faults = page_told file c kind kind_is leaf (Some v) (viewed_as (Some v) viewed)
-          ∙ ap (λ fs. (told_row (tree_page_row c (Some v)) ∷ findings fs) ++ findings (depth_faults file leaf c)) (faults_as (inner_faults v (nat_lt 1 (length path + 1))) within)
-          ∙ ap (λ r. (told_row r ∷ findings (inner_faults v (nat_lt 1 (length path + 1)))) ++ findings (depth_faults file leaf c)) (sym (row_of_view c v k path candidate.start candidate.path candidate.chain (number ∙ sym candidate.page)))
+      pub row_and_faults : page_findings file leaf c ≡ undamaged_findings k path v (nat_lt 1 (length path + 1)) ++ told_by (page_cause (look_at file c.page) leaf) (depth_faults file leaf c)
+      row_and_faults =
+          let look = look_at file c.page in
+          let last = told_by (page_cause look leaf) (depth_faults file leaf c) in
+          let child = nat_lt 1 (length path + 1) in
+          page_told file c kind kind_is leaf (Some v) (viewed_as (Some v) viewed)
+          ∙ ap (λ fs. (told_row (tree_page_row c (Some v)) ∷ told_by (page_cause look None) fs) ++ last) (faults_as (inner_faults v child) within)
+          ∙ ap (λ L. (told_row (tree_page_row c (Some v)) ∷ L) ++ last) (inner_alone (page_cause look None) (page_of_look look None) v child)
+          ∙ ap (λ r. (told_row r ∷ findings (inner_faults v child)) ++ last) (sym (row_of_view c v k path candidate.start candidate.path candidate.chain (number ∙ sym candidate.page)))
 
       -- an interior page: its row, and the faults within it
       pub told_interior : is_interior v.kind ≡ true → page_findings file leaf c ≡ undamaged_findings k path v (nat_lt 1 (length path + 1))
       told_interior e = row_and_faults
-          ∙ ap (λ fs. undamaged_findings k path v (nat_lt 1 (length path + 1)) ++ findings fs) (no_leaf file leaf c (leaf_is (Some v) viewed ∙ ap not e)).0
+          ∙ ap (λ fs. undamaged_findings k path v (nat_lt 1 (length path + 1)) ++ told_by (page_cause (look_at file c.page) leaf) fs) (no_leaf file leaf c (leaf_is (Some v) viewed ∙ ap not e)).0
           ∙ append-nil (undamaged_findings k path v (nat_lt 1 (length path + 1)))
 
       pub leaf_after_interior : is_interior v.kind ≡ true → leaf_after file leaf c ≡ leaf
       leaf_after_interior e = (no_leaf file leaf c (leaf_is (Some v) viewed ∙ ap not e)).1
 
       -- a leaf: then that its depth is not that of the first
-      pub told_leaf : is_interior v.kind ≡ false → page_findings file leaf c ≡ undamaged_findings k path v (nat_lt 1 (length path + 1)) ++ findings (depths.depth_faults leaf p (length path + 1))
+      pub told_leaf : is_interior v.kind ≡ false → page_findings file leaf c ≡ undamaged_findings k path v (nat_lt 1 (length path + 1)) ++ depth_told leaf p (length path + 1)
       told_leaf e = row_and_faults
-          ∙ ap (λ fs. undamaged_findings k path v (nat_lt 1 (length path + 1)) ++ findings fs)
-          ((at_leaf file leaf c (length path + 1) (leaf_is (Some v) viewed ∙ ap not e) candidate.depth).0 ∙ ap (λ q. depths.depth_faults leaf q (length path + 1)) candidate.page)
+          ∙ ap (λ L. undamaged_findings k path v (nat_lt 1 (length path + 1)) ++ L)
+          ((at_leaf file (look_at file c.page) leaf c (length path + 1) (leaf_is (Some v) viewed ∙ ap not e) candidate.depth).0 ∙ ap (λ q. depth_told leaf q (length path + 1)) candidate.page)
 
-      pub leaf_after_leaf : is_interior v.kind ≡ false → leaf_after file leaf c ≡ Some (first_depth leaf (length path + 1))
-      leaf_after_leaf e = (at_leaf file leaf c (length path + 1) (leaf_is (Some v) viewed ∙ ap not e) candidate.depth).1
+      pub leaf_after_leaf : is_interior v.kind ≡ false → leaf_after file leaf c ≡ Some (first_of leaf p (length path + 1))
+      leaf_after_leaf e = (at_leaf file (look_at file c.page) leaf c (length path + 1) (leaf_is (Some v) viewed ∙ ap not e) candidate.depth).1 ∙ ap (λ q. Some (first_of leaf q (length path + 1))) candidate.page
 
 -- How the telling of a page ends.
 
@@ -133,9 +151,9 @@ on_err P (Ok a) e = cc
 on_err P (Err x) e = tt
 
 module _ {S : Type 0} (A E : Type 0) (takes drops : S → Finding → S → Type 0) (held : S → SinkState) (file : List ℕ) (kind : TreeKind) (k : ℕ) (path : List ℕ) (p from item : ℕ) (c : Reference) (candidate : IsCandidate kind k path p from item c)
-    (usable : ℕ) (usable_is : usable ≡ usable_size file) (bytes : List ℕ) (bytes_are : bytes ≡ page_bytes file p) (leaf : Option ℕ)
+    (usable : ℕ) (usable_is : usable ≡ usable_size file) (bytes : List ℕ) (bytes_are : bytes ≡ page_bytes file p) (leaf : Option TreeLeaf)
     (path' : List ℕ) (path_is : path' ≡ path) (depth : ℕ) (depth_is : depth ≡ length path + 1) (s : S) where
-  abbrev Exit : Result A E → S → Option ℕ → Type 0
+  abbrev Exit : Result A E → S → Option TreeLeaf → Type 0
   Exit r t new = IsTold takes drops held r s (page_findings file leaf c) t × OnOk r (new ≡ leaf_after file leaf c)
 
   seen_as : (o : Option View) → undamaged kind p usable bytes ≡ o → undamaged kind p (usable_size file) (page_bytes file p) ≡ o
@@ -145,10 +163,14 @@ module _ {S : Type 0} (A E : Type 0) (takes drops : S → Finding → S → Type
   read_faults b fs e = ap (λ u. tree_page_faults kind b p u (page_bytes file p)) (sym usable_is) ∙ ap (λ y. tree_page_faults kind b p usable y) (sym bytes_are) ∙ e
 
   module _ (f : Fault) (none : undamaged kind p usable bytes ≡ None) (one : (b : Bool) → tree_page_faults kind b p usable bytes ≡ f ∷ []) {B : Type 0} (r0 : Result B E) (t : S)
-      (told : IsTold takes drops held r0 s (damaged_findings k path' p f) t) where
-    all_told : page_findings file leaf c ≡ damaged_findings k path' p f
+      (told : IsTold takes drops held r0 s (damaged_findings k path' p (look_of p usable bytes) f) t) where
+    all_told : page_findings file leaf c ≡ damaged_findings k path' p (look_of p usable bytes) f
     all_told = told_damaged file kind k path p from item c candidate leaf f (seen_as None none) (read_faults (nat_lt 1 (length path + 1)) (f ∷ []) (one (nat_lt 1 (length path + 1))))
-        ∙ ap (λ q. damaged_findings k q p f) (sym path_is)
+        ∙ ap (λ q. damaged_findings k q p (look_at file p) f) (sym path_is)
+        ∙ ap (λ look. damaged_findings k path' p look f) (sym seen)
+      where
+        seen : look_of p usable bytes ≡ look_at file p
+        seen = ap (λ u. look_of p u bytes) usable_is ∙ ap (look_of p (usable_size file)) bytes_are
 
     pub exit_damaged : (a : A) {b : B} → r0 ≡ Ok b → Exit (Ok a) t leaf
     exit_damaged a e = (
@@ -156,7 +178,7 @@ module _ {S : Type 0} (A E : Type 0) (takes drops : S → Finding → S → Type
       sym (leaf_after_damaged file kind k path p from item c candidate leaf (seen_as None none)),
     )
 
-    pub exit_damaged_stop : (new : Option ℕ) (r : Result A E) {e x : E} → r0 ≡ Err e → r ≡ Err x → Exit r t new
+    pub exit_damaged_stop : (new : Option TreeLeaf) (r : Result A E) {e x : E} → r0 ≡ Err e → r ≡ Err x → Exit r t new
     exit_damaged_stop new r e f = (subst (λ L. IsTold takes drops held r s L t) (sym all_told) (told_same r0 r e f told), on_err _ r f)
 
   module _ (v : View) (viewed : undamaged kind p usable bytes ≡ Some v) (number : v.number ≡ p) (within : (b : Bool) → tree_page_faults kind b p usable bytes ≡ inner_faults v b) {B : Type 0} (r0 : Result B E) (t : S)
@@ -174,10 +196,10 @@ module _ {S : Type 0} (A E : Type 0) (takes drops : S → Finding → S → Type
     abbrev inner : tree_page_faults kind (nat_lt 1 (length path + 1)) p (usable_size file) (page_bytes file p) ≡ inner_faults v (nat_lt 1 (length path + 1))
     inner = read_faults (nat_lt 1 (length path + 1)) (inner_faults v (nat_lt 1 (length path + 1))) (within (nat_lt 1 (length path + 1)))
 
-    pub exit_stop : (new : Option ℕ) (r : Result A E) {e x : E} → r0 ≡ Err e → r ≡ Err x → Exit r t new
+    pub exit_stop : (new : Option TreeLeaf) (r : Result A E) {e x : E} → r0 ≡ Err e → r ≡ Err x → Exit r t new
     exit_stop new r e f = (
       subst (λ L. IsTold takes drops held r s L t) (sym (row_and_faults file kind k path p from item c candidate leaf v there number inner))
-          (told_stop r0 r first_told (findings (depth_faults file leaf c)) e f told_first),
+          (told_stop r0 r first_told (told_by (page_cause (look_at file c.page) leaf) (depth_faults file leaf c)) e f told_first),
       on_err _ r f,
     )
 
@@ -188,24 +210,24 @@ module _ {S : Type 0} (A E : Type 0) (takes drops : S → Finding → S → Type
     )
 
     module _ {b : B} (ok : r0 ≡ Ok b) (is_leaf : is_interior v.kind ≡ false) {C : Type 0} (r1 : Result C E) (t1 : S)
-        (last : IsTold takes drops held r1 t (findings (depths.depth_faults leaf p depth)) t1) where
+        (last : IsTold takes drops held r1 t (depth_told leaf p depth) t1) where
       abbrev last_told : List Finding
-      last_told = findings (depths.depth_faults leaf p (length path + 1))
+      last_told = depth_told leaf p (length path + 1)
 
       told_last : IsTold takes drops held r1 t last_told t1
-      told_last = subst (λ n. IsTold takes drops held r1 t (findings (depths.depth_faults leaf p n)) t1) depth_is last
+      told_last = subst (λ n. IsTold takes drops held r1 t (depth_told leaf p n) t1) depth_is last
 
       both_told : IsTold takes drops held r1 s (page_findings file leaf c) t1
       both_told = subst (λ L. IsTold takes drops held r1 s L t1) (sym (told_leaf file kind k path p from item c candidate leaf v there number inner is_leaf))
           (told_then r0 r1 first_told last_told ok told_first told_last)
 
-      pub exit_leaf : (a : A) {z : C} (new : Option ℕ) → r1 ≡ Ok z → new ≡ Some (first_depth leaf depth) → Exit (Ok a) t1 new
+      pub exit_leaf : (a : A) {z : C} (new : Option TreeLeaf) → r1 ≡ Ok z → new ≡ Some (first_of leaf p depth) → Exit (Ok a) t1 new
       exit_leaf a new e n = (
         told_ok a r1 e both_told,
-        n ∙ ap (λ n. Some (first_depth leaf n)) depth_is ∙ sym (leaf_after_leaf file kind k path p from item c candidate leaf v there number inner is_leaf),
+        n ∙ ap (λ n. Some (first_of leaf p n)) depth_is ∙ sym (leaf_after_leaf file kind k path p from item c candidate leaf v there number inner is_leaf),
       )
 
-      pub exit_leaf_stop : (new : Option ℕ) (r : Result A E) {e x : E} → r1 ≡ Err e → r ≡ Err x → Exit r t1 new
+      pub exit_leaf_stop : (new : Option TreeLeaf) (r : Result A E) {e x : E} → r1 ≡ Err e → r ≡ Err x → Exit r t1 new
       exit_leaf_stop new r e f = (told_same r1 r e f both_told, on_err _ r f)
 
 -- A page of a tree that was read, by what it was found to be.

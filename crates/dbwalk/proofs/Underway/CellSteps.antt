@@ -16,12 +16,17 @@ use Rattle.dbformat.specs.Faults.{fault}
 use Rattle.dbformat.specs.declared.FaultCode.TheVariants.{T06}
 use Rattle.dbformat.specs.declared.Fault.{Fault}
 use Rattle.dbformat.proofs.Places.{cell_key}
-use Rattle.dbtrace.specs.Finding.{told_fault}
+use Rattle.dbformat.specs.declared.FaultCode.{FaultCode}
+use Rattle.dbtrace.specs.Finding.{Finding, told_fault, told_by}
+use Rattle.dbtrace.specs.declared.Cause.{Cause}
+use Rattle.dbtrace.specs.declared.CellKey.{CellKey}
 use Rattle.dbtrace.specs.Item.{Item, found, given, readable, items_at}
-use Rattle.dbtrace.specs.Progress.{Progress, rows_of, late_faults, greatest_after}
+use Rattle.dbtrace.specs.Progress.{Progress, cause_by, rows_of, late_faults, greatest_after, value_of}
 use Rattle.dbtrace.specs.Walk.{Walk, advance, run_below, bare}
+use Rattle.dbtrace.proofs.Causing.{told_by-append, rows_alone}
+use Rattle.dbtrace.proofs.Folding.{row_of_progress}
 use Rattle.dbtrace.proofs.Keys.{le_is}
-use Rattle.dbwalk.specs.LeafCells.{order_faults, top_after, AreRisingFrom}
+use Rattle.dbwalk.specs.LeafCells.{is_late, key_cause, order_told, placed, top_after, AreRisingFrom}
 use Rattle.dbwalk.specs.Telling.{findings}
 use Rattle.std.specs.List.{range_with_len}
 use Rattle.std.specs.Option.{option_map_or, option_or}
@@ -50,48 +55,56 @@ use Rattle.dbwalk.proofs.Leaves.LeafErrands.{leaf_errands_are}
 -- what rows of the schema hand out, behind so many rows with a root: those that can be read go to the taker, and then their
 -- faults are told
 abbrev pub row_items : ℕ → List SchemaCell → List Item
-row_items roots rows = map given (readable rows) ++ map found (map told_fault (flat_map (row_faults_if (nat_le last_root_start roots)) rows))
+row_items roots rows = map given (readable rows) ++ map found (findings (flat_map (row_faults_if (nat_le last_root_start roots)) rows))
 
 -- the fault of a cell's key, if it has one, as the program tells it
-abbrev pub order_faults_of : Bool → Option ℤ → ℕ → ℕ → Option ℤ → List Fault
-order_faults_of is_rowid top page item None = []
-order_faults_of is_rowid top page item (Some value) = order_faults is_rowid top page item value
+abbrev pub order_told_of : Bool → Option CellKey → ℕ → ℕ → Option ℤ → List Finding
+order_told_of is_rowid top page item None = []
+order_told_of is_rowid top page item (Some value) = order_told is_rowid top page item value
+
+told_once : (why : FaultCode → Cause) (b : Bool) (f : Fault) → told_by why (told_if b f) ≡ told_if b (told_fault f (why f.code))
+told_once why true f = refl
+told_once why false f = refl
 
 module _ (file : List ℕ) (r : Reference) (v : View) (n : ℕ) (x : Cell) where
-  key_faults_are : (top : Option ℤ) → flat_map (late_faults top) (key_of r v (n, x)) ≡ order_faults_of (not (is_interior v.kind)) top r.page n x.key
-  key_faults_are top = by_key x.key top
+  key_faults_are : (why : FaultCode → Cause) (top : Option CellKey) → why T06 ≡ key_cause top → told_by why (flat_map (late_faults top) (key_of r v (n, x))) ≡ order_told_of (not (is_interior v.kind)) top r.page n x.key
+  key_faults_are why top e = by_key x.key top e
     where
-      by_key : (o : Option ℤ) (top : Option ℤ) → flat_map (late_faults top) (key_of r v (n, record x { key = o })) ≡ order_faults_of (not (is_interior v.kind)) top r.page n o
-      by_key None top = refl
-      by_key (Some value) None = refl
-      by_key (Some value) (Some m) = append-nil (late_faults (Some m) (cell_key r v n value)) ∙ ap (λ late. told_if late (fault T06 r.page n value)) (sym (by_rowid (not (is_interior v.kind))))
+      by_key : (o : Option ℤ) (top : Option CellKey) → why T06 ≡ key_cause top → told_by why (flat_map (late_faults top) (key_of r v (n, record x { key = o }))) ≡ order_told_of (not (is_interior v.kind)) top r.page n o
+      by_key None top e = refl
+      by_key (Some value) None e = refl
+      by_key (Some value) (Some m) e = ap (told_by why) (append-nil (late_faults (Some m) (cell_key r v n value))) ∙ told_once why _ _
+          ∙ ap (λ late. told_if late (told_fault (fault T06 r.page n value) (why T06))) (sym (by_rowid (not (is_interior v.kind))))
+          ∙ ap (λ c. told_if (is_late (not (is_interior v.kind)) (Some m.value) value) (told_fault (fault T06 r.page n value) c)) e
         where
-          by_rowid : (b : Bool) → cond b (int_le value m) (int_lt value m) ≡ cond b (not (int_lt m value)) (int_lt value m)
-          by_rowid true = le_is value m
+          by_rowid : (b : Bool) → cond b (int_le value m.value) (int_lt value m.value) ≡ cond b (not (int_lt m.value value)) (int_lt value m.value)
+          by_rowid true = le_is value m.value
           by_rowid false = refl
 
-  greatest_is : (top : Option ℤ) → greatest_after top (key_of r v (n, x)) ≡ top_after top x.key
+  greatest_is : (top : Option CellKey) → greatest_after top (key_of r v (n, x)) ≡ top_after top r.page n x.key
   greatest_is top = by_key x.key top
     where
-      by_key : (o : Option ℤ) (top : Option ℤ) → greatest_after top (key_of r v (n, record x { key = o })) ≡ top_after top o
+      by_key : (o : Option ℤ) (top : Option CellKey) → greatest_after top (key_of r v (n, record x { key = o })) ≡ top_after top r.page n o
       by_key None top = refl
-      by_key (Some value) None = refl
-      by_key (Some value) (Some m) = refl
+      by_key (Some value) top = refl
 
   -- what the cell hands out, where these are its rows of the schema: they go to the taker, and then their faults and that of the key are told
   pub cell_items : (U : List Reference) (p : Progress) (rows : List SchemaCell) → rows_of file U r v (n, x) ≡ rows
-      → items_at file U p (at_key r v (n, x)) ≡ row_items p.roots rows ++ map found (findings (order_faults_of (not (is_interior v.kind)) p.greatest r.page n x.key))
+      → items_at file U p (at_key r v (n, x)) ≡ row_items p.roots rows ++ map found (order_told_of (not (is_interior v.kind)) p.greatest r.page n x.key)
   cell_items U p rows are =
       let L = flat_map (row_faults_if (nat_le last_root_start p.roots)) rows in
-      let K = order_faults_of (not (is_interior v.kind)) p.greatest r.page n x.key in
-      ap (λ l. map given (readable l) ++ map found (map told_fault (flat_map (row_faults_if (nat_le last_root_start p.roots)) l ++ flat_map (late_faults p.greatest) (key_of r v (n, x))))) are
-      ∙ ap (λ l. map given (readable rows) ++ map found (map told_fault (L ++ l))) (key_faults_are p.greatest)
-      ∙ ap (λ l. map given (readable rows) ++ map found l) (map-append told_fault L K)
-      ∙ ap (λ l. map given (readable rows) ++ l) (map-append found (map told_fault L) (map told_fault K))
-      ∙ sym (append_assoc (map given (readable rows)) (map found (map told_fault L)) (map found (map told_fault K)))
+      let K = flat_map (late_faults p.greatest) (key_of r v (n, x)) in
+      let told = order_told_of (not (is_interior v.kind)) p.greatest r.page n x.key in
+      let why : FaultCode → Cause = cause_by file U p (at_key r v (n, x)) in
+      ap (λ l. map given (readable l) ++ map found (told_by why (flat_map (row_faults_if (nat_le last_root_start p.roots)) l ++ K))) are
+      ∙ ap (λ l. map given (readable rows) ++ map found l) (told_by-append why L K)
+      ∙ ap (λ l. map given (readable rows) ++ map found (l ++ told_by why K)) (rows_alone why (row_of_progress file U p r v (n, x)) (nat_le last_root_start p.roots) rows)
+      ∙ ap (λ l. map given (readable rows) ++ map found (findings L ++ l)) (key_faults_are why p.greatest refl)
+      ∙ ap (λ l. map given (readable rows) ++ l) (map-append found (findings L) told)
+      ∙ sym (append_assoc (map given (readable rows)) (map found (findings L)) (map found told))
 
   -- the greatest key behind it
-  pub greatest_behind : (now : Walk) → (advance file now (at_key r v (n, x))).state.greatest ≡ top_after now.state.greatest x.key
+  pub greatest_behind : (now : Walk) → (advance file now (at_key r v (n, x))).state.greatest ≡ top_after now.state.greatest r.page n x.key
   greatest_behind now = greatest_is now.state.greatest
 
 -- cells of interior pages, and of trees that are not the schema's, are of no row
@@ -106,7 +119,7 @@ pub no_row_elsewhere : (file : List ℕ) (U : List Reference) (r : Reference) (v
 no_row_elsewhere file U r v x other = rw other refl
 
 -- the same walk with another greatest key
-abbrev pub with_greatest : Walk → Option ℤ → Walk
+abbrev pub with_greatest : Walk → Option CellKey → Walk
 with_greatest now top = record { visits = now.visits; state = record { greatest = top; leaf = now.state.leaf; roots = now.state.roots }; items = now.items }
 
 module _ (file : List ℕ) (r : Reference) (kind : TreeKind) (v : View) (leaf : is_interior v.kind ≡ false) (other : (start_of r.address == schema_start) ≡ false) where
@@ -118,36 +131,36 @@ module _ (file : List ℕ) (r : Reference) (kind : TreeKind) (v : View) (leaf : 
       by_cell i (Err f) h = absurd h
 
   -- a key that is greater than the last one is told nothing of, and is the greatest
-  rises : (top : Option ℤ) (i : ℕ) (x : Cell) → IsAbove top x.key → (flat_map (late_faults top) (key_of r v (i, x)) ≡ []) × (greatest_after top (key_of r v (i, x)) ≡ option_or x.key top)
+  rises : (top : Option CellKey) (i : ℕ) (x : Cell) → IsAbove (value_of top) x.key → (flat_map (late_faults top) (key_of r v (i, x)) ≡ []) × (greatest_after top (key_of r v (i, x)) ≡ option_or (placed r.page i x.key) top)
   rises top i x h = by_key x.key top h
     where
-      by_key : (o top : Option ℤ) → IsAbove top o → (flat_map (late_faults top) (key_of r v (i, record x { key = o })) ≡ []) × (greatest_after top (key_of r v (i, record x { key = o })) ≡ option_or o top)
+      by_key : (o : Option ℤ) (top : Option CellKey) → IsAbove (value_of top) o → (flat_map (late_faults top) (key_of r v (i, record x { key = o })) ≡ []) × (greatest_after top (key_of r v (i, record x { key = o })) ≡ option_or (placed r.page i o) top)
       by_key None top h = (refl, refl)
       by_key (Some value) None h = (refl, refl)
       by_key (Some value) (Some m) h =
-          let l : m <ℤ value = h m value refl refl in
-          let e : int_lt m value ≡ true = grind (arith, ints) in (rw (leaf, e) refl, rw e refl)
+          let l : m.value <ℤ value = h m.value value refl refl in
+          let e : int_lt m.value value ≡ true = grind (arith, ints) in (rw (leaf, e) refl, rw e refl)
 
   -- one cell
-  one : (now : Walk) (i : ℕ) → i < count v → (w : IsAllLocal v i) → IsAbove now.state.greatest (key_at v i) → run_below file now (cell_errands r kind v i) ≡ with_greatest now (option_or (key_at v i) now.state.greatest)
+  one : (now : Walk) (i : ℕ) → i < count v → (w : IsAllLocal v i) → IsAbove (value_of now.state.greatest) (key_at v i) → run_below file now (cell_errands r kind v i) ≡ with_greatest now (option_or (placed r.page i (key_at v i)) now.state.greatest)
   one now i l w h =
       let x = w.whole in
       let at : key_at v i ≡ x.key = ap (λ o. option_and_then (λ c. c.key) (result_ok o)) w.readable in
-      let rise = rises now.state.greatest i x (subst (IsAbove now.state.greatest) at h) in
+      let rise = rises now.state.greatest i x (subst (IsAbove (value_of now.state.greatest)) at h) in
       let alone : cell_errands r kind v i ≡ tell_cell r v i x ∷ [] = ap (λ o. option_map_or (errands_in r kind v i) (result_ok o) []) w.readable ∙ no_links x w.here ((is_of_kind v (i, x) (cells_in v i x l w.readable)).leaf leaf) in
       let none : rows_of file (now.visits ++ []) r v (i, x) ≡ [] = rw other refl in
       ap (run_below file now) alone ∙ (has_steps file).event now _ [] refl ∙ (has_steps file).none (advance file now (at_key r v (i, x)))
-      ∙ walk_is (append-nil now.visits) (rise.1 ∙ ap (λ o. option_or o now.state.greatest) (sym at)) none rise.0
+      ∙ walk_is (append-nil now.visits) (rise.1 ∙ ap (λ o. option_or (placed r.page i o) now.state.greatest) (sym at)) none rise.0
     where
       no_links : (x : Cell) → x.overflow ≡ None → x.left ≡ None → errands_in r kind v i x ≡ tell_cell r v i x ∷ []
       no_links x e f = rw (e, f) refl
 
-      walk_is : now.visits ++ [] ≡ now.visits → greatest_after now.state.greatest (key_of r v (i, w.whole)) ≡ option_or (key_at v i) now.state.greatest → rows_of file (now.visits ++ []) r v (i, w.whole) ≡ []
-          → flat_map (late_faults now.state.greatest) (key_of r v (i, w.whole)) ≡ [] → advance file now (at_key r v (i, w.whole)) ≡ with_greatest now (option_or (key_at v i) now.state.greatest)
+      walk_is : now.visits ++ [] ≡ now.visits → greatest_after now.state.greatest (key_of r v (i, w.whole)) ≡ option_or (placed r.page i (key_at v i)) now.state.greatest → rows_of file (now.visits ++ []) r v (i, w.whole) ≡ []
+          → flat_map (late_faults now.state.greatest) (key_of r v (i, w.whole)) ≡ [] → advance file now (at_key r v (i, w.whole)) ≡ with_greatest now (option_or (placed r.page i (key_at v i)) now.state.greatest)
       walk_is a b c d = let z : now.state.roots + 0 ≡ now.state.roots = omega arith in rw (b, c, d, a, append-nil now.items, z) refl
 
   -- and so many
-  pub passed : (n from : ℕ) (now : Walk) (after : Option ℤ) → from + n ≤ count v → AreRisingFrom v from n now.state.greatest after
+  pub passed : (n from : ℕ) (now : Walk) (after : Option CellKey) → from + n ≤ count v → AreRisingFrom r.page v from n now.state.greatest after
       → run_below file now (flat_map (cell_errands r kind v) (range_with_len from n)) ≡ with_greatest now after
   passed zero from now after l h = (has_steps file).none now ∙ ap (with_greatest now) (sym h)
   passed (suc n) from now after l h =
@@ -169,7 +182,7 @@ other_start a k e l = apart (start_of a) (omega arith)
 
 module _ {P : Type 0} (moves : P → Item → P → Type 0) (stops : RunError → P → Item → P → Type 0) (file : List ℕ) (now : Walk) (c : Reference) (kind : TreeKind) (v : View) where
   -- its cells hand out nothing, and the last key is the greatest
-  pub leaf_passed : (start_of c.address == schema_start) ≡ false → tree_kind (role_of c) ≡ Some kind → tree_view file c ≡ Some v → is_interior v.kind ≡ false → (after : Option ℤ) → AreRisingFrom v 0 (count v) now.state.greatest after
+  pub leaf_passed : (start_of c.address == schema_start) ≡ false → tree_kind (role_of c) ≡ Some kind → tree_view file c ≡ Some v → is_interior v.kind ≡ false → (after : Option CellKey) → AreRisingFrom c.page v 0 (count v) now.state.greatest after
       → (marks : List Mark) (tree : Tree) (w : P) → IsAt file (with_greatest now after) marks tree → HasDone {A = Unit {0}} moves stops file (done_below file now (errands_of (story_of file) c)) (Ok tt) (marks, tree) w w
   leaf_passed other role viewed leaf after rising marks tree w at =
       let low : 0 + count v ≤ count v = omega arith in

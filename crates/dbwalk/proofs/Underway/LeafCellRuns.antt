@@ -21,15 +21,16 @@ use Rattle.dbformat.specs.declared.TreeKind.{TreeKind}
 use Rattle.dbbytes.specs.declared.sieve.RowSieve.{RowSieve}
 use Rattle.dbsource.specs.declared.error.RunError.{RunError}
 use Rattle.dbtrace.specs.Finding.{Finding, told_below, visited_below}
+use Rattle.dbtrace.specs.declared.CellKey.{CellKey}
 use Rattle.dbtrace.specs.Item.{Item, found}
 use Rattle.dbtrace.specs.Progress.{rows_of}
 use Rattle.dbtrace.specs.Walk.{Walk, bare, advance}
 use Rattle.dbtrace.proofs.Asides.{are_aside}
 use Rattle.dbtrace.proofs.Stepping.{has_steps}
 use Rattle.dbwalk.specs.Done.{IsDone}
-use Rattle.dbwalk.specs.LeafCells.{overflow_errands, late_faults, top_after, AreBefore}
+use Rattle.dbwalk.specs.LeafCells.{overflow_errands, late_told, top_after, AreBefore}
 use Rattle.dbmarks.specs.Marking.{AreMarksOf}
-use Rattle.dbwalk.specs.Telling.{IsReadOrWrite, findings}
+use Rattle.dbwalk.specs.Telling.{IsReadOrWrite}
 use Rattle.dbwalk.specs.Taking.{HasRoom, place_of, TellsRow, HasFed, HoldsCell, FeedsPayload}
 use Rattle.dbwalk.specs.Underway.{IsAt, done_below}
 use Rattle.dbwalk.specs.Watching.{watches, fails, StopsAt, Handed}
@@ -39,7 +40,7 @@ use Rattle.dbwalk.specs.declared.state.Tree.{Tree}
 use Rattle.dbwalk.specs.declared.taker.Taken.{Taken}
 use Rattle.dbwalk.proofs.Leaves.LeafErrands.{own_errands, read_overflow, errands_split, quiet_overflow}
 use Rattle.dbwalk.proofs.Telling.Belows.{told_none}
-use Rattle.dbwalk.proofs.Underway.CellSteps.{row_items, order_faults_of, cell_items, greatest_behind, no_row_elsewhere}
+use Rattle.dbwalk.proofs.Underway.CellSteps.{row_items, order_told_of, cell_items, greatest_behind, no_row_elsewhere}
 use Rattle.dbwalk.proofs.Underway.Handing.{HasEnded, bare_visits, done_then, done_stops, found_handed, no_memory, only_found, handed_after, stop_first}
 use Rattle.dbwalk.proofs.RootTakings.{row_handed}
 
@@ -64,7 +65,7 @@ module _ (file : List ℕ) (from : Walk) (c : Reference) (kind : TreeKind) (v : 
   rows = rows_behind file m.visits c v i (result_ok (cell v i))
 
   abbrev key_items : List Item
-  key_items = map found (findings (late_faults from.state.greatest c.page i key))
+  key_items = map found (late_told from.state.greatest c.page i key)
 
   -- the chain leaves the progress, and gives no row
   chained : (m.state ≡ from.state) × (m.items ≡ map found (told_below file from.visits chain))
@@ -82,11 +83,11 @@ module _ (file : List ℕ) (from : Walk) (c : Reference) (kind : TreeKind) (v : 
   -- and then the row and the key
   record IsBehind (o : Option Cell) (w : Walk) : Type 0 where
     visits : w.visits ≡ m.visits
-    greatest_is : w.state.greatest ≡ top_after from.state.greatest key
+    greatest_is : w.state.greatest ≡ top_after from.state.greatest c.page i key
     leaf_is : w.state.leaf ≡ from.state.leaf
     items : w.items ≡ row_items from.state.roots (rows_behind file m.visits c v i o) ++ key_items
 
-  same_faults : (top o : Option ℤ) → order_faults_of true top c.page i o ≡ late_faults top c.page i o
+  same_faults : (top : Option CellKey) (o : Option ℤ) → order_told_of true top c.page i o ≡ late_told top c.page i o
   same_faults top None = refl
   same_faults top (Some value) = refl
 
@@ -96,21 +97,21 @@ module _ (file : List ℕ) (from : Walk) (c : Reference) (kind : TreeKind) (v : 
       by_cell : (o : Option Cell) → key ≡ option_and_then (λ c. c.key) o → IsBehind o (done_below file m (own_errands c v i o))
       by_cell None e = subst (IsBehind None) (sym ((has_steps file).none (bare m))) (record {
         visits = refl;
-        greatest_is = ap (λ p. p.greatest) chained.0 ∙ sym (ap (top_after from.state.greatest) e);
+        greatest_is = ap (λ p. p.greatest) chained.0 ∙ sym (ap (top_after from.state.greatest c.page i) e);
         leaf_is = ap (λ p. p.leaf) chained.0;
-        items = sym (ap (λ k. map found (findings (late_faults from.state.greatest c.page i k))) e);
+        items = sym (ap (λ k. map found (late_told from.state.greatest c.page i k)) e);
       })
       by_cell (Some x) e =
           let U = m.visits ++ [] in
           let here : rows_of file U c v (i, x) ≡ rows_of file m.visits c v (i, x) = ap (λ U. rows_of file U c v (i, x)) (append-nil m.visits) in
           subst (IsBehind (Some x)) (sym ((has_steps file).event (bare m) _ [] refl ∙ (has_steps file).none (advance file (bare m) (at_key c v (i, x))))) (record {
             visits = append-nil m.visits;
-            greatest_is = greatest_behind file c v i x (bare m) ∙ ap (λ p. top_after p.greatest x.key) chained.0 ∙ ap (top_after from.state.greatest) (sym e);
+            greatest_is = greatest_behind file c v i x (bare m) ∙ ap (λ p. top_after p.greatest c.page i x.key) chained.0 ∙ ap (top_after from.state.greatest c.page i) (sym e);
             leaf_is = ap (λ p. p.leaf) chained.0;
             items = cell_items file c v i x U m.state (rows_of file m.visits c v (i, x)) here
-                ∙ ap (λ p. row_items p.roots (rows_of file m.visits c v (i, x)) ++ map found (findings (order_faults_of (not (is_interior v.kind)) p.greatest c.page i x.key))) chained.0
-                ∙ ap (λ b. row_items from.state.roots (rows_of file m.visits c v (i, x)) ++ map found (findings (order_faults_of (not b) from.state.greatest c.page i x.key))) leaf
-                ∙ ap (λ fs. row_items from.state.roots (rows_of file m.visits c v (i, x)) ++ map found (findings fs)) (same_faults from.state.greatest x.key ∙ ap (late_faults from.state.greatest c.page i) (sym e));
+                ∙ ap (λ p. row_items p.roots (rows_of file m.visits c v (i, x)) ++ map found (order_told_of (not (is_interior v.kind)) p.greatest c.page i x.key)) chained.0
+                ∙ ap (λ b. row_items from.state.roots (rows_of file m.visits c v (i, x)) ++ map found (order_told_of (not b) from.state.greatest c.page i x.key)) leaf
+                ∙ ap (λ fs. row_items from.state.roots (rows_of file m.visits c v (i, x)) ++ map found fs) (same_faults from.state.greatest x.key ∙ ap (late_told from.state.greatest c.page i) (sym e));
           })
 
   split : cell_errands c kind v i ≡ chain ++ own
@@ -145,15 +146,15 @@ module _ (file : List ℕ) (from : Walk) (c : Reference) (kind : TreeKind) (v : 
     -- it was, and then row and key were handed out, or not
     pub own_done : (r : Result (Unit {0}) RunError) (marks : List Mark) (old new : Tree) (s s' : S) (t : T) (x : S × T) → old.greatest ≡ from.state.greatest → old.leaf ≡ from.state.leaf → IsDone {A = Unit {0}} takes drops file from.visits chain (Ok tt) marks s s'
         → Handed (watches takes keeps) (fails drops refuses) r (s', t) (row_items from.state.roots rows ++ key_items) x
-        → OnOk r ((new.greatest ≡ top_after old.greatest key) × (new.leaf ≡ old.leaf)) → Whole r (marks, new) (s, t) x
+        → OnOk r ((new.greatest ≡ top_after old.greatest c.page i key) × (new.leaf ≡ old.leaf)) → Whole r (marks, new) (s, t) x
     own_done r marks old new s s' t x top depth done handed tree_is = subst (λ es. HasEnded (watches takes keeps) (fails drops refuses) file (done_below file from es) r (marks, new) (s, t) x) (sym split)
         (done_then (watches takes keeps) (fails drops refuses) file from tt r chain own (marks, old) (marks, new) (s, t) (s', t) x (quiet_overflow c i overflow) (chain_done (Ok tt) marks old s s' t tt top depth done) (record {
           at = by_ok r tree_is;
           handed = subst (λ l. Handed (watches takes keeps) (fails drops refuses) r (s', t) l x) (sym behind.items) handed;
         }))
       where
-        by_ok : (r : Result (Unit {0}) RunError) → OnOk r ((new.greatest ≡ top_after old.greatest key) × (new.leaf ≡ old.leaf)) → OnOk r (IsAt file (done_below file m own) marks new)
-        by_ok (Ok a) h = (subst (λ U. AreMarksOf file U marks) (sym (behind.visits ∙ visited)) done.marked, h.0 ∙ ap (λ top. top_after top key) top ∙ sym behind.greatest_is, h.1 ∙ depth ∙ sym behind.leaf_is)
+        by_ok : (r : Result (Unit {0}) RunError) → OnOk r ((new.greatest ≡ top_after old.greatest c.page i key) × (new.leaf ≡ old.leaf)) → OnOk r (IsAt file (done_below file m own) marks new)
+        by_ok (Ok a) h = (subst (λ U. AreMarksOf file U marks) (sym (behind.visits ∙ visited)) done.marked, h.0 ∙ ap (λ top. top_after top c.page i key) top ∙ sym behind.greatest_is, h.1 ∙ depth ∙ sym behind.leaf_is)
         by_ok (Err e) h = tt
 
     -- the row: by the sieve that took the payload
@@ -216,5 +217,5 @@ module _ (file : List ℕ) (from : Walk) (c : Reference) (kind : TreeKind) (v : 
     -- the key's fault was told, or not told whole
     pub key_done : (r : Result (Unit {0}) RunError) (marks : List Mark) (old new : Tree) (s s' s'' : S) (t t' : T) (x : S × T) → old.greatest ≡ from.state.greatest → old.leaf ≡ from.state.leaf → IsDone {A = Unit {0}} takes drops file from.visits chain (Ok tt) marks s s'
         → Moves (watches takes keeps) (s', t) (row_items from.state.roots rows) (s'', t') → Handed (watches takes keeps) (fails drops refuses) r (s'', t') key_items x
-        → OnOk r ((new.greatest ≡ top_after old.greatest key) × (new.leaf ≡ old.leaf)) → Whole r (marks, new) (s, t) x
+        → OnOk r ((new.greatest ≡ top_after old.greatest c.page i key) × (new.leaf ≡ old.leaf)) → Whole r (marks, new) (s, t) x
     key_done r marks old new s s' s'' t t' x top depth done moved handed tree_is = own_done r marks old new s s' t x top depth done (handed_after (watches takes keeps) (fails drops refuses) r (s', t) (s'', t') x (row_items from.state.roots rows) key_items moved handed) tree_is

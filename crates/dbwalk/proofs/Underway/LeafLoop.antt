@@ -1,5 +1,5 @@
 -- The loop over the cells of a leaf: it passes over some cells at once, and a call does one.
-use Rattle.std.proofs.Common.{◌≡◌, ℕ, ℤ, zero, suc, ◌+◌, ◌-◌, ◌<◌, ◌≤◌, false, inl, inr, List, [], ◌∷◌, ◌++◌, Option, Some, None, Result, Ok, Err, refl, sym, ap, subst, arith, ◌∙◌, append_assoc}
+use Rattle.std.proofs.Common.{◌≡◌, ℕ, zero, suc, ◌+◌, ◌-◌, ◌<◌, ◌≤◌, false, inl, inr, List, [], ◌∷◌, ◌++◌, Option, Some, None, Result, Ok, Err, refl, sym, ap, subst, arith, ◌∙◌, append_assoc}
 use Rattle.std.specs.Prelude.{flat_map, option_and_then, ◌==◌}
 use Rattle.std.specs.List.{range_with_len}
 use Rattle.std.specs.Result.{result_ok}
@@ -19,6 +19,7 @@ use Rattle.dbformat.specs.declared.TreeKind.{TreeKind}
 use Rattle.dbformat.proofs.Looping.{all_quiet, one_cell_more, range-parts}
 use Rattle.dbsource.specs.declared.error.RunError.{RunError}
 use Rattle.dbtrace.specs.Finding.{Finding, visited_below}
+use Rattle.dbtrace.specs.declared.CellKey.{CellKey}
 use Rattle.dbtrace.specs.Item.{Item}
 use Rattle.dbtrace.specs.Walk.{Walk, bare}
 use Rattle.dbtrace.proofs.Stepping.{has_steps}
@@ -48,7 +49,7 @@ leaf_as file kind kind' k k' children children' levels levels' p c a b d e at =
     subst (λ kind. IsLeafAt file kind k' children' c levels' p) (sym a) (subst (λ k. IsLeafAt file kind k children' c levels' p) (sym b) (subst (λ children. IsLeafAt file kind k children c levels' p) (sym d) (subst (λ levels. IsLeafAt file kind k children c levels p) (sym e) at)))
 
 -- what is passed over, by the same bytes
-pub passed_same : (usable' usable : ℕ) (kind' kind : TreeKind) (levels' levels : List (List ℕ)) (level' level page from end : ℕ) (greatest after : Option ℤ) → usable' ≡ usable → kind' ≡ kind → levels' ≡ levels → level' ≡ level
+pub passed_same : (usable' usable : ℕ) (kind' kind : TreeKind) (levels' levels : List (List ℕ)) (level' level page from end : ℕ) (greatest after : Option CellKey) → usable' ≡ usable → kind' ≡ kind → levels' ≡ levels → level' ≡ level
     → ArePassedAt usable' kind' levels' level' page from end greatest after → ArePassedAt usable kind levels level page from end greatest after
 passed_same usable' usable kind' kind levels' levels level' level page from end greatest after a b c d passed =
     subst (λ u. ArePassedAt u kind levels level page from end greatest after) a (subst (λ k. ArePassedAt usable' k levels level page from end greatest after) b
@@ -87,7 +88,7 @@ module _ (file : List ℕ) (from : Walk) (c : Reference) (kind : TreeKind) (v : 
       subst (λ V. AreBefore V (then_step c.address (overflow_step (i + 1)))) (sym more) (chain_before i (D i).visits o before)
 
   -- cells that are passed over
-  pub pass_is : (start_of c.address == schema_start) ≡ false → (i n : ℕ) → i + n ≤ count v → (after : Option ℤ) → AreRisingFrom v i n (D i).state.greatest after → D (i + n) ≡ with_greatest (D i) after
+  pub pass_is : (start_of c.address == schema_start) ≡ false → (i n : ℕ) → i + n ≤ count v → (after : Option CellKey) → AreRisingFrom c.page v i n (D i).state.greatest after → D (i + n) ≡ with_greatest (D i) after
   pass_is other i n l after rising = ap (done_below file from) (cells_after c kind v i n)
       ∙ (has_steps file).join (bare from) (errands_before c kind v i) (flat_map (cell_errands c kind v) (range_with_len i n)) (quiet_before i) ∙ passed file c kind v leaf other n i (D i) after l rising
 
@@ -140,17 +141,17 @@ module _ (file : List ℕ) (from : Walk) (c : Reference) (kind : TreeKind) (v : 
       on_stop e i mid now x y l on k = cells_stop e (i + 1) now now y (omega arith) (cells_more (Err e) i mid now x y on.0 k)
 
       -- cells that are passed over
-      pub on_pass : (i end : ℕ) (marks : List Mark) (old new : Tree) (x : S × T) → i ≤ end → end ≤ count v → (i < end → (start_of c.address == schema_start) ≡ false) → AreRisingFrom v i (end - i) old.greatest new.greatest → new.leaf ≡ old.leaf
+      pub on_pass : (i end : ℕ) (marks : List Mark) (old new : Tree) (x : S × T) → i ≤ end → end ≤ count v → (i < end → (start_of c.address == schema_start) ≡ false) → AreRisingFrom c.page v i (end - i) old.greatest new.greatest → new.leaf ≡ old.leaf
           → OnCells i (marks, old) x → OnCells end (marks, new) x
       on_pass i end marks old new x ahead within other rising deep on = by_gap (end - i) refl rising
         where
           same : (j : ℕ) → j ≡ i → new.greatest ≡ old.greatest → OnCells j (marks, new) x
           same j e g = subst (λ j. OnCells j (marks, new) x) (sym e) (record { at = (on.0.at.0, g ∙ on.0.at.1, deep ∙ on.0.at.2); handed = on.0.handed }, on.1, on.2, on.3)
 
-          moved : (start_of c.address == schema_start) ≡ false → AreRisingFrom v i (end - i) old.greatest new.greatest → OnCells end (marks, new) x
+          moved : (start_of c.address == schema_start) ≡ false → AreRisingFrom c.page v i (end - i) old.greatest new.greatest → OnCells end (marks, new) x
           moved f rising =
               let n : i + (end - i) ≡ end = omega arith in
-              let all : D end ≡ with_greatest (D i) new.greatest = ap D (sym n) ∙ pass_is f i (end - i) (omega arith) new.greatest (subst (λ top. AreRisingFrom v i (end - i) top new.greatest) on.0.at.1 rising) in (
+              let all : D end ≡ with_greatest (D i) new.greatest = ap D (sym n) ∙ pass_is f i (end - i) (omega arith) new.greatest (subst (λ top. AreRisingFrom c.page v i (end - i) top new.greatest) on.0.at.1 rising) in (
                 subst (λ m. HasEnded (watches takes keeps) stops file m (Ok tt) (marks, new) w x) (sym all) (record { at = (on.0.at.0, refl, deep ∙ on.0.at.2); handed = on.0.handed }),
                 subst (λ m. AreBefore m.visits (then_step c.address (overflow_step end))) (sym all) (λ u j. by_end (overflow_step i) (overflow_step end) (omega arith) u (on.1 u j)),
                 λ e. subst (λ m. HasRoom keeps held m.state.roots x.1) (sym all) (on.2 e),
@@ -163,8 +164,8 @@ module _ (file : List ℕ) (from : Walk) (c : Reference) (kind : TreeKind) (v : 
                 | inr k ↦ (elim k [ inl m ↦ IsBefore-trans u.address (then_step c.address s) (then_step c.address t) h (before_next c.address s t [] m) | inr m ↦ absurd (omega arith) ])
               ]
 
-          by_gap : (n : ℕ) → end - i ≡ n → AreRisingFrom v i (end - i) old.greatest new.greatest → OnCells end (marks, new) x
-          by_gap zero e rising = same end (omega arith) (subst (λ n. AreRisingFrom v i n old.greatest new.greatest) e rising)
+          by_gap : (n : ℕ) → end - i ≡ n → AreRisingFrom c.page v i (end - i) old.greatest new.greatest → OnCells end (marks, new) x
+          by_gap zero e rising = same end (omega arith) (subst (λ n. AreRisingFrom c.page v i n old.greatest new.greatest) e rising)
           by_gap (suc n) e rising = moved (other (omega arith)) rising
 
       pub on_end : (now : List Mark × Tree) (x : S × T) (i : ℕ) → i ≡ count v → OnCells i now x → HasEnded (watches takes keeps) stops file (D (count v)) (Ok tt) now w x

@@ -21,7 +21,7 @@ use Rattle.dbwalk.specs.Entered.{IsNext}
 use Rattle.dbwalk.specs.LeafCells.{top_after}
 use Rattle.dbmarks.specs.Marking.{AreMarksOf}
 use Rattle.dbwalk.specs.Walking.{errands_from, child_at, top_visit, left_over, IsOpenFrame, AreOpenFrames, AreRead}
-use Rattle.dbwalk.specs.Telling.{findings, IsReadOrWrite}
+use Rattle.dbwalk.specs.Telling.{IsReadOrWrite}
 use Rattle.dbwalk.specs.Underway.{IsUnderway, HasDone, IsInterior, done_below, entered, IsAt, IsWalkingOn, tree_walk}
 use Rattle.dbwalk.specs.Watching.{StopsAt, watches, fails, Handed}
 use Rattle.dbwalk.specs.declared.steps.Frame.{Frame}
@@ -29,7 +29,7 @@ use Rattle.dbmarks.specs.declared.marks.Mark.{Mark}
 use Rattle.dbwalk.specs.declared.state.Tree.{Tree}
 use Rattle.dbwalk.proofs.Trees.Stacking.{left-push, top-push, from_first}
 use Rattle.dbwalk.proofs.Trees.Frames.{read_front, read_push, read_kept, calls_front, calls_on, calls_push}
-use Rattle.dbwalk.proofs.Underway.CellSteps.{order_faults_of, cell_items, no_row_inside, greatest_behind}
+use Rattle.dbwalk.proofs.Underway.CellSteps.{order_told_of, cell_items, no_row_inside, greatest_behind}
 use Rattle.dbwalk.proofs.Underway.Underways.{items_of, under_event, under_visit, under_call, stop_event, stop_call}
 use Rattle.dbformat.specs.SchemaRow.{SchemaRow}
 use Rattle.dbtrace.specs.Finding.{Finding, told_below, visited_below}
@@ -141,22 +141,22 @@ module _ {P : Type 0} {moves : P → Item → P → Type 0} {file : List ℕ} {W
       event = at_key top frames.1.view (n, cell)
 
       abbrev told : List Item
-      told = map found (findings (order_faults_of false tree.greatest top.page n cell.key))
+      told = map found (order_told_of false tree.greatest top.page n cell.key)
 
       items_are : items_of file on.now event ≡ told
       items_are =
           let v = frames.1.view in
           let U = (advance file on.now event).visits in
           cell_items file top v n cell U on.now.state [] (no_row_inside file U top v (n, cell) frames.1.interior)
-          ∙ ap (λ b. map found (findings (order_faults_of (not b) on.now.state.greatest top.page n cell.key))) frames.1.interior
-          ∙ ap (λ top_key. map found (findings (order_faults_of false top_key top.page n cell.key))) (sym on.under.at.1)
+          ∙ ap (λ b. map found (order_told_of (not b) on.now.state.greatest top.page n cell.key)) frames.1.interior
+          ∙ ap (λ top_key. map found (order_told_of false top_key top.page n cell.key)) (sym on.under.at.1)
 
-      pub on_cell : (tree' : Tree) → tree'.kind ≡ tree.kind → tree'.greatest ≡ top_after tree.greatest cell.key → tree'.leaf ≡ tree.leaf → Moves moves w told x
+      pub on_cell : (tree' : Tree) → tree'.kind ≡ tree.kind → tree'.greatest ≡ top_after tree.greatest top.page n cell.key → tree'.leaf ≡ tree.leaf → Moves moves w told x
           → IsWalkingOn moves file W c before (on_frames, levels) (marks, tree') x
       on_cell tree' kinds tops leafs m = turn (advance file on.now event) marks tree' x kinds
           (under_event moves file (tree_walk file W c) before on.now (marks, tree) (marks, tree') w x (record { key = _; event = event }) rest (first_errands (tell_cell top frames.1.view n cell ∷ []) e) refl (
             subst (λ U. AreMarksOf file U marks) (sym (append-nil on.now.visits)) on.under.at.0,
-            tops ∙ ap (λ top_key. top_after top_key cell.key) on.under.at.1 ∙ sym (greatest_behind file top frames.1.view n cell on.now),
+            tops ∙ ap (λ top_key. top_after top_key top.page n cell.key) on.under.at.1 ∙ sym (greatest_behind file top frames.1.view n cell on.now),
             leafs ∙ on.under.at.2,
           )
           (subst (λ l. Moves moves w l x) (sym items_are) m))

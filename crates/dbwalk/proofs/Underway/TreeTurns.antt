@@ -17,10 +17,9 @@ use Rattle.dbtrace.specs.Item.{Item, found}
 use Rattle.dbtrace.specs.Walk.{Walk}
 use Rattle.dbwalk.specs.Chains.{IsChainOf}
 use Rattle.dbwalk.specs.Entered.{IsNext}
-use Rattle.dbwalk.specs.LeafCells.{order_faults, top_after, greater_key}
+use Rattle.dbwalk.specs.LeafCells.{order_told, top_after}
 use Rattle.dbwalk.specs.Walking.{errands_from, child_at, top_visit, IsCandidate, IsLeafAt, path_of}
 use Rattle.dbwalk.specs.Steps.{IsChainAt, IsChildAt, IsKeyAt, IsEmptyAt, no_chain, no_child, unreadable, without_key, IsNextStep, HasNext}
-use Rattle.dbwalk.specs.Telling.{findings}
 use Rattle.dbwalk.specs.Underway.{IsAt, HasDone, IsEntered, done_below, entered, IsWalkingOn, HasTurned, tree_walk}
 use Rattle.dbwalk.specs.Watching.{StopsAt}
 use Rattle.dbwalk.specs.declared.chain.Chain.{Chain}
@@ -36,7 +35,7 @@ use Rattle.dbwalk.proofs.Pages.PageVisits.{kind_is}
 use Rattle.dbwalk.proofs.Trees.Frames.{path_length, read_last, step_within}
 use Rattle.dbwalk.proofs.Trees.Stacking.{top_kind, step_no_chain, step_no_child, step_key, step_no_key, step_chain, step_child, step_end}
 use Rattle.dbwalk.proofs.Trees.TreeWays.{IsOnWay, child_candidate, top_candidate}
-use Rattle.dbwalk.proofs.Underway.CellSteps.{order_faults_of}
+use Rattle.dbwalk.proofs.Underway.CellSteps.{order_told_of}
 use Rattle.dbwalk.proofs.Underway.TreeSteps as steps
 use Rattle.dbwalk.proofs.Underway.TreeSteps.{by_other}
 
@@ -103,8 +102,8 @@ module _ {P : Type 0} {moves : P → Item → P → Type 0} {file : List ℕ} {W
             (subst (λ s. errands_from file top s ≡ errands_from file top (suc s)) (sym step) (step_no_key file top tree.kind v role viewed n b bad))
         by_case (without_key n x step l read none) = steps.on_cell fs f on g page next within n x w
             (subst (λ s. errands_from file top s ≡ tell_cell top v n x ∷ errands_from file top (suc s)) (sym step) (step_key file top tree.kind v role viewed n x l read))
-            tree refl (ap (λ o. top_after tree.greatest o) (sym none)) refl
-            (subst (λ o. Moves moves w (map found (findings (order_faults_of false tree.greatest top.page n o))) w) (sym none) refl)
+            tree refl (ap (λ o. top_after tree.greatest top.page n o) (sym none)) refl
+            (subst (λ o. Moves moves w (map found (order_told_of false tree.greatest top.page n o)) w) (sym none) refl)
 
     -- a key
     module _ (value : ℤ) (h : IsKeyAt v f.next value) (x : P) where
@@ -117,23 +116,26 @@ module _ {P : Type 0} {moves : P → Item → P → Type 0} {file : List ℕ} {W
       key_errand : errands_from file top f.next ≡ tell_cell top v h.n h.x ∷ errands_from file top (suc f.next)
       key_errand = subst (λ s. errands_from file top s ≡ tell_cell top v h.n h.x ∷ errands_from file top (suc s)) (sym h.step) (step_key file top tree.kind v role viewed h.n h.x h.low h.read)
 
-      told_key : order_faults false tree.greatest f.page (f.next / 3) value ≡ order_faults_of false tree.greatest top.page h.n h.x.key
-      told_key = ap (λ p. order_faults false tree.greatest p (f.next / 3) value) on_page ∙ ap (λ i. order_faults false tree.greatest top.page i value) (ap (λ s. s / 3) h.step ∙ item h.n)
-          ∙ ap (order_faults_of false tree.greatest top.page h.n) (sym h.key)
+      at_cell : f.next / 3 ≡ h.n
+      at_cell = ap (λ s. s / 3) h.step ∙ item h.n
         where
           item : (n : ℕ) → (3 * n + 2) / 3 ≡ n
           item n = omega arith
 
-      pub turned_key : (tree' : Tree) → tree'.kind ≡ tree.kind → tree'.greatest ≡ greater_key tree.greatest value → tree'.leaf ≡ tree.leaf → Moves moves w (map found (findings (order_faults false tree.greatest f.page (f.next / 3) value))) x
+      told_key : order_told false tree.greatest f.page (f.next / 3) value ≡ order_told_of false tree.greatest top.page h.n h.x.key
+      told_key = ap (λ p. order_told false tree.greatest p (f.next / 3) value) on_page ∙ ap (λ i. order_told false tree.greatest top.page i value) at_cell
+          ∙ ap (order_told_of false tree.greatest top.page h.n) (sym h.key)
+
+      pub turned_key : (tree' : Tree) → tree'.kind ≡ tree.kind → tree'.greatest ≡ top_after tree.greatest f.page (f.next / 3) (Some value) → tree'.leaf ≡ tree.leaf → Moves moves w (map found (order_told false tree.greatest f.page (f.next / 3) value)) x
           → IsWalkingOn moves file W c before (fs ++ (g ∷ []), levels) (marks, tree') x
-      turned_key tree' kinds tops leafs m = steps.on_cell fs f on g page next within_key h.n h.x x key_errand tree' kinds (tops ∙ ap (top_after tree.greatest) (sym h.key)) leafs
-          (subst (λ l. Moves moves w (map found (findings l)) x) told_key m)
+      turned_key tree' kinds tops leafs m = steps.on_cell fs f on g page next within_key h.n h.x x key_errand tree' kinds (tops ∙ ap (λ p. top_after tree.greatest p (f.next / 3) (Some value)) on_page ∙ ap (λ i. top_after tree.greatest top.page i (Some value)) at_cell ∙ ap (top_after tree.greatest top.page h.n) (sym h.key)) leafs
+          (subst (λ l. Moves moves w (map found l) x) told_key m)
 
       -- its fault could not be told
-      pub stopped_key : (stops : RunError → P → Item → P → Type 0) (e : RunError) → StopsAt moves stops e w (map found (findings (order_faults false tree.greatest f.page (f.next / 3) value))) x
+      pub stopped_key : (stops : RunError → P → Item → P → Type 0) (e : RunError) → StopsAt moves stops e w (map found (order_told false tree.greatest f.page (f.next / 3) value)) x
           → StopsAt moves stops e before (tree_walk file W c).items x
       stopped_key stops e k = steps.cell_stopped fs f on g page next within_key h.n h.x x key_errand stops e
-          (subst (λ l. StopsAt moves stops e w (map found (findings l)) x) told_key k)
+          (subst (λ l. StopsAt moves stops e w (map found l) x) told_key k)
 
     -- an overflow chain
     module _ (first left : ℕ) (h : IsChainAt v f.next first left) where

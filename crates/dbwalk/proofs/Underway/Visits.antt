@@ -1,10 +1,13 @@
 -- A reference that is looked at: refused, or visited, where what its page leads to is done next.
-use Rattle.std.proofs.Common.{ℕ, ◌<◌, inl, inr, List, [], ◌∷◌, ◌++◌, refl, sym, subst, ◌≡◌, Bool, true, false, map, Option, Result, Ok, Err, ap, ◌∙◌}
+use Rattle.std.proofs.Common.{ℕ, ◌<◌, inl, inr, List, [], ◌∷◌, ◌++◌, refl, sym, subst, ◌≡◌, Bool, true, false, map, Option, Some, Result, Ok, Err, ap, ◌∙◌}
 use Rattle.dbsurvey.specs.Address.{Address, IsBefore}
 use Rattle.dbsurvey.proofs.Order.{IsIn-cases, IsBefore-trans, IsBefore-beginning}
-use Rattle.dbformat.specs.Reference.{Reference}
+use Rattle.dbformat.specs.Laws.{event_row}
+use Rattle.dbformat.specs.Reference.{Reference, role_of, tree_kind}
+use Rattle.dbformat.specs.declared.TreeKind.{TreeKind}
+use Rattle.dbtrace.specs.declared.TreeLeaf.{TreeLeaf}
 use Rattle.dbwalk.specs.LeafCells.{AreBefore}
-use Rattle.std.specs.Prelude.{OnOk}
+use Rattle.std.specs.Prelude.{OnOk, option_to_list}
 use Rattle.std.proofs.lemmas.List.{append-nil}
 use Rattle.dbsurvey.specs.Moves.{Moves, Stops}
 use Rattle.dbsurvey.specs.Story.{Go, errands_of}
@@ -16,7 +19,7 @@ use Rattle.dbformat.specs.Story.{at_page, at_refused, story_of}
 use Rattle.dbformat.specs.Survey.{rules_of}
 use Rattle.dbsource.specs.declared.error.RunError.{RunError}
 use Rattle.dbsource.specs.declared.error.RunError.TheVariants.{ReadFailed, WriteFailed, OutOfMemory}
-use Rattle.dbtrace.specs.Finding.{Finding, told_at}
+use Rattle.dbtrace.specs.Finding.{Finding, told_at, told_row}
 use Rattle.dbtrace.specs.Item.{Item, found}
 use Rattle.dbtrace.specs.Progress.{leaf_after}
 use Rattle.dbtrace.specs.Walk.{Walk, bare, advance, run_below}
@@ -30,6 +33,7 @@ use Rattle.dbwalk.specs.Watching.{watches, fails, StopsAt, Handed}
 use Rattle.dbmarks.specs.declared.marks.Mark.{Mark}
 use Rattle.dbwalk.specs.declared.state.Tree.{Tree}
 use Rattle.dbwalk.specs.declared.taker.Taken.{Taken}
+use Rattle.dbwalk.proofs.Pages.PageTellings.{page_causes}
 use Rattle.dbwalk.proofs.Underway.Handing.{done_none, done_on, stops_on, found_moves, found_stops, found_handed}
 
 -- Places between the steps of a page.
@@ -126,14 +130,20 @@ pub visited_before : (file : List ℕ) (from : Walk) (c : Reference) → IsNext 
 visited_before file from c next = before_more from.visits c (then_step c.address 0) (IsBefore-beginning c.address 0 []) (λ u i. next u (Go c) i (inl refl))
 
 -- a page that was visited, by the depth of the first leaf that a program keeps
-module _ (file : List ℕ) (from : Walk) (c : Reference) {leaf : Option ℕ} (leaf_is : leaf ≡ from.state.leaf) where
+module _ (file : List ℕ) (from : Walk) (c : Reference) {leaf : Option TreeLeaf} (leaf_is : leaf ≡ from.state.leaf) where
   -- its findings are its items
-  pub page_moves : {S T : Type 0} (takes drops : S → Finding → S → Type 0) (keeps : T → SchemaRow → Taken → T → Type 0) (refuses : T → SchemaRow → T → Type 0) (s s' : S) (t : T) → Moves takes s (page_findings file leaf c) s' → Moves (watches takes keeps) (s, t) (visited file from c).items (s', t)
-  page_moves takes drops keeps refuses s s' t h = found_moves takes drops keeps refuses (page_findings file from.state.leaf c) s s' t (subst (λ l. Moves takes s (page_findings file l c) s') leaf_is h)
+  page_items : {kind : TreeKind} → tree_kind (role_of c) ≡ Some kind → (visited file from c).items ≡ map found (page_findings file leaf c)
+  page_items role =
+      let U = from.visits ++ c ∷ [] in
+      ap (λ L. map found (map told_row (option_to_list (event_row file (at_page c))) ++ L)) (page_causes file U from.state c role)
+      ∙ ap (λ l. map found (page_findings file l c)) (sym leaf_is)
 
-  pub page_stops : {S T : Type 0} (takes drops : S → Finding → S → Type 0) (keeps : T → SchemaRow → Taken → T → Type 0) (refuses : T → SchemaRow → T → Type 0) (s s' : S) (t : T) → Stops takes drops s (page_findings file leaf c) s'
+  pub page_moves : {kind : TreeKind} → tree_kind (role_of c) ≡ Some kind → {S T : Type 0} (takes drops : S → Finding → S → Type 0) (keeps : T → SchemaRow → Taken → T → Type 0) (refuses : T → SchemaRow → T → Type 0) (s s' : S) (t : T) → Moves takes s (page_findings file leaf c) s' → Moves (watches takes keeps) (s, t) (visited file from c).items (s', t)
+  page_moves role takes drops keeps refuses s s' t h = subst (λ items. Moves (watches takes keeps) (s, t) items (s', t)) (sym (page_items role)) (found_moves takes drops keeps refuses (page_findings file leaf c) s s' t h)
+
+  pub page_stops : {kind : TreeKind} → tree_kind (role_of c) ≡ Some kind → {S T : Type 0} (takes drops : S → Finding → S → Type 0) (keeps : T → SchemaRow → Taken → T → Type 0) (refuses : T → SchemaRow → T → Type 0) (s s' : S) (t : T) → Stops takes drops s (page_findings file leaf c) s'
       → Stops (watches takes keeps) (fails drops refuses WriteFailed) (s, t) (visited file from c).items (s', t)
-  page_stops takes drops keeps refuses s s' t h = found_stops takes drops keeps refuses (page_findings file from.state.leaf c) s s' t (subst (λ l. Stops takes drops s (page_findings file l c) s') leaf_is h)
+  page_stops role takes drops keeps refuses s s' t h = subst (λ items. Stops (watches takes keeps) (fails drops refuses WriteFailed) (s, t) items (s', t)) (sym (page_items role)) (found_stops takes drops keeps refuses (page_findings file leaf c) s s' t h)
 
   -- and this is where the walk stands behind it
   pub visited_at : {marks : List Mark} (tree : Tree) → AreMarksOf file (from.visits ++ (c ∷ [])) marks → tree.greatest ≡ from.state.greatest → tree.leaf ≡ leaf_after file leaf c → IsAt file (visited file from c) marks tree

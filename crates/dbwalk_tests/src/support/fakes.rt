@@ -4,7 +4,7 @@ ghost use Rattle.std.specs.Prelude.{◌≡◌};
 use crate::support::Text;
 use dbbytes::SchemaRow;
 use dbsource::{Failures, WriteFailed};
-use dbwalk::{Fault, Row, Sink, Taken, Taker};
+use dbwalk::{Cause, Fault, Row, Sink, Taken, Taker};
 use std::alloc::AllocError;
 use std::fmt;
 use std::fmt::Write;
@@ -47,7 +47,7 @@ impl Sink for Told {
 
     ghost held = { λ s. record { lent = []; failures = s.failures ∷ [] } };
 
-    fn fault(&mut self, fault: &Fault) -> Result<(), WriteFailed> {
+    fn fault(&mut self, fault: &Fault, _cause: &Cause) -> Result<(), WriteFailed> {
         let takes = self.is_to_take();
         let Fault {
             code,
@@ -81,10 +81,11 @@ fn write_row(text: &mut Text, row: &Row<'_>) -> fmt::Result {
     if let Some((cell, number)) = row.chain {
         let _ = write!(text, "{cell}+{number}");
     }
+    let counts = &row.counts;
     writeln!(
         text,
         " {} {:?} {} {} {} {}",
-        row.page, row.pagetype, row.ncell, row.payload, row.unused, row.mx_payload
+        row.page, row.pagetype, counts.ncell, counts.payload, counts.unused, counts.mx_payload
     )
 }
 

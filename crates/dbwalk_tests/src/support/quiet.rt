@@ -1,7 +1,7 @@
 // A sink and a taker of which nothing is claimed, as the documentation of these traits gives them to copy.
 use dbbytes::SchemaRow;
 use dbsource::WriteFailed;
-use dbwalk::{Fault, Row, Sink, Taken, Taker};
+use dbwalk::{Cause, Fault, Row, Sink, Taken, Taker};
 use std::alloc::AllocError;
 
 /// Counts what it is told and what it takes.
@@ -21,7 +21,7 @@ impl Sink for Quiet {
 
     ghost held = { λ _. record { lent = []; failures = [] } };
 
-    fn fault(&mut self, _fault: &Fault) -> Result<(), WriteFailed> {
+    fn fault(&mut self, _fault: &Fault, _cause: &Cause) -> Result<(), WriteFailed> {
         self.faults = self.faults.saturating_add(1);
         Ok(())
     }

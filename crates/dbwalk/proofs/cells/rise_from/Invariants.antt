@@ -5,5 +5,5 @@ use Rattle.dbwalk.proofs.cells.rise_from.Given as goal
 abbrev pub invariant-loop-i : goal.invariant-loop-i
 invariant-loop-i l = record {
   ahead : l.from ≤ l.i;
-  rising : AreRisingFrom l.view l.from (l.i - l.from) l.fn.greatest l.greatest;
+  rising : AreRisingFrom l.page l.view l.from (l.i - l.from) l.fn.greatest l.greatest;
 }

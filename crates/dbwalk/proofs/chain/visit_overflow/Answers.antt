@@ -1,4 +1,4 @@
-use Rattle.std.proofs.Common.{ℕ, Ok, Err, sym, ap, subst, ◌∙◌}
+use Rattle.std.proofs.Common.{ℕ, ◌+◌, Ok, Err, sym, ap, subst, ◌∙◌}
 use Rattle.std.proofs.lemmas.Result.{err_from_is_err_and}
 use Rattle.dbsurvey.specs.Moves.{Moves}
 use Rattle.dbformat.specs.File.{page_bytes}
@@ -10,6 +10,9 @@ use Rattle.dbwalk.specs.Chains.{IsOverflowVisited, Feeds}
 use Rattle.dbwalk.proofs.Chaining.Feedings.{held_is}
 use Rattle.dbtrace.specs.Finding.{told_at}
 use Rattle.dbwalk.specs.Telling.{Tells}
+use Rattle.dbtrace.specs.Causes.{pages_for}
+use Rattle.dbtrace.specs.declared.Cause.TheVariants as cause
+use Rattle.dbwalk.proofs.Chaining.Heads.{head_cause}
 use Rattle.dbwalk.proofs.Chaining.Overflows.{page_read, told_is, moves_none}
 use Rattle.dbmarks.proofs.Readings.{log_load}
 use Rattle.dbwalk.proofs.chain.visit_overflow.Goals as goal
@@ -21,7 +24,7 @@ returns-in_err-load-clause-log g c =
     has_weaker _ _ (log_load c.args.bench.now.geometry.page_size c.args.page read.bytes (Err c.in_err-load.field-0.0) c.load.ensures.told read.size read.holds) (λ log l. l)
     (λ file h e. subst (λ r. IsOverflowVisited g.K.Sink.takes g.K.Sink.drops file c.args.chain.now c.args.number c.args.page c.args.left r c.args.sieve.now c.args.sieve.now c.args.sink.now c.args.sink.now) (sym (q.1 ∙ ap Err q.2)) (record {
       next = tt;
-      told = λ U d p l on. moves_none g.K.Sink.takes c.args.sink.now (told_at file U (at_page d));
+      told = λ U d p l on head. moves_none g.K.Sink.takes c.args.sink.now (told_at file U (at_page d));
       fed = tt;
     }))
 
@@ -37,9 +40,11 @@ returns-in_err-tell-clause-log g c =
     let q = err_from_is_err_and c.from_residual-in_err-tell.result c.from_residual-in_err-tell.ensures.1 in
     subst (λ r. IsOverflowVisited g.K.Sink.takes g.K.Sink.drops file c.args.chain.now c.args.number c.args.page c.args.left r c.args.sieve.now c.feed_page.new.sieve c.args.sink.now c.tell.new.sink) (sym (q.1 ∙ ap Err q.2)) (record {
       next = tt;
-      told = λ U d p l on. subst (λ L. Tells {A = ℕ} g.K.Sink.takes g.K.Sink.drops (Err c.in_err-tell.field-0.0) c.args.sink.now L c.tell.new.sink)
+      told = λ U d p l on head. subst (λ L. Tells {A = ℕ} g.K.Sink.takes g.K.Sink.drops (Err c.in_err-tell.field-0.0) c.args.sink.now L c.tell.new.sink)
           (told_is file U d c.args.chain.now c.args.number c.args.page c.geometry-usable.result.usable c.args.left c.next_page-next.result c.overflow_row-row.result c.last_fault.result
-          u n p l on r.start r.path r.chain r.page.0 r.page.1 r.page.2 r.page.3 r.payload r.unused c.last_fault.ensures)
+          u n p l on r.start r.path r.chain r.page.0 r.page.1 r.counts c.last_fault.ensures c.chain_cause-cause.result
+          (c.chain_cause-cause.ensures ∙ ap (λ x. cause.Chain (record { page = c.args.chain.now.page; item = c.args.chain.now.cell; pages = c.args.number + pages_for x c.args.left; found = c.args.number + 1 })) u
+          ∙ sym (head_cause file U c.args.chain.now c.args.number c.args.left 1 d l on head)))
           c.in_err-tell.ensures.told;
       fed = tt;
     }))
@@ -55,9 +60,11 @@ returns-clause-log g c =
     let r = c.overflow_row-row.ensures in
     record {
       next = n;
-      told = λ U d p l on. subst (λ L. Moves g.K.Sink.takes c.args.sink.now L c.tell.new.sink)
+      told = λ U d p l on head. subst (λ L. Moves g.K.Sink.takes c.args.sink.now L c.tell.new.sink)
           (told_is file U d c.args.chain.now c.args.number c.args.page c.geometry-usable.result.usable c.args.left c.next_page-next.result c.overflow_row-row.result c.last_fault.result
-          u n p l on r.start r.path r.chain r.page.0 r.page.1 r.page.2 r.page.3 r.payload r.unused c.last_fault.ensures)
+          u n p l on r.start r.path r.chain r.page.0 r.page.1 r.counts c.last_fault.ensures c.chain_cause-cause.result
+          (c.chain_cause-cause.ensures ∙ ap (λ x. cause.Chain (record { page = c.args.chain.now.page; item = c.args.chain.now.cell; pages = c.args.number + pages_for x c.args.left; found = c.args.number + 1 })) u
+          ∙ sym (head_cause file U c.args.chain.now c.args.number c.args.left 1 d l on head)))
           c.in_ok-tell.ensures.told;
       fed = λ d p l.
           let b = c.page-2.ensures.bytes ∙ ap (λ b. b.chain) read.only ∙ k ∙ ap (page_bytes file) (sym p) in

@@ -10,7 +10,7 @@ use Rattle.dbformat.specs.Reference.{next_trunk, leaf_count, most_leaves}
 use Rattle.dbformat.specs.declared.FaultCode.TheVariants.{L01}
 use Rattle.std.specs.Prelude.{pos}
 use Rattle.dbsource.specs.declared.error.RunError.TheVariants.{WriteFailed}
-use Rattle.dbtrace.specs.Finding.{told_fault}
+use Rattle.dbtrace.specs.Finding.{told_alone}
 use Rattle.dbwalk.specs.Done.{IsLeft}
 use Rattle.dbwalk.specs.Trunks.{Opens}
 use Rattle.dbwalk.proofs.FreeTrunks.{opened_fitting, opened_crowded, opened_untold}
@@ -49,7 +49,7 @@ returns-in_ok-fault-clause-opened g c = λ file W d before U e old p r b u f m h
     let w = c.new-fault.ensures ∙ ap (λ p. fault L01 p 0 (pos c.u32_at-count.result)) (sym p) ∙ ap (λ n. fault L01 e.page 0 (pos n)) n in (
       U ++ e ∷ [],
       opened_crowded g.K.Sink.takes g.K.Sink.drops file W d before U e old c.args.marks.now c.args.sink.now r f m h c.fault.new.self l
-          (c.fault.new.self, subst (λ x. g.K.Sink.takes c.args.sink.now (told_fault x) c.fault.new.self) w c.in_ok-fault.ensures.item, refl),
+          (c.fault.new.self, subst (λ x. g.K.Sink.takes c.args.sink.now (told_alone x) c.fault.new.self) w c.in_ok-fault.ensures.item, refl),
     )
 
 pub returns-in_err-fault-clause-opened : goal.returns-in_err-fault-clause-opened
@@ -61,4 +61,4 @@ returns-in_err-fault-clause-opened g c = λ file W d before U e old p r b u f m 
     let q = err_from_is_err_and c.from_residual-in_err-fault.result c.from_residual-in_err-fault.ensures.1 in
     subst (λ r. Opens g.K.Sink.takes g.K.Sink.drops file W d before e r c.args.marks.now c.fault.new.self) (sym (q.1 ∙ ap Err q.2))
     (opened_untold g.K.Sink.takes g.K.Sink.drops file W d before U e old c.args.marks.now c.args.sink.now r f m h c.fault.new.self WriteFailed l
-    (inl (subst (λ x. g.K.Sink.drops c.args.sink.now (told_fault x) c.fault.new.self) w c.in_err-fault.ensures.item)))
+    (inl (subst (λ x. g.K.Sink.drops c.args.sink.now (told_alone x) c.fault.new.self) w c.in_err-fault.ensures.item)))

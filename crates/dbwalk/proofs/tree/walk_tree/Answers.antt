@@ -20,6 +20,7 @@ use Rattle.dbwalk.specs.Done.{IsTreeDone}
 use Rattle.dbmarks.specs.declared.marks.Mark.{Mark}
 use Rattle.dbmarks.specs.declared.marks.Mark.TheVariants.{Unmarked}
 use Rattle.dbwalk.specs.declared.root.RootKind.TheVariants.{Schema}
+use Rattle.dbwalk.proofs.Telling.Lefts.{tree_refusal}
 use Rattle.dbwalk.proofs.Chaining.Overflows.{page_read}
 use Rattle.dbmarks.proofs.Readings.{log_load, log_none, log_page, log_then}
 use Rattle.dbwalk.proofs.Pages.Levels.{geometry_kept, read_there}
@@ -37,7 +38,7 @@ returns-in_err-enter-clause-asks g c =
           let next = root_next file (kind_in file root) root.start root.page 0 root.start W d at.candidate at.early in
           let one = root_address d.address root.start at.candidate.depth at.candidate.start in
           subst (λ r. IsTreeDone g.K.Sink.takes g.K.Sink.drops g.T.Taker.takes g.T.Taker.refuses file W d r c.enter.new.marks c.args.sink.now c.enter.new.sink c.args.taker.now c.args.taker.now) (sym (q.1 ∙ ap Err q.2))
-          (let n = c.in_err-enter.ensures.entered file W d is next at.marked in
+          (let n = c.in_err-enter.ensures.entered file W d is next at.marked (tree_refusal file W d at.candidate) in
           tree_refused g.K.Sink.takes g.K.Sink.drops g.T.Taker.takes g.T.Taker.refuses file root.start W d one at.early (Err c.in_err-enter.field-0.0) c.enter.new.marks c.args.sink.now c.enter.new.sink c.args.taker.now (inr c.in_err-enter.ensures.after_error.0) n.0 n.1 n.2));
       count = subst (λ r. (g.S.Source.held c.args.source.now).failures ≡ failures_after is_read_failed r (g.S.Source.held c.args.source.now).failures) (sym (q.1 ∙ ap Err (q.2 ∙ c.in_err-enter.ensures.after_error.0))) refl;
     }
@@ -54,7 +55,7 @@ returns-then-not-branch-clause-asks g c = record {
       let is = c.tree_step-step.ensures.step (kind_in file root) root.start [] d refl at.candidate in
       let next = root_next file (kind_in file root) root.start root.page 0 root.start W d at.candidate at.early in
       let one = root_address d.address root.start at.candidate.depth at.candidate.start in
-      let none = subst (λ b. Enters g.K.Sink.takes g.K.Sink.drops file W d (Ok b) c.enter.new.marks c.args.sink.now c.enter.new.sink) c.if-not-branch.true (c.in_ok-enter.ensures.entered file W d is next at.marked) in
+      let none = subst (λ b. Enters g.K.Sink.takes g.K.Sink.drops file W d (Ok b) c.enter.new.marks c.args.sink.now c.enter.new.sink) c.if-not-branch.true (c.in_ok-enter.ensures.entered file W d is next at.marked (tree_refusal file W d at.candidate)) in
       tree_refused g.K.Sink.takes g.K.Sink.drops g.T.Taker.takes g.T.Taker.refuses file root.start W d one at.early (Ok tt) c.enter.new.marks c.args.sink.now c.enter.new.sink c.args.taker.now tt none.0 none.1 none.2);
   count = refl;
 }
@@ -73,7 +74,7 @@ returns-in_err-load-clause-asks g c =
           let is = c.tree_step-step.ensures.step (kind_in file root) root.start [] d refl at.candidate in
           let next = root_next file (kind_in file root) root.start root.page 0 root.start W d at.candidate at.early in
           let one = root_address d.address root.start at.candidate.depth at.candidate.start in
-          let n = subst (λ b. Enters g.K.Sink.takes g.K.Sink.drops file W d (Ok b) c.enter.new.marks c.args.sink.now c.enter.new.sink) c.if-not-branch.false (c.in_ok-enter.ensures.entered file W d is next at.marked) in
+          let n = subst (λ b. Enters g.K.Sink.takes g.K.Sink.drops file W d (Ok b) c.enter.new.marks c.args.sink.now c.enter.new.sink) c.if-not-branch.false (c.in_ok-enter.ensures.entered file W d is next at.marked (tree_refusal file W d at.candidate)) in
           subst (λ r. IsTreeDone g.K.Sink.takes g.K.Sink.drops g.T.Taker.takes g.T.Taker.refuses file W d r c.enter.new.marks c.args.sink.now c.enter.new.sink c.args.taker.now c.args.taker.now) (sym (q.1 ∙ ap Err q.2))
           (subst (λ s. IsTreeDone g.K.Sink.takes g.K.Sink.drops g.T.Taker.takes g.T.Taker.refuses file W d (Err ReadFailed) c.enter.new.marks c.args.sink.now s c.args.taker.now c.args.taker.now) n.2
           (tree_unread g.K.Sink.takes g.K.Sink.drops g.T.Taker.takes g.T.Taker.refuses file root.start W d one at.early c.enter.new.marks c.args.sink.now c.args.taker.now)));
@@ -114,7 +115,7 @@ returns-clause-asks g c =
           let there : StandsAt c.load.new.self.levels 0 (page_bytes file root.page) = read_there c.args.bench.now c.load.new.self 0 low read.bytes read.only (page_bytes file root.page) same in
           let kinds = c.new-tree.ensures.names.1 ∙ c.root_kind.ensures.kind ∙ ap (kind_of root.kind root.page) (there (bytes_at c.load.new.self 0) c.root_kind.ensures.there) in
           let starts = c.new-tree.ensures.names.0 in
-          let n = subst (λ b. Enters g.K.Sink.takes g.K.Sink.drops file W d (Ok b) c.enter.new.marks c.args.sink.now c.enter.new.sink) c.if-not-branch.false (c.in_ok-enter.ensures.entered file W d is next at.marked) in
+          let n = subst (λ b. Enters g.K.Sink.takes g.K.Sink.drops file W d (Ok b) c.enter.new.marks c.args.sink.now c.enter.new.sink) c.if-not-branch.false (c.in_ok-enter.ensures.entered file W d is next at.marked (tree_refusal file W d at.candidate)) in
           subst (λ s. IsTreeDone g.K.Sink.takes g.K.Sink.drops g.T.Taker.takes g.T.Taker.refuses file W d c.walk_pages.result c.walk_pages.new.self.marks.now s c.walk_pages.new.self.sink.now c.args.taker.now c.walk_pages.new.self.taker.now) (sym n.2)
           (tree_done g.K.Sink.takes g.K.Sink.drops g.T.Taker.takes g.T.Taker.refuses file root.start W d one at.early c.walk_pages.result c.walk_pages.new.self.marks.now c.walk_pages.new.self.tree (c.enter.new.sink, c.args.taker.now) (c.walk_pages.new.self.sink.now, c.walk_pages.new.self.taker.now)
           (done (shape ∙ e) coded W d (candidate_as (kind_in file root) t.kind root.start t.start [] [] root.page root.page 0 root.start t.start d kinds starts refl refl starts at.candidate)

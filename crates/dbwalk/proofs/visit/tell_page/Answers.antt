@@ -2,6 +2,7 @@ use Rattle.std.proofs.Common.{rules, ◌+◌, sym, ap, ◌∙◌}
 use Rattle.std.proofs.lemmas.Result.{err_from_is_err_and}
 use Rattle.std.specs.Prelude.{slice_get}
 use Rattle.dbformat.specs.Head.{undamaged}
+use Rattle.dbwalk.specs.Found.{damage_fault}
 use Rattle.dbwalk.specs.declared.visit.PageFound.TheVariants.{Damaged, Interior, Leaf}
 use Rattle.dbwalk.proofs.Pages.PageVisits.{exit_damaged, exit_damaged_stop, exit_stop, exit_interior, exit_leaf, exit_leaf_stop}
 use Rattle.dbwalk.proofs.visit.tell_page.Goals as goal
@@ -27,7 +28,7 @@ returns-in_err-tell_damaged-in-Err-clause-told g c = λ file d from item shape c
     let b = there c.uses-uses.result.0.now (ap (slice_get c.args.bench.now.levels) (sym level) ∙ c.uses-uses.ensures.page) in
     exit_damaged_stop _ _ g.K.Sink.takes g.K.Sink.drops g.K.Sink.held file t.kind t.start t.path.items c.args.page from item d candidate
     c.geometry-usable.result.usable u c.uses-uses.result.0.now b t.leaf c.as_slice.result.now c.as_slice.ensures.value (c.len-level.result + 1) (ap (λ n. n + 1) level) c.args.sink.now
-    c.in-Err.damage c.in-Err.ensures.view c.in-Err.ensures.faults c.tell_damaged.result c.tell_damaged.new.sink c.tell_damaged.ensures
+    (damage_fault c.args.page c.uses-uses.result.0.now c.in-Err.damage) c.in-Err.ensures.view c.in-Err.ensures.faults c.tell_damaged.result c.tell_damaged.new.sink c.tell_damaged.ensures
     _ c.from_residual-in_err-tell_damaged-in-Err.result c.in_err-tell_damaged-in-Err.was q.1
 
 pub returns-in-Err-clause-told : goal.returns-in-Err-clause-told
@@ -38,7 +39,7 @@ returns-in-Err-clause-told g c = λ file d from item shape candidate there.
     let b = there c.uses-uses.result.0.now (ap (slice_get c.args.bench.now.levels) (sym level) ∙ c.uses-uses.ensures.page) in
     exit_damaged _ _ g.K.Sink.takes g.K.Sink.drops g.K.Sink.held file t.kind t.start t.path.items c.args.page from item d candidate
     c.geometry-usable.result.usable u c.uses-uses.result.0.now b t.leaf c.as_slice.result.now c.as_slice.ensures.value (c.len-level.result + 1) (ap (λ n. n + 1) level) c.args.sink.now
-    c.in-Err.damage c.in-Err.ensures.view c.in-Err.ensures.faults c.tell_damaged.result c.tell_damaged.new.sink c.tell_damaged.ensures
+    (damage_fault c.args.page c.uses-uses.result.0.now c.in-Err.damage) c.in-Err.ensures.view c.in-Err.ensures.faults c.tell_damaged.result c.tell_damaged.new.sink c.tell_damaged.ensures
     Damaged c.in_ok-tell_damaged-in-Err.was
 
 pub returns-then-is_interior-clause-told : goal.returns-then-is_interior-clause-told

@@ -11,6 +11,7 @@ use Rattle.dbsource.specs.declared.source.ReadFailed as source_error
 use Rattle.dbsource.proofs.Logs.{has_one}
 use Rattle.dbwalk.specs.Entered.{Enters}
 use Rattle.dbmarks.specs.Marking.{unmarked_pages}
+use Rattle.dbwalk.proofs.Telling.Lefts.{tree_refusal}
 use Rattle.dbwalk.proofs.Chaining.Overflows.{page_read}
 use Rattle.dbmarks.proofs.Readings.{log_none, log_page, log_then, put_count}
 use Rattle.dbwalk.specs.Found.{StandsAt}
@@ -30,7 +31,7 @@ returns-in_err-enter-clause-log g c = log_none c.args.bench.now.geometry.page_si
     let is = c.tree_step-step.ensures.step t.kind t.start t.path.items d (sym c.len-level.ensures.value) candidate in
     let f = c.in_err-enter.ensures.after_error.0 in
     let r : Result (Unit {0}) RunError = Err c.in_err-enter.field-0.0 in
-    let n = c.in_err-enter.ensures.entered file from.visits d is next at.0 in
+    let n = c.in_err-enter.ensures.entered file from.visits d is next at.0 (tree_refusal file from.visits d candidate) in
     entered_err (watches g.K.Sink.takes g.T.Taker.takes) (fails g.K.Sink.drops g.T.Taker.refuses) file from d c.args.bench.now.levels _ c.in_err-enter.field-0.0 (c.enter.new.marks, c.args.self.now.tree) (c.args.self.now.sink.now, c.args.self.now.taker.now) (c.enter.new.sink, c.args.self.now.taker.now) (q.1 ∙ ap Err q.2)
     (done_refused (watches g.K.Sink.takes g.T.Taker.takes) (fails g.K.Sink.drops g.T.Taker.refuses) file from d r (c.enter.new.marks, c.args.self.now.tree) (c.args.self.now.sink.now, c.args.self.now.taker.now) (c.enter.new.sink, c.args.self.now.taker.now) n.0 (n.1, at.1, at.2)
     (refused_handed g.K.Sink.takes g.K.Sink.drops g.T.Taker.takes g.T.Taker.refuses file from d r c.args.self.now.sink.now c.enter.new.sink c.args.self.now.taker.now (λ o. cc) n.2)))
@@ -39,7 +40,7 @@ pub returns-then-not-branch-clause-log : goal.returns-then-not-branch-clause-log
 returns-then-not-branch-clause-log g c = log_none c.args.bench.now.geometry.page_size c.args.self.now.marks.now c.enter.new.marks (g.S.Source.held c.args.self.now.source.now) (c.in_ok-enter.ensures.unmarked c.if-not-branch.true) (λ file e coded from d candidate next at held room.
     let t = c.args.self.now.tree in
     let is = c.tree_step-step.ensures.step t.kind t.start t.path.items d (sym c.len-level.ensures.value) candidate in
-    let n = subst (λ b. Enters g.K.Sink.takes g.K.Sink.drops file from.visits d (Ok b) c.enter.new.marks c.args.self.now.sink.now c.enter.new.sink) c.if-not-branch.true (c.in_ok-enter.ensures.entered file from.visits d is next at.0) in
+    let n = subst (λ b. Enters g.K.Sink.takes g.K.Sink.drops file from.visits d (Ok b) c.enter.new.marks c.args.self.now.sink.now c.enter.new.sink) c.if-not-branch.true (c.in_ok-enter.ensures.entered file from.visits d is next at.0 (tree_refusal file from.visits d candidate)) in
     entered_past (watches g.K.Sink.takes g.T.Taker.takes) (fails g.K.Sink.drops g.T.Taker.refuses) file from d c.args.bench.now.levels false (c.enter.new.marks, c.args.self.now.tree) (c.args.self.now.sink.now, c.args.self.now.taker.now) (c.enter.new.sink, c.args.self.now.taker.now)
     (done_refused (watches g.K.Sink.takes g.T.Taker.takes) (fails g.K.Sink.drops g.T.Taker.refuses) file from d (Ok false) (c.enter.new.marks, c.args.self.now.tree) (c.args.self.now.sink.now, c.args.self.now.taker.now) (c.enter.new.sink, c.args.self.now.taker.now) n.0 (n.1, at.1, at.2)
     (refused_handed g.K.Sink.takes g.K.Sink.drops g.T.Taker.takes g.T.Taker.refuses file from d (Ok false) c.args.self.now.sink.now c.enter.new.sink c.args.self.now.taker.now (λ o. cc) n.2)))
@@ -65,7 +66,7 @@ returns-in_err-load-clause-log g c =
     let t = c.args.self.now.tree in
     let q = err_from_is_err_and c.from_residual-in_err-load.result c.from_residual-in_err-load.ensures.1 in
     let is = c.tree_step-step.ensures.step t.kind t.start t.path.items d (sym c.len-level.ensures.value) candidate in
-    let n = subst (λ b. Enters g.K.Sink.takes g.K.Sink.drops file from.visits d (Ok b) c.enter.new.marks c.args.self.now.sink.now c.enter.new.sink) c.if-not-branch.false (c.in_ok-enter.ensures.entered file from.visits d is next at.0) in
+    let n = subst (λ b. Enters g.K.Sink.takes g.K.Sink.drops file from.visits d (Ok b) c.enter.new.marks c.args.self.now.sink.now c.enter.new.sink) c.if-not-branch.false (c.in_ok-enter.ensures.entered file from.visits d is next at.0 (tree_refusal file from.visits d candidate)) in
     subst (λ s. HasDone (watches g.K.Sink.takes g.T.Taker.takes) (fails g.K.Sink.drops g.T.Taker.refuses) file (entered file from d c.from_residual-in_err-load.result) c.from_residual-in_err-load.result (c.enter.new.marks, c.args.self.now.tree) (c.args.self.now.sink.now, c.args.self.now.taker.now) (s, c.args.self.now.taker.now) × IsEntered file from d c.from_residual-in_err-load.result c.load.new.self.levels) n.2
     (entered_err (watches g.K.Sink.takes g.T.Taker.takes) (fails g.K.Sink.drops g.T.Taker.refuses) file from d c.load.new.self.levels _ ReadFailed (c.enter.new.marks, c.args.self.now.tree) (c.args.self.now.sink.now, c.args.self.now.taker.now) (c.args.self.now.sink.now, c.args.self.now.taker.now) (q.1 ∙ ap Err q.2)
     (unread {A = Unit {0}} (watches g.K.Sink.takes g.T.Taker.takes) (fails g.K.Sink.drops g.T.Taker.refuses) file (done_below file from (Go d ∷ [])) (c.enter.new.marks, c.args.self.now.tree) (c.args.self.now.sink.now, c.args.self.now.taker.now))))
@@ -105,7 +106,7 @@ returns-clause-log g c =
     (λ file h done e coded from d candidate next at held room.
     let t = c.args.self.now.tree in
     let is = c.tree_step-step.ensures.step t.kind t.start t.path.items d (sym c.len-level.ensures.value) candidate in
-    let n = subst (λ b. Enters g.K.Sink.takes g.K.Sink.drops file from.visits d (Ok b) c.enter.new.marks c.args.self.now.sink.now c.enter.new.sink) c.if-not-branch.false (c.in_ok-enter.ensures.entered file from.visits d is next at.0) in
+    let n = subst (λ b. Enters g.K.Sink.takes g.K.Sink.drops file from.visits d (Ok b) c.enter.new.marks c.args.self.now.sink.now c.enter.new.sink) c.if-not-branch.false (c.in_ok-enter.ensures.entered file from.visits d is next at.0 (tree_refusal file from.visits d candidate)) in
     let read = page_read file change.bytes c.args.bench.now.geometry.page_size c.args.page change.size h (sym (ap (λ s. s.page_size) e)) in
     let there = subst (λ l. StandsAt c.load.new.self.levels l (page_bytes file c.args.page)) c.len-level.ensures.value
     (read_there c.args.bench.now c.load.new.self c.len-level.result low change.bytes change.only (page_bytes file c.args.page) read) in

@@ -1,15 +1,14 @@
-use Rattle.std.proofs.Common.{rules, ◌/◌, ◌≤◌, false, Err, refl, ap, subst, arith, ◌∙◌, w64}
+use Rattle.std.proofs.Common.{rules, Some, ◌/◌, ◌≤◌, false, Err, refl, ap, subst, arith, ◌∙◌, w64}
 use Rattle.std.specs.Prelude.{slice_get}
 use Rattle.std.proofs.lemmas.Int.{to_z-of_z}
 use Rattle.dbformat.specs.Payload.{most_payload}
 use Rattle.dbformat.specs.FixedPages.{IsPageNumber}
 use Rattle.dbsurvey.specs.Moves.{Moves, Stops}
-use Rattle.dbwalk.specs.LeafCells.{order_faults, greater_key}
+use Rattle.dbwalk.specs.LeafCells.{order_told, top_after}
 use Rattle.std.proofs.lemmas.Result.{err_from_is_err_and}
 use Rattle.dbsource.specs.Bench.{Pages}
 use Rattle.dbsource.proofs.Logs.{has_weaker}
 use Rattle.dbmarks.proofs.Readings.{log_none}
-use Rattle.dbwalk.specs.Telling.{findings}
 use Rattle.dbsource.specs.declared.error.RunError.TheVariants.{WriteFailed}
 use Rattle.dbwalk.proofs.Trees.Frames.{ends_behind, ends_on, on_ok_all, next_at, at_step, step_on}
 use Rattle.dbwalk.proofs.Leaves.LeafCells.{cell_size}
@@ -74,10 +73,10 @@ returns-in_err-tell_key-in-Key-clause-log g c = log_none c.args.bench.now.geomet
     let here = next_here c.args.frames.now.items c.args.frame walk candidate (ap (λ s. s.usable) e) (next_at c.len.ensures.value c.in-Key.is c.step_of.ensures) in
     let n = c.tell_key.new in
     let q = err_from_is_err_and c.from_residual.result c.from_residual.ensures.1 in
-    let told = subst (λ z. Stops g.K.Sink.takes g.K.Sink.drops c.args.self.now.sink.now (findings (order_faults false c.args.self.now.tree.greatest c.args.frame.page (c.args.frame.next / 3) z)) n.sink) (to_z-of_z w64 c.in-Key.key (search rules)) c.in_err-tell_key-in-Key.ensures.told.items in
+    let told = subst (λ z. Stops g.K.Sink.takes g.K.Sink.drops c.args.self.now.sink.now (order_told false c.args.self.now.tree.greatest c.args.frame.page (c.args.frame.next / 3) z) n.sink) (to_z-of_z w64 c.in-Key.key (search rules)) c.in_err-tell_key-in-Key.ensures.told.items in
     turn_failed _ (λ e. StopsAt _ (fails g.K.Sink.drops g.T.Taker.refuses) e before (tree_walk file W d).items (n.sink, c.args.self.now.taker.now)) c.from_residual.result WriteFailed (q.1 ∙ ap Err q.2)
     (stopped_key c.args.frames.now.items c.args.frame walk candidate c.stepped-in-Key.result c.stepped-in-Key.ensures.page c.stepped-in-Key.ensures.next c.in-Key.key here (n.sink, c.args.self.now.taker.now) (fails g.K.Sink.drops g.T.Taker.refuses) WriteFailed
-    (found_stops g.K.Sink.takes g.K.Sink.drops g.T.Taker.takes g.T.Taker.refuses (findings (order_faults false c.args.self.now.tree.greatest c.args.frame.page (c.args.frame.next / 3) c.in-Key.key)) c.args.self.now.sink.now n.sink c.args.self.now.taker.now told)))
+    (found_stops g.K.Sink.takes g.K.Sink.drops g.T.Taker.takes g.T.Taker.refuses (order_told false c.args.self.now.tree.greatest c.args.frame.page (c.args.frame.next / 3) c.in-Key.key) c.args.self.now.sink.now n.sink c.args.self.now.taker.now told)))
 
 pub returns-in_ok-tell_key-in-Key-clause-open : goal.returns-in_ok-tell_key-in-Key-clause-open
 returns-in_ok-tell_key-in-Key-clause-open g c = step_on c.args.frames.now.items c.args.frame (at_step c.args.frames.now.items c.args.frame c.requires.«open» (next_at c.len.ensures.value c.in-Key.is c.step_of.ensures)) c.stepped-in-Key.result c.stepped-in-Key.ensures.page c.stepped-in-Key.ensures.next (λ x. cc) c.push-in-Key.ensures.items c.args.bench.now.geometry.usable c.tell_key.new.self.kind c.args.bench.now.levels refl c.tell_key.ensures.others.1 (λ n l. refl)
@@ -90,9 +89,9 @@ returns-in_ok-tell_key-in-Key-clause-log g c = log_none c.args.bench.now.geometr
     let here = next_here c.args.frames.now.items c.args.frame walk candidate (ap (λ s. s.usable) e) (next_at c.len.ensures.value c.in-Key.is c.step_of.ensures) in
     let n = c.tell_key.new in
     let same = to_z-of_z w64 c.in-Key.key (search rules) in
-    let told = subst (λ z. Moves g.K.Sink.takes c.args.self.now.sink.now (findings (order_faults false c.args.self.now.tree.greatest c.args.frame.page (c.args.frame.next / 3) z)) n.sink) same c.in_ok-tell_key-in-Key.ensures.told.items in
-    let moved = found_moves g.K.Sink.takes g.K.Sink.drops g.T.Taker.takes g.T.Taker.refuses (findings (order_faults false c.args.self.now.tree.greatest c.args.frame.page (c.args.frame.next / 3) c.in-Key.key)) c.args.self.now.sink.now n.sink c.args.self.now.taker.now told in (
-      by_other (turned_key c.args.frames.now.items c.args.frame walk candidate c.stepped-in-Key.result c.stepped-in-Key.ensures.page c.stepped-in-Key.ensures.next c.in-Key.key here (n.sink, c.args.self.now.taker.now) n.self c.tell_key.ensures.others.1 (c.tell_key.ensures.greatest ∙ ap (greater_key c.args.self.now.tree.greatest) same) c.tell_key.ensures.others.2 moved)
+    let told = subst (λ z. Moves g.K.Sink.takes c.args.self.now.sink.now (order_told false c.args.self.now.tree.greatest c.args.frame.page (c.args.frame.next / 3) z) n.sink) same c.in_ok-tell_key-in-Key.ensures.told.items in
+    let moved = found_moves g.K.Sink.takes g.K.Sink.drops g.T.Taker.takes g.T.Taker.refuses (order_told false c.args.self.now.tree.greatest c.args.frame.page (c.args.frame.next / 3) c.in-Key.key) c.args.self.now.sink.now n.sink c.args.self.now.taker.now told in (
+      by_other (turned_key c.args.frames.now.items c.args.frame walk candidate c.stepped-in-Key.result c.stepped-in-Key.ensures.page c.stepped-in-Key.ensures.next c.in-Key.key here (n.sink, c.args.self.now.taker.now) n.self c.tell_key.ensures.others.1 (c.tell_key.ensures.greatest ∙ ap (λ z. top_after c.args.self.now.tree.greatest c.args.frame.page (c.args.frame.next / 3) (Some z)) same) c.tell_key.ensures.others.2 moved)
           c.push-in-Key.ensures.items refl refl refl (λ n l. refl),
       tt,
     ))

@@ -21,14 +21,14 @@ returns-in_err-tell_page-clause-log g c = log_none c.args.bench.now.geometry.pag
     (λ file e coded from d above item candidate there next followed m top first held room.
     let q = err_from_is_err_and c.from_residual.result c.from_residual.ensures.1 in
     let told = c.in_err-tell_page.ensures.told file d above item e candidate there in
-    entered_err _ _ file from d _ _ WriteFailed _ _ _ (q.1 ∙ ap Err q.2) (visit_stops _ _ file from d followed {A = Unit {0}} WriteFailed _ _ _ (page_stops file from d first g.K.Sink.takes g.K.Sink.drops g.T.Taker.takes g.T.Taker.refuses _ _ c.args.self.now.taker.now told.0.items)))
+    entered_err _ _ file from d _ _ WriteFailed _ _ _ (q.1 ∙ ap Err q.2) (visit_stops _ _ file from d followed {A = Unit {0}} WriteFailed _ _ _ (page_stops file from d first (kind_is file c.args.self.now.tree.kind c.args.self.now.tree.start c.args.self.now.tree.path.items c.args.page above item d candidate) g.K.Sink.takes g.K.Sink.drops g.T.Taker.takes g.T.Taker.refuses _ _ c.args.self.now.taker.now told.0.items)))
 
 pub returns-in-Interior-clause-log : goal.returns-in-Interior-clause-log
 returns-in-Interior-clause-log g c = log_none c.args.bench.now.geometry.page_size c.args.self.now.marks.now c.args.self.now.marks.now (g.S.Source.held c.args.self.now.source.now) refl
     (λ file e coded from d above item candidate there next followed m top first held room.
     let told = c.in_ok-tell_page.ensures.told file d above item e candidate there in
     let found = subst (λ f. IsFound c.tell_page.new.bench.geometry.usable c.tell_page.new.tree.kind c.tell_page.new.bench.levels (length c.args.self.now.tree.path.items) c.args.page f) c.in-Interior.is c.in_ok-tell_page.ensures.open in
-    (record { at = visited_at file from d first c.tell_page.new.tree m (c.tell_page.ensures.tree.2 ∙ top) told.1; handed = page_moves file from d first g.K.Sink.takes g.K.Sink.drops g.T.Taker.takes g.T.Taker.refuses _ _ c.args.self.now.taker.now told.0.items }, λ yes. found_interior file candidate there c.tell_page.ensures.bench.1 c.tell_page.ensures.tree.1 (ap (λ s. s.usable) (c.tell_page.ensures.bench.0 ∙ e)) from followed found))
+    (record { at = visited_at file from d first c.tell_page.new.tree m (c.tell_page.ensures.tree.2 ∙ top) told.1; handed = page_moves file from d first (kind_is file c.args.self.now.tree.kind c.args.self.now.tree.start c.args.self.now.tree.path.items c.args.page above item d candidate) g.K.Sink.takes g.K.Sink.drops g.T.Taker.takes g.T.Taker.refuses _ _ c.args.self.now.taker.now told.0.items }, λ yes. found_interior file candidate there c.tell_page.ensures.bench.1 c.tell_page.ensures.tree.1 (ap (λ s. s.usable) (c.tell_page.ensures.bench.0 ∙ e)) from followed found))
 
 pub returns-in-Damaged-clause-log : goal.returns-in-Damaged-clause-log
 returns-in-Damaged-clause-log g c = log_none c.args.bench.now.geometry.page_size c.args.self.now.marks.now c.args.self.now.marks.now (g.S.Source.held c.args.self.now.source.now) refl
@@ -37,7 +37,7 @@ returns-in-Damaged-clause-log g c = log_none c.args.bench.now.geometry.page_size
     let found = subst (λ f. IsFound c.tell_page.new.bench.geometry.usable c.tell_page.new.tree.kind c.tell_page.new.bench.levels (length c.args.self.now.tree.path.items) c.args.page f) c.in-Damaged.is c.in_ok-tell_page.ensures.open in
     let none = none_at_damage file d c.args.self.now.tree.kind (kind_is file c.args.self.now.tree.kind c.args.self.now.tree.start c.args.self.now.tree.path.items c.args.page above item d candidate) (found_damage file candidate there c.tell_page.ensures.bench.1 c.tell_page.ensures.tree.1 (ap (λ s. s.usable) (c.tell_page.ensures.bench.0 ∙ e)) found) in
     let at = visited_at file from d first c.tell_page.new.tree m (c.tell_page.ensures.tree.2 ∙ top) told.1 in
-    entered_past _ _ file from d _ false _ _ _ (visit_alone _ _ file from d followed false _ _ _ none at (page_moves file from d first g.K.Sink.takes g.K.Sink.drops g.T.Taker.takes g.T.Taker.refuses _ _ c.args.self.now.taker.now told.0.items)))
+    entered_past _ _ file from d _ false _ _ _ (visit_alone _ _ file from d followed false _ _ _ none at (page_moves file from d first (kind_is file c.args.self.now.tree.kind c.args.self.now.tree.start c.args.self.now.tree.path.items c.args.page above item d candidate) g.K.Sink.takes g.K.Sink.drops g.T.Taker.takes g.T.Taker.refuses _ _ c.args.self.now.taker.now told.0.items)))
 
 pub returns-in_err-walk_leaf-in-Leaf-clause-log : goal.returns-in_err-walk_leaf-in-Leaf-clause-log
 returns-in_err-walk_leaf-in-Leaf-clause-log g c = has_weaker _ _ c.in_err-walk_leaf-in-Leaf.ensures.log
@@ -52,7 +52,7 @@ returns-in_err-walk_leaf-in-Leaf-clause-log g c = has_weaker _ _ c.in_err-walk_l
     let done = h (c.tell_page.ensures.bench.0 ∙ e) coded (visited file from d) d found.leaf.view at (found_view file candidate there c.tell_page.ensures.bench.1 c.tell_page.ensures.tree.1 (ap (λ s. s.usable) (c.tell_page.ensures.bench.0 ∙ e)) found.leaf) found.leaf.leaf (visited_before file from d next) here held (λ z. room (sym (same.0 ∙ tree.0) ∙ z)) in
     let q = err_from_is_err_and c.from_residual-in_err-walk_leaf-in-Leaf.result c.from_residual-in_err-walk_leaf-in-Leaf.ensures.1 in
     entered_err _ _ file from d _ _ c.in_err-walk_leaf-in-Leaf.field-0.0 _ _ _ (q.1 ∙ ap Err q.2)
-    (visit_then _ _ file from d followed (Err c.in_err-walk_leaf-in-Leaf.field-0.0) _ _ (c.tell_page.new.sink, c.args.self.now.taker.now) _ (page_moves file from d first g.K.Sink.takes g.K.Sink.drops g.T.Taker.takes g.T.Taker.refuses _ _ c.args.self.now.taker.now told.0.items) done))
+    (visit_then _ _ file from d followed (Err c.in_err-walk_leaf-in-Leaf.field-0.0) _ _ (c.tell_page.new.sink, c.args.self.now.taker.now) _ (page_moves file from d first (kind_is file c.args.self.now.tree.kind c.args.self.now.tree.start c.args.self.now.tree.path.items c.args.page above item d candidate) g.K.Sink.takes g.K.Sink.drops g.T.Taker.takes g.T.Taker.refuses _ _ c.args.self.now.taker.now told.0.items) done))
 
 pub returns-in_ok-walk_leaf-in-Leaf-clause-log : goal.returns-in_ok-walk_leaf-in-Leaf-clause-log
 returns-in_ok-walk_leaf-in-Leaf-clause-log g c = has_weaker _ _ c.in_ok-walk_leaf-in-Leaf.ensures.log
@@ -66,7 +66,7 @@ returns-in_ok-walk_leaf-in-Leaf-clause-log g c = has_weaker _ _ c.in_ok-walk_lea
     let here = visited_at file from d first c.pass_over.new.self m (c.pass_over.ensures.kept c.if-pass_over.false ∙ tree.2 ∙ top) (same.2 ∙ told.1) in
     let done = h (c.tell_page.ensures.bench.0 ∙ e) coded (visited file from d) d found.leaf.view at (found_view file candidate there c.tell_page.ensures.bench.1 c.tell_page.ensures.tree.1 (ap (λ s. s.usable) (c.tell_page.ensures.bench.0 ∙ e)) found.leaf) found.leaf.leaf (visited_before file from d next) here held (λ z. room (sym (same.0 ∙ tree.0) ∙ z)) in
     entered_past _ _ file from d _ c.in_ok-walk_leaf-in-Leaf.field-0 _ _ _
-    (visit_then _ _ file from d followed (Ok c.in_ok-walk_leaf-in-Leaf.field-0) _ _ (c.tell_page.new.sink, c.args.self.now.taker.now) _ (page_moves file from d first g.K.Sink.takes g.K.Sink.drops g.T.Taker.takes g.T.Taker.refuses _ _ c.args.self.now.taker.now told.0.items) done))
+    (visit_then _ _ file from d followed (Ok c.in_ok-walk_leaf-in-Leaf.field-0) _ _ (c.tell_page.new.sink, c.args.self.now.taker.now) _ (page_moves file from d first (kind_is file c.args.self.now.tree.kind c.args.self.now.tree.start c.args.self.now.tree.path.items c.args.page above item d candidate) g.K.Sink.takes g.K.Sink.drops g.T.Taker.takes g.T.Taker.refuses _ _ c.args.self.now.taker.now told.0.items) done))
 
 pub returns-then-pass_over-clause-log : goal.returns-then-pass_over-clause-log
 returns-then-pass_over-clause-log g c = log_none c.args.bench.now.geometry.page_size c.args.self.now.marks.now c.args.self.now.marks.now (g.S.Source.held c.args.self.now.source.now) refl
@@ -75,13 +75,13 @@ returns-then-pass_over-clause-log g c = log_none c.args.bench.now.geometry.page_
     let after = c.pass_over.new.self in
     let told = c.in_ok-tell_page.ensures.told file d above item e candidate there in
     let found = subst (λ f. IsFound c.tell_page.new.bench.geometry.usable c.tell_page.new.tree.kind c.tell_page.new.bench.levels (length c.args.self.now.tree.path.items) c.args.page f) c.in-Leaf.is c.in_ok-tell_page.ensures.open in
-    let keys = with_span c.in-Leaf.keys (λ span. ArePassed n.start n.greatest span after.greatest) (λ span. HasSpan found.leaf.view span) (c.pass_over.ensures.passed c.if-pass_over.true) found.span in
-    let rising = subst (λ a. AreRisingFrom found.leaf.view 0 (count found.leaf.view) n.greatest a) (sym keys.1.after_is) (rising_all found.leaf.view keys.0 keys.2 n.greatest keys.1.above) in
+    let keys = with_span c.in-Leaf.keys (λ span. ArePassed c.args.page n.start n.greatest span after.greatest) (λ span. HasSpan found.leaf.view span) (c.pass_over.ensures.passed c.if-pass_over.true) found.span in
+    let rising = subst (λ a. AreRisingFrom c.args.page found.leaf.view 0 (count found.leaf.view) n.greatest a) (sym keys.1.after_is) (rising_all c.args.page found.leaf.view keys.0 keys.2 n.greatest keys.1.above) in
     let here = visited_at file from d first c.tell_page.new.tree m (c.tell_page.ensures.tree.2 ∙ top) told.1 in
     let other = other_start d.address n.start (candidate.start ∙ sym c.tell_page.ensures.tree.0) keys.1.other in
     let done = leaf_passed _ _ file (visited file from d) d c.args.self.now.tree.kind found.leaf.view other (kind_is file c.args.self.now.tree.kind c.args.self.now.tree.start c.args.self.now.tree.path.items c.args.page above item d candidate) (found_view file candidate there c.tell_page.ensures.bench.1 c.tell_page.ensures.tree.1 (ap (λ s. s.usable) (c.tell_page.ensures.bench.0 ∙ e)) found.leaf) found.leaf.leaf after.greatest
-    (subst (λ a. AreRisingFrom found.leaf.view 0 (count found.leaf.view) a after.greatest) here.1 rising) c.args.self.now.marks.now after (c.tell_page.new.sink, c.args.self.now.taker.now) (m, refl, c.pass_over.ensures.others.2 ∙ here.2) in
-    entered_past _ _ file from d _ tt _ _ _ (visit_then _ _ file from d followed (Ok tt) _ _ (c.tell_page.new.sink, c.args.self.now.taker.now) _ (page_moves file from d first g.K.Sink.takes g.K.Sink.drops g.T.Taker.takes g.T.Taker.refuses _ _ c.args.self.now.taker.now told.0.items) done))
+    (subst (λ q. AreRisingFrom q found.leaf.view 0 (count found.leaf.view) (visited file from d).state.greatest after.greatest) (sym candidate.page) (subst (λ a. AreRisingFrom c.args.page found.leaf.view 0 (count found.leaf.view) a after.greatest) here.1 rising)) c.args.self.now.marks.now after (c.tell_page.new.sink, c.args.self.now.taker.now) (m, refl, c.pass_over.ensures.others.2 ∙ here.2) in
+    entered_past _ _ file from d _ tt _ _ _ (visit_then _ _ file from d followed (Ok tt) _ _ (c.tell_page.new.sink, c.args.self.now.taker.now) _ (page_moves file from d first (kind_is file c.args.self.now.tree.kind c.args.self.now.tree.start c.args.self.now.tree.path.items c.args.page above item d candidate) g.K.Sink.takes g.K.Sink.drops g.T.Taker.takes g.T.Taker.refuses _ _ c.args.self.now.taker.now told.0.items) done))
 
 pub returns-in_err-walk_leaf-in-Leaf-clause-walked : goal.returns-in_err-walk_leaf-in-Leaf-clause-walked
 returns-in_err-walk_leaf-in-Leaf-clause-walked g c =

@@ -7,8 +7,7 @@ use Rattle.dbformat.specs.File.{page_bytes}
 use Rattle.dbsource.specs.declared.error.RunError.TheVariants.{WriteFailed}
 use Rattle.dbsource.proofs.Logs.{has_weaker}
 use Rattle.dbsurvey.specs.Moves.{Moves, Stops}
-use Rattle.dbwalk.specs.LeafCells.{late_faults}
-use Rattle.dbwalk.specs.Telling.{findings}
+use Rattle.dbwalk.specs.LeafCells.{late_told, top_after}
 use Rattle.dbwalk.proofs.Leaves.LeafErrands.{past_cell, seen_here, cell_here}
 use Rattle.dbwalk.proofs.Underway.Handing.{stopped_as, found_moves, found_stops}
 use Rattle.dbwalk.proofs.Underway.LeafCellRuns.{chain_stops, row_told, row_stops, key_done}
@@ -44,7 +43,7 @@ returns-in_err-tell_rowid-clause-log g c = has_weaker _ _ c.in_ok-walk_overflow.
     let q = err_from_is_err_and c.from_residual-in_err-tell_rowid.result c.from_residual-in_err-tell_rowid.ensures.1 in
     let cell = cell_here file at viewed (ap (λ s. s.usable) e) c.len.ensures.value c.leaf_cell-cell.ensures low in
     let done = h e from.visits d at (past_cell from.visits d c.args.i c.leaf_cell-cell.result.overflow before) isat.0 in
-    let late = ap (λ top. findings (late_faults top c.args.page c.args.i c.leaf_cell-cell.result.key)) isat.1 ∙ ap (λ p. findings (late_faults from.state.greatest p c.args.i c.leaf_cell-cell.result.key)) (sym at.page) in
+    let late = ap (λ top. late_told top c.args.page c.args.i c.leaf_cell-cell.result.key) isat.1 ∙ ap (λ p. late_told from.state.greatest p c.args.i c.leaf_cell-cell.result.key) (sym at.page) in
     stopped_as (q.1 ∙ ap Err q.2)
     (key_done file from d c.args.self.now.tree.kind v leaf c.args.i c.leaf_cell-cell.result.overflow cell.0 c.leaf_cell-cell.result.key cell.1 g.K.Sink.takes g.K.Sink.drops g.T.Taker.takes g.T.Taker.refuses (Err WriteFailed) c.walk_overflow.new.marks c.args.self.now.tree c.tell_rowid.new.tree
     c.args.self.now.sink.now c.walk_overflow.new.sink c.tell_row.new.sink c.args.self.now.taker.now c.tell_row.new.taker (c.tell_rowid.new.sink, c.tell_row.new.taker) isat.1 isat.2 done.0
@@ -56,13 +55,13 @@ pub returns-clause-log : goal.returns-clause-log
 returns-clause-log g c = has_weaker _ _ c.in_ok-walk_overflow.ensures.log (λ log r. r) (λ file h e coded from d v at viewed leaf low before isat held room.
     let cell = cell_here file at viewed (ap (λ s. s.usable) e) c.len.ensures.value c.leaf_cell-cell.ensures low in
     let done = h e from.visits d at (past_cell from.visits d c.args.i c.leaf_cell-cell.result.overflow before) isat.0 in
-    let late = ap (λ top. findings (late_faults top c.args.page c.args.i c.leaf_cell-cell.result.key)) isat.1 ∙ ap (λ p. findings (late_faults from.state.greatest p c.args.i c.leaf_cell-cell.result.key)) (sym at.page) in
+    let late = ap (λ top. late_told top c.args.page c.args.i c.leaf_cell-cell.result.key) isat.1 ∙ ap (λ p. late_told from.state.greatest p c.args.i c.leaf_cell-cell.result.key) (sym at.page) in
     key_done file from d c.args.self.now.tree.kind v leaf c.args.i c.leaf_cell-cell.result.overflow cell.0 c.leaf_cell-cell.result.key cell.1 g.K.Sink.takes g.K.Sink.drops g.T.Taker.takes g.T.Taker.refuses (Ok tt) c.walk_overflow.new.marks c.args.self.now.tree c.tell_rowid.new.tree
     c.args.self.now.sink.now c.walk_overflow.new.sink c.tell_row.new.sink c.args.self.now.taker.now c.tell_row.new.taker (c.tell_rowid.new.sink, c.tell_row.new.taker) isat.1 isat.2 done.0
     (row_told file from d c.args.self.now.tree.kind v leaf c.args.i c.leaf_cell-cell.result.overflow cell.0 c.leaf_cell-cell.result.key cell.1 g.K.Sink.takes g.K.Sink.drops g.T.Taker.takes g.T.Taker.refuses held c.args.self.now.taker.now c.tell_row.new.taker c.new-place.result c.args.page c.new-place.ensures at.page c.args.self.now.encoding coded (Ok tt)
     c.walk_overflow.new.sink c.tell_row.new.sink c.walk_overflow.new.sieve c.in_ok-tell_row.ensures.none c.args.self.now.tree.start at.start room c.begin_row.new.sieve (λ z. (c.begin_row.ensures.schema z).read (page_bytes file c.args.page) v at.bytes (seen_here file at viewed (ap (λ s. s.usable) e)) low) (λ l. c.begin_row.ensures.other l ∙ c.requires.empty l) before done.1 c.walk_overflow.ensures.kept.2 c.in_ok-tell_row.ensures.told)
     (found_moves g.K.Sink.takes g.K.Sink.drops g.T.Taker.takes g.T.Taker.refuses _ c.tell_row.new.sink c.tell_rowid.new.sink c.tell_row.new.taker (subst (λ l. Moves g.K.Sink.takes c.tell_row.new.sink l c.tell_rowid.new.sink) late c.in_ok-tell_rowid.ensures.told.items))
-    (c.tell_rowid.ensures.greatest, c.tell_rowid.ensures.others.2))
+    (c.tell_rowid.ensures.greatest ∙ ap (λ p. top_after c.args.self.now.tree.greatest p c.args.i c.leaf_cell-cell.result.key) (sym at.page), c.tell_rowid.ensures.others.2))
 
 pub returns-in_err-walk_overflow-clause-walked : goal.returns-in_err-walk_overflow-clause-walked
 returns-in_err-walk_overflow-clause-walked g c = walked_by g.S.Source.held g.K.Sink.held g.T.Taker.refusals (refl, refl, refl, refl, refl, refl, refl) c.walk_overflow.ensures.kept.0 (grind (arith, common_steps)) (grind (arith, common_steps)) (grind (arith, common_steps)) (grind (arith, common_steps)) (λ l. refl)

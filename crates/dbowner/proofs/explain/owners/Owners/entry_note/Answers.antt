@@ -2,7 +2,8 @@ use Rattle.std.proofs.Common.{[], sym, ap, ◌∙◌}
 use Rattle.std.specs.Prelude.{option_map}
 use Rattle.std.specs.Option.{option_map_or}
 use Rattle.dbowner.specs.Explained.{line_of_entry}
-use Rattle.dbowner.specs.Notes.{entry_value, wanted_entry}
+use Rattle.dbmarks.specs.EndMarks.{entry_value}
+use Rattle.dbowner.specs.Notes.{wanted_entry}
 use Rattle.dbowner.proofs.Below.{entry_said}
 use Rattle.dbowner.proofs.explain.owners.Owners.entry_note.Goals as goal
 

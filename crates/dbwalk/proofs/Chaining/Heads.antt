@@ -1,0 +1,162 @@
+-- The cell that an overflow chain belongs to, by the visits so far.
+use Rattle.std.proofs.Common.{◌≡◌, ℕ, ◌+◌, ◌-◌, ◌≤◌, Bool, true, false, cond, not, ◌&&◌, inl, inr, List, [], ◌∷◌, ◌++◌, length, take, Option, Some, None, refl, sym, ap, ◌∙◌, arith}
+use Rattle.std.specs.Prelude.{find, ◌==◌}
+use Rattle.std.specs.Option.{option_map_or, option_or}
+use Rattle.std.proofs.Math.Seq.{take-length}
+use Rattle.std.proofs.lemmas.Bool.{cases_Bool}
+use Rattle.std.proofs.lemmas.Bool.Decides.{nat_tests}
+use Rattle.std.proofs.lemmas.List.{length-append, take-append-le}
+use Rattle.std.proofs.lemmas.List.Folds.{find-append}
+use Rattle.dbsurvey.specs.Address.{IsIn, Address, IsBefore}
+use Rattle.dbsurvey.specs.InOrder.{is_before}
+use Rattle.dbsurvey.specs.Story.{Go}
+use Rattle.dbsurvey.proofs.Ordering.{is_before-from, is_before-itself}
+use Rattle.dbformat.specs.Address.{then_step, chain_place, chain_on, is_child_step, cell_of_step}
+use Rattle.dbformat.specs.Header.{usable_size}
+use Rattle.dbformat.specs.Reference.{Reference, role_of, from_of, item_of, bytes_left}
+use Rattle.dbtrace.specs.Causes.{chain_number, head_address, is_same, chain_head, chain_of, chain_cause, refusal_cause, pages_for}
+use Rattle.dbtrace.specs.declared.Cause.{Cause}
+use Rattle.dbtrace.specs.declared.Cause.TheVariants as cause
+use Rattle.dbwalk.specs.Chains.{HasHead, IsChainOf, IsOnChain, next_of}
+use Rattle.dbwalk.specs.Entered.{IsNext}
+use Rattle.dbwalk.specs.declared.chain.Chain.{Chain}
+use Rattle.dbwalk.proofs.Chaining.Overflows.{next_on_chain}
+
+number_is : (chain : Chain) (number : ℕ) (d : Reference) → IsOnChain chain number d → chain_number d.address ≡ number
+number_is chain number d on = ap (λ o. option_map_or (λ p. p.1) o 0) on.place
+
+-- the address has a step for each page of the chain before it
+pub chain_few : (chain : Chain) (number : ℕ) (d : Reference) → IsOnChain chain number d → number ≤ length d.address
+chain_few chain number d on = by_address d.address on.place
+  where
+    few : (steps : List ℕ) (i n : ℕ) → chain_on steps ≡ Some (i, n) → n ≤ length steps
+    few [] i n e = absurd (let k : None ≡ Some (i, n) = e in cc)
+    few (step ∷ steps) i n e = by_step (is_child_step step) e (few steps i n)
+      where
+        by_step : (b : Bool) → cond b (chain_on steps) (Some (cell_of_step step, length steps)) ≡ Some (i, n) → (chain_on steps ≡ Some (i, n) → n ≤ length steps) → n ≤ length (step ∷ steps)
+        by_step true e f = let l = f e in omega arith
+        by_step false e f = let k : ◌≡◌ {A = ℕ × ℕ} (cell_of_step step, length steps) (i, n) = cc in let l : length steps ≡ n = ap (λ x. x.1) k in omega arith
+
+    by_address : (a : Address) → chain_place a ≡ Some (chain.cell, number) → number ≤ length a
+    by_address [] e = absurd (let k : None ≡ Some (chain.cell, number) = e in cc)
+    by_address (x ∷ a) e = let l = few a chain.cell number e in omega arith
+
+-- the cause of a fault along the chain
+pub head_cause : (file : List ℕ) (V : List Reference) (chain : Chain) (number left more : ℕ) (d : Reference) → bytes_left (role_of d) ≡ Some left → IsOnChain chain number d → HasHead chain V d
+    → chain_cause file V d (bytes_left (role_of d)) more ≡ cause.Chain (record { page = chain.page; item = chain.cell; pages = number + pages_for (usable_size file) left; found = number + more })
+head_cause file V chain number left more d h on head =
+    ap (λ o. chain_cause file V d o more) h
+    ∙ ap (λ n. option_map_or (λ c. cause.Chain (chain_of (usable_size file) c n left (n + more))) (chain_head V d) cause.Itself) (number_is chain number d on)
+    ∙ ap (λ o. option_map_or (λ c. cause.Chain (chain_of (usable_size file) c number left (number + more))) o cause.Itself) head.found
+    ∙ ap (λ p. cause.Chain (record { page = p; item = item_of head.head; pages = number + pages_for (usable_size file) left; found = number + more })) head.from
+    ∙ ap (λ i. cause.Chain (record { page = chain.page; item = i; pages = number + pages_for (usable_size file) left; found = number + more })) head.item
+
+-- that of a reference that is refused, by the numbers that a program has
+pub refusal_here : (file : List ℕ) {usable : ℕ} → usable ≡ usable_size file → (chain : Chain) (number left : ℕ) (d : Reference) (V : List Reference) → bytes_left (role_of d) ≡ Some left → IsOnChain chain number d → HasHead chain V d
+    → {why : Cause} → why ≡ cause.Chain (record { page = chain.page; item = chain.cell; pages = number + pages_for usable left; found = number }) → refusal_cause file V d ≡ why
+refusal_here file u chain number left d V h on head e =
+    let z : number + 0 ≡ number = omega arith in
+    head_cause file V chain number left 0 d h on head
+    ∙ ap (λ n. cause.Chain (record { page = chain.page; item = chain.cell; pages = number + pages_for (usable_size file) left; found = n })) z
+    ∙ sym (e ∙ ap (λ x. cause.Chain (record { page = chain.page; item = chain.cell; pages = number + pages_for x left; found = number })) u)
+
+-- at the first page
+pub head_start : (chain : Chain) (V : List Reference) (c : Reference) → IsChainOf chain c → HasHead chain V c
+head_start chain V c h = record {
+  head = c;
+  found = ap (λ n. cond (n == 0) (Some c) (find (λ u. is_same u.address (head_address c.address)) V)) (number_is chain 0 c h.place);
+  from = h.from;
+  item = h.item;
+}
+
+-- one address is the same as itself, and none that is before it
+same_itself : (a : Address) → is_same a a ≡ true
+same_itself a = ap (λ b. not b && not b) (is_before-itself a)
+
+same_before : (a b : Address) → IsBefore a b → is_same a b ≡ false
+same_before a b h = ap (λ x. not x && not (is_before b a)) (is_before-from a b h)
+
+none_same : (V : List Reference) (a : Address) → ((u : Reference) → IsIn u V → IsBefore u.address a) → find (λ u. is_same u.address a) V ≡ None
+none_same [] a h = refl
+none_same (u ∷ V) a h = ap (λ b. cond b (Some u) (find (λ u. is_same u.address a) V)) (same_before u.address a (h u (inl refl))) ∙ none_same V a (λ w i. h w (inr i))
+
+-- behind the visit of the page
+module _ (chain : Chain) (V : List Reference) (number : ℕ) (d : Reference) (on : IsOnChain chain number d) (head : HasHead chain V d) where
+  abbrev searched : List Reference → Address → Option Reference
+  searched W a = find (λ u. is_same u.address a) W
+
+  -- where it is found among the visits, it is found still
+  found_still : (a : Address) (c : Reference) → searched V a ≡ Some c → searched (V ++ d ∷ []) a ≡ Some c
+  found_still a c e = find-append (λ u. is_same u.address a) V (d ∷ []) ∙ ap (λ o. option_or o (searched (d ∷ []) a)) e
+
+  by_number : (n : ℕ) → (n == 0) ≡ false → chain_number d.address ≡ n → searched V (head_address d.address) ≡ Some head.head
+  by_number n e h = sym (ap (λ b. cond b (Some d) (searched V (head_address d.address))) (ap (λ m. m == 0) h ∙ e)) ∙ head.found
+
+  pub head_visited : HasHead chain (V ++ d ∷ []) d
+  head_visited = elim (cases_Bool (chain_number d.address == 0)) [
+    | inl e ↦ record {
+      head = head.head;
+      found = ap (λ b. cond b (Some d) (searched (V ++ d ∷ []) (head_address d.address))) e ∙ sym (ap (λ b. cond b (Some d) (searched V (head_address d.address))) e) ∙ head.found;
+      from = head.from;
+      item = head.item;
+    }
+    | inr e ↦ record {
+      head = head.head;
+      found = ap (λ b. cond b (Some d) (searched (V ++ d ∷ []) (head_address d.address))) e ∙ found_still (head_address d.address) head.head (by_number (chain_number d.address) e refl);
+      from = head.from;
+      item = head.item;
+    }
+  ]
+
+  -- and of the next one
+  module _ (past : IsNext V d) (few : number ≤ length d.address) (left page : ℕ) where
+    next_number : chain_number (then_step d.address 0) ≡ number + 1
+    next_number = number_is chain (number + 1) (next_of d left page) (next_on_chain chain number d left page on)
+
+    same_head : head_address (then_step d.address 0) ≡ head_address d.address
+    same_head =
+        let l = length-append d.address (0 ∷ []) in
+        let m : length (then_step d.address 0) - (number + 1) ≡ length d.address - number = omega arith in
+        let low : length d.address - number ≤ length d.address = omega arith in
+        ap (λ n. take (length (then_step d.address 0) - n) (then_step d.address 0)) next_number
+        ∙ ap (λ k. take k (then_step d.address 0)) m
+        ∙ take-append-le (length d.address - number) d.address (0 ∷ []) low
+        ∙ ap (λ n. take (length d.address - n) d.address) (sym (number_is chain number d on))
+
+    later : (n : ℕ) → chain_number (then_step d.address 0) ≡ n + 1 → (c : Reference) → searched (V ++ d ∷ []) (head_address (then_step d.address 0)) ≡ Some c → chain_head (V ++ d ∷ []) (next_of d left page) ≡ Some c
+    later n e c f =
+        let test : ((n + 1) == 0) ≡ false = some n in
+        ap (λ b. cond b (Some (next_of d left page)) (searched (V ++ d ∷ []) (head_address (then_step d.address 0)))) (ap (λ m. m == 0) e ∙ test) ∙ f
+      where
+        some : (n : ℕ) → ((n + 1) == 0) ≡ false
+        some n = grind (arith, nat_tests)
+
+    pub head_next : HasHead chain (V ++ d ∷ []) (next_of d left page)
+    head_next = elim (cases_Bool (chain_number d.address == 0)) [
+      | inl e ↦ record {
+        head = d;
+        found = later number next_number d (ap (searched (V ++ d ∷ [])) (same_head ∙ first e) ∙ find-append (λ u. is_same u.address d.address) V (d ∷ [])
+            ∙ ap (λ o. option_or o (searched (d ∷ []) d.address)) (none_same V d.address (λ u i. past u (Go d) i (inl refl)))
+            ∙ ap (λ b. cond b (Some d) None) (same_itself d.address));
+        from = ap from_of (self e) ∙ head.from;
+        item = ap item_of (self e) ∙ head.item;
+      }
+      | inr e ↦ record {
+        head = head.head;
+        found = later number next_number head.head (ap (searched (V ++ d ∷ [])) same_head ∙ found_still (head_address d.address) head.head (by_number (chain_number d.address) e refl));
+        from = head.from;
+        item = head.item;
+      }
+    ]
+      where
+        zero_is : (n : ℕ) → (n == 0) ≡ true → n ≡ 0
+        zero_is n e = grind (arith, nat_tests)
+
+        first : (chain_number d.address == 0) ≡ true → head_address d.address ≡ d.address
+        first e = ap (λ n. take (length d.address - n) d.address) (zero_is (chain_number d.address) e) ∙ (let z : length d.address - 0 ≡ length d.address = omega arith in ap (λ k. take k d.address) z) ∙ take-length d.address
+
+        one : (c : Reference) → Some d ≡ Some c → d ≡ c
+        one c e = cc
+
+        self : (chain_number d.address == 0) ≡ true → d ≡ head.head
+        self e = one head.head (sym (ap (λ b. cond b (Some d) (searched V (head_address d.address))) e) ∙ head.found)
