@@ -1,5 +1,5 @@
 #!/bin/sh
-# Makes map.svg, the picture in the README: make-map.sh DBCK. The database is one of some 400 pages, as SQLite itself writes it
+# Makes map.svg, the picture in the README: make-map.sh DBCK. The database is one of 370 pages, as SQLite itself writes it
 # (sqlite3 of Debian, 3.40.1), in which one child of the largest table is overwritten with the page of another.
 set -eu
 dbck=$(realpath "${1:?give the program}")

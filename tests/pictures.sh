@@ -1,11 +1,13 @@
 #!/usr/bin/env bash
-# Looks at pictures: pictures.sh DBCK FILE.. Each has to be well-formed XML that refers to nothing but itself and has no script.
+# Looks at pictures: pictures.sh DBCK FILE.. Each has to be well-formed XML that refers to nothing but itself and has no script. Where
+# there is sqlite3, one more is that of a database of more than 16384 pages, in which the name of a table would be markup.
 # It says which are not, and fails then.
 set -u
 dbck=$(realpath "${1:?give the program}")
 shift
-picture=$(mktemp)
-trap 'rm -f "$picture"' EXIT
+work=$(mktemp -d)
+trap 'rm -rf "$work"' EXIT
+picture=$work/picture.svg
 status=0
 
 # is_xml: whether the picture is well-formed.
@@ -17,11 +19,36 @@ is_xml() {
     fi
 }
 
+# bad FILE WHY: says that there is no good picture of the file.
+bad() {
+    echo "no good picture of $1: $2"
+    status=1
+}
+
+# look FILE: draws the picture of the file, and looks at it.
+look() {
+    "$dbck" map "$1" > "$picture"
+    is_xml || bad "$1" 'it is not well-formed'
+    ! grep -qE '<script|href|url\([^#]|@import|<!' "$picture" || bad "$1" 'it refers to something'
+}
+
 for file in "$@"; do
-    "$dbck" map "$file" > "$picture"
-    if ! is_xml || grep -qE '<script|href|url\([^#]|@import|<!' "$picture"; then
-        echo "no good picture of $file"
-        status=1
-    fi
+    look "$file"
 done
+
+# The pages of both tables alternate, and so each square has some of both.
+large=$work/large.db
+if command -v sqlite3 > /dev/null && sqlite3 "$large" "PRAGMA page_size = 512;
+    CREATE TABLE plain (x);
+    CREATE TABLE \"<b>&'\" (x);
+    CREATE TRIGGER both AFTER INSERT ON plain BEGIN INSERT INTO \"<b>&'\" VALUES (new.x); END;
+    WITH RECURSIVE k(n) AS (SELECT 1 UNION ALL SELECT n + 1 FROM k WHERE n < 9000) INSERT INTO plain SELECT zeroblob(400) FROM k;"; then
+    look "$large"
+    squares=$(grep -c '<title>pages [0-9]* to [0-9]*: ' "$picture")
+    if [ "$squares" -le 8192 ] || [ "$squares" -gt 16384 ]; then
+        bad "$large" "it has $squares squares"
+    fi
+    grep -q '<g><title>pages [0-9]* to [0-9]*: .* in table &lt;b&gt;&amp;&#39;.*<rect x="[0-9]*" y="[1-5]" ' "$picture" ||
+        bad "$large" 'no square is in bands'
+fi
 exit $status

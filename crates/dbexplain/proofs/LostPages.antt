@@ -24,7 +24,8 @@ use Rattle.dbmarks.specs.declared.marks.Mark.{Mark}
 use Rattle.dbmarks.specs.declared.marks.Mark.TheVariants.{Unmarked, Fixed, Root, Trunk, FreeLeaf, FirstOverflow, LaterOverflow, Child}
 use Rattle.dbmarks.proofs.Markings.{page_mark-in, page_mark-out}
 use Rattle.dbowner.specs.Climbs.{place_by}
-use Rattle.dbowner.specs.Explained.{explanation, explanations, is_lost, is_nowhere, last_lost, look_at, look_line, lost_line}
+use Rattle.dbowner.specs.Explained.{explanation, explanations, is_lost, is_nowhere, last_lost, look_line, lost_line}
+use Rattle.dbformat.specs.Looks.{look_at}
 use Rattle.dbowner.specs.Notes.{IsOf}
 use Rattle.dbowner.specs.Roots.{Listed}
 use Rattle.dbowner.specs.declared.explain.owners.Owners.{Owners}

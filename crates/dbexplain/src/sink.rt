@@ -1,10 +1,8 @@
 // What `explain` remembers of what it is told.
-ghost use Rattle.std.specs.Prelude.{◌≡◌};
-
 use dbowner::Tally;
-use dbscan::{Start, TreeSink};
-use dbsource::WriteFailed;
-use dbwalk::{Fault, Row, Sink};
+use dbscan::{Notice, Reporter};
+use dbsource::{Geometry, WriteFailed};
+use dbwalk::Marks;
 use std::alloc::{Allocator, Global};
 
 // Adds each fault to a tally, at the start that it is told at. It writes nothing, and so it never fails.
@@ -13,48 +11,30 @@ pub(crate) struct ExplainSink<A: Allocator = Global> {
     pub(crate) tally: Tally<A>,
 }
 
-impl<A: Allocator> Sink for ExplainSink<A> {
-    ghost use Rattle.std.specs.Prelude.{[], None};
+impl<A: Allocator> Reporter for ExplainSink<A> {
+    ghost use Rattle.std.specs.Prelude.{[]};
     ghost use Rattle.dbexplain.specs.Sink.{Adds, Never};
 
-    ghost takes = { Adds None };
+    ghost hears = { Adds };
 
-    ghost drops = { Never };
+    ghost cuts = { Never };
 
     ghost held = { λ s. record { lent = []; failures = [] } };
 
-    fn fault(&mut self, fault: &Fault) -> Result<(), WriteFailed> {
-        self.tally.add(None, fault);
+    fn hear(&mut self, notice: &Notice<'_>) -> Result<(), WriteFailed> {
+        match notice {
+            Notice::Whole(fault) => self.tally.add(None, fault),
+            Notice::Fault(start, fault, _) => self.tally.add(Some(start.number()), fault),
+            Notice::Row(_, _) | Notice::Ended(_) => {}
+        }
         Ok(())
     }
 
-    fn row(&mut self, _row: &Row<'_>) -> Result<(), WriteFailed> {
-        Ok(())
-    }
-}
-
-impl<A: Allocator> TreeSink for ExplainSink<A> {
-    ghost use Rattle.std.specs.Prelude.{◌≡◌, Some};
-    ghost use Rattle.dbexplain.specs.Sink.{Adds};
-
-    ghost takes_at = { λ s at item t. Adds (Some at.number) s item t };
-
-    ghost drops_at = { λ s at item t. ⊥ };
-
-    ghost ends = { λ s at t. t ≡ s };
-
-    ghost cuts = { λ s at t. ⊥ };
-
-    fn fault_at(&mut self, start: &Start<'_>, fault: &Fault) -> Result<(), WriteFailed> {
-        self.tally.add(Some(start.number()), fault);
-        Ok(())
-    }
-
-    fn row_at(&mut self, _start: &Start<'_>, _row: &Row<'_>) -> Result<(), WriteFailed> {
-        Ok(())
-    }
-
-    fn end_tree(&mut self, _start: &Start<'_>) -> Result<(), WriteFailed> {
+    fn walked<B: Allocator>(
+        &mut self,
+        _geometry: Geometry,
+        _marks: &Marks<B>,
+    ) -> Result<(), WriteFailed> {
         Ok(())
     }
 }

@@ -1,10 +1,12 @@
 // Whose the pages of a square are.
+ghost use Rattle.std.specs.Prelude.{◌≤◌, ◌<◌, IfSome};
+
 use dbowner::Place;
 
 /// Whose a page is.
 #[derive(Clone, Copy, PartialEq, Eq)]
 pub(crate) enum Owner {
-    /// Of one of the largest trees, by its rank from 0, or behind the last rank of another tree.
+    /// One of the largest trees, by its rank from 0, or any other tree, by the rank after the last.
     Tree(usize),
     Freelist,
     /// A page of fixed use.
@@ -12,10 +14,34 @@ pub(crate) enum Owner {
     Nobody,
 }
 
-/// How many ranks there are, with that of all other trees.
-pub(crate) const RANKS: usize = 13;
+/// How many owners a square tells apart: twelve trees, all others, the freelist, fixed use, and nobody.
+pub(crate) const OWNERS: usize = 16;
 
-/// How many pages, and how many of them are overflow pages.
+impl Owner {
+    /// Its number, from 0: the order in which the owners of a square are drawn and named.
+    pub(crate) fn number(self) -> usize
+        ensures { result ≤ 15 }
+    {
+        match self {
+            Owner::Tree(rank) => rank.min(12),
+            Owner::Freelist => 13,
+            Owner::Fixed => 14,
+            Owner::Nobody => 15,
+        }
+    }
+
+    /// The owner with a number.
+    pub(crate) fn numbered(number: usize) -> Owner {
+        match number {
+            0..=12 => Owner::Tree(number),
+            13 => Owner::Freelist,
+            14 => Owner::Fixed,
+            _ => Owner::Nobody,
+        }
+    }
+}
+
+/// A number of pages, and how many of them are overflow pages.
 #[derive(Clone, Copy, Default)]
 pub(crate) struct Share {
     pub(crate) pages: u32,
@@ -35,8 +61,8 @@ impl Share {
         self.overflow = self.overflow.saturating_add(other.overflow);
     }
 
-    // Whether most of them are overflow pages.
-    fn is_overflow(self) -> bool {
+    /// Whether most of them are overflow pages.
+    pub(crate) fn is_overflow(self) -> bool {
         self.overflow > self.pages / 2
     }
 }
@@ -49,71 +75,50 @@ pub(crate) fn is_overflow(place: Place) -> bool {
 /// The pages of a square, by their owners.
 #[derive(Clone, Copy)]
 pub(crate) struct Cell {
-    trees: [Share; RANKS],
-    freelist: Share,
-    fixed: Share,
-    nobody: Share,
-}
-
-/// The owner of most of them, and how many are its pages.
-#[derive(Clone, Copy)]
-pub(crate) struct Most {
-    pub(crate) owner: Owner,
-    pub(crate) share: Share,
-}
-
-impl Most {
-    /// Whether it has the shade of overflow pages.
-    pub(crate) fn is_overflow(&self) -> bool {
-        self.share.is_overflow()
-    }
-
-    // Another one, if it has more.
-    fn or(self, owner: Owner, share: Share) -> Most {
-        if share.pages > self.share.pages {
-            Most { owner, share }
-        } else {
-            self
-        }
-    }
+    shares: [Share; OWNERS],
 }
 
 impl Cell {
     /// One without pages.
     pub(crate) fn new() -> Cell {
         Cell {
-            trees: [Share::default(); RANKS],
-            freelist: Share::default(),
-            fixed: Share::default(),
-            nobody: Share::default(),
+            shares: [Share::default(); OWNERS],
         }
     }
 
     /// Counts a page.
     pub(crate) fn add(&mut self, owner: Owner, is_overflow: bool) {
-        match owner {
-            Owner::Tree(rank) => {
-                if let Some(share) = self.trees.get_mut(rank) {
-                    share.add(is_overflow);
-                }
-            }
-            Owner::Freelist => self.freelist.add(false),
-            Owner::Fixed => self.fixed.add(false),
-            Owner::Nobody => self.nobody.add(false),
-        }
+        let share = &mut self.shares[owner.number()];
+        share.add(is_overflow);
     }
 
-    /// Who owns most of the pages; of several it is the largest tree.
-    pub(crate) fn most(&self) -> Most {
-        let mut most = Most {
-            owner: Owner::Nobody,
-            share: Share::default(),
-        };
-        for rank in 0..RANKS {
-            most = most.or(Owner::Tree(rank), self.trees[rank]);
+    /// The pages of the owner with a number.
+    pub(crate) fn share(&self, number: usize) -> Share
+        requires { number < 16 }
+    {
+        self.shares[number]
+    }
+
+    /// Whether the owner with a number has one of the pages.
+    pub(crate) fn has(&self, number: usize) -> bool
+        requires { number < 16 }
+    {
+        self.shares[number].pages != 0
+    }
+
+    /// The first owner, if all pages are its own.
+    pub(crate) fn only(&self) -> Option<usize>
+        ensures { IfSome result (λ number. number < 16) }
+    {
+        let mut only = None;
+        for number in 0..OWNERS {
+            if self.has(number) {
+                if only.is_some() {
+                    return None;
+                }
+                only = Some(number);
+            }
         }
-        most.or(Owner::Freelist, self.freelist)
-            .or(Owner::Fixed, self.fixed)
-            .or(Owner::Nobody, self.nobody)
+        only
     }
 }

@@ -1,42 +1,42 @@
-// The colours of the picture: those of Okabe and Ito, and five more that differ from them, and from the greys, for colour-blind
-// readers too.
+// The colours of the picture. They were searched for by computation, so that any two differ for normal sight and for that of
+// deuteranopes and protanopes: tests/colours.py says by how much.
 use crate::cell::Owner;
 
-// The colour of the trees of a rank; that of all other trees behind the last.
+// The colour of the trees of a rank; that of all other trees after the last.
 fn tree_colour(rank: usize) -> &'static str {
     match rank {
-        0 => "#0072B2",
-        1 => "#E69F00",
-        2 => "#009E73",
-        3 => "#CC79A7",
-        4 => "#D55E00",
-        5 => "#F0E442",
-        6 => "#332288",
-        7 => "#920000",
-        8 => "#8C564B",
-        9 => "#004949",
-        10 => "#56B4E9",
-        11 => "#B6DBFF",
-        _ => "#A8A8A8",
+        0 => "#067CFF",
+        1 => "#E6B006",
+        2 => "#A001C6",
+        3 => "#728551",
+        4 => "#F18740",
+        5 => "#004C7B",
+        6 => "#D5FF00",
+        7 => "#4E251A",
+        8 => "#2D06FF",
+        9 => "#FFFF7E",
+        10 => "#050984",
+        11 => "#210136",
+        _ => "#5A5A5A",
     }
 }
 
-// The same of their overflow pages: each six tenths of the way to white, that of other trees less.
+// The same of their overflow pages, lighter.
 fn overflow_colour(rank: usize) -> &'static str {
     match rank {
-        0 => "#99C7E0",
-        1 => "#F5D999",
-        2 => "#99D8C7",
-        3 => "#EBC9DC",
-        4 => "#EEBF99",
-        5 => "#F9F4B3",
-        6 => "#ADA7CF",
-        7 => "#D39999",
-        8 => "#D1BBB7",
-        9 => "#99B6B6",
-        10 => "#BBE1F6",
-        11 => "#E2F1FF",
-        _ => "#CCCCCC",
+        0 => "#C6E1FF",
+        1 => "#F2D67E",
+        2 => "#DB9EE9",
+        3 => "#BBC4AB",
+        4 => "#F7B78C",
+        5 => "#6E99B4",
+        6 => "#F2FFB3",
+        7 => "#957C76",
+        8 => "#A594FF",
+        9 => "#FFFFE3",
+        10 => "#6C6EB6",
+        11 => "#7A6786",
+        _ => "#A6A6A6",
     }
 }
 
@@ -45,8 +45,12 @@ pub(crate) fn fill(owner: Owner, is_overflow: bool) -> &'static str {
     match owner {
         Owner::Tree(rank) if is_overflow => overflow_colour(rank),
         Owner::Tree(rank) => tree_colour(rank),
-        Owner::Freelist => "#ECECEC",
-        Owner::Fixed => "#111111",
+        Owner::Freelist => "#DBDBDB",
+        Owner::Fixed => "#000000",
         Owner::Nobody => "url(#unowned)",
     }
 }
+
+/// The frame of the legend, after its place.
+pub(crate) const LEGEND_FRAME: &str =
+    "\" width=\"10\" height=\"10\" fill=\"#FFFFFF\" stroke=\"#BE0700\" stroke-width=\"2\"/>";

@@ -1,27 +1,31 @@
 // How the squares of the picture are laid out.
-ghost use Rattle.std.specs.Prelude.{◌≤◌};
+ghost use Rattle.std.specs.Prelude.{◌≤◌, ◌^◌};
+
+// Where the first row of squares begins.
+const TOP: u64 = 64;
 
 // How many squares there are at most.
 const MOST_CELLS: u32 = 16384;
 
-// How many squares stand in a row: the fewer, the larger they are.
+// How many squares are in a row: the fewer, the larger they are.
 #[derive(Clone, Copy)]
-enum Width {
+pub(crate) enum Width {
     Few,
     Some,
     Many,
 }
 
-/// The squares: how many pages each stands for, and how many there are.
+/// The squares of a file, and the outlines of the pages that its header states and it does not have.
 #[derive(Clone, Copy)]
 pub(crate) struct Grid {
     pages: u32,
+    stated: u32,
     pub(crate) run: u32,
     pub(crate) cells: u32,
-    width: Width,
+    pub(crate) width: Width,
 }
 
-// How many squares stand in a row, by how many there are.
+// How many squares are in a row, by how many there are.
 fn width_of(cells: u32) -> Width {
     match cells {
         0..=512 => Width::Few,
@@ -31,19 +35,21 @@ fn width_of(cells: u32) -> Width {
 }
 
 impl Grid {
-    /// That of a file of so many pages. A square stands for the least power of two with which there are not too many.
-    pub(crate) fn new(pages: u32) -> Grid {
+    /// That of a file of this number of pages, whose header states as many or another number. Each square covers the smallest power
+    /// of two of pages that keeps the squares of the file within [`MOST_CELLS`].
+    pub(crate) fn new(pages: u32, stated: u32) -> Grid {
         let run = pages.div_ceil(MOST_CELLS).next_power_of_two();
         let cells = pages.div_ceil(run.max(1));
         Grid {
             pages,
+            stated,
             run,
             cells,
             width: width_of(cells),
         }
     }
 
-    // How many squares stand in a row.
+    // How many squares are in a row.
     fn columns(&self) -> u32
         ensures { (1 ≤ result) × (result ≤ 128) }
     {
@@ -54,7 +60,7 @@ impl Grid {
         }
     }
 
-    /// How many pixels a square takes with the room behind it.
+    /// How many pixels a square takes with the room after it.
     pub(crate) fn side(&self) -> u32
         ensures { (7 ≤ result) × (result ≤ 28) }
     {
@@ -65,41 +71,80 @@ impl Grid {
         }
     }
 
-    /// How the square of a page goes on behind its place in the row.
-    pub(crate) fn page_tail(&self) -> &'static str {
-        match self.width {
-            Width::Few => "\" width=\"27\" height=\"27\"><title>page ",
-            Width::Some => "\" width=\"13\" height=\"13\"><title>page ",
-            Width::Many => "\" width=\"6\" height=\"6\"><title>page ",
-        }
+    /// How many pages the header states that the file does not have.
+    pub(crate) fn missing(&self) -> u32 {
+        self.stated.saturating_sub(self.pages)
+    }
+
+    /// How many squares and outlines there are. There are no more rows of outlines alone than the file has rows.
+    fn places(&self) -> u32 {
+        let most = self
+            .file_rows()
+            .saturating_mul(2)
+            .saturating_mul(self.columns());
+        let stated = self.stated.div_ceil(self.run.max(1));
+        stated.min(most).max(self.cells)
+    }
+
+    // How many rows the pages of the file take.
+    fn file_rows(&self) -> u32 {
+        self.cells.div_ceil(self.columns())
     }
 
     /// How many rows there are.
     pub(crate) fn rows(&self) -> u32 {
-        self.cells.div_ceil(self.columns())
+        self.places().div_ceil(self.columns())
     }
 
-    /// The column of a square, from 0.
-    pub(crate) fn column_of(&self, cell: u32) -> u32
-        ensures { result ≤ 127 }
+    /// Where a square begins in its row, in pixels.
+    pub(crate) fn x_of(&self, cell: u32) -> u32
+        ensures { result ≤ 3556 }
     {
-        cell % self.columns()
+        cell % self.columns() * self.side()
     }
 
-    /// The squares of a row, the first and the last.
-    pub(crate) fn cells_of_row(&self, row: u32) -> (u32, u32) {
+    // The first place of a row, and the first of the next.
+    fn places_of(&self, row: u32) -> (u32, u32) {
         let first = row.saturating_mul(self.columns());
-        let last = first.saturating_add(self.columns() - 1);
-        (first, last.min(self.cells.saturating_sub(1)))
+        (first, first.saturating_add(self.columns()))
+    }
+
+    /// The squares of a row, the first and the one after the last.
+    pub(crate) fn cells_of_row(&self, row: u32) -> (u32, u32) {
+        let (first, end) = self.places_of(row);
+        (first, end.min(self.cells))
+    }
+
+    /// The outlines of a row, the first and the one after the last.
+    pub(crate) fn outlines_of_row(&self, row: u32) -> (u32, u32) {
+        let (first, end) = self.places_of(row);
+        (first.max(self.cells), end.min(self.places()))
+    }
+
+    // The first and the last page of a place, of this number of pages at most.
+    fn run_of(&self, place: u32, pages: u32) -> (u32, u32) {
+        let most = u64::from(pages);
+        let before = u64::from(place) * u64::from(self.run);
+        let first = (before + 1).min(most);
+        let last = (before + u64::from(self.run)).min(most);
+        (first as u32, last as u32)
     }
 
     /// The pages of a square, the first and the last.
     pub(crate) fn pages_of(&self, cell: u32) -> (u32, u32) {
-        let pages = u64::from(self.pages);
-        let before = u64::from(cell) * u64::from(self.run);
-        let first = (before + 1).min(pages);
-        let last = (before + u64::from(self.run)).min(pages);
-        (first as u32, last as u32)
+        self.run_of(cell, self.pages)
+    }
+
+    /// The pages of an outline, the first and the last.
+    pub(crate) fn missing_of(&self, place: u32) -> (u32, u32) {
+        self.run_of(place, self.stated)
+    }
+
+    /// Where a row begins, in pixels from the top.
+    pub(crate) fn top_of(&self, row: u32) -> u64
+        ensures { result ≤ 2 ^ 40 }
+    {
+        TOP + u64::from(row) * u64::from(self.side())
     }
 
     /// The first page of a row.

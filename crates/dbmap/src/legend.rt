@@ -2,19 +2,23 @@
 ghost use Rattle.dbxml.specs.Puts.{PutsSome};
 
 use crate::cell::{Owner, Share};
-use crate::colours::fill;
-use crate::picture::tenths_of_mib;
+use crate::colours::{LEGEND_FRAME, fill};
+use crate::grid::Grid;
+use crate::labels::Labels;
+use crate::size::size;
+use crate::squares::{Layout, Squares};
 use crate::tally::{COLOURED, Tally, Tree};
 use arrayvec::ArrayVec;
-use dbowner::{FREELIST_START, TreeNames};
+use dbformat::FREELIST_START;
+use dbowner::TreeNames;
 use dbsource::{Geometry, Out, WriteFailed};
-use dbxml::{Piece, put_all, shown_tree};
+use dbxml::{Piece, put_all};
 use std::alloc::Allocator;
 
 // How many columns of a tree's name are shown.
 const NAME_WIDTH: u32 = 56;
 
-// How far a line stands below another.
+// How far a line is below another.
 const LINE: u32 = 20;
 
 // What a line is of.
@@ -22,7 +26,7 @@ const LINE: u32 = 20;
 enum Label {
     // The tree of a start, by its rank.
     Tree(usize, u32),
-    // So many trees.
+    // This number of trees.
     Others(u32),
     Freelist,
     Fixed,
@@ -50,7 +54,7 @@ fn no_overflow(pages: u32) -> Share {
 }
 
 impl Legend {
-    /// That of a file whose pages were counted, of its largest trees, and of so many pages with a fault.
+    /// That of a file whose pages were counted, of its largest trees, and of the number of pages with a fault.
     pub(crate) fn new<A: Allocator>(tally: &Tally<A>, largest: &[Tree], faulty: u32) -> Legend {
         let mut legend = Legend {
             lines: ArrayVec::new(),
@@ -75,8 +79,9 @@ impl Legend {
     }
 
     /// How many pixels it takes, with the room around it.
-    pub(crate) fn height(&self) -> u32 {
-        self.lines.len() as u32 * LINE + 40
+    pub(crate) fn height(&self, grid: &Grid) -> u32 {
+        let missing = u32::from(grid.missing() != 0);
+        (self.lines.len() as u32 + missing) * LINE + 40
     }
 
     /// Puts the legend, below the squares, which end at `bottom`.
@@ -87,26 +92,61 @@ impl Legend {
     pub(crate) fn put<A: Allocator, O: Out>(
         &self,
         out: &mut O,
-        names: &TreeNames<'_, A>,
-        geometry: Geometry,
+        squares: &Squares<'_, A>,
+        layout: &Layout,
         bottom: u64,
     ) -> Result<(), WriteFailed>
         ensures { PutsSome result (O.held out.old) (O.held out.new) }
     {
+        let geometry = squares.header.geometry();
         put_columns(out, bottom)?;
         let mut y = LINE;
         for line in self.lines.iter() {
             y = y.saturating_add(LINE);
             put_swatch(out, line.label, line.share, y)?;
-            put_label(out, names, line.label, y)?;
+            put_label(out, &squares.names, &layout.labels, line.label, y)?;
             put_share(out, line.share, geometry, y)?;
+            put_percent(out, line.share.pages, geometry.pages, y)?;
         }
+        put_missing(out, layout.grid.missing(), geometry, y.saturating_add(LINE))?;
         out.put(b"</g>\n")
     }
 }
 
+// Puts the line of the pages that the header states and the file does not have, if there are any.
+fn put_missing<O: Out>(
+    out: &mut O,
+    missing: u32,
+    geometry: Geometry,
+    y: u32,
+) -> Result<(), WriteFailed>
+    ensures { PutsSome result (O.held out.old) (O.held out.new) }
+{
+    if missing == 0 {
+        return Ok(());
+    }
+    put_box(out, 72, y.saturating_sub(10), "#FFFFFF")?;
+    put_label_front(out, y)?;
+    out.put(b"stated in the header, not in the file</text>")?;
+    put_share(out, no_overflow(missing), geometry, y)?;
+    out.put(b"\n")
+}
+
 // Puts a text of a column, which ends at x.
 fn put_cell<O: Out>(out: &mut O, x: u32, y: u32, text: Piece<'_>) -> Result<(), WriteFailed>
+    ensures { PutsSome result (O.held out.old) (O.held out.new) }
+{
+    put_cells(out, x, y, text, Piece::Markup(""))
+}
+
+// Puts two texts as one of a column.
+fn put_cells<'p, O: Out>(
+    out: &mut O,
+    x: u32,
+    y: u32,
+    text: Piece<'p>,
+    end: Piece<'p>,
+) -> Result<(), WriteFailed>
     ensures { PutsSome result (O.held out.old) (O.held out.new) }
 {
     put_all(
@@ -118,6 +158,7 @@ fn put_cell<O: Out>(out: &mut O, x: u32, y: u32, text: Piece<'_>) -> Result<(), 
             Piece::Number(u64::from(y)),
             Piece::Markup("\" text-anchor=\"end\">"),
             text,
+            end,
             Piece::Markup("</text>"),
         ],
     )
@@ -137,7 +178,7 @@ fn put_columns<O: Out>(out: &mut O, bottom: u64) -> Result<(), WriteFailed>
     )?;
     put_cell(out, PAGES, LINE, Piece::Markup("pages"))?;
     put_cell(out, OVERFLOW, LINE, Piece::Markup("of them overflow"))?;
-    put_cell(out, MIB, LINE, Piece::Markup("MiB"))?;
+    put_cell(out, SIZE, LINE, Piece::Markup("size"))?;
     put_cell(out, SHARE, LINE, Piece::Markup("%"))?;
     out.put(b"</g>\n")
 }
@@ -147,11 +188,11 @@ const PAGES: u32 = 580;
 
 const OVERFLOW: u32 = 710;
 
-const MIB: u32 = 790;
+const SIZE: u32 = 790;
 
 const SHARE: u32 = 860;
 
-// Puts how many pages a line is of.
+// Puts how many pages a line is of, and their size.
 fn put_share<O: Out>(
     out: &mut O,
     share: Share,
@@ -160,22 +201,23 @@ fn put_share<O: Out>(
 ) -> Result<(), WriteFailed>
     ensures { PutsSome result (O.held out.old) (O.held out.new) }
 {
-    let mib = tenths_of_mib(share.pages, geometry.page_size);
     put_cell(out, PAGES, y, Piece::Number(u64::from(share.pages)))?;
     if share.overflow != 0 {
         put_cell(out, OVERFLOW, y, Piece::Number(u64::from(share.overflow)))?;
     }
-    put_cell(out, MIB, y, Piece::Tenths(mib))?;
-    put_cell(
-        out,
-        SHARE,
-        y,
-        Piece::Tenths(tenths_of_percent(share.pages, geometry.pages)),
-    )?;
+    let [number, unit] = size(share.pages, geometry.page_size);
+    put_cells(out, SIZE, y, number, unit)
+}
+
+// Puts how many of all pages a line is of.
+fn put_percent<O: Out>(out: &mut O, pages: u32, all: u32, y: u32) -> Result<(), WriteFailed>
+    ensures { PutsSome result (O.held out.old) (O.held out.new) }
+{
+    put_cell(out, SHARE, y, Piece::Tenths(tenths_of_percent(pages, all)))?;
     out.put(b"\n")
 }
 
-// So many pages of all, in tenths of a per cent.
+// Some of all pages, in tenths of a per cent.
 fn tenths_of_percent(pages: u32, all: u32) -> u64 {
     let all = u64::from(all).max(1);
     (u64::from(pages) * 2000 + all) / (2 * all)
@@ -227,20 +269,13 @@ fn put_frame<O: Out>(out: &mut O, y: u32) -> Result<(), WriteFailed>
         &[
             Piece::Markup("<rect x=\"73\" y=\""),
             Piece::Number(u64::from(y.saturating_sub(9))),
-            Piece::Markup(
-                "\" width=\"10\" height=\"10\" fill=\"#FFFFFF\" stroke=\"#DD0000\" stroke-width=\"2\"/>",
-            ),
+            Piece::Markup(LEGEND_FRAME),
         ],
     )
 }
 
-// Puts what a line is of.
-fn put_label<A: Allocator, O: Out>(
-    out: &mut O,
-    names: &TreeNames<'_, A>,
-    label: Label,
-    y: u32,
-) -> Result<(), WriteFailed>
+// Begins the text of a line.
+fn put_label_front<O: Out>(out: &mut O, y: u32) -> Result<(), WriteFailed>
     ensures { PutsSome result (O.held out.old) (O.held out.new) }
 {
     put_all(
@@ -250,35 +285,71 @@ fn put_label<A: Allocator, O: Out>(
             Piece::Number(u64::from(y)),
             Piece::Markup("\">"),
         ],
-    )?;
-    put_words(out, names, label)?;
-    out.put(b"</text>")
+    )
 }
 
-// Puts its words.
-fn put_words<A: Allocator, O: Out>(
+// Puts what a line is of.
+fn put_label<A: Allocator, O: Out>(
     out: &mut O,
     names: &TreeNames<'_, A>,
+    labels: &Labels,
     label: Label,
+    y: u32,
 ) -> Result<(), WriteFailed>
     ensures { PutsSome result (O.held out.old) (O.held out.new) }
 {
+    put_label_front(out, y)?;
     match label {
-        Label::Tree(_, start) => {
-            let tree = shown_tree(names, start);
-            put_all(out, &[Piece::Shown(&tree, NAME_WIDTH)])
-        }
-        Label::Others(1) => out.put(b"1 other tree"),
+        Label::Tree(rank, start) => put_tree(out, names, labels, rank, start)?,
+        Label::Others(1) => out.put(b"1 other tree")?,
         Label::Others(count) => put_all(
             out,
             &[
                 Piece::Number(u64::from(count)),
                 Piece::Markup(" other trees"),
             ],
-        ),
-        Label::Freelist => out.put(b"freelist"),
-        Label::Fixed => out.put(b"pointer map and lock-byte page"),
-        Label::Nobody => out.put(b"in no tree, overflow chain or freelist"),
-        Label::Faulty => out.put(b"pages with a fault"),
+        )?,
+        Label::Freelist => out.put(b"freelist")?,
+        Label::Fixed => out.put(b"pointer map and lock-byte page")?,
+        Label::Nobody => out.put(b"in no tree, overflow chain or freelist")?,
+        Label::Faulty => out.put(b"pages with a fault")?,
+    }
+    out.put(b"</text>")
+}
+
+// Puts the name of a tree, with its root page where another one has the same name.
+fn put_tree<A: Allocator, O: Out>(
+    out: &mut O,
+    names: &TreeNames<'_, A>,
+    labels: &Labels,
+    rank: usize,
+    start: u32,
+) -> Result<(), WriteFailed>
+    ensures { PutsSome result (O.held out.old) (O.held out.new) }
+{
+    let Some(name) = labels.get(rank) else {
+        return Ok(());
+    };
+    put_all(out, &[Piece::Shown(name, NAME_WIDTH)])?;
+    if !labels.is_twice(rank, NAME_WIDTH) {
+        return Ok(());
+    }
+    put_all(
+        out,
+        &[
+            Piece::Markup(", root page "),
+            Piece::Number(u64::from(root_page(names, start))),
+        ],
+    )
+}
+
+// The root page of the tree of a start.
+fn root_page<A: Allocator>(names: &TreeNames<'_, A>, start: u32) -> u32 {
+    if start == 0 {
+        return 1;
+    }
+    match names.roots.get(start) {
+        Some(row) => row.root,
+        None => 0,
     }
 }

@@ -7,22 +7,31 @@
 //! let verdict = map(alloc, "shop.db", &mut source, &mut out)?;
 //! ```
 //!
-//! [`map`] reads the file as a check does, and writes no line of a fault: its sink counts the faults, and notes the pages that they
-//! are told at. When the walks and the end are done, the marks and the list of roots say which tree each page belongs to
+//! [`map`] reads the file as a check does, and writes no line of a fault: its reporter counts the faults, and notes the pages that
+//! they are found at. When the walks and the end are done, the marks and the list of roots say which tree each page belongs to
 //! (`dbowner`); a first pass over the pages counts those of each tree, and a second one writes the squares.
 //!
 //! What is proved is that the file is read as a check reads it, and that the verdict is the check's. Of the picture it is proved
 //! that no text of the file or of the command line comes into it but escaped (`dbxml`); its bytes are tested.
 #![tactic(auto)]
 
+mod bands;
 mod cell;
 mod colours;
+mod faulty;
+mod frame;
 mod grid;
+mod kept;
+mod labels;
 mod legend;
 mod map_sink;
 mod maps;
+mod outlines;
 mod page_set;
+mod pen;
 mod picture;
+mod run;
+mod size;
 mod squares;
 mod tally;
 

@@ -1,84 +1,98 @@
-// The sink of a map.
+// The reporter of a map.
 ghost use Rattle.std.specs.Prelude.{◌≡◌};
-ghost use Rattle.dbmap.specs.MapSink.{verdict_of};
+ghost use Rattle.dbmap.specs.MapSink.{Notes, map_held, verdict_of};
 
-use crate::page_set::PageSet;
+use crate::kept::Kept;
+use crate::maps::put_map;
 use dbformat::Verdict;
-use dbscan::{Start, TreeSink};
-use dbsource::WriteFailed;
-use dbwalk::{Fault, Row, Sink};
+use dbscan::{Desk, Finish, Notice, Reporter};
+use dbsource::{Geometry, Out, RunError, Source, WriteFailed};
+use dbwalk::{Fault, Marks};
 use std::alloc::Allocator;
 
-/// Counts faults, and notes the pages that they are told at. It takes all that it is told.
+// Counts faults, and notes the pages that they are found at. When the file has been heard it puts the picture.
 #[derive(Drop)]
-pub(crate) struct MapSink<A: Allocator> {
-    pub(crate) faults: u64,
-    pub(crate) faulty: PageSet<A>,
+pub(crate) struct MapSink<'a, A: Allocator, O> {
+    name: &'a str,
+    kept: &'a mut Kept<A>,
+    out: &'a mut O,
+    faults: u64,
 }
 
-impl<A: Allocator> MapSink<A> {
-    /// One that was told nothing.
-    pub(crate) fn new(faulty: PageSet<A>) -> MapSink<A>
-        ensures { result.faults ≡ 0 }
+impl<'a, A: Allocator, O: Out> MapSink<'a, A, O> {
+    // One that has heard nothing.
+    pub(crate) fn new(name: &'a str, kept: &'a mut Kept<A>, out: &'a mut O) -> MapSink<'a, A, O>
+        ensures same_out { result.out.ghost_name ≡ out.entry.ghost_name }
+        ensures out { result.out.now ≡ out.old }
+        ensures faults { result.faults ≡ 0 }
     {
-        MapSink { faults: 0, faulty }
+        MapSink {
+            name,
+            kept,
+            out,
+            faults: 0,
+        }
     }
 
-    /// What was found.
-    pub(crate) fn verdict(&self) -> Verdict
+    // Counts a fault, and notes its page.
+    fn note(&mut self, fault: &Fault)
+        ensures counted { Notes self.old fault.now self.new }
+        ensures held { map_held O.held self.new ≡ map_held O.held self.old }
+    {
+        self.faults = self.faults.saturating_add(1);
+        self.kept.faulty.note(fault.page, fault.code);
+    }
+
+    // What was found.
+    fn verdict(&self) -> Verdict
         ensures { result ≡ verdict_of self.now.faults }
     {
-        if self.faults == 0 {
-            Verdict::Clean
-        } else {
-            Verdict::Faulty(self.faults)
+        match self.faults {
+            0 => Verdict::Clean,
+            count => Verdict::Faulty(count),
         }
     }
 }
 
-impl<A: Allocator> Sink for MapSink<A> {
-    ghost use Rattle.std.specs.Prelude.{[]};
-    ghost use Rattle.dbmap.specs.MapSink.{Notes};
+// Where a fault is found is nothing to a map.
+impl<A: Allocator, O: Out> Reporter for MapSink<'_, A, O> {
+    ghost use Rattle.dbscan.specs.Notices.{CutsFaults, HearsFaults};
+    ghost use Rattle.dbmap.specs.MapSink.{Notes, map_held};
 
-    ghost takes = { Notes };
+    ghost hears = { HearsFaults Notes };
 
-    ghost drops = { λ s item t. ⊥ };
+    ghost cuts = { CutsFaults (λ s f t. ⊥) };
 
-    ghost held = { λ s. record { lent = []; failures = [] } };
+    ghost held = { map_held O.held };
 
-    fn fault(&mut self, fault: &Fault) -> Result<(), WriteFailed> {
-        self.faults = self.faults.saturating_add(1);
-        self.faulty.note(fault.page);
+    fn hear(&mut self, notice: &Notice<'_>) -> Result<(), WriteFailed> {
+        match notice {
+            Notice::Whole(fault) | Notice::Fault(_, fault, _) => self.note(fault),
+            Notice::Row(_, _) | Notice::Ended(_) => {}
+        }
         Ok(())
     }
 
-    fn row(&mut self, _row: &Row<'_>) -> Result<(), WriteFailed> {
+    fn walked<B: Allocator>(
+        &mut self,
+        _geometry: Geometry,
+        _marks: &Marks<B>,
+    ) -> Result<(), WriteFailed> {
         Ok(())
     }
 }
 
-// Where a fault is found is nothing to a map.
-impl<A: Allocator> TreeSink for MapSink<A> {
-    ghost use Rattle.std.specs.Prelude.{◌≡◌};
-    ghost use Rattle.dbmap.specs.MapSink.{Notes};
+impl<A: Allocator, O: Out> Finish<Desk<A>> for MapSink<'_, A, O> {
+    ghost use Rattle.dbmap.specs.MapSink.{LeavesMap};
 
-    ghost takes_at = { λ s at item t. Notes s item t };
+    ghost leaves = { LeavesMap };
 
-    ghost drops_at = { λ s at item t. ⊥ };
-
-    ghost ends = { λ s at t. t ≡ s };
-
-    ghost cuts = { λ s at t. ⊥ };
-
-    fn fault_at(&mut self, _start: &Start<'_>, fault: &Fault) -> Result<(), WriteFailed> {
-        self.fault(fault)
-    }
-
-    fn row_at(&mut self, _start: &Start<'_>, _row: &Row<'_>) -> Result<(), WriteFailed> {
-        Ok(())
-    }
-
-    fn end_tree(&mut self, _start: &Start<'_>) -> Result<(), WriteFailed> {
-        Ok(())
+    fn finish<S: Source>(
+        &mut self,
+        desk: &mut Desk<A>,
+        _source: &mut S,
+    ) -> Result<Verdict, RunError> {
+        put_map(self.name, desk, self.kept, self.faults, self.out)?;
+        Ok(self.verdict())
     }
 }

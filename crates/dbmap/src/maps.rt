@@ -1,87 +1,63 @@
 // A map: from the bytes of a database to its picture.
 ghost use Rattle.std.specs.Prelude.{◌≡◌, List, IfErr, IfOk};
-ghost use Rattle.dbformat.specs.FixedPages.{IsInRange};
 ghost use Rattle.dbformat.specs.Log.{IsPageLog};
 ghost use Rattle.dbformat.specs.Reference.{Reference};
 ghost use Rattle.dbformat.specs.Report.{faults, verdict};
 ghost use Rattle.dbformat.specs.Survey.{Survey};
 ghost use Rattle.dbsource.specs.Errors.{is_read_failed, is_write_failed};
 ghost use Rattle.dbsource.specs.Failures.{failures_after};
-ghost use Rattle.dbsource.specs.Headers.{IsHeaderOf};
 ghost use Rattle.dbsource.specs.Snapshots.{HasReadBehind};
-ghost use Rattle.dbsource.specs.Sources.{Asks};
 ghost use Rattle.dbwalk.specs.Telling.{IsReadWriteOrMemory};
 ghost use Rattle.dbscan.specs.DeskSizes.{DeskFitsInMemory};
-ghost use Rattle.dbscan.specs.Desks.{IsFresh, shape_of};
+ghost use Rattle.dbscan.specs.Desks.{shape_of};
 ghost use Rattle.dbreport.specs.Runs.{FailsOnce, IsUntouched};
 ghost use Rattle.dbmap.specs.Maps.{HasMap};
 ghost use Rattle.dbxml.specs.Puts.{PutsSome};
 
+use crate::kept::{Kept, Owners};
 use crate::legend::Legend;
 use crate::map_sink::MapSink;
-use crate::page_set::PageSet;
 use crate::picture::{Heading, put_picture};
 use crate::squares::Squares;
-use crate::tally::Tally;
-use dbformat::{Geometry, Verdict};
-use dbowner::{PageTrees, TreeNames};
-use dbscan::{Desk, scan};
-use dbsource::{HeadedSource, Header, Out, RunError, Source, WriteFailed};
+use dbformat::Verdict;
+use dbowner::TreeNames;
+use dbreport::open_in;
+use dbscan::{Desk, run_over};
+use dbsource::{Out, RunError, Source, WriteFailed};
 use dbxml::Shown;
-use std::alloc::{AllocError, Allocator, Global};
+use std::alloc::{Allocator, Global};
 
-// Whose the pages are: the tree of each page, and the pages of each tree.
-#[derive(Drop)]
-struct Owners<A: Allocator = Global> {
-    trees: PageTrees<A>,
-    tally: Tally<A>,
-}
-
-// What a map keeps of a file beside what a check keeps.
-#[derive(Drop)]
-struct Kept<A: Allocator = Global> {
-    owners: Owners<A>,
-    // The pages that faults are told at.
-    faulty: PageSet<A>,
-}
-
-impl<A: Allocator + Copy> Kept<A> {
-    // Of a file of which nothing is known yet, each part in one growth.
-    fn new_in(alloc: A, geometry: &Geometry) -> Result<Kept<A>, AllocError>
-        requires { IsInRange geometry.now }
-    {
-        let trees = PageTrees::new_in(alloc, geometry)?;
-        let tally = Tally::new_in(alloc)?;
-        let faulty = PageSet::new_in(alloc, geometry.pages)?;
-        Ok(Kept {
-            owners: Owners { trees, tally },
-            faulty,
-        })
-    }
-}
-
-// Puts the picture of a file whose pages were walked over.
-fn put_map<A: Allocator, O: Out>(
+/// Puts the picture of a file whose pages have been visited, and in which so many faults were found; once.
+///
+/// # Errors
+///
+/// [`WriteFailed`] where the Out failed.
+pub(crate) fn put_map<A: Allocator, O: Out>(
     name: &str,
     desk: &Desk<A>,
-    owners: Owners<A>,
-    sink: &MapSink<A>,
+    kept: &mut Kept<A>,
+    faults: u64,
     out: &mut O,
 ) -> Result<(), WriteFailed>
     ensures { PutsSome result (O.held out.old) (O.held out.new) }
 {
-    let Owners {
-        mut trees,
-        mut tally,
-    } = owners;
+    let Some(
+        Owners {
+            mut trees,
+            mut tally,
+        },
+    ) = kept.owners.take()
+    else {
+        return Ok(());
+    };
     trees.enter_roots(desk.marks(), desk.roots());
     tally.count(desk.marks(), &mut trees);
     let largest = tally.largest();
-    let legend = Legend::new(&tally, largest.as_slice(), sink.faulty.count());
+    let legend = Legend::new(&tally, largest.as_slice(), kept.faulty.count());
     let heading = Heading {
         name,
         geometry: desk.geometry(),
-        faults: sink.faults,
+        faults,
     };
     let names = TreeNames {
         encoding: desk.header().encoding(),
@@ -92,7 +68,7 @@ fn put_map<A: Allocator, O: Out>(
         marks: desk.marks(),
         names,
         trees,
-        faulty: &sink.faulty,
+        faulty: &kept.faulty,
         largest,
         name: Shown::new(),
         named: None,
@@ -100,33 +76,11 @@ fn put_map<A: Allocator, O: Out>(
     put_picture(out, &heading, &mut squares, &legend)
 }
 
-// Puts the picture of a file, by its header, and answers what was found.
-fn map_file<A: Allocator, S: Source, O: Out>(
-    name: &str,
-    desk: &mut Desk<A>,
-    kept: Kept<A>,
-    source: &mut S,
-    out: &mut O,
-) -> Result<Verdict, RunError>
-    requires fresh { IsFresh desk.old }
-    ensures asks { Asks S.step (IsPageLog (shape_of desk.old)) (λ file. IsHeaderOf desk.old.header file
-        → (V : List Reference) → Survey file V → IfOk result (λ v. v ≡ verdict (faults file V)))
-        is_read_failed result (S.held source.old) (S.held source.new) }
-    ensures writes { (O.held out.new).failures ≡ failures_after is_write_failed result (O.held out.old).failures }
-    ensures only { IfErr result IsReadWriteOrMemory }
-{
-    let Kept { owners, faulty } = kept;
-    let mut sink = MapSink::new(faulty);
-    scan(desk, source, &mut sink)?;
-    put_map(name, desk, owners, &sink, out)?;
-    Ok(sink.verdict())
-}
-
-// The same of the file whose header is on the desk.
+// A map of the file whose header is on the desk.
 fn map_on<A: Allocator, S: Source, O: Out>(
     name: &str,
     desk: &mut Desk<A>,
-    kept: Kept<A>,
+    kept: &mut Kept<A>,
     source: &mut S,
     out: &mut O,
 ) -> Result<Verdict, RunError>
@@ -137,10 +91,8 @@ fn map_on<A: Allocator, S: Source, O: Out>(
     ensures writes { (O.held out.new).failures ≡ failures_after is_write_failed result (O.held out.old).failures }
     ensures only { IfErr result IsReadWriteOrMemory }
 {
-    desk.renew();
-    let header = *desk.header();
-    let mut headed = HeadedSource::new(&header, source);
-    map_file(name, desk, kept, &mut headed, out)
+    let mut sink = MapSink::new(name, kept, out);
+    run_over(desk, source, &mut sink)
 }
 
 /// Does what [`map`] does, in memory from any allocator: the clauses are the same.
@@ -160,11 +112,9 @@ pub fn map_in<A: Allocator + Copy, S: Source, O: Out>(
     ensures failed { FailsOnce S.Source O.Out result (source.old, out.old) (source.new, out.new) }
     ensures refused { IsUntouched S.Source O.Out result (source.old, out.old) (source.new, out.new) }
 {
-    let header = Header::read(source)?;
-    let geometry = header.geometry();
-    let mut desk = Desk::new_in(alloc, header)?;
-    let kept = Kept::new_in(alloc, &geometry)?;
-    map_on(name, &mut desk, kept, source, out)
+    let mut desk = open_in(alloc, source)?;
+    let mut kept = Kept::new_in(alloc, &desk.geometry())?;
+    map_on(name, &mut desk, &mut kept, source, out)
 }
 
 /// Reads the database that `source` gives, and puts a picture of its pages to `out`, an SVG with `name` as the file's name. It

@@ -2,16 +2,15 @@
 ghost use Rattle.dbxml.specs.Puts.{PutsSome};
 
 use crate::grid::Grid;
+use crate::labels::Labels;
 use crate::legend::Legend;
-use crate::squares::{NAME_WIDTH, Squares};
-use dbsource::{Geometry, Out, WriteFailed};
+use crate::size::size;
+use crate::squares::{Layout, NAME_WIDTH, Squares};
+use dbsource::{Geometry, Header, Out, WriteFailed};
 use dbxml::{Piece, Shown, put_all, shown_file};
 use std::alloc::Allocator;
 
-/// Where the first row of squares begins.
-pub(crate) const TOP: u64 = 64;
-
-/// Where each row begins; its first page stands before it.
+/// Where each row begins; its first page is written before it.
 pub(crate) const LEFT: u64 = 72;
 
 const WIDTH: u64 = 988;
@@ -22,12 +21,6 @@ pub(crate) struct Heading<'a> {
     pub(crate) name: &'a str,
     pub(crate) geometry: Geometry,
     pub(crate) faults: u64,
-}
-
-/// So many pages in tenths of a MiB.
-pub(crate) fn tenths_of_mib(pages: u32, page_size: u32) -> u64 {
-    let kib = u64::from(pages) * u64::from(page_size) / 512;
-    (kib * 5 + 512) / 1024
 }
 
 // What begins the picture: its size, its name for who does not see it, the hatching, and a white ground.
@@ -52,7 +45,7 @@ fn put_head<O: Out>(out: &mut O, file: &Shown, height: u64) -> Result<(), WriteF
             Piece::Markup("\">\n<title>Pages of "),
             Piece::Shown(file, NAME_WIDTH),
             Piece::Markup(
-                "</title>\n<defs><pattern id=\"unowned\" width=\"4\" height=\"4\" patternUnits=\"userSpaceOnUse\" patternTransform=\"rotate(45)\"><rect width=\"4\" height=\"4\" fill=\"#FFFFFF\"/><rect width=\"1.5\" height=\"4\" fill=\"#444444\"/></pattern></defs>\n",
+                "</title>\n<defs><pattern id=\"unowned\" width=\"4\" height=\"4\" patternUnits=\"userSpaceOnUse\" patternTransform=\"rotate(45)\"><rect width=\"4\" height=\"4\" fill=\"#FFFFFF\"/><rect width=\"2\" height=\"4\" fill=\"#444444\"/></pattern></defs>\n",
             ),
             Piece::Markup("<rect width=\"100%\" height=\"100%\" fill=\"#FFFFFF\"/>\n"),
         ],
@@ -79,6 +72,7 @@ fn put_size<O: Out>(out: &mut O, geometry: Geometry) -> Result<(), WriteFailed>
     } else {
         " pages of "
     };
+    let [number, unit] = size(geometry.pages, geometry.page_size);
     put_all(
         out,
         &[
@@ -86,8 +80,9 @@ fn put_size<O: Out>(out: &mut O, geometry: Geometry) -> Result<(), WriteFailed>
             Piece::Markup(pages),
             Piece::Number(u64::from(geometry.page_size)),
             Piece::Markup(" bytes ("),
-            Piece::Tenths(tenths_of_mib(geometry.pages, geometry.page_size)),
-            Piece::Markup(" MiB), "),
+            number,
+            unit,
+            Piece::Markup("), "),
         ],
     )
 }
@@ -131,6 +126,44 @@ fn put_heading<O: Out>(
     put_unit(out, grid)
 }
 
+// Puts the first page of a row.
+fn put_row_name<O: Out>(out: &mut O, grid: &Grid, row: u32) -> Result<(), WriteFailed>
+    ensures { PutsSome result (O.held out.old) (O.held out.new) }
+{
+    put_all(
+        out,
+        &[
+            Piece::Markup("<text x=\"64\" y=\""),
+            Piece::Number(grid.top_of(row) + u64::from(grid.side() / 2 + 3)),
+            Piece::Markup("\">"),
+            Piece::Number(grid.page_of_row(row)),
+            Piece::Markup("</text>\n"),
+        ],
+    )
+}
+
+// Puts the first page of each row before it, or of each second one where rows are narrow.
+fn put_row_names<O: Out>(out: &mut O, grid: &Grid) -> Result<(), WriteFailed>
+    ensures { PutsSome result (O.held out.old) (O.held out.new) }
+{
+    out.put(b"<g font-size=\"10\" fill=\"#666666\" text-anchor=\"end\">\n")?;
+    for row in 0..grid.rows() {
+        if grid.side() > 10 || row % 2 == 0 {
+            put_row_name(out, grid, row)?;
+        }
+    }
+    out.put(b"</g>\n")
+}
+
+// The number of pages that the header states, where it counts.
+fn stated_pages(header: &Header) -> u32 {
+    if header.is_size_valid() {
+        header.stated_pages()
+    } else {
+        0
+    }
+}
+
 /// Puts the picture.
 ///
 /// # Errors
@@ -145,12 +178,16 @@ pub(crate) fn put_picture<A: Allocator, O: Out>(
     ensures { PutsSome result (O.held out.old) (O.held out.new) }
 {
     let file = shown_file(heading.name);
-    let grid = Grid::new(heading.geometry.pages);
-    let bottom = TOP + u64::from(grid.rows()) * u64::from(grid.side());
-    put_head(out, &file, bottom + u64::from(legend.height()))?;
+    let grid = Grid::new(heading.geometry.pages, stated_pages(squares.header));
+    let layout = Layout {
+        grid,
+        labels: Labels::new(&squares.names, squares.largest.as_slice()),
+    };
+    let bottom = grid.top_of(grid.rows());
+    put_head(out, &file, bottom + u64::from(legend.height(&grid)))?;
     put_heading(out, heading, &file, &grid)?;
-    squares.put_row_names(out, &grid)?;
-    squares.put_squares(out, &grid)?;
-    legend.put(out, squares.names(), heading.geometry, bottom)?;
+    put_row_names(out, &grid)?;
+    squares.put_squares(out, &layout)?;
+    legend.put(out, squares, &layout, bottom)?;
     out.put(b"</svg>\n")
 }

@@ -1,11 +1,16 @@
-// The squares of the picture.
+// The squares of the picture, row by row.
 ghost use Rattle.dbxml.specs.Puts.{PutsSome};
 
-use crate::cell::{Cell, Most, Owner, is_overflow};
-use crate::colours::fill;
+use crate::cell::{Cell, Owner, is_overflow};
+use crate::faulty::Faulty;
+use crate::frame::{Frame, inset, tail};
 use crate::grid::Grid;
-use crate::page_set::PageSet;
-use crate::picture::{LEFT, TOP};
+use crate::labels::Labels;
+use crate::outlines::put_outlines;
+use crate::page_set::{Codes, PageSet};
+use crate::pen::Pen;
+use crate::picture::LEFT;
+use crate::run::Run;
 use crate::tally::{COLOURED, Tree, rank_of};
 use arrayvec::ArrayVec;
 use dbowner::{
@@ -33,23 +38,14 @@ pub(crate) struct Squares<'a, A: Allocator> {
     pub(crate) named: Option<u32>,
 }
 
-// Whose a square is, and whether it has the shade of overflow pages.
-type Shade = (Owner, bool);
-
-/// Where a square stands in its row, and how large it is.
-#[derive(Clone, Copy)]
-struct Square {
-    x: u32,
-    y: u32,
-    side: u32,
+/// Where the squares are, and the names of the largest trees.
+#[derive(Drop)]
+pub(crate) struct Layout {
+    pub(crate) grid: Grid,
+    pub(crate) labels: Labels,
 }
 
 impl<'a, A: Allocator> Squares<'a, A> {
-    /// The names of the trees.
-    pub(crate) fn names(&self) -> &TreeNames<'a, A> {
-        &self.names
-    }
-
     // Whose a page is that is this and belongs to this start.
     fn owner(&self, place: Place, start: Option<u32>) -> Owner {
         match place {
@@ -62,32 +58,30 @@ impl<'a, A: Allocator> Squares<'a, A> {
         }
     }
 
-    // Who owns most of some pages.
-    fn most(&mut self, first: u32, last: u32) -> Most {
+    // Whose some pages are.
+    fn cell(&mut self, first: u32, last: u32) -> Cell {
         let mut cell = Cell::new();
         for page in first..=last {
             let place = place_of(self.marks, page);
             let start = self.trees.start_of(self.marks, page);
             cell.add(self.owner(place, start), is_overflow(place));
         }
-        cell.most()
+        cell
     }
 
-    /// Puts the first page of each row before it, or of each second one where rows are narrow.
-    ///
-    /// # Errors
-    ///
-    /// [`WriteFailed`] where the Out failed.
-    pub(crate) fn put_row_names<O: Out>(&self, out: &mut O, grid: &Grid) -> Result<(), WriteFailed>
-        ensures { PutsSome result (O.held out.old) (O.held out.new) }
-    {
-        out.put(b"<g font-size=\"10\" fill=\"#666666\" text-anchor=\"end\">\n")?;
-        for row in 0..grid.rows() {
-            if grid.side() > 10 || row % 2 == 0 {
-                put_row_name(out, grid, row)?;
+    // What is shown of the faults of some pages.
+    fn faulty(&self, first: u32, last: u32) -> Faulty {
+        if self.faulty.any(first, last) {
+            Faulty {
+                frame: Frame::Strong,
+                codes: self.faulty.codes_of(first, last),
+            }
+        } else {
+            Faulty {
+                frame: Frame::None,
+                codes: Codes::default(),
             }
         }
-        out.put(b"</g>\n")
     }
 
     /// Puts all squares.
@@ -98,62 +92,72 @@ impl<'a, A: Allocator> Squares<'a, A> {
     pub(crate) fn put_squares<O: Out>(
         &mut self,
         out: &mut O,
-        grid: &Grid,
+        layout: &Layout,
     ) -> Result<(), WriteFailed>
         ensures { PutsSome result (O.held out.old) (O.held out.new) }
     {
-        for row in 0..grid.rows() {
-            self.put_row(out, grid, row)?;
+        let mut pen = Pen::new();
+        for row in 0..layout.grid.rows() {
+            self.put_row(out, layout, &mut pen, row)?;
         }
         Ok(())
     }
 
-    // Puts the squares of a row. Those of one fill that stand side by side have it from their group.
-    fn put_row<O: Out>(&mut self, out: &mut O, grid: &Grid, row: u32) -> Result<(), WriteFailed>
+    // Puts the squares of a row. Those of one fill that are side by side have it from their group.
+    fn put_row<O: Out>(
+        &mut self,
+        out: &mut O,
+        layout: &Layout,
+        pen: &mut Pen,
+        row: u32,
+    ) -> Result<(), WriteFailed>
         ensures { PutsSome result (O.held out.old) (O.held out.new) }
     {
-        let top = TOP + u64::from(row) * u64::from(grid.side());
-        put_all(
-            out,
-            &[
-                Piece::Markup("<g transform=\"translate("),
-                Piece::Number(LEFT),
-                Piece::Markup(","),
-                Piece::Number(top),
-                Piece::Markup(")\">\n"),
-            ],
-        )?;
-        let mut group = None;
-        let (first, last) = grid.cells_of_row(row);
-        for cell in first..=last {
-            group = Some(self.put_square(out, grid, cell, group)?);
+        let grid = &layout.grid;
+        put_row_front(out, grid, row)?;
+        let (first, end) = grid.cells_of_row(row);
+        for cell in first..end {
+            self.put_square(out, layout, pen, cell)?;
         }
-        out.put(b"</g>\n</g>\n")
+        pen.end(out)?;
+        put_outlines(out, grid, row)?;
+        out.put(b"</g>\n")
     }
 
-    // Puts a square behind those of a group, and answers what its own is filled for.
+    // Puts a square.
     fn put_square<O: Out>(
         &mut self,
         out: &mut O,
-        grid: &Grid,
+        layout: &Layout,
+        pen: &mut Pen,
         cell: u32,
-        group: Option<Shade>,
-    ) -> Result<Shade, WriteFailed>
+    ) -> Result<(), WriteFailed>
         ensures { PutsSome result (O.held out.old) (O.held out.new) }
     {
-        let square = square_at(grid, cell);
+        let grid = &layout.grid;
         let (first, last) = grid.pages_of(cell);
         if grid.run == 1 {
-            return self.put_page(out, grid, &square, first, group);
+            return self.put_page(out, grid, pen, cell);
         }
-        let most = self.most(first, last);
-        let shade = (most.owner, most.is_overflow());
-        put_group(out, group, shade)?;
-        let is_faulty = self.faulty.any(first, last);
-        put_front(out, &square, is_faulty)?;
-        self.put_run(out, first, last, &most)?;
-        put_back(out, &square, is_faulty)?;
-        Ok(shade)
+        let run = Run {
+            x: grid.x_of(cell),
+            first,
+            last,
+            cell: self.cell(first, last),
+            faulty: self.faulty(first, last),
+        };
+        let Some(number) = run.cell.only() else {
+            let bands = pen.credits.divide(&run.cell, grid.run);
+            return run.put_mixed(out, &layout.labels, &bands);
+        };
+        pen.change(
+            out,
+            (
+                Owner::numbered(number),
+                run.cell.share(number).is_overflow(),
+            ),
+        )?;
+        run.put_plain(out, grid, &layout.labels)
     }
 
     // Puts the square of a page.
@@ -161,62 +165,29 @@ impl<'a, A: Allocator> Squares<'a, A> {
         &mut self,
         out: &mut O,
         grid: &Grid,
-        square: &Square,
-        page: u32,
-        group: Option<Shade>,
-    ) -> Result<Shade, WriteFailed>
-        ensures { PutsSome result (O.held out.old) (O.held out.new) }
-    {
-        let place = place_of(self.marks, page);
-        let start = self.trees.start_of(self.marks, page);
-        let shade = (self.owner(place, start), is_overflow(place));
-        put_group(out, group, shade)?;
-        self.name(place_tree(place, start));
-        let fixed = self.header.geometry().fixed(page);
-        let words = page_words(page, place_front(fixed, place), &self.name, place);
-        if self.faulty.has(page) {
-            put_front(out, square, true)?;
-            out.put(b"page ")?;
-            put_all(out, &words)?;
-            put_back(out, square, true)?;
-        } else {
-            put_plain(out, square.x, grid.page_tail(), &words)?;
-        }
-        Ok(shade)
-    }
-
-    // Puts whose most of some pages are.
-    fn put_run<O: Out>(
-        &mut self,
-        out: &mut O,
-        first: u32,
-        last: u32,
-        most: &Most,
+        pen: &mut Pen,
+        cell: u32,
     ) -> Result<(), WriteFailed>
         ensures { PutsSome result (O.held out.old) (O.held out.new) }
     {
-        put_all(
-            out,
-            &[
-                Piece::Markup("pages "),
-                Piece::Number(u64::from(first)),
-                Piece::Markup(" to "),
-                Piece::Number(u64::from(last)),
-                Piece::Markup(": "),
-                Piece::Number(u64::from(most.share.pages)),
-                Piece::Markup(owner_words(most.owner)),
-            ],
-        )?;
-        self.name(self.start_of(most.owner));
-        put_all(out, &[Piece::Shown(&self.name, NAME_WIDTH)])
+        let (page, _) = grid.pages_of(cell);
+        let place = place_of(self.marks, page);
+        let start = self.trees.start_of(self.marks, page);
+        pen.change(out, (self.owner(place, start), is_overflow(place)))?;
+        self.name(place_tree(place, start));
+        let faulty = self.faulty(page, page);
+        let words = page_words(page, self.front(place, page), &self.name, place);
+        let x = grid.x_of(cell) + inset(grid.width, faulty.frame);
+        put_page_square(out, x, tail(grid.width, faulty.frame), &words, &faulty)
     }
 
-    // The start of one of the largest trees.
-    fn start_of(&self, owner: Owner) -> Option<u32> {
-        match owner {
-            Owner::Tree(rank) => self.largest.get(rank).map(|tree| tree.start),
+    // What stands before the tree of a page.
+    fn front(&self, place: Place, page: u32) -> &'static str {
+        let fixed = match place {
+            Place::Fixed => self.header.geometry().fixed(page),
             _ => None,
-        }
+        };
+        place_front(fixed, place)
     }
 
     // Makes the name that of the tree of a start, or nothing. Pages that follow one another are mostly of one tree.
@@ -232,17 +203,23 @@ impl<'a, A: Allocator> Squares<'a, A> {
     }
 }
 
-// A square of a grid.
-fn square_at(grid: &Grid, cell: u32) -> Square {
-    let side = grid.side();
-    Square {
-        x: grid.column_of(cell) * side,
-        y: 0,
-        side: side - 1,
-    }
+// Puts the beginning of the row.
+fn put_row_front<O: Out>(out: &mut O, grid: &Grid, row: u32) -> Result<(), WriteFailed>
+    ensures { PutsSome result (O.held out.old) (O.held out.new) }
+{
+    put_all(
+        out,
+        &[
+            Piece::Markup("<g transform=\"translate("),
+            Piece::Number(LEFT),
+            Piece::Markup(","),
+            Piece::Number(grid.top_of(row)),
+            Piece::Markup(")\">\n"),
+        ],
+    )
 }
 
-// What a page is, by its number: what stands before its tree, the tree, and the page that it is reached from, where it is no root.
+// What a page is, by its number: what comes before its tree, the tree, and the page that it is reached from, where it is no root.
 fn page_words<'a>(page: u32, front: &'static str, tree: &'a Shown, place: Place) -> [Piece<'a>; 6] {
     [
         Piece::Number(u64::from(page)),
@@ -257,131 +234,37 @@ fn page_words<'a>(page: u32, front: &'static str, tree: &'a Shown, place: Place)
     ]
 }
 
-// What stands behind a number of pages of an owner: for one of the largest trees, all but its name.
-fn owner_words(owner: Owner) -> &'static str {
-    match owner {
-        Owner::Tree(rank) if rank < COLOURED => " in ",
-        Owner::Tree(_) => " in other trees",
-        Owner::Freelist => " in the freelist",
-        Owner::Fixed => " of fixed use",
-        Owner::Nobody => " in no tree",
-    }
-}
-
-// Puts the first page of a row.
-fn put_row_name<O: Out>(out: &mut O, grid: &Grid, row: u32) -> Result<(), WriteFailed>
-    ensures { PutsSome result (O.held out.old) (O.held out.new) }
-{
-    let top = TOP + u64::from(row) * u64::from(grid.side());
-    put_all(
-        out,
-        &[
-            Piece::Markup("<text x=\"64\" y=\""),
-            Piece::Number(top + u64::from(grid.side() / 2 + 3)),
-            Piece::Markup("\">"),
-            Piece::Number(grid.page_of_row(row)),
-            Piece::Markup("</text>\n"),
-        ],
-    )
-}
-
-// Ends a group, and begins one of another fill, where a square has another.
-fn put_group<O: Out>(out: &mut O, group: Option<Shade>, shade: Shade) -> Result<(), WriteFailed>
-    ensures { PutsSome result (O.held out.old) (O.held out.new) }
-{
-    if group == Some(shade) {
-        return Ok(());
-    }
-    let end = if group.is_none() { "" } else { "</g>\n" };
-    let (owner, is_overflow) = shade;
-    put_all(
-        out,
-        &[
-            Piece::Markup(end),
-            Piece::Markup("<g fill=\""),
-            Piece::Markup(fill(owner, is_overflow)),
-            Piece::Markup("\">\n"),
-        ],
-    )
-}
-
-// Puts the square of a page without a fault.
-fn put_plain<O: Out>(
+// Puts the square of a page, with these words.
+fn put_page_square<O: Out>(
     out: &mut O,
     x: u32,
     tail: &'static str,
     words: &[Piece<'_>; 6],
+    faulty: &Faulty,
 ) -> Result<(), WriteFailed>
     ensures { PutsSome result (O.held out.old) (O.held out.new) }
 {
+    let is_faulty = faulty.frame != Frame::None;
+    let end = if is_faulty { "" } else { "</title></rect>\n" };
     put_all(
         out,
         &[
             Piece::Markup("<rect x=\""),
             Piece::Number(u64::from(x)),
             Piece::Markup(tail),
+            Piece::Markup(" "),
             words[0],
             words[1],
             words[2],
             words[3],
             words[4],
             words[5],
-            Piece::Markup("</title></rect>\n"),
+            Piece::Markup(end),
         ],
-    )
-}
-
-// Puts a rectangle up to its end.
-fn put_rectangle<O: Out>(out: &mut O, square: &Square) -> Result<(), WriteFailed>
-    ensures { PutsSome result (O.held out.old) (O.held out.new) }
-{
-    put_all(
-        out,
-        &[
-            Piece::Markup("<rect x=\""),
-            Piece::Number(u64::from(square.x)),
-            Piece::Markup("\" y=\""),
-            Piece::Number(u64::from(square.y)),
-            Piece::Markup("\" width=\""),
-            Piece::Number(u64::from(square.side)),
-            Piece::Markup("\" height=\""),
-            Piece::Number(u64::from(square.side)),
-            Piece::Markup("\""),
-        ],
-    )
-}
-
-// Puts what stands before the words on a square: the square itself, or the begin of one with a fault.
-fn put_front<O: Out>(out: &mut O, square: &Square, is_faulty: bool) -> Result<(), WriteFailed>
-    ensures { PutsSome result (O.held out.old) (O.held out.new) }
-{
-    if is_faulty {
-        return out.put(b"<g><title>");
-    }
-    put_rectangle(out, square)?;
-    out.put(b"><title>")
-}
-
-// Puts what stands behind them. The square with a fault is a red one, and within it, in white, its own.
-fn put_back<O: Out>(out: &mut O, square: &Square, is_faulty: bool) -> Result<(), WriteFailed>
-    ensures { PutsSome result (O.held out.old) (O.held out.new) }
-{
+    )?;
     if !is_faulty {
-        return out.put(b"</title></rect>\n");
+        return Ok(());
     }
-    out.put(b", with a fault</title>")?;
-    put_rectangle(out, square)?;
-    out.put(b" fill=\"#DD0000\"/>")?;
-    put_rectangle(out, &within(square))?;
-    out.put(b" stroke=\"#FFFFFF\"/></g>\n")
-}
-
-// What is seen of a square within its frame.
-fn within(square: &Square) -> Square {
-    let inset = if square.side > 8 { 3 } else { 2 };
-    Square {
-        x: square.x.saturating_add(inset),
-        y: square.y.saturating_add(inset),
-        side: square.side.saturating_sub(2 * inset),
-    }
+    faulty.put(out)?;
+    out.put(b"</title></rect>\n")
 }

@@ -3,7 +3,8 @@ ghost use Rattle.std.specs.Prelude.{◌≤◌};
 
 use crate::cell::{Share, is_overflow};
 use arrayvec::ArrayVec;
-use dbowner::{FREELIST_START, PageTrees, Place, place_of};
+use dbformat::FREELIST_START;
+use dbowner::{PageTrees, Place, place_of};
 use dbwalk::Marks;
 use std::alloc::{AllocError, Allocator, Global};
 

@@ -1,45 +1,57 @@
 -- What a check has written at each of its ends, and what it found, by the faults of the file.
-use Rattle.std.proofs.Common.{◌≡◌, ℕ, List, Option, Result, Err, sym, ap, ap₂, ◌∙◌, subst}
+use Rattle.std.proofs.Common.{◌≡◌, ◌∙◌, ℕ, List, None, Result, Ok, Err, inl, inr, subst, sym}
+use Rattle.std.specs.Prelude.{IfOk}
 use Rattle.dbsurvey.specs.Moves.{Moves}
 use Rattle.dbformat.specs.Reference.{Reference}
-use Rattle.dbformat.specs.Report.{check_text, faults, verdict}
+use Rattle.dbformat.specs.Report.{check_text, faults, report}
 use Rattle.dbformat.specs.Survey.{Survey}
+use Rattle.dbformat.specs.File.{refusal}
+use Rattle.dbformat.specs.declared.Command.TheVariants.{Check}
 use Rattle.dbformat.specs.declared.Verdict.{Verdict}
-use Rattle.dbsource.specs.Outs.{Begins, OutState, Puts, Writes}
+use Rattle.dbsource.specs.Outs.{OutState, Puts, Writes}
 use Rattle.dbsource.specs.declared.error.RunError.{RunError}
-use Rattle.dbtrace.specs.Finding.{Finding}
+use Rattle.dbsource.specs.declared.error.RunError.TheVariants.{WriteFailed}
 use Rattle.dbwalk.specs.Telling.{StopsBy}
-use Rattle.dbreport.specs.CheckSink.{Shows, Cuts, end_text, verdict_of}
-use Rattle.dbscan.specs.Findings.{faults_in}
-use Rattle.dbscan.specs.RunItems.{run_items}
-use Rattle.dbreport.specs.declared.checking.sink.CheckSink.{CheckSink}
+use Rattle.dbscan.specs.Finishes.{Leaves}
+use Rattle.dbscan.specs.Notices.{CutsFaults, HearsFaults, run_notices}
+use Rattle.dbscan.proofs.FaultsHeard.{faults_heard_by}
+use Rattle.dbreport.specs.CheckSink.{CutsFault, LeavesCheck, ShowsFault, end_text, verdict_of}
+use Rattle.dbreport.specs.declared.checking.CheckSink.{CheckSink}
+use Rattle.dbreport.proofs.RunAnswers.{if_ok}
+use Rattle.dbreport.proofs.RunReports.{check_answer, check_out}
 use Rattle.dbreport.proofs.Checks.{check_writes, check_finds, check_begins}
-use Rattle.dbscan.proofs.RunTold.{run_faults}
 
--- what an error leaves, where the Out ends as some other that is equal
-pub at_error : {A E O : Type 0} (held : O → OutState) (r : Result A E) (e : E) (old : Option (List ℕ)) (t u : O) (bytes : List ℕ)
-    → r ≡ Err e → Begins old (held t).bytes bytes → u ≡ t → Writes r old (held u).bytes bytes
-at_error held r e old t u bytes q b same = subst (λ x. Writes r old (held x).bytes bytes) (sym same) (subst (λ x. Writes x old (held t).bytes bytes) (sym q) b)
-
--- a check of the file, from a sink that was told nothing
-module _ {O : Type 0} (held : O → OutState) (file : List ℕ) (V : List Reference) (survey : Survey file V)
-    (limit : ℕ) (out : O) (s t : CheckSink O) (same : s.out.now ≡ out) (most : s.limit ≡ limit) (none : s.shown ≡ 0) (no_more : s.more ≡ 0) where
-  abbrev items : List Finding
-  items = run_items file V
-
-  the_text : check_text s.limit (faults_in items) ≡ check_text limit (faults file V)
-  the_text = ap₂ check_text most (run_faults file V survey)
-
+module _ {O : Type 0} (held : O → OutState) (file : List ℕ) (V : List Reference) (survey : Survey file V) where
   -- it stopped within what is told
-  pub scan_stopped : (e : RunError) → StopsBy (Shows held) (Cuts held) e s items t → Begins (held out).bytes (held t.out.now).bytes (check_text limit (faults file V))
-  scan_stopped e k = subst (λ l. Begins (held out).bytes (held t.out.now).bytes l) the_text
-      (subst (λ o. Begins (held o).bytes (held t.out.now).bytes (check_text s.limit (faults_in items))) same (check_begins held items s t none no_more e k))
+  check_stopped : (e : RunError) (s t : CheckSink O) → StopsBy (HearsFaults (ShowsFault held)) (CutsFaults (CutsFault held)) e s (run_notices file V) t → LeavesCheck held file V (Err e) s t
+  check_stopped e s t k none no_more =
+      (check_begins held (faults file V) s t none no_more e (faults_heard_by (ShowsFault held) (CutsFault held) {A = Verdict} file V survey (Err e) s t k), tt)
 
-  -- all was told
-  module _ (told : Moves (Shows held) s items t) where
-    pub all_written : {E : Type 0} (r : Result Verdict E) (u : OutState) → Puts r (held t.out.now) u (end_text t.shown t.more) → Writes r (held out).bytes u.bytes (check_text limit (faults file V))
-    all_written r u k = subst (λ l. Writes r (held out).bytes u.bytes l) the_text
-        (subst (λ o. Writes r (held o).bytes u.bytes (check_text s.limit (faults_in items))) same (check_writes held items s t none no_more told r u k).held)
+  -- all was told, and then the last line was put, or a beginning of it
+  module _ (s t u : CheckSink O) (told : Moves (HearsFaults (ShowsFault held)) s (run_notices file V) t) where
+    all : Moves (ShowsFault held) s (faults file V) t
+    all = faults_heard_by (ShowsFault held) (CutsFault held) {A = Unit {0}} file V survey (Ok tt) s t told
 
-    pub all_found : verdict_of t.shown t.more ≡ verdict (faults file V)
-    all_found = check_finds held items s t none no_more told ∙ ap verdict (run_faults file V survey)
+    pub check_cut : {X : Type 0} (x : X) → Puts {A = Verdict} (Err x) (held t.out.now) (held u.out.now) (end_text t.shown t.more) → LeavesCheck held file V (Err WriteFailed) s u
+    check_cut x puts none no_more = ((check_writes held (faults file V) s t none no_more all (Err x) (held u.out.now) puts).held, tt)
+
+    pub check_ended : {X : Type 0} (v : Verdict) → Puts {E = X} (Ok v) (held t.out.now) (held u.out.now) (end_text t.shown t.more) → v ≡ verdict_of t.shown t.more → LeavesCheck held file V (Ok v) s u
+    check_ended v puts found none no_more =
+        ((check_writes held (faults file V) s t none no_more all (Ok v) (held u.out.now) puts).held, found ∙ check_finds held (faults file V) s t none no_more all)
+
+  check_left : (r : Result Verdict RunError) (s t : CheckSink O) → Leaves (HearsFaults (ShowsFault held)) (CutsFaults (CutsFault held)) (LeavesCheck held) file V r s t → LeavesCheck held file V r s t
+  check_left r s t (inl h) = h
+  check_left r s t (inr (e, is, k)) = subst (λ (r : Result Verdict RunError). LeavesCheck held file V r s t) (sym is) (check_stopped e s t k)
+
+  -- the report of a check, on the Out that it was given
+  pub check_reported : (r : Result Verdict RunError) (s t : CheckSink O) (out after : O) (limit : ℕ) → s.out.now ≡ out → s.limit ≡ limit → s.shown ≡ 0 → s.more ≡ 0 → after ≡ t.out.now → refusal file ≡ None
+      → Leaves (HearsFaults (ShowsFault held)) (CutsFaults (CutsFault held)) (LeavesCheck held) file V r s t
+      → Writes r (held out).bytes (held after).bytes (report (Check limit) file V).out × IfOk r (λ v. (report (Check limit) file V).answer ≡ Ok v)
+  check_reported r s t out after limit same most none no_more end read h =
+      let k = check_left r s t h none no_more in (
+        check_out limit file V read r (held out).bytes (held after).bytes
+            (subst (λ o. Writes r (held o).bytes (held after).bytes (check_text limit (faults file V))) same
+            (subst (λ n. Writes r (held s.out.now).bytes (held after).bytes (check_text n (faults file V))) most
+            (subst (λ o. Writes r (held s.out.now).bytes (held o).bytes (check_text s.limit (faults file V))) (sym end) k.0))),
+        if_ok r (λ v e. check_answer limit file V read v e) k.1,
+      )

@@ -15,11 +15,9 @@ use Rattle.dbsource.specs.Outs.{Begins, OutState, Puts}
 use Rattle.dbsource.specs.declared.error.RunError.{RunError}
 use Rattle.dbsource.specs.declared.error.RunError.TheVariants.{ReadFailed, WriteFailed, OutOfMemory, Refused}
 use Rattle.dbsource.proofs.Puts.{appends_nothing, puts_then}
-use Rattle.dbtrace.specs.Finding.{Finding, told_row, told_fault}
 use Rattle.dbwalk.specs.Telling.{StopsBy}
-use Rattle.dbreport.specs.CheckSink.{PutsAll, ShowsFault, Shows, Cuts, end_text, verdict_of}
-use Rattle.dbscan.specs.Findings.{faults_in}
-use Rattle.dbreport.specs.declared.checking.sink.CheckSink.{CheckSink}
+use Rattle.dbreport.specs.CheckSink.{CutsFault, PutsAll, ShowsFault, end_text, verdict_of}
+use Rattle.dbreport.specs.declared.checking.CheckSink.{CheckSink}
 use Rattle.dbsource.proofs.Beginnings.{begins_nothing, begins_more, begins_after}
 
 counted_is : (n : ℕ) → n ≤ 2 ^ 64 - 1 → n ≡ counted (n + 0)
@@ -170,14 +168,13 @@ module _ {O : Type 0} (held : O → OutState) where
           (ap (λ n. lines n fs) none.1 ∙ ap (λ n. lines n (f ∷ fs)) (sym none.0)) put.held k
     ]
 
-  -- ---- finding after finding
+  -- ---- fault after fault
 
-  saw_all : (items : List Finding) (s t : CheckSink O) → s.shown ≤ s.limit → s.more ≤ 2 ^ 64 - 1 → Moves (Shows held) s items t → Saw s (faults_in items) t
+  saw_all : (fs : List Fault) (s t : CheckSink O) → s.shown ≤ s.limit → s.more ≤ 2 ^ 64 - 1 → Moves (ShowsFault held) s fs t → Saw s fs t
   saw_all [] s t l m h = subst (λ u. Saw s [] u) h (saw_none s m)
-  saw_all (told_row r ∷ items) s t l m h = saw_all items s t l m (subst (λ u. Moves (Shows held) u items t) h.1 h.2)
-  saw_all (told_fault f ∷ items) s t l m h =
+  saw_all (f ∷ fs) s t l m h =
       let b = bounds_kept s h.0 f h.1 l m in
-      saw_fault s h.0 f h.1 (faults_in items) t l (saw_all items h.0 t b.0 b.1 h.2)
+      saw_fault s h.0 f h.1 fs t l (saw_all fs h.0 t b.0 b.1 h.2)
 
   -- What is known where not all was told: what is held has grown by a beginning of the lines, on the same Out.
   abbrev Breaks : CheckSink O → List Fault → CheckSink O → Type 0
@@ -186,49 +183,43 @@ module _ {O : Type 0} (held : O → OutState) where
   breaks_here : (s t : CheckSink O) (fs : List Fault) → s ≡ t → Breaks s fs t
   breaks_here s t fs e = subst (λ u. Breaks s fs u) e (refl, begins_nothing (held s.out.now).bytes (lines (s.limit - s.shown) fs))
 
-  breaks_some : (items : List Finding) (s t : CheckSink O) → s.shown ≤ s.limit → s.more ≤ 2 ^ 64 - 1 → MovesBySome (Shows held) s items t → Breaks s (faults_in items) t
+  breaks_some : (fs : List Fault) (s t : CheckSink O) → s.shown ≤ s.limit → s.more ≤ 2 ^ 64 - 1 → MovesBySome (ShowsFault held) s fs t → Breaks s fs t
   breaks_some [] s t l m h = breaks_here s t [] h
-  breaks_some (i ∷ items) s t l m (inl h) = breaks_here s t (faults_in (i ∷ items)) h
-  breaks_some (told_row r ∷ items) s t l m (inr h) = breaks_some items s t l m (subst (λ u. MovesBySome (Shows held) u items t) h.1 h.2)
-  breaks_some (told_fault f ∷ items) s t l m (inr h) =
+  breaks_some (f ∷ fs) s t l m (inl h) = breaks_here s t (f ∷ fs) h
+  breaks_some (f ∷ fs) s t l m (inr h) =
       let b = bounds_kept s h.0 f h.1 l m in
-      let k = breaks_some items h.0 t b.0 b.1 h.2 in
-      (k.0 ∙ h.1.same_out, begins_fault s h.0 f h.1 (faults_in items) t l k.1)
+      let k = breaks_some fs h.0 t b.0 b.1 h.2 in
+      (k.0 ∙ h.1.same_out, begins_fault s h.0 f h.1 fs t l k.1)
 
-  breaks_stop : (items : List Finding) (s t : CheckSink O) → s.shown ≤ s.limit → s.more ≤ 2 ^ 64 - 1 → Stops (Shows held) (Cuts held) s items t → Breaks s (faults_in items) t
+  breaks_stop : (fs : List Fault) (s t : CheckSink O) → s.shown ≤ s.limit → s.more ≤ 2 ^ 64 - 1 → Stops (ShowsFault held) (CutsFault held) s fs t → Breaks s fs t
   breaks_stop [] s t l m h = absurd h
-  breaks_stop (told_row r ∷ items) s t l m (inl h) = absurd h
-  breaks_stop (told_fault f ∷ items) s t l m (inl h) =
+  breaks_stop (f ∷ fs) s t l m (inl h) =
       let room : s.limit - s.shown ≡ suc (s.limit - s.shown - 1) = let e = h.room in let less : s.shown < s.limit = grind (arith, nat_tests) in omega arith in (
         h.same_out,
-        begins_more (held s.out.now).bytes (held t.out.now).bytes (fault_line f) (lines (s.limit - s.shown - 1) (faults_in items)) (lines (s.limit - s.shown) (f ∷ faults_in items))
-            (ap (λ n. lines n (f ∷ faults_in items)) (sym room)) h.puts.held,
+        begins_more (held s.out.now).bytes (held t.out.now).bytes (fault_line f) (lines (s.limit - s.shown - 1) fs) (lines (s.limit - s.shown) (f ∷ fs))
+            (ap (λ n. lines n (f ∷ fs)) (sym room)) h.puts.held,
       )
-  breaks_stop (told_row r ∷ items) s t l m (inr h) = breaks_stop items s t l m (subst (λ u. Stops (Shows held) (Cuts held) u items t) h.1 h.2)
-  breaks_stop (told_fault f ∷ items) s t l m (inr h) =
+  breaks_stop (f ∷ fs) s t l m (inr h) =
       let b = bounds_kept s h.0 f h.1 l m in
-      let k = breaks_stop items h.0 t b.0 b.1 h.2 in
-      (k.0 ∙ h.1.same_out, begins_fault s h.0 f h.1 (faults_in items) t l k.1)
+      let k = breaks_stop fs h.0 t b.0 b.1 h.2 in
+      (k.0 ∙ h.1.same_out, begins_fault s h.0 f h.1 fs t l k.1)
 
-  breaks_by : (e : RunError) (items : List Finding) (s t : CheckSink O) → s.shown ≤ s.limit → s.more ≤ 2 ^ 64 - 1 → StopsBy (Shows held) (Cuts held) e s items t → Breaks s (faults_in items) t
-  breaks_by WriteFailed items s t l m h = breaks_stop items s t l m h
-  breaks_by ReadFailed items s t l m h = breaks_some items s t l m h
-  breaks_by OutOfMemory items s t l m h = breaks_some items s t l m h
-  breaks_by (Refused r) items s t l m h = breaks_some items s t l m h
+  breaks_by : (e : RunError) (fs : List Fault) (s t : CheckSink O) → s.shown ≤ s.limit → s.more ≤ 2 ^ 64 - 1 → StopsBy (ShowsFault held) (CutsFault held) e s fs t → Breaks s fs t
+  breaks_by WriteFailed fs s t l m h = breaks_stop fs s t l m h
+  breaks_by ReadFailed fs s t l m h = breaks_some fs s t l m h
+  breaks_by OutOfMemory fs s t l m h = breaks_some fs s t l m h
+  breaks_by (Refused r) fs s t l m h = breaks_some fs s t l m h
 
   -- ---- the whole check, from a sink that was told nothing
 
-  module _ (items : List Finding) (s t : CheckSink O) (none : s.shown ≡ 0) (no_more : s.more ≡ 0) where
-    abbrev found : List Fault
-    found = faults_in items
-
+  module _ (found : List Fault) (s t : CheckSink O) (none : s.shown ≡ 0) (no_more : s.more ≡ 0) where
     room : s.limit - s.shown ≡ s.limit
     room = omega arith
 
     -- all was told, and then the last line was put
-    module _ (moved : Moves (Shows held) s items t) where
+    module _ (moved : Moves (ShowsFault held) s found t) where
       saw : Saw s found t
-      saw = saw_all items s t (omega arith) (omega arith) moved
+      saw = saw_all found s t (omega arith) (omega arith) moved
 
       shown_is : t.shown ≡ length (take s.limit found)
       shown_is = let z : 0 + length (take s.limit found) ≡ length (take s.limit found) = omega arith in saw.shown ∙ ap₂ (λ a b. a + length (take b found)) none room ∙ z
@@ -247,9 +238,9 @@ module _ {O : Type 0} (held : O → OutState) where
       check_finds = ap₂ verdict_of shown_is more_is ∙ verdict_is s.limit found
 
     -- a beginning was told
-    module _ (e : RunError) (stopped : StopsBy (Shows held) (Cuts held) e s items t) where
+    module _ (e : RunError) (stopped : StopsBy (ShowsFault held) (CutsFault held) e s found t) where
       breaks : Breaks s found t
-      breaks = breaks_by e items s t (omega arith) (omega arith) stopped
+      breaks = breaks_by e found s t (omega arith) (omega arith) stopped
 
       pub check_begins : Begins (held s.out.now).bytes (held t.out.now).bytes (check_text s.limit found)
       check_begins = begins_more (held s.out.now).bytes (held t.out.now).bytes (lines s.limit found) (end_text (length (take s.limit found)) (counted (length (drop s.limit found)))) (check_text s.limit found)

@@ -3,6 +3,7 @@ pub mod Checks
 pub mod Flushed
 pub mod Hexes
 pub mod ListedNames
+pub mod Openings
 pub mod OtherRows
 pub mod RunAnswers
 pub mod RunLogs
@@ -14,6 +15,5 @@ pub mod StatSinks
 pub mod StatStarts
 pub mod StatTexts
 pub mod StatTrees
-pub mod StatWhole
 pub mod StatWrites
 pub mod SumLemmas

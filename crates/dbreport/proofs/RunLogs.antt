@@ -1,5 +1,5 @@
 -- What a run asks for: the header, and then pages.
-use Rattle.std.proofs.Common.{◌≡◌, ℕ, arith, false, List, [], ◌∷◌, length, None, refl, sym, subst, inl, inr, Ok, Err, Result}
+use Rattle.std.proofs.Common.{◌≡◌, ℕ, arith, false, List, [], ◌∷◌, length, None, refl, subst, inl, inr, Ok, Err, Result}
 use Rattle.dbformat.specs.File.{geometry, refusal_of}
 use Rattle.dbformat.specs.FixedPages.{geometry_of, IsInRange}
 use Rattle.dbformat.specs.Log.{header_range, IsPageLog, IsRunLog, IsSomeRunLog}
@@ -7,14 +7,13 @@ use Rattle.dbformat.specs.declared.ByteRange.{ByteRange}
 use Rattle.dbformat.specs.declared.Geometry.{Geometry}
 use Rattle.dbformat.specs.declared.Refusal.TheVariants.{Short, Magic, PageSize, Usable, NoPage, TooManyPages, MapAtLock}
 use Rattle.dbsource.specs.Answers.{Lengths, Step, given}
-use Rattle.dbsource.specs.Headed.{HeadedStep, headed}
 use Rattle.dbsource.specs.HeaderBytes.{HeaderBytes}
 use Rattle.dbsource.specs.Headers.{IsHeaderOf, IsOpenLog, IsRefusalOf, Opens}
 use Rattle.dbsource.specs.Snapshots.{HasRead, HasReadBehind}
-use Rattle.dbsource.specs.Sources.{HasLog, SourceState}
+use Rattle.dbsource.specs.Sources.{SourceState}
 use Rattle.dbsource.specs.declared.error.OpenError.{OpenError}
 use Rattle.dbsource.specs.declared.error.OpenError.TheVariants.{Refused, ReadFailed}
-use Rattle.dbsource.proofs.Runs.{opened, ran, read_behind, read_weaker}
+use Rattle.dbsource.proofs.Runs.{opened, ran, read_weaker}
 use Rattle.dbsource.proofs.Told.{told_all}
 
 no_pages : (g : Geometry) → IsPageLog g []
@@ -50,32 +49,6 @@ pub opened_some_log : (r : Result HeaderBytes OpenError) (log : List ByteRange) 
 opened_some_log r log e = (some_geometry, some_range, opened_log some_geometry r log e)
 
 -- ---- behind the header
-
--- what was asked of a source with its header before it, which a run made of a source and gave back
-pub behind_headed : {X : Type 0} {step : Step} {name name' : ℕ} {head' : List ℕ} {T : List ℕ → Type 0} (held : X → SourceState) (h own : HeaderBytes) {source first last after : X}
-    → own ≡ h → first ≡ source → after ≡ last → (refusal_of h.bytes h.file_len ≡ None) × (length h.bytes ≡ 100)
-    → HasLog (HeadedStep step) (IsPageLog (geometry_of h.bytes h.file_len)) (λ file. IsHeaderOf h file → T file) (headed name own.bytes (held first)) (headed name' head' (held last))
-    → HasReadBehind step (IsPageLog (geometry_of h.bytes h.file_len)) h T (held source) (held after)
-behind_headed {step = step} {name = name} {name' = name'} {head' = head'} {T = T} held h own {source = source} {first = first} {last = last} {after = after} same begun ended accepted log =
-    let P = IsPageLog (geometry_of h.bytes h.file_len) in
-    let Q = λ (file : List ℕ). IsHeaderOf h file → T file in
-    let a = subst (λ (x : HeaderBytes). HasLog (HeadedStep step) P Q (headed name x.bytes (held first)) (headed name' head' (held last))) same log in
-    let b = subst (λ x. HasLog (HeadedStep step) P Q (headed name h.bytes (held x)) (headed name' head' (held last))) begun a in
-    read_behind step name name' h head' T (held source) (held after) accepted.0 accepted.1
-    (subst (λ x. HasLog (HeadedStep step) P Q (headed name h.bytes (held source)) (headed name' head' (held x))) (sym ended) b)
-
--- of a file with this header, something weaker
-pub behind_weaker : {step : Step} {P : List ByteRange → Type 0} (h : HeaderBytes) (T : List ℕ → Type 0) {T' : List ℕ → Type 0} {old new : SourceState}
-    → HasReadBehind step P h T old new → ((file : List ℕ) → IsHeaderOf h file → T file → T' file) → HasReadBehind step P h T' old new
-behind_weaker h T k q = record {
-  log = k.log;
-  leads = k.leads;
-  told = k.told;
-  holds = k.holds;
-  there_is = k.there_is;
-  files = λ file is f. q file is (k.files file is f);
-  tells = k.tells;
-}
 
 -- nothing was asked for behind the header
 behind_none : {step : Step} {T : List ℕ → Type 0} (h : HeaderBytes) (s : SourceState) (file : List ℕ) → IsHeaderOf h file

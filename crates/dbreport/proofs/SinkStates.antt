@@ -33,7 +33,3 @@ one_failed (Err WriteFailed) a b m n h = by_once h.failures
     by_once : CountsAfter {A = Unit {0}} is_write_failed (Err WriteFailed) (m ∷ []) (n ∷ []) → n ≡ failures_after {A = Unit {0}} is_write_failed (Err WriteFailed) m
     by_once (inl k) = k.0
     by_once (inr k) = absurd k.1
-
--- the failures of an Out that ends as some other that is equal
-pub as_other : {O : Type 0} (held : O → OutState) (t u : O) (n : ℕ) → u ≡ t → (held t).failures ≡ n → (held u).failures ≡ n
-as_other held t u n same h = ap (λ x. (held x).failures) same ∙ h

@@ -1,6 +1,5 @@
 -- What the sink of the statistics writes of what it is told, notice after notice.
-use Rattle.std.proofs.Common.{◌≡◌, ℕ, ◌+◌, ◌⊎◌, inl, inr, Bool, true, false, not, List, [], ◌∷◌, ◌++◌, Result, Ok, Err, refl, sym, ap, ◌∙◌, subst, arith, append-nil}
-use Rattle.std.specs.Prelude.{OnOk}
+use Rattle.std.proofs.Common.{◌≡◌, ℕ, ◌+◌, ◌⊎◌, inl, inr, Bool, not, List, [], ◌∷◌, ◌++◌, Result, Ok, Err, refl, sym, ap, ◌∙◌, subst, arith, append-nil}
 use Rattle.std.specs.Io.KnownBytes.{Appends}
 use Rattle.dbsurvey.specs.Moves.{Moves, Stops, MovesBySome}
 use Rattle.dbformat.specs.Lines.{counted, fault_line}
@@ -13,17 +12,16 @@ use Rattle.dbsource.specs.declared.error.RunError.TheVariants.{ReadFailed, Write
 use Rattle.dbsource.proofs.Beginnings.{begins_more}
 use Rattle.dbsource.proofs.Puts.{appends_nothing}
 use Rattle.dbtrace.specs.Finding.{told_row, told_fault}
-use Rattle.dbwalk.specs.Telling.{Tells, findings}
-use Rattle.dbscan.specs.Findings.{faults_in}
-use Rattle.dbscan.specs.Notices.{Notice, whole, found, ended, Hearing, Hears}
+use Rattle.dbwalk.specs.Telling.{Tells}
+use Rattle.dbscan.specs.Notices.{Notice, whole, found, ended, walked, faults_heard}
 use Rattle.dbscan.specs.Starts.{At}
-use Rattle.dbreport.specs.StatSink.{end_text, pages_text, Breaks, BreaksAt, Counts, CountsAt, CutsEnd, CutsFault, EndsTree, HasBegun, HasWritten, IsSameSink, TakesFault, WritesBoth}
+use Rattle.dbreport.specs.StatSink.{end_text, other_lines, pages_text, CutsFault, CutsStat, HasBegun, HasWritten, HearsStat, IsSameSink, TakesFault, WritesBoth}
 use Rattle.dbreport.specs.Sums.{sums_of}
 use Rattle.dbreport.specs.TreeNames.{name_at}
+use Rattle.dbreport.specs.declared.statistics.Form.{Form}
 use Rattle.dbreport.specs.declared.statistics.sink.StatSink.{StatSink}
 use Rattle.dbreport.proofs.Flushed.{keeps_begins, kept_appends, kept_if}
 use Rattle.dbreport.proofs.StatWrites.{begun_first, begun_none, begun_then, written_none, written_then}
-use Rattle.dbscan.proofs.ToldStarts.{findings_in}
 
 counted_more : (n : ℕ) → counted (counted n + 1) ≡ counted (n + 1)
 counted_more n = omega arith
@@ -55,68 +53,60 @@ cut_first move fail s i L t (inr (inr h)) = inr (inr (h.0, h.1, inr h.2))
 -- how lines are written between two notices: in which form, with which encoding and size of a page, and behind which rows of the
 -- same tree
 pub record Sheet : Type 0 where
-  pub form : Bool
+  pub form : Form
   pub encoding : Encoding
   pub size : ℕ
   pub rows : List StatRow
 
 -- the bytes that are put to the first Out at a notice
 abbrev pub lines : Sheet → Notice → List ℕ
-lines p (whole item) = []
-lines p (found at (told_row r)) = pages_text p.form (name_at p.encoding at) p.size (r ∷ [])
-lines p (found at (told_fault f)) = []
-lines p (ended at) = end_text p.form (name_at p.encoding at) p.size p.rows
+lines p (whole f) = []
+lines p (found at (told_row r)) = pages_text p.form.aggregate (name_at p.encoding at) p.size (r ∷ [])
+lines p (found at (told_fault f why)) = []
+lines p (ended at) = end_text p.form.aggregate (name_at p.encoding at) p.size p.rows
+lines p (walked g marks) = other_lines p.form.all g marks
 
 -- and how they are written behind it
 abbrev pub next : Sheet → Notice → Sheet
-next p (whole item) = p
+next p (whole f) = p
 next p (found at (told_row r)) = record p { rows = p.rows ++ r ∷ [] }
-next p (found at (told_fault f)) = p
+next p (found at (told_fault f why)) = p
 next p (ended at) = record p { rows = [] }
+next p (walked g marks) = p
 
 abbrev pub all_lines : Sheet → List Notice → List ℕ
 all_lines p [] = []
 all_lines p (n ∷ ns) = lines p n ++ all_lines (next p n) ns
 
 abbrev faults_of : List Notice → List Fault
-faults_of ns = faults_in (findings_in ns)
+faults_of ns = faults_heard ns
 
 one_more : (n : Notice) (ns : List Notice) → faults_of (n ∷ []) ++ faults_of ns ≡ faults_of (n ∷ ns)
-one_more (whole (told_row r)) ns = refl
-one_more (whole (told_fault f)) ns = refl
+one_more (whole f) ns = refl
 one_more (found at (told_row r)) ns = refl
-one_more (found at (told_fault f)) ns = refl
+one_more (found at (told_fault f why)) ns = refl
 one_more (ended at) ns = refl
+one_more (walked g marks) ns = refl
 
 module _ {O E : Type 0} (held : O → OutState) (held' : E → OutState) where
-  abbrev pub hearing : Hearing (StatSink O E)
-  hearing = record {
-    takes = Counts held held';
-    drops = Breaks held held';
-    takes_at = CountsAt held held';
-    drops_at = BreaksAt held held';
-    ends = EndsTree held held';
-    cuts = CutsEnd held held';
-  }
-
   abbrev all : StatSink O E → Notice → StatSink O E → Type 0
-  all = Hears hearing true
+  all = HearsStat held held'
 
   abbrev part : StatSink O E → Notice → StatSink O E → Type 0
-  part = Hears hearing false
+  part = CutsStat held held'
 
   -- it writes so
   pub record IsOn (p : Sheet) (s : StatSink O E) : Type 0 where
-    pub form : s.aggregate ≡ p.form
+    pub form : s.form ≡ p.form
     pub encoding : s.encoding ≡ p.encoding
     pub size : s.page_size ≡ p.size
     pub summed : s.sums ≡ sums_of p.rows
 
-  -- ---- one fault, and faults alone
+  -- ---- one fault
 
   fault_written : (s m : StatSink O E) (f : Fault) → TakesFault held held' s f m → HasWritten held held' s m [] (f ∷ [])
   fault_written s m f a = record {
-    aggregate = a.same.aggregate;
+    form = a.same.form;
     encoding = a.same.encoding;
     page_size = a.same.page_size;
     found = λ n e. a.found ∙ ap (λ k. counted (k + 1)) e ∙ counted_more n;
@@ -130,84 +120,67 @@ module _ {O E : Type 0} (held : O → OutState) (held' : E → OutState) where
     err = begins_more (held' s.err.now).bytes (held' t.err.now).bytes (fault_line f) [] (fault_line f ++ []) refl a.err;
   }
 
-  all_faults_written : (fs : List Fault) (s t : StatSink O E) → Moves (Counts held held') s (findings fs) t → HasWritten held held' s t [] fs
-  all_faults_written [] s t h = subst (λ u. HasWritten held held' s u [] []) h (written_none held held' s)
-  all_faults_written (f ∷ fs) s t h = written_then held held' s h.0 t [] [] (f ∷ []) fs (fault_written s h.0 f h.1) (all_faults_written fs h.0 t h.2)
-
-  some_faults_written : (fs : List Fault) (s t : StatSink O E) → Cut (Counts held held') (Breaks held held') s (findings fs) t → HasBegun held held' s t [] fs
-  some_faults_written [] s t h = begun_none held held' s t [] [] (cut_none (Counts held held') (Breaks held held') s t h)
-  some_faults_written (f ∷ fs) s t h = elim (cut_first (Counts held held') (Breaks held held') s (told_fault f) (findings fs) t h) [
-    | inl e ↦ begun_none held held' s t [] (f ∷ fs) e
-    | inr (inl c) ↦ begun_first held held' s t [] [] (f ∷ []) fs (fault_begun s t f c)
-    | inr (inr k) ↦ begun_then held held' s k.0 t [] [] (f ∷ []) fs (fault_written s k.0 f k.1) (some_faults_written fs k.0 t k.2)
-  ]
-
-  -- faults alone: no row was written
-  pub faults_written : {A : Type 0} (r : Result A RunError) (fs : List Fault) (s t : StatSink O E) → Tells (Counts held held') (Breaks held held') r s (findings fs) t
-      → WritesBoth held held' r s t [] fs
-  faults_written (Ok a) fs s t h = all_faults_written fs s t h
-  faults_written (Err e) fs s t h = some_faults_written fs s t (cut_of (Counts held held') (Breaks held held') e s (findings fs) t h)
-
-  same_after : (fs : List Fault) (s t : StatSink O E) → Moves (Counts held held') s (findings fs) t → IsSameSink s t × (t.sums ≡ s.sums)
-  same_after [] s t h = subst (λ u. IsSameSink s u × (u.sums ≡ s.sums)) h (record { out = refl; err = refl; encoding = refl; page_size = refl; aggregate = refl }, refl)
-  same_after (f ∷ fs) s t h =
-      let a = h.1.same in
-      let b = same_after fs h.0 t h.2 in
-      (record { out = b.0.out ∙ a.out; err = b.0.err ∙ a.err; encoding = b.0.encoding ∙ a.encoding; page_size = b.0.page_size ∙ a.page_size; aggregate = b.0.aggregate ∙ a.aggregate }, b.1 ∙ h.1.sums)
-
-  pub faults_kept : {A : Type 0} (r : Result A RunError) (fs : List Fault) (s t : StatSink O E) → Tells (Counts held held') (Breaks held held') r s (findings fs) t
-      → OnOk r (IsSameSink s t × (s.sums ≡ sums_of [] → t.sums ≡ sums_of []))
-  faults_kept (Ok a) fs s t h = let k = same_after fs s t h in (k.0, λ e. k.1 ∙ e)
-  faults_kept (Err e) fs s t h = tt
-
   -- ---- one notice
 
   module _ (p : Sheet) (s : StatSink O E) (on : IsOn p s) where
-    by_sheet : (P : List ℕ → Type 0) (f : Bool → List ℕ → ℕ → List ℕ) (at : At) → P (f s.aggregate (name_at s.encoding at) s.page_size) → P (f p.form (name_at p.encoding at) p.size)
+    by_sheet : (P : List ℕ → Type 0) (f : Bool → List ℕ → ℕ → List ℕ) (at : At) → P (f s.form.aggregate (name_at s.encoding at) s.page_size) → P (f p.form.aggregate (name_at p.encoding at) p.size)
     by_sheet P f at h =
-        subst (λ a. P (f a (name_at p.encoding at) p.size)) on.form (subst (λ e. P (f s.aggregate (name_at e at) p.size)) on.encoding (subst (λ z. P (f s.aggregate (name_at s.encoding at) z)) on.size h))
+        subst (λ (a : Form). P (f a.aggregate (name_at p.encoding at) p.size)) on.form (subst (λ e. P (f s.form.aggregate (name_at e at) p.size)) on.encoding (subst (λ z. P (f s.form.aggregate (name_at s.encoding at) z)) on.size h))
 
     -- behind what leaves all but the rows of the tree as it was
     on_same : (m : StatSink O E) → IsSameSink s m → (rows : List StatRow) → m.sums ≡ sums_of rows → IsOn (record p { rows = rows }) m
-    on_same m same rows e = record { form = same.aggregate ∙ on.form; encoding = same.encoding ∙ on.encoding; size = same.page_size ∙ on.size; summed = e }
+    on_same m same rows e = record { form = same.form ∙ on.form; encoding = same.encoding ∙ on.encoding; size = same.page_size ∙ on.size; summed = e }
 
     one_written : (n : Notice) (m : StatSink O E) → all s n m → HasWritten held held' s m (lines p n) (faults_of (n ∷ [])) × IsOn (next p n) m
-    one_written (whole (told_row r)) m a = (subst (λ u. HasWritten held held' s u [] []) (sym a) (written_none held held' s), subst (IsOn p) (sym a) on)
-    one_written (whole (told_fault f)) m a = (fault_written s m f a, on_same m a.same p.rows (a.sums ∙ on.summed))
+    one_written (whole f) m a = (fault_written s m f a, on_same m a.same p.rows (a.sums ∙ on.summed))
     one_written (found at (told_row r)) m a = (
       record {
-        aggregate = a.same.aggregate;
+        form = a.same.form;
         encoding = a.same.encoding;
         page_size = a.same.page_size;
         found = λ n e. a.found ∙ e ∙ ap counted (nothing_more n);
         out = by_sheet (Appends (held s.out.now).bytes (held m.out.now).bytes) (λ form name size. pages_text form name size (r ∷ [])) at a.puts.held;
-        err = kept_appends (held' s.err.now).bytes (held' m.err.now).bytes (held' m.err.now).bytes [] (kept_if (not s.aggregate) (held' s.err.now) (held' m.err.now) a.err) (appends_nothing (held' m.err.now).bytes);
+        err = kept_appends (held' s.err.now).bytes (held' m.err.now).bytes (held' m.err.now).bytes [] (kept_if (not s.form.aggregate) (held' s.err.now) (held' m.err.now) a.err) (appends_nothing (held' m.err.now).bytes);
       },
       on_same m a.same (p.rows ++ r ∷ []) (a.sums p.rows on.summed),
     )
-    one_written (found at (told_fault f)) m a = (fault_written s m f a, on_same m a.same p.rows (a.sums ∙ on.summed))
+    one_written (found at (told_fault f why)) m a = (fault_written s m f a, on_same m a.same p.rows (a.sums ∙ on.summed))
     one_written (ended at) m a = (
       record {
-        aggregate = a.aggregate;
+        form = a.form;
         encoding = a.encoding;
         page_size = a.page_size;
         found = λ n e. a.found ∙ e ∙ ap counted (nothing_more n);
         out = by_sheet (Appends (held s.out.now).bytes (held m.out.now).bytes) (λ form name size. end_text form name size p.rows) at (a.writes p.rows on.summed);
-        err = kept_appends (held' s.err.now).bytes (held' m.err.now).bytes (held' m.err.now).bytes [] (kept_if s.aggregate (held' s.err.now) (held' m.err.now) a.err) (appends_nothing (held' m.err.now).bytes);
+        err = kept_appends (held' s.err.now).bytes (held' m.err.now).bytes (held' m.err.now).bytes [] (kept_if s.form.aggregate (held' s.err.now) (held' m.err.now) a.err) (appends_nothing (held' m.err.now).bytes);
       },
-      record { form = a.aggregate ∙ on.form; encoding = a.encoding ∙ on.encoding; size = a.page_size ∙ on.size; summed = a.sums },
+      record { form = a.form ∙ on.form; encoding = a.encoding ∙ on.encoding; size = a.page_size ∙ on.size; summed = a.sums },
+    )
+    one_written (walked g marks) m a = (
+      record {
+        form = a.same.form;
+        encoding = a.same.encoding;
+        page_size = a.same.page_size;
+        found = λ n e. a.found ∙ e ∙ ap counted (nothing_more n);
+        out = subst (λ (form : Form). Appends (held s.out.now).bytes (held m.out.now).bytes (other_lines form.all g marks)) on.form a.writes;
+        err = kept_appends (held' s.err.now).bytes (held' m.err.now).bytes (held' m.err.now).bytes [] (kept_if s.form.all (held' s.err.now) (held' m.err.now) a.err) (appends_nothing (held' m.err.now).bytes);
+      },
+      on_same m a.same p.rows (a.sums ∙ on.summed),
     )
 
     one_begun : (n : Notice) (t : StatSink O E) → part s n t → HasBegun held held' s t (lines p n) (faults_of (n ∷ []))
-    one_begun (whole (told_row r)) t b = absurd b
-    one_begun (whole (told_fault f)) t a = fault_begun s t f a
+    one_begun (whole f) t a = fault_begun s t f a
     one_begun (found at (told_row r)) t a = record {
       out = by_sheet (Begins (held s.out.now).bytes (held t.out.now).bytes) (λ form name size. pages_text form name size (r ∷ [])) at a.out;
       err = keeps_begins (held' s.err.now).bytes (held' t.err.now).bytes [] a.err;
     }
-    one_begun (found at (told_fault f)) t a = fault_begun s t f a
+    one_begun (found at (told_fault f why)) t a = fault_begun s t f a
     one_begun (ended at) t a = record {
       out = by_sheet (Begins (held s.out.now).bytes (held t.out.now).bytes) (λ form name size. end_text form name size p.rows) at (a.writes p.rows on.summed);
+      err = keeps_begins (held' s.err.now).bytes (held' t.err.now).bytes [] a.kept;
+    }
+    one_begun (walked g marks) t a = record {
+      out = subst (λ (form : Form). Begins (held s.out.now).bytes (held t.out.now).bytes (other_lines form.all g marks)) on.form a.writes;
       err = keeps_begins (held' s.err.now).bytes (held' t.err.now).bytes [] a.kept;
     }
 

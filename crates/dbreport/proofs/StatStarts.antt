@@ -1,39 +1,47 @@
 -- What the statistics write of the starts of a file, by what is told of them.
-use Rattle.std.proofs.Common.{◌≡◌, ℕ, suc, ◌+◌, Bool, true, false, cond, List, [], ◌∷◌, ◌++◌, map, take, Some, Result, refl, sym, ap, ap₂, ◌∙◌, subst, arith, append_assoc, append-nil}
-use Rattle.std.specs.Prelude.{flat_map, slice_get, codes, ◌==◌}
+use Rattle.std.proofs.Common.{◌≡◌, ℕ, suc, ◌+◌, Bool, true, false, cond, List, [], ◌∷◌, ◌++◌, length, map, take, Some, Result, refl, sym, ap, ap₂, ◌∙◌, subst, arith, append_assoc, append-nil}
+use Rattle.std.specs.Prelude.{flat_map, slice_get, codes, ◌==◌, if◌then◌else◌}
 use Rattle.std.specs.List.{enumerate_from}
 use Rattle.dbsurvey.specs.Story.{Errand, Go, Follow, errands_at}
 use Rattle.dbformat.specs.Address.{freelist_start, last_root_start}
+use Rattle.dbformat.specs.EndFaults.{end_faults}
+use Rattle.dbformat.specs.File.{geometry}
+use Rattle.dbformat.specs.HeaderFaults.{header_faults}
+use Rattle.dbformat.specs.Report.{faults}
+use Rattle.dbformat.specs.declared.Fault.{Fault}
+use Rattle.dbformat.specs.declared.Geometry.{Geometry}
 use Rattle.dbformat.specs.Header.{encoding as encoding_of, first_trunk, page_size}
-use Rattle.dbformat.specs.Lines.{page_line, tree_name}
+use Rattle.dbformat.specs.Lines.{form_line, page_line, tree_name}
 use Rattle.dbformat.specs.Reference.{trunk, Way, Reference}
-use Rattle.dbformat.specs.Rows.{StatRow}
+use Rattle.dbformat.specs.Rows.{StatRow, other_rows}
 use Rattle.dbformat.specs.Schema.{schema, rooted_rows, start}
 use Rattle.dbformat.specs.SchemaRow.{SchemaRow}
 use Rattle.dbformat.specs.Story.{Event, start_errands}
 use Rattle.dbformat.specs.Survey.{Survey}
 use Rattle.dbsource.specs.Outs.{OutState}
 use Rattle.dbsource.specs.declared.error.RunError.{RunError}
+use Rattle.dbmarks.specs.Marking.{marks_of}
+use Rattle.dbmarks.specs.declared.marks.Mark.{Mark}
 use Rattle.dbtrace.specs.Finding.{Finding, told_row, told_fault, told_below, visited_below}
 use Rattle.dbwalk.specs.Trunks.{freelist_reference}
-use Rattle.dbmarks.specs.declared.marks.Mark.{Mark}
+use Rattle.dbwalk.specs.Telling.{Tells}
 use Rattle.dbwalk.proofs.Telling.Belows.{told_none}
-use Rattle.dbscan.specs.Findings.{faults_in}
-use Rattle.dbscan.specs.Notices.{Notice, found, ended, Hears, errands_left, root_reference, tree_notices, later_notices, start_notices}
+use Rattle.dbscan.specs.Notices.{Notice, whole, found, ended, walked, errands_left, root_reference, tree_notices, later_notices, start_notices, end_notices, run_notices}
 use Rattle.dbscan.specs.Starts.{At, at_freelist, at_row, at_schema, schema_reference}
 use Rattle.dbreport.specs.StatLines.{tree_text, starts_text, rows_told}
 use Rattle.dbreport.specs.TreeNames.{name_at}
-use Rattle.dbreport.specs.StatSink.{end_text, pages_text, WritesBoth}
-use Rattle.dbreport.specs.StatStarts.{IsForFile, IsSurveyed, faults_told}
-use Rattle.dbscan.specs.Walks.{AreWalked}
+use Rattle.dbreport.specs.StatSink.{CutsStat, HearsStat, end_text, other_lines, pages_text, WritesBoth}
+use Rattle.dbreport.specs.StatStarts.{IsForFile, rows_text}
 use Rattle.dbreport.specs.declared.statistics.sink.StatSink.{StatSink}
+use Rattle.dbreport.specs.declared.statistics.Form.{Form}
 use Rattle.dbreport.proofs.ListedNames.{listed_name}
-use Rattle.dbreport.proofs.StatSinks.{Sheet, all_lines, hearing, notices_written}
+use Rattle.dbreport.proofs.OtherRows.{others_text}
+use Rattle.dbreport.proofs.StatSinks.{Sheet, all_lines, lines, next, notices_written}
 use Rattle.dbreport.proofs.StatTexts.{rows_below}
 use Rattle.dbreport.proofs.StatTrees.{freelist_rows}
 use Rattle.dbscan.proofs.StartByStart.{of_later}
 use Rattle.dbscan.proofs.Starts.{quiet_go}
-use Rattle.dbscan.proofs.ToldStarts.{of_starts, start_errands_listed}
+use Rattle.dbscan.proofs.ToldStarts.{run_heard, start_errands_listed}
 
 schema_name : (file : List ℕ) (V : List Reference) → codes "sqlite_schema" ≡ tree_name file V 0
 unfolding tree_name
@@ -61,23 +69,23 @@ pages_ended false name size rows = append-nil (pages_text false name size rows)
 -- ---- the lines of what is told
 
 found_lines : (p : Sheet) (at : At) (items : List Finding) (rest : List Notice)
-    → all_lines p (map (found at) items ++ rest) ≡ pages_text p.form (name_at p.encoding at) p.size (rows_told items) ++ all_lines (record p { rows = p.rows ++ rows_told items }) rest
+    → all_lines p (map (found at) items ++ rest) ≡ pages_text p.form.aggregate (name_at p.encoding at) p.size (rows_told items) ++ all_lines (record p { rows = p.rows ++ rows_told items }) rest
 found_lines p at [] rest =
     ap (λ rows. all_lines (record p { rows = rows }) rest) (sym (append-nil p.rows))
-    ∙ ap (λ l. l ++ all_lines (record p { rows = p.rows ++ [] }) rest) (sym (no_pages p.form (name_at p.encoding at) p.size))
+    ∙ ap (λ l. l ++ all_lines (record p { rows = p.rows ++ [] }) rest) (sym (no_pages p.form.aggregate (name_at p.encoding at) p.size))
 found_lines p at (told_row r ∷ items) rest =
     let name = name_at p.encoding at in
     let q : Sheet = record p { rows = p.rows ++ r ∷ [] } in
-    let others = pages_text p.form name p.size (rows_told items) in
-    ap (λ l. pages_text p.form name p.size (r ∷ []) ++ l) (found_lines q at items rest ∙ ap (λ rows. others ++ all_lines (record p { rows = rows }) rest) (append_assoc p.rows (r ∷ []) (rows_told items)))
-    ∙ sym (append_assoc (pages_text p.form name p.size (r ∷ [])) others _)
-    ∙ ap (λ l. l ++ all_lines (record p { rows = p.rows ++ (r ∷ rows_told items) }) rest) (pages_more p.form name p.size r (rows_told items))
-found_lines p at (told_fault f ∷ items) rest = found_lines p at items rest
+    let others = pages_text p.form.aggregate name p.size (rows_told items) in
+    ap (λ l. pages_text p.form.aggregate name p.size (r ∷ []) ++ l) (found_lines q at items rest ∙ ap (λ rows. others ++ all_lines (record p { rows = rows }) rest) (append_assoc p.rows (r ∷ []) (rows_told items)))
+    ∙ sym (append_assoc (pages_text p.form.aggregate name p.size (r ∷ [])) others _)
+    ∙ ap (λ l. l ++ all_lines (record p { rows = p.rows ++ (r ∷ rows_told items) }) rest) (pages_more p.form.aggregate name p.size r (rows_told items))
+found_lines p at (told_fault f why ∷ items) rest = found_lines p at items rest
 
-module _ (file : List ℕ) (V : List Reference) (form : Bool) where
+module _ (file : List ℕ) (V : List Reference) (form all : Bool) where
   -- between two trees
   abbrev sheet : Sheet
-  sheet = record { form = form; encoding = encoding_of file; size = page_size file; rows = [] }
+  sheet = record { form = record { aggregate = form; all = all }; encoding = encoding_of file; size = page_size file; rows = [] }
 
   abbrev shown : At → List ℕ
   shown at = name_at (encoding_of file) at
@@ -144,15 +152,47 @@ module _ (file : List ℕ) (V : List Reference) (form : Bool) where
       let n : suc j ≡ 1 + j = omega arith in subst (λ n. shown (at_row n r) ≡ tree_name file V n) n (listed_name file V rows j r refl e)))
       ∙ ap (starts_text form file V []) (sym (start_errands_listed file V survey))
 
--- All starts have been walked from, and it is written what was told.
-pub walked_written : {O E : Type 0} (held : O → OutState) (held' : E → OutState) (file : List ℕ) (V : List Reference) → Survey file V → (s t : StatSink O E) → IsForFile file s
-    → (r : Result Bool RunError) (marks : List Mark) (rows : List SchemaRow) → AreWalked (Hears (hearing held held')) file V r marks rows s t
-    → IsSurveyed file V r marks × WritesBoth held held' r s t (starts_text s.aggregate file V [] (start_errands file V)) (faults_told file [] (start_errands file V))
-walked_written held held' file V survey s t is r marks rows h =
-    let form = s.aggregate in
-    let p = sheet file V form in (
-      record { marked = h.all.marked; has_rows = h.has_rows },
-      subst (λ x. WritesBoth held held' r s t x (faults_told file [] (start_errands file V))) (start_lines file V form survey)
-          (subst (λ items. WritesBoth held held' r s t (all_lines p (start_notices file V)) (faults_in items)) (of_starts file V survey)
-          (notices_written held held' r p (start_notices file V) s t (record { form = refl; encoding = is.encoding; size = is.page_size; summed = is.summed }) h.all.told)),
-    )
+  -- of faults of the whole file there is no row
+  lines_whole : (p : Sheet) (fs : List Fault) (rest : List Notice) → all_lines p (map whole fs ++ rest) ≡ all_lines p rest
+  lines_whole p [] rest = refl
+  lines_whole p (f ∷ fs) rest = lines_whole p fs rest
+
+  no_lines : (p : Sheet) (fs : List Fault) → all_lines p (map whole fs) ≡ []
+  no_lines p [] = refl
+  no_lines p (f ∷ fs) = no_lines p fs
+
+  same_form : (p : Sheet) (n : Notice) → (next p n).form ≡ p.form
+  same_form p (whole f) = refl
+  same_form p (found at (told_row r)) = refl
+  same_form p (found at (told_fault f why)) = refl
+  same_form p (ended at) = refl
+  same_form p (walked g marks) = refl
+
+  -- after some notices those of the marks, and nothing after them
+  lines_then : (p : Sheet) (ns : List Notice) (g : Geometry) (marks : List Mark) (fs : List Fault)
+      → all_lines p (ns ++ (walked g marks ∷ map whole fs)) ≡ all_lines p ns ++ other_lines p.form.all g marks
+  lines_then p [] g marks fs = ap (λ l. other_lines p.form.all g marks ++ l) (no_lines p fs) ∙ append-nil (other_lines p.form.all g marks)
+  lines_then p (n ∷ ns) g marks fs =
+      ap (λ l. lines p n ++ l) (lines_then (next p n) ns g marks fs)
+      ∙ ap (λ (f : Form). lines p n ++ (all_lines (next p n) ns ++ other_lines f.all g marks)) (same_form p n)
+      ∙ sym (append_assoc (lines p n) (all_lines (next p n) ns) (other_lines p.form.all g marks))
+
+  others_shown : (b : Bool) → Survey file V → other_lines b (geometry file) (marks_of (geometry file) V) ≡ flat_map (form_line file V) (if b then other_rows file V else [])
+  others_shown true survey = others_text file V (geometry file) (marks_of (geometry file) V) refl survey refl
+  others_shown false survey = refl
+
+  run_lines : Survey file V → all_lines sheet (run_notices file V) ≡ rows_text form all file V
+  run_lines survey =
+      lines_whole sheet (header_faults file (length file)) (start_notices file V ++ end_notices file V)
+      ∙ lines_then sheet (start_notices file V) (geometry file) (marks_of (geometry file) V) (end_faults file V)
+      ∙ ap₂ (λ a b. a ++ b) (start_lines survey) (others_shown all survey)
+
+-- All of a file was told, or a beginning: so were its rows and faults written.
+pub run_written : {A O E : Type 0} (held : O → OutState) (held' : E → OutState) (file : List ℕ) (V : List Reference) → Survey file V → (s t : StatSink O E) → IsForFile file s
+    → (r : Result A RunError) → Tells (HearsStat held held') (CutsStat held held') r s (run_notices file V) t
+    → WritesBoth held held' r s t (rows_text s.form.aggregate s.form.all file V) (faults file V)
+run_written held held' file V survey s t is r told =
+    let p = sheet file V s.form.aggregate s.form.all in
+    subst (λ x. WritesBoth held held' r s t x (faults file V)) (run_lines file V s.form.aggregate s.form.all survey)
+    (subst (λ fs. WritesBoth held held' r s t (all_lines p (run_notices file V)) fs) (run_heard file V survey)
+    (notices_written held held' r p (run_notices file V) s t (record { form = refl; encoding = is.encoding; size = is.page_size; summed = is.summed }) told))

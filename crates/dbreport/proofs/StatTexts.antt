@@ -29,7 +29,10 @@ use Rattle.dbformat.specs.Survey.{Survey, rules_of}
 use Rattle.dbformat.specs.declared.Fault.{Fault}
 use Rattle.dbformat.proofs.Rising.{starts_rise}
 use Rattle.dbformat.proofs.Theory.{are_rules, is_story, shows_visits}
-use Rattle.dbtrace.specs.Finding.{told_row, told_fault, told_at, told_below, visited_below}
+use Rattle.dbformat.specs.declared.FaultCode.{FaultCode}
+use Rattle.dbtrace.specs.Causes.{cause_of}
+use Rattle.dbtrace.specs.declared.Cause.{Cause}
+use Rattle.dbtrace.specs.Finding.{told_row, told_by, told_at, told_below, visited_below}
 use Rattle.dbwalk.proofs.Telling.Belows.{visited_none}
 use Rattle.dbreport.specs.StatLines.{row_told, rows_told, tree_text, starts_text}
 use Rattle.dbscan.proofs.RunItems.{all_visited, goes_named}
@@ -41,9 +44,9 @@ use Rattle.dbreport.proofs.StatTrees.{rows_none, rows_join, row_of_tree, HasLate
 
 -- the rows among it are those of the visits
 
-no_rows_told : (fs : List Fault) → rows_told (map told_fault fs) ≡ []
-no_rows_told [] = refl
-no_rows_told (f ∷ fs) = no_rows_told fs
+no_rows_told : (why : FaultCode → Cause) (fs : List Fault) → rows_told (told_by why fs) ≡ []
+no_rows_told why [] = refl
+no_rows_told why (f ∷ fs) = no_rows_told why fs
 
 all_rows_told : (rows : List StatRow) → rows_told (map told_row rows) ≡ rows
 all_rows_told [] = refl
@@ -51,8 +54,8 @@ all_rows_told (r ∷ rows) = ap (λ l. r ∷ l) (all_rows_told rows)
 
 at_event : (file : List ℕ) (U : List Reference) (e : Event) → rows_told (told_at file U e) ≡ option_to_list (event_row file e)
 at_event file U e =
-    filter_map-append row_told (map told_row (option_to_list (event_row file e))) (map told_fault (event_faults file U e))
-    ∙ ap₂ (λ a b. a ++ b) (all_rows_told (option_to_list (event_row file e))) (no_rows_told (event_faults file U e))
+    filter_map-append row_told (map told_row (option_to_list (event_row file e))) (told_by (cause_of file U e) (event_faults file U e))
+    ∙ ap₂ (λ a b. a ++ b) (all_rows_told (option_to_list (event_row file e))) (no_rows_told (cause_of file U e) (event_faults file U e))
     ∙ append-nil (option_to_list (event_row file e))
 
 in_list : (file : List ℕ) (W : List Reference) (L : List (Told Event)) → rows_told (read_back own_visit (told_at file) W L) ≡ stat_rows file (visits_in own_visit L)

@@ -23,7 +23,7 @@ count_none n = omega arith
 module _ {O E : Type 0} (held : O → OutState) (held' : E → OutState) where
   pub written_none : (s : StatSink O E) → HasWritten held held' s s [] []
   written_none s = record {
-    aggregate = refl;
+    form = refl;
     encoding = refl;
     page_size = refl;
     found = λ n e. e ∙ ap counted (count_none n);
@@ -34,7 +34,7 @@ module _ {O E : Type 0} (held : O → OutState) (held' : E → OutState) where
   module _ (s m t : StatSink O E) (a b : List ℕ) (xs ys : List Fault) (first : HasWritten held held' s m a xs) where
     pub written_then : HasWritten held held' m t b ys → HasWritten held held' s t (a ++ b) (xs ++ ys)
     written_then h = record {
-      aggregate = h.aggregate ∙ first.aggregate;
+      form = h.form ∙ first.form;
       encoding = h.encoding ∙ first.encoding;
       page_size = h.page_size ∙ first.page_size;
       found = λ n e. h.found (n + length xs) (first.found n e) ∙ ap counted (count_more n xs ys);
@@ -48,10 +48,6 @@ module _ {O E : Type 0} (held : O → OutState) (held' : E → OutState) where
       out = begins_after (held s.out.now).bytes (held m.out.now).bytes (held t.out.now).bytes a b (a ++ b) refl first.out h.out;
       err = begins_after (held' s.err.now).bytes (held' m.err.now).bytes (held' t.err.now).bytes (flat_map fault_line xs) (flat_map fault_line ys) (flat_map fault_line (xs ++ ys)) (lines_more xs ys) first.err h.err;
     }
-
-    pub both_then : {A X : Type 0} (r : Result A X) → WritesBoth held held' r m t b ys → WritesBoth held held' r s t (a ++ b) (xs ++ ys)
-    both_then (Ok u) h = written_then h
-    both_then (Err e) h = begun_then h
 
   -- a beginning of the first part
   pub begun_first : (s t : StatSink O E) (a b : List ℕ) (xs ys : List Fault) → HasBegun held held' s t a xs → HasBegun held held' s t (a ++ b) (xs ++ ys)

@@ -1,9 +1,10 @@
 -- Columns of a line of the statistics, each behind a tab, and the pieces of lines that are put by themselves.
-use Rattle.std.specs.Prelude.{ℕ, ◌-◌, ◌*◌, List, [], ◌∷◌, ◌++◌, codes, decimal}
-use Rattle.dbformat.specs.Lines.{chain_text, counted, line_feed, no_text, pagetype_text, tab}
+use Rattle.std.specs.Prelude.{ℕ, ◌-◌, ◌*◌, List, [], ◌∷◌, ◌++◌, codes, decimal, flat_map}
+use Rattle.dbformat.specs.Lines.{chain_text, counted, counts_columns, line_feed, no_text, pagetype_text, tab}
 use Rattle.dbformat.specs.Rows as format
 use Rattle.dbformat.specs.Rows.{StatRow}
 use Rattle.dbformat.specs.Text.{hex_text}
+use Rattle.dbformat.specs.declared.counts.Counts.{Counts}
 use Rattle.dbreport.specs.declared.statistics.page_texts.OtherPage.{OtherPage}
 use Rattle.dbreport.specs.declared.statistics.page_texts.OtherPage.TheVariants.{Trunk, FreeLeaf, Map, Lock, Unowned}
 use Rattle.dbreport.specs.declared.statistics.sums.Sums.{Sums}
@@ -13,8 +14,8 @@ abbrev pub column : List ℕ → List ℕ
 column text = tab ∷ text
 
 -- what a page or a tree counts
-abbrev pub counts_text : ℕ → ℕ → ℕ → ℕ → List ℕ
-counts_text ncell payload unused mx_payload = column (decimal ncell) ++ column (decimal payload) ++ column (decimal unused) ++ column (decimal mx_payload)
+abbrev pub counts_text : Counts → List ℕ
+counts_text counts = flat_map column (counts_columns counts)
 
 -- where a page begins in the file, its size, and the end of the line
 abbrev pub place_text : ℕ → ℕ → List ℕ
@@ -27,12 +28,12 @@ child_text child = hex_text 3 child ++ codes "/"
 -- the row of a page from behind the children on
 abbrev pub page_end : ℕ → StatRow → List ℕ
 page_end size row = chain_text row.chain ++ column (decimal row.page) ++ column (pagetype_text row.pagetype)
-    ++ counts_text row.ncell row.payload row.unused row.mx_payload ++ place_text row.page size
+    ++ counts_text row.counts ++ place_text row.page size
 
 -- the row of a tree from behind its name on
 abbrev pub tree_end : ℕ → Sums → List ℕ
 tree_end size sums = column no_text ++ column (decimal sums.pages) ++ column no_text
-    ++ counts_text sums.ncell sums.payload sums.unused sums.mx_payload
+    ++ counts_text sums.counts
     ++ column no_text ++ column (decimal (counted (sums.pages * size))) ++ line_feed ∷ []
 
 -- what another page is

@@ -1,5 +1,5 @@
 -- What an answer of a run says of the file, and of what was written.
-use Rattle.std.specs.Prelude.{◌≡◌, ◌<◌, ◌↔◌, ℕ, true, false, List, length, Option, None, Some, Result, Ok, Err, IfErr, IfOk, IfSome, ⊤}
+use Rattle.std.specs.Prelude.{◌≡◌, ◌<◌, ◌↔◌, ℕ, true, false, List, length, Option, None, Some, Result, Ok, Err, IfOk, IfSome, ⊤}
 use Rattle.dbformat.specs.File.{geometry, refusal}
 use Rattle.dbformat.specs.FixedPages.{geometry_of}
 use Rattle.dbformat.specs.Reference.{Reference}
@@ -14,7 +14,7 @@ use Rattle.dbformat.specs.declared.Command.TheVariants.{Check, Stat}
 use Rattle.dbformat.specs.declared.Verdict.{Verdict}
 use Rattle.dbformat.specs.declared.Verdict.TheVariants.{Clean}
 use Rattle.dbsource.specs.Answers.{Lengths, Step, Trail}
-use Rattle.dbsource.specs.Errors.{is_out_of_memory, is_read_failed, is_write_failed}
+use Rattle.dbsource.specs.Errors.{is_read_failed, is_write_failed}
 use Rattle.dbsource.specs.Failures.{CountsAfter, failures_after}
 use Rattle.dbsource.specs.HeaderBytes.{HeaderBytes}
 use Rattle.dbsource.specs.Headers.{IsOpenLog}
@@ -26,8 +26,6 @@ use Rattle.dbsource.specs.declared.error.RunError.{RunError}
 use Rattle.dbsource.specs.declared.error.RunError.TheVariants.{Refused, ReadFailed}
 use Rattle.dbsource.specs.declared.out.Out.{Ghosts as OutWords}
 use Rattle.dbsource.specs.declared.source.Source.{Ghosts as SourceWords}
-use Rattle.dbwalk.specs.Telling.{IsReadWriteOrMemory}
-use Rattle.dbscan.specs.Desks.{Things}
 use Rattle.dbreport.specs.StatSink.{failures_of_each}
 
 -- that a command is a check
@@ -134,13 +132,6 @@ module _ {S O E : Type 0} (source : SourceWords S) (out : OutWords O) (err : Out
     pub asked : AsksHeaderAlone source.step r (source.held old.0).trail (source.held new.0).trail
     pub first : IsUnwritten r old.1 new.1
     pub second : IsUnwritten r old.2 new.2
-
--- A run over a desk, which keeps its header: its list of roots was refused memory, once, exactly where that is answered; and no
--- file is refused.
-pub record HasUsed (r : Result Verdict RunError) (old new : Things) : Type 0 where
-  pub header : new.header ≡ old.header
-  pub memory : new.roots.refusals ≡ failures_after is_out_of_memory r old.roots.refusals
-  pub only : IfErr r IsReadWriteOrMemory
 
 -- What a run left of a source that tells its bytes: it is so of them; they stay; it was asked for what a run over them asks
 -- for, and of bytes too few for a header for nothing.

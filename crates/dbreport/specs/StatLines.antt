@@ -12,7 +12,7 @@ use Rattle.dbtrace.specs.Finding.{Finding, told_row, told_fault, told_below, vis
 -- the row of a finding, if it is one
 abbrev pub row_told : Finding → Option StatRow
 row_told (told_row r) = Some r
-row_told (told_fault f) = None
+row_told (told_fault f why) = None
 
 -- the rows among findings
 abbrev pub rows_told : List Finding → List StatRow

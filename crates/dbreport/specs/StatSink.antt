@@ -1,5 +1,5 @@
 -- The sink of the statistics: what a finding makes of it, and what it has written and counted after some.
-use Rattle.std.specs.Prelude.{◌≡◌, ℕ, ◌+◌, Bool, true, false, not, ◌==◌, List, [], ◌∷◌, ◌++◌, length, flat_map, Result, Ok, MatchResult, OnOk, if◌then◌else◌}
+use Rattle.std.specs.Prelude.{◌≡◌, ℕ, ◌+◌, Bool, true, false, not, ◌==◌, List, [], ◌∷◌, ◌++◌, length, flat_map, Result, Ok, MatchResult, if◌then◌else◌}
 use Rattle.std.specs.Io.KnownBytes.{Appends, Keeps}
 use Rattle.dbformat.specs.Lines.{counted, fault_line, page_line, tree_line}
 use Rattle.dbformat.specs.Rows.{StatRow}
@@ -7,13 +7,12 @@ use Rattle.dbformat.specs.declared.Fault.{Fault}
 use Rattle.dbformat.specs.declared.Geometry.{Geometry}
 use Rattle.dbformat.specs.declared.Verdict.{Verdict}
 use Rattle.dbformat.specs.declared.Verdict.TheVariants.{Clean, Faulty}
-use Rattle.dbsource.specs.Errors.{is_write_failed}
-use Rattle.dbsource.specs.Failures.{CountsAfter}
-use Rattle.dbsource.specs.Outs.{Begins, Flushes, OutState, Writes}
-use Rattle.dbsource.specs.declared.error.RunError.{RunError}
-use Rattle.dbtrace.specs.Finding.{Finding, told_row, told_fault}
+use Rattle.dbsource.specs.Outs.{Begins, Flushes, OutState}
+use Rattle.dbtrace.specs.Finding.{told_row, told_fault}
 use Rattle.dbmarks.specs.declared.marks.Mark.{Mark}
+use Rattle.dbscan.specs.Notices.{Notice, whole, found, ended, walked}
 use Rattle.dbscan.specs.Starts.{At}
+use Rattle.dbwalk.specs.Telling.{SinkState}
 use Rattle.dbreport.specs.CheckSink.{PutsAll}
 use Rattle.dbreport.specs.TreeNames.{name_at}
 use Rattle.dbreport.specs.OtherMarks.{marked_lines}
@@ -31,9 +30,14 @@ end_text true name size [] = []
 end_text true name size (row ∷ rows) = tree_line name size (row ∷ rows)
 end_text false name size rows = []
 
+-- what is written of the pages in no tree and in no overflow chain, by the marks of all pages
+abbrev pub other_lines : Bool → Geometry → List Mark → List ℕ
+other_lines true g marks = marked_lines g marks 1 (length marks)
+other_lines false g marks = []
+
 -- what a sink writes of rows as they come at a start
 abbrev pub text_of : {O E : Type 0} → StatSink O E → At → List StatRow → List ℕ
-text_of s at rows = pages_text s.aggregate (name_at s.encoding at) s.page_size rows
+text_of s at rows = pages_text s.form.aggregate (name_at s.encoding at) s.page_size rows
 
 -- it writes to the same Outs as before
 abbrev pub AreSameOuts : {O E : Type 0} → StatSink O E → StatSink O E → Type 0
@@ -45,7 +49,7 @@ pub record IsSameSink {O E : Type 0} (s t : StatSink O E) : Type 0 where
   pub err : t.err.ghost_name ≡ s.err.ghost_name
   pub encoding : t.encoding ≡ s.encoding
   pub page_size : t.page_size ≡ s.page_size
-  pub aggregate : t.aggregate ≡ s.aggregate
+  pub form : t.form ≡ s.form
 
 -- an Out was flushed: what it told stays, nothing of it is pending, and it did not fail
 abbrev pub IsFlushed : OutState → OutState → Type 0
@@ -59,7 +63,7 @@ IsFlushedIf false old new = new ≡ old
 -- a row was taken: it was written, behind the faults that came before it, or counted for its tree's
 pub record TakesRow {O E : Type 0} (held : O → OutState) (held' : E → OutState) (s : StatSink O E) (at : At) (r : StatRow) (t : StatSink O E) : Type 0 where
   pub same : IsSameSink s t
-  pub err : IsFlushedIf (not s.aggregate) (held' s.err.now) (held' t.err.now)
+  pub err : IsFlushedIf (not s.form.aggregate) (held' s.err.now) (held' t.err.now)
   pub found : t.found ≡ s.found
   pub sums : (rows : List StatRow) → s.sums ≡ sums_of rows → t.sums ≡ sums_of (rows ++ (r ∷ []))
   pub puts : PutsAll (held s.out.now) (held t.out.now) (text_of s at (r ∷ []))
@@ -84,34 +88,13 @@ pub record CutsFault {O E : Type 0} (held : O → OutState) (held' : E → OutSt
   pub out : Keeps (held s.out.now).bytes (held t.out.now).bytes
   pub err : Begins (held' s.err.now).bytes (held' t.err.now).bytes (fault_line f)
 
--- a finding of the whole file was taken; a row is none
-abbrev pub Counts : {O E : Type 0} → (O → OutState) → (E → OutState) → StatSink O E → Finding → StatSink O E → Type 0
-Counts out err s (told_row r) t = t ≡ s
-Counts out err s (told_fault f) t = TakesFault out err s f t
-
--- it was not taken whole
-abbrev pub Breaks : {O E : Type 0} → (O → OutState) → (E → OutState) → StatSink O E → Finding → StatSink O E → Type 0
-Breaks out err s (told_row r) t = ⊥
-Breaks out err s (told_fault f) t = CutsFault out err s f t
-
--- a finding at a start was taken
-abbrev pub CountsAt : {O E : Type 0} → (O → OutState) → (E → OutState) → StatSink O E → At → Finding → StatSink O E → Type 0
-CountsAt out err s at (told_row r) t = TakesRow out err s at r t
-CountsAt out err s at (told_fault f) t = TakesFault out err s f t
-
--- it was not taken whole
-abbrev pub BreaksAt : {O E : Type 0} → (O → OutState) → (E → OutState) → StatSink O E → At → Finding → StatSink O E → Type 0
-BreaksAt out err s at (told_row r) t = CutsRow out err s at r t
-BreaksAt out err s at (told_fault f) t = CutsFault out err s f t
-
 -- the failures of the first Out, and of the second
 abbrev pub failures_of_each : OutState → OutState → List ℕ
 failures_of_each out err = out.failures ∷ err.failures ∷ []
 
--- From one sink to the other just one of the Outs failed, once, exactly where the answer is a failed write.
-abbrev pub Fails : {A O E : Type 0} → (O → OutState) → (E → OutState) → Result A RunError → StatSink O E → StatSink O E → Type 0
-Fails held held' r s t =
-    CountsAfter is_write_failed r (failures_of_each (held s.out.now) (held' s.err.now)) (failures_of_each (held t.out.now) (held' t.err.now))
+-- it is lent both Outs, whose failures are counted
+abbrev pub stat_held : {O E : Type 0} → (O → OutState) → (E → OutState) → StatSink O E → SinkState
+stat_held held held' s = record { lent = s.out.ghost_name ∷ s.err.ghost_name ∷ []; failures = failures_of_each (held s.out.now) (held' s.err.now) }
 
 -- what was found, by the count of faults
 abbrev pub found_verdict : ℕ → Verdict
@@ -119,7 +102,7 @@ found_verdict n = if n == 0 then Clean else Faulty n
 
 -- From one sink to the other these bytes were written to the first Out, and the lines of these faults to the second.
 pub record HasWritten {O E : Type 0} (held : O → OutState) (held' : E → OutState) (s t : StatSink O E) (text : List ℕ) (faults : List Fault) : Type 0 where
-  pub aggregate : t.aggregate ≡ s.aggregate
+  pub form : t.form ≡ s.form
   pub encoding : t.encoding ≡ s.encoding
   pub page_size : t.page_size ≡ s.page_size
   pub found : (n : ℕ) → s.found ≡ counted n → t.found ≡ counted (n + length faults)
@@ -137,25 +120,47 @@ WritesBoth held held' r s t text faults = MatchResult r (λ _. HasWritten held h
 
 -- A tree has ended: its own row was written, where its rows are added up, behind the faults that came before it.
 pub record EndsTree {O E : Type 0} (held : O → OutState) (held' : E → OutState) (s : StatSink O E) (at : At) (t : StatSink O E) : Type 0 where
-  pub aggregate : t.aggregate ≡ s.aggregate
+  pub form : t.form ≡ s.form
   pub encoding : t.encoding ≡ s.encoding
   pub page_size : t.page_size ≡ s.page_size
   pub found : t.found ≡ s.found
   pub sums : t.sums ≡ sums_of []
-  pub err : IsFlushedIf s.aggregate (held' s.err.now) (held' t.err.now)
+  pub err : IsFlushedIf s.form.aggregate (held' s.err.now) (held' t.err.now)
   pub writes : (rows : List StatRow) → s.sums ≡ sums_of rows
-      → Appends (held s.out.now).bytes (held t.out.now).bytes (end_text s.aggregate (name_at s.encoding at) s.page_size rows)
+      → Appends (held s.out.now).bytes (held t.out.now).bytes (end_text s.form.aggregate (name_at s.encoding at) s.page_size rows)
 
 -- it was not written whole, or the faults before it were not handed on
 pub record CutsEnd {O E : Type 0} (held : O → OutState) (held' : E → OutState) (s : StatSink O E) (at : At) (t : StatSink O E) : Type 0 where
   pub kept : Keeps (held' s.err.now).bytes (held' t.err.now).bytes
   pub writes : (rows : List StatRow) → s.sums ≡ sums_of rows
-      → Begins (held s.out.now).bytes (held t.out.now).bytes (end_text s.aggregate (name_at s.encoding at) s.page_size rows)
+      → Begins (held s.out.now).bytes (held t.out.now).bytes (end_text s.form.aggregate (name_at s.encoding at) s.page_size rows)
 
--- The rows of the other pages were written, as the marks tell them, behind the faults that came before them; or a beginning
--- of them.
-pub record PutsOthers {O E A X : Type 0} (held : O → OutState) (held' : E → OutState) (r : Result A X) (g : Geometry) (marks : List Mark) (s t : StatSink O E) : Type 0 where
-  pub rest : t ≡ record s { out = t.out; err = t.err }
+-- All starts have been walked from: the rows of the other pages were written, where they are asked for, after the faults that came
+-- before them.
+pub record PutsOthers {O E : Type 0} (held : O → OutState) (held' : E → OutState) (s : StatSink O E) (g : Geometry) (marks : List Mark) (t : StatSink O E) : Type 0 where
+  pub same : IsSameSink s t
+  pub found : t.found ≡ s.found
+  pub sums : t.sums ≡ s.sums
+  pub err : IsFlushedIf s.form.all (held' s.err.now) (held' t.err.now)
+  pub writes : Appends (held s.out.now).bytes (held t.out.now).bytes (other_lines s.form.all g marks)
+
+-- they were not written whole, or the faults before them were not handed on
+pub record CutsOthers {O E : Type 0} (held : O → OutState) (held' : E → OutState) (s : StatSink O E) (g : Geometry) (marks : List Mark) (t : StatSink O E) : Type 0 where
   pub kept : Keeps (held' s.err.now).bytes (held' t.err.now).bytes
-  pub err : OnOk r (IsFlushed (held' s.err.now) (held' t.err.now))
-  pub writes : Writes r (held s.out.now).bytes (held t.out.now).bytes (marked_lines g marks 1 (length marks))
+  pub writes : Begins (held s.out.now).bytes (held t.out.now).bytes (other_lines s.form.all g marks)
+
+-- a notice was taken
+abbrev pub HearsStat : {O E : Type 0} → (O → OutState) → (E → OutState) → StatSink O E → Notice → StatSink O E → Type 0
+HearsStat out err s (whole f) t = TakesFault out err s f t
+HearsStat out err s (found at (told_fault f why)) t = TakesFault out err s f t
+HearsStat out err s (found at (told_row r)) t = TakesRow out err s at r t
+HearsStat out err s (ended at) t = EndsTree out err s at t
+HearsStat out err s (walked g marks) t = PutsOthers out err s g marks t
+
+-- it was not taken whole
+abbrev pub CutsStat : {O E : Type 0} → (O → OutState) → (E → OutState) → StatSink O E → Notice → StatSink O E → Type 0
+CutsStat out err s (whole f) t = CutsFault out err s f t
+CutsStat out err s (found at (told_fault f why)) t = CutsFault out err s f t
+CutsStat out err s (found at (told_row r)) t = CutsRow out err s at r t
+CutsStat out err s (ended at) t = CutsEnd out err s at t
+CutsStat out err s (walked g marks) t = CutsOthers out err s g marks t

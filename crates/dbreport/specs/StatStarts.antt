@@ -1,25 +1,18 @@
 -- What the statistics have written of the starts of a file, one after another.
-use Rattle.std.specs.Prelude.{◌≡◌, ℕ, Bool, List, [], ◌++◌, Result, IfOk, OnOk, flat_map, if◌then◌else◌}
-use Rattle.dbformat.specs.EndFaults.{end_faults, has_rows}
+use Rattle.std.specs.Prelude.{◌≡◌, ℕ, Bool, List, [], ◌++◌, Result, IfOk, flat_map, if◌then◌else◌}
 use Rattle.dbformat.specs.Header.{encoding, page_size}
-use Rattle.dbsurvey.specs.Story.{Errand}
-use Rattle.dbformat.specs.Reference.{Way, Reference}
-use Rattle.dbformat.specs.Story.{Event, start_errands}
-use Rattle.dbformat.specs.Rows.{other_rows}
-use Rattle.dbformat.specs.declared.Fault.{Fault}
-use Rattle.dbformat.specs.Lines.{form_line}
+use Rattle.dbformat.specs.Reference.{Reference}
+use Rattle.dbformat.specs.Report.{faults, verdict}
+use Rattle.dbformat.specs.Story.{start_errands}
+use Rattle.dbformat.specs.Rows.{form_rows, other_rows}
+use Rattle.dbformat.specs.declared.Verdict.{Verdict}
+use Rattle.dbformat.specs.Lines.{fault_line, form_line}
+use Rattle.dbsource.specs.Outs.{OutState, Writes}
 use Rattle.dbsource.specs.declared.error.RunError.{RunError}
-use Rattle.dbtrace.specs.Finding.{told_below}
-use Rattle.dbmarks.specs.Marking.{AreMarksOf}
-use Rattle.dbmarks.specs.declared.marks.Mark.{Mark}
-use Rattle.dbscan.specs.Findings.{faults_in}
 use Rattle.dbreport.specs.StatLines.{starts_text}
+use Rattle.dbreport.specs.Statistics.{form_of}
 use Rattle.dbreport.specs.Sums.{sums_of}
 use Rattle.dbreport.specs.declared.statistics.sink.StatSink.{StatSink}
-
--- what is found below some errands
-abbrev pub faults_told : List ℕ → List Reference → List (Errand Way Event) → List Fault
-faults_told file W errands = faults_in (told_below file W errands)
 
 -- the sink writes as the file asks for, and no row of a tree is left to be added up
 pub record IsForFile {O E : Type 0} (file : List ℕ) (s : StatSink O E) : Type 0 where
@@ -31,11 +24,9 @@ pub record IsForFile {O E : Type 0} (file : List ℕ) (s : StatSink O E) : Type 
 abbrev pub rows_text : Bool → Bool → List ℕ → List Reference → List ℕ
 rows_text aggregate all file V = starts_text aggregate file V [] (start_errands file V) ++ flat_map (form_line file V) (if all then other_rows file V else [])
 
--- the faults that the walks tell, and those at the end
-abbrev pub walk_faults_told : List ℕ → List Reference → List Fault
-walk_faults_told file V = faults_told file [] (start_errands file V) ++ end_faults file V
-
--- All starts have been walked from: the survey is marked, and it is known whether the schema has a row.
-pub record IsSurveyed (file : List ℕ) (V : List Reference) (r : Result Bool RunError) (marks : List Mark) : Type 0 where
-  pub marked : OnOk r (AreMarksOf file V marks)
-  pub has_rows : IfOk r (λ any. any ≡ has_rows file V)
+-- What a run leaves of the sink, where it was told nothing before and writes as the file asks for: on each Out its part of the
+-- report, at an error a beginning of it; and the verdict.
+abbrev pub LeavesStat : {O E : Type 0} → (O → OutState) → (E → OutState) → List ℕ → List Reference → Result Verdict RunError → StatSink O E → StatSink O E → Type 0
+LeavesStat held held' file V r s t = IsForFile file s → s.found ≡ 0
+    → Writes r (held s.out.now).bytes (held t.out.now).bytes (flat_map (form_line file V) (form_rows (form_of s.form) file V))
+    × Writes r (held' s.err.now).bytes (held' t.err.now).bytes (flat_map fault_line (faults file V)) × IfOk r (λ v. v ≡ verdict (faults file V))

@@ -1,15 +1,9 @@
 -- What the row of a tree adds up.
-use Rattle.std.specs.Prelude.{List, length, map, fold, max, sum_by}
-use Rattle.dbformat.specs.Lines.{counted}
+use Rattle.std.specs.Prelude.{List, length, map}
+use Rattle.dbformat.specs.Lines.{counted, total_counts}
 use Rattle.dbformat.specs.Rows.{StatRow}
 use Rattle.dbreport.specs.declared.statistics.sums.Sums.{Sums}
 
--- the sums of some rows, each of which stops at the greatest number of 64 bits
+-- how many rows there are, which stops at the greatest number of 64 bits, and what they count together
 abbrev pub sums_of : List StatRow → Sums
-sums_of rows = record {
-  pages = counted (length rows);
-  ncell = counted (sum_by (λ row. row.ncell) rows);
-  payload = counted (sum_by (λ row. row.payload) rows);
-  unused = counted (sum_by (λ row. row.unused) rows);
-  mx_payload = fold max 0 (map (λ row. row.mx_payload) rows);
-}
+sums_of rows = record { pages = counted (length rows); counts = total_counts (map (λ row. row.counts) rows) }

@@ -1,69 +1,109 @@
-// A check of a file, by its header.
-ghost use Rattle.std.specs.Prelude.{◌≡◌, List, IfErr, IfOk};
-ghost use Rattle.dbformat.specs.Log.{IsPageLog};
-ghost use Rattle.dbformat.specs.Reference.{Reference};
-ghost use Rattle.dbformat.specs.Report.{check_text, faults, verdict};
-ghost use Rattle.dbformat.specs.Survey.{Survey};
-ghost use Rattle.dbsource.specs.Errors.{is_out_of_memory, is_read_failed, is_write_failed};
-ghost use Rattle.dbsource.specs.Failures.{failures_after};
-ghost use Rattle.dbsource.specs.Headers.{IsHeaderOf};
-ghost use Rattle.dbsource.specs.Outs.{Writes};
-ghost use Rattle.dbsource.specs.Sources.{Asks};
-ghost use Rattle.dbwalk.specs.Telling.{IsReadWriteOrMemory, Tells};
-ghost use Rattle.dbreport.specs.CheckSink.{Cuts, Shows};
-ghost use Rattle.dbscan.specs.Desks.{IsFresh, shape_of};
-ghost use Rattle.dbscan.specs.RunItems.{run_items};
+// A check of a file: what it writes of what it is told.
+ghost use Rattle.std.specs.Prelude.{◌≡◌, IfOk, MatchResult};
+ghost use Rattle.dbsource.specs.Failures.{failures_after, is_any};
+ghost use Rattle.dbsource.specs.Outs.{Puts};
+ghost use Rattle.dbreport.specs.CheckSink.{CutsFault, ShowsFault, end_text, verdict_of};
 
-mod sink;
-
-use crate::checking::sink::CheckSink;
 use dbformat::Verdict;
-use dbscan::{Desk, scan};
-use dbsource::{Out, RunError, Source};
+use dblines::{put_fault, put_ok, put_rest};
+use dbscan::{Desk, Finish, Notice, Reporter};
+use dbsource::{Geometry, Out, RunError, Source, WriteFailed};
+use dbwalk::{Fault, Marks};
 use std::alloc::Allocator;
 
-// Tells the sink of a check, which keeps its Out, all that is found in a file.
-fn scan_check<A: Allocator, S: Source, O: Out>(
-    desk: &mut Desk<A>,
-    source: &mut S,
-    sink: &mut CheckSink<'_, O>,
-) -> Result<(), RunError>
-    requires fresh { IsFresh desk.old }
-    ensures same_out { sink.new.out.ghost_name ≡ sink.old.out.ghost_name }
-    ensures header { desk.new.header ≡ desk.old.header }
-    ensures asks { Asks S.step (IsPageLog (shape_of desk.old)) (λ file. IsHeaderOf desk.old.header file → (V : List Reference) → Survey file V
-        → Tells (Shows O.held) (Cuts O.held) result sink.old (run_items file V) sink.new)
-        is_read_failed result (S.held source.old) (S.held source.new) }
-    ensures writes { (O.held sink.new.out.now).failures ≡ failures_after is_write_failed result (O.held sink.old.out.now).failures }
-    ensures refusals { desk.new.roots.refusals ≡ failures_after is_out_of_memory result desk.old.roots.refusals }
-    ensures only { IfErr result IsReadWriteOrMemory }
-{
-    scan(desk, source, sink)
+// Writes the lines of the first faults as they come, and counts the others. It holds no list.
+#[derive(Drop)]
+pub(crate) struct CheckSink<'a, O> {
+    out: &'a mut O,
+    limit: u32,
+    shown: u32,
+    more: u64,
 }
 
-/// Writes the first faults of a file, so many at most, and how many more there are, or that there is none; and answers
-/// what was found.
-///
-/// # Errors
-///
-/// [`RunError::ReadFailed`] exactly where the source failed, [`RunError::WriteFailed`] exactly where the Out failed, and
-/// [`RunError::OutOfMemory`] exactly where the list was refused memory. The Out got a beginning of the text then.
-pub(crate) fn check<A: Allocator, S: Source, O: Out>(
-    limit: u32,
-    desk: &mut Desk<A>,
-    source: &mut S,
-    out: &mut O,
-) -> Result<Verdict, RunError>
-    requires fresh { IsFresh desk.old }
-    ensures header { desk.new.header ≡ desk.old.header }
-    ensures asks { Asks S.step (IsPageLog (shape_of desk.old)) (λ file. IsHeaderOf desk.old.header file → (V : List Reference) → Survey file V
-        → Writes result (O.held out.old).bytes (O.held out.new).bytes (check_text limit (faults file V)) × IfOk result (λ v. v ≡ verdict (faults file V)))
-        is_read_failed result (S.held source.old) (S.held source.new) }
-    ensures writes { (O.held out.new).failures ≡ failures_after is_write_failed result (O.held out.old).failures }
-    ensures refusals { desk.new.roots.refusals ≡ failures_after is_out_of_memory result desk.old.roots.refusals }
-    ensures only { IfErr result IsReadWriteOrMemory }
-{
-    let mut sink = CheckSink::new(out, limit);
-    scan_check(desk, source, &mut sink)?;
-    Ok(sink.finish()?)
+impl<'a, O: Out> CheckSink<'a, O> {
+    // One that was told nothing, and shows so many faults at most.
+    pub(crate) fn new(out: &'a mut O, limit: u32) -> CheckSink<'a, O>
+        ensures same_out { result.out.ghost_name ≡ out.entry.ghost_name }
+        ensures out { result.out.now ≡ out.old }
+        ensures limit { result.limit ≡ limit }
+        ensures shown { result.shown ≡ 0 }
+        ensures more { result.more ≡ 0 }
+    {
+        CheckSink {
+            out,
+            limit,
+            shown: 0,
+            more: 0,
+        }
+    }
+
+    // Puts the line of a fault, or counts it.
+    fn show(&mut self, fault: &Fault) -> Result<(), WriteFailed>
+        ensures item { MatchResult result (λ _. ShowsFault O.held self.old fault.now self.new) (λ _. CutsFault O.held self.old fault.now self.new) }
+        ensures count { (O.held self.new.out.now).failures ≡ failures_after is_any result (O.held self.old.out.now).failures }
+    {
+        if self.shown < self.limit {
+            put_fault(self.out, fault)?;
+            self.shown += 1;
+        } else {
+            self.more = self.more.saturating_add(1);
+        }
+        Ok(())
+    }
+
+    // Puts the last line, that there is no fault or how many there are beside those shown, and answers what was found.
+    fn end(&mut self) -> Result<Verdict, WriteFailed>
+        ensures same_out { self.new.out.ghost_name ≡ self.old.out.ghost_name }
+        ensures text { Puts result (O.held self.old.out.now) (O.held self.new.out.now) (end_text self.old.shown self.old.more) }
+        ensures verdict { IfOk result (λ v. v ≡ verdict_of self.old.shown self.old.more) }
+    {
+        let count = u64::from(self.shown).saturating_add(self.more);
+        if count == 0 {
+            put_ok(self.out)?;
+            return Ok(Verdict::Clean);
+        }
+        put_rest(self.out, self.more)?;
+        Ok(Verdict::Faulty(count))
+    }
+}
+
+// Where a fault is found is nothing to a check.
+impl<O: Out> Reporter for CheckSink<'_, O> {
+    ghost use Rattle.dbscan.specs.Notices.{CutsFaults, HearsFaults};
+    ghost use Rattle.dbreport.specs.CheckSink.{check_held};
+
+    ghost hears = { HearsFaults (ShowsFault O.held) };
+
+    ghost cuts = { CutsFaults (CutsFault O.held) };
+
+    ghost held = { check_held O.held };
+
+    fn hear(&mut self, notice: &Notice<'_>) -> Result<(), WriteFailed> {
+        match notice {
+            Notice::Whole(fault) | Notice::Fault(_, fault, _) => self.show(fault),
+            Notice::Row(_, _) | Notice::Ended(_) => Ok(()),
+        }
+    }
+
+    fn walked<A: Allocator>(
+        &mut self,
+        _geometry: Geometry,
+        _marks: &Marks<A>,
+    ) -> Result<(), WriteFailed> {
+        Ok(())
+    }
+}
+
+impl<O: Out, A: Allocator> Finish<Desk<A>> for CheckSink<'_, O> {
+    ghost use Rattle.dbreport.specs.CheckSink.{LeavesCheck};
+
+    ghost leaves = { LeavesCheck O.held };
+
+    fn finish<S: Source>(
+        &mut self,
+        _desk: &mut Desk<A>,
+        _source: &mut S,
+    ) -> Result<Verdict, RunError> {
+        Ok(self.end()?)
+    }
 }

@@ -8,10 +8,12 @@
 #![tactic(auto)]
 
 mod checking;
+mod opening;
 mod runs;
 mod statistics;
 
 pub use dbformat::{Command, Verdict};
 pub use dbscan::Desk;
 pub use dbsource::{Header, Out, RunError, Source};
+pub use opening::open_in;
 pub use runs::{run, run_in, run_on, told_files_are_read};

@@ -1,5 +1,5 @@
 // A run: from the bytes of a database to what is written of them.
-ghost use Rattle.std.specs.Prelude.{◌≡◌, List, IfErr, IfOk, Ok};
+ghost use Rattle.std.specs.Prelude.{◌≡◌, List, IfOk, Ok};
 ghost use Rattle.dbformat.specs.FixedPages.{geometry_of};
 ghost use Rattle.dbformat.specs.Log.{IsPageLog};
 ghost use Rattle.dbformat.specs.Reference.{Reference};
@@ -7,19 +7,20 @@ ghost use Rattle.dbformat.specs.Report.{report};
 ghost use Rattle.dbformat.specs.Survey.{Survey};
 ghost use Rattle.dbformat.specs.declared.Command.TheVariants.{Check, Stat};
 ghost use Rattle.dbscan.specs.DeskSizes.{DeskFitsInMemory};
-ghost use Rattle.dbreport.specs.Runs.{FailsAsAnswered, HasRun, HasRunBehind, HasUsed, IsCheck, IsLeftAlone, IsReported, ToldFilesAreRead};
+ghost use Rattle.dbscan.specs.Finishes.{HasUsed};
+ghost use Rattle.dbreport.specs.Runs.{FailsAsAnswered, HasRun, HasRunBehind, IsCheck, IsLeftAlone, IsReported, ToldFilesAreRead};
 ghost use Rattle.dbreport.specs.StatSink.{failures_of_each};
-ghost use Rattle.dbsource.specs.Errors.{is_out_of_memory, is_read_failed, is_write_failed};
+ghost use Rattle.dbsource.specs.Errors.{is_read_failed, is_write_failed};
 ghost use Rattle.dbsource.specs.Failures.{CountsAfter, failures_after};
 ghost use Rattle.dbsource.specs.Outs.{Writes};
 ghost use Rattle.dbsource.specs.Snapshots.{HasReadBehind};
-ghost use Rattle.dbwalk.specs.Telling.{IsReadWriteOrMemory};
 
-use crate::checking::check;
-use crate::statistics::{Form, stat};
+use crate::checking::CheckSink;
+use crate::opening::open_in;
+use crate::statistics::{Form, StatSink};
 use dbformat::{Command, Verdict};
-use dbscan::Desk;
-use dbsource::{HeadedSource, Header, Out, RunError, Source};
+use dbscan::{Desk, run_over};
+use dbsource::{Out, RunError, Source};
 use std::alloc::{Allocator, Global};
 
 // A check of the file whose header is on the desk.
@@ -36,14 +37,10 @@ fn check_on<A: Allocator, S: Source, O: Out>(
         (S.held source.old) (S.held source.new) }
     ensures count { (S.held source.new).failures ≡ failures_after is_read_failed result (S.held source.old).failures }
     ensures out_failures { (O.held out.new).failures ≡ failures_after is_write_failed result (O.held out.old).failures }
-    ensures refusals { desk.new.roots.refusals ≡ failures_after is_out_of_memory result desk.old.roots.refusals }
-    ensures only { IfErr result IsReadWriteOrMemory }
-    ensures header { desk.new.header ≡ desk.old.header }
+    ensures desk { HasUsed result desk.old desk.new }
 {
-    desk.renew();
-    let header = *desk.header();
-    let mut headed = HeadedSource::new(&header, source);
-    check(limit, desk, &mut headed, out)
+    let mut sink = CheckSink::new(out, limit);
+    run_over(desk, source, &mut sink)
 }
 
 // The statistics of the file whose header is on the desk.
@@ -61,14 +58,12 @@ fn stat_on<A: Allocator, S: Source, O: Out, E: Out>(
     ensures count { (S.held source.new).failures ≡ failures_after is_read_failed result (S.held source.old).failures }
     ensures writes { CountsAfter is_write_failed result (failures_of_each (O.held out.old) (E.held err.old))
         (failures_of_each (O.held out.new) (E.held err.new)) }
-    ensures refusals { desk.new.roots.refusals ≡ failures_after is_out_of_memory result desk.old.roots.refusals }
-    ensures only { IfErr result IsReadWriteOrMemory }
-    ensures header { desk.new.header ≡ desk.old.header }
+    ensures desk { HasUsed result desk.old desk.new }
 {
-    desk.renew();
-    let header = *desk.header();
-    let mut headed = HeadedSource::new(&header, source);
-    stat(form, desk, &mut headed, out, err)
+    let encoding = desk.header().encoding();
+    let page_size = desk.geometry().page_size;
+    let mut sink = StatSink::new(out, err, encoding, page_size, form);
+    run_over(desk, source, &mut sink)
 }
 
 /// Writes what `command` asks of the file whose header is on the desk: for a check the fault lines to `out`, and nothing to
@@ -121,8 +116,7 @@ pub fn run_in<A: Allocator + Copy, S: Source, O: Out, E: Out>(
     ensures refused { IsLeftAlone S.Source O.Out E.Out result (source.old, out.old, err.old) (source.new, out.new, err.new) }
     ensures second { IsCheck command → err.new ≡ err.old }
 {
-    let header = Header::read(source)?;
-    let mut desk = Desk::new_in(alloc, header)?;
+    let mut desk = open_in(alloc, source)?;
     run_on(command, &mut desk, source, out, err)
 }
 

@@ -1,6 +1,11 @@
+pub mod AllTold
+pub mod BehindHeader
 pub mod CountedMarks
 pub mod DeskWalks
 pub mod EndItems
+pub mod FaultsHeard
+pub mod FileCodes
+pub mod Finished
 pub mod MapLogs
 pub mod MapPlaces
 pub mod PlacedFaults
@@ -14,6 +19,7 @@ pub mod SchemaWalks
 pub mod ShortNames
 pub mod StartByStart
 pub mod Starts
+pub mod StartsRise
 pub mod Tellers
 pub mod ToldFaults
 pub mod ToldStarts

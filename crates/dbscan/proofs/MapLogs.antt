@@ -89,10 +89,6 @@ map_is_readable g p h = record { from_one = let k = (at_position g p h.0).0 in o
 apart : (p q : ℕ) → p < q → p ≢ q
 apart p q l e = omega arith
 
--- nothing is a log of pages of the file
-pub empty_log : (g : Geometry) → IsPageLog g []
-empty_log g = record { pages = []; ranges = refl; readable = λ p i. absurd i; distinct = tt }
-
 -- what walks read is one with what is read of the map behind it: no page of fixed use is read by a walk, and each page has a mark then
 pub walk_then_map_log : (g : Geometry) (old new : List Mark) (walked mapped : List ByteRange) → AreMarksFor g old
     → Reads g.page_size old new walked → MapReads g mapped → ReadsMarked g new (walked ++ mapped)

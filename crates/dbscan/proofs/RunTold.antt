@@ -18,9 +18,13 @@ use Rattle.dbformat.proofs.HeaderPrefix.{header_faults_within}
 use Rattle.dbformat.proofs.LookBack.{looks_back}
 use Rattle.dbsource.specs.HeaderBytes.{HeaderBytes}
 use Rattle.dbsource.specs.Headers.{IsHeaderOf}
-use Rattle.dbtrace.specs.Finding.{told_row, told_at, told_below}
+use Rattle.dbformat.specs.declared.FaultCode.{FaultCode}
+use Rattle.dbtrace.specs.Causes.{cause_of}
+use Rattle.dbtrace.specs.declared.Cause.{Cause}
+use Rattle.dbtrace.specs.Finding.{told_row, told_by, told_at, told_below}
 use Rattle.dbwalk.specs.Telling.{findings}
 use Rattle.dbscan.specs.Findings.{fault_in, faults_in}
+use Rattle.dbscan.specs.Notices.{whole}
 use Rattle.dbscan.specs.RunItems.{run_items}
 
 -- ---- the faults among it
@@ -33,9 +37,14 @@ pub all_faults : (fs : List Fault) → faults_in (findings fs) ≡ fs
 all_faults [] = refl
 all_faults (f ∷ fs) = ap (λ l. f ∷ l) (all_faults fs)
 
+-- whatever their causes
+with_causes : (why : FaultCode → Cause) (fs : List Fault) → faults_in (told_by why fs) ≡ fs
+with_causes why [] = refl
+with_causes why (f ∷ fs) = ap (λ l. f ∷ l) (with_causes why fs)
+
 at_event : (file : List ℕ) (U : List Reference) (e : Event) → faults_in (told_at file U e) ≡ event_faults file U e
-at_event file U e = filter_map-append fault_in (map told_row (option_to_list (event_row file e))) (findings (event_faults file U e))
-    ∙ ap₂ (λ a b. a ++ b) (no_faults (option_to_list (event_row file e))) (all_faults (event_faults file U e))
+at_event file U e = filter_map-append fault_in (map told_row (option_to_list (event_row file e))) (told_by (cause_of file U e) (event_faults file U e))
+    ∙ ap₂ (λ a b. a ++ b) (no_faults (option_to_list (event_row file e))) (with_causes (cause_of file U e) (event_faults file U e))
 
 in_list : (file : List ℕ) (W : List Reference) (L : List (Told Event)) → faults_in (read_back own_visit (told_at file) W L) ≡ read_back own_visit (event_faults file) W L
 in_list file W [] = refl
@@ -63,5 +72,5 @@ run_faults file V s =
 -- ---- its parts, one after another
 
 -- the header's faults, as they are told
-pub header_items : (file : List ℕ) (h : HeaderBytes) → IsHeaderOf h file → findings (header_faults h.bytes h.file_len) ≡ findings (header_faults file (length file))
-header_items file h is = ap findings (ap₂ header_faults is.begins is.whole ∙ header_faults_within file (length file))
+pub header_items : (file : List ℕ) (h : HeaderBytes) → IsHeaderOf h file → map whole (header_faults h.bytes h.file_len) ≡ map whole (header_faults file (length file))
+header_items file h is = ap (map whole) (ap₂ header_faults is.begins is.whole ∙ header_faults_within file (length file))

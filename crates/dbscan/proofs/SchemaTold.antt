@@ -27,24 +27,27 @@ use Rattle.dbformat.specs.Schema.{schema_link, later_starts}
 use Rattle.dbformat.specs.Story.{Event, at_page, at_key, at_refused, own_visit, story_of}
 use Rattle.dbformat.specs.Survey.{Survey, rules_of}
 use Rattle.dbformat.specs.declared.Fault.{Fault}
+use Rattle.dbformat.specs.declared.FaultCode.{FaultCode}
+use Rattle.dbtrace.specs.Causes.{cause_of}
+use Rattle.dbtrace.specs.declared.Cause.{Cause}
 use Rattle.dbformat.specs.declared.PageType.TheVariants.{Internal, Leaf}
 use Rattle.dbformat.proofs.Rising.{starts_rise}
 use Rattle.dbformat.proofs.Theory.{are_rules, is_story, shows_visits, no_tell}
 use Rattle.dbformat.proofs.Visited.{has_address}
-use Rattle.dbtrace.specs.Finding.{told_row, told_fault, told_at, told_below}
+use Rattle.dbtrace.specs.Finding.{told_row, told_by, told_at, told_below}
 use Rattle.dbscan.specs.Findings.{is_leaf, is_schema_leaf, is_schema_row}
 
 or_none : (a b : Bool) → b ≡ false → (a || b) ≡ a
 or_none true b e = refl
 or_none false b e = e
 
-none_by_faults : (fs : List Fault) → list_any is_schema_row (map told_fault fs) ≡ false
-none_by_faults [] = refl
-none_by_faults (f ∷ fs) = none_by_faults fs
+none_by_faults : (why : FaultCode → Cause) (fs : List Fault) → list_any is_schema_row (told_by why fs) ≡ false
+none_by_faults why [] = refl
+none_by_faults why (f ∷ fs) = none_by_faults why fs
 
-by_row_alone : (o : Option StatRow) (fs : List Fault) → list_any is_schema_row (map told_row (option_to_list o) ++ map told_fault fs) ≡ option_map_or is_schema_leaf o false
-by_row_alone None fs = none_by_faults fs
-by_row_alone (Some x) fs = or_none (is_schema_leaf x) (list_any is_schema_row (map told_fault fs)) (none_by_faults fs)
+by_row_alone : (why : FaultCode → Cause) (o : Option StatRow) (fs : List Fault) → list_any is_schema_row (map told_row (option_to_list o) ++ told_by why fs) ≡ option_map_or is_schema_leaf o false
+by_row_alone why None fs = none_by_faults why fs
+by_row_alone why (Some x) fs = or_none (is_schema_leaf x) (list_any is_schema_row (told_by why fs)) (none_by_faults why fs)
 
 -- by what is told of it, and by its page, a visit shows a row of the schema
 abbrev by_told : List ℕ → Reference → Bool
@@ -54,9 +57,9 @@ abbrev by_page : List ℕ → Reference → Bool
 by_page file r = is_leaf_of file schema_start r && has_cell (tree_view file r)
 
 at_event : (file : List ℕ) (U : List Reference) (e : Event) → list_any is_schema_row (told_at file U e) ≡ option_map_or (by_told file) (own_visit e) false
-at_event file U (at_page r) = by_row_alone (row_in (role_of r) file r) (event_faults file U (at_page r))
-at_event file U (at_key r v cell) = none_by_faults (event_faults file U (at_key r v cell))
-at_event file U (at_refused r) = none_by_faults (event_faults file U (at_refused r))
+at_event file U (at_page r) = by_row_alone (cause_of file U (at_page r)) (row_in (role_of r) file r) (event_faults file U (at_page r))
+at_event file U (at_key r v cell) = none_by_faults (cause_of file U (at_key r v cell)) (event_faults file U (at_key r v cell))
+at_event file U (at_refused r) = none_by_faults (cause_of file U (at_refused r)) (event_faults file U (at_refused r))
 
 -- all that is told, by its visits
 in_list : (file : List ℕ) (W : List Reference) (L : List (Told Event)) → list_any is_schema_row (read_back own_visit (told_at file) W L) ≡ list_any (by_told file) (visits_in own_visit L)

@@ -23,7 +23,7 @@ use Rattle.dbwalk.specs.declared.root.Root.{Root}
 use Rattle.dbwalk.specs.declared.root.RootKind.TheVariants.{Schema}
 use Rattle.dbowner.specs.Roots.{Listed, TakesRow}
 use Rattle.dbscan.specs.Findings.{is_schema_row}
-use Rattle.dbscan.specs.Notices.{Hearing, Hears}
+use Rattle.dbscan.specs.Notices.{Notice}
 use Rattle.dbscan.specs.Starts.{IsSchemaOf, at_schema, schema_reference, schema_root}
 use Rattle.dbscan.specs.Walks.{IsSchemaWalked, IsTreeWalked, IsWalkedOver}
 use Rattle.dbscan.specs.declared.teller.Teller.{Teller}
@@ -40,14 +40,14 @@ schema_first file encoding marks h = record {
 }
 
 -- The walk over the schema's tree with a teller that was told nothing, and what it has come by.
-module _ {S : Type 0} (heard : Hearing S) (file : List ℕ) (marks : List Mark) (w t : Teller S) (old new : Listed) (start : w.start.now ≡ at_schema) (unseen : w.has_rows ≡ false) (empty : old.rows ≡ []) where
-  by_result : (r : Result (Unit {0}) RunError) → IsWalkedOver {A = Unit {0}} (Hears heard) TakesRow file [] schema_reference r marks w t old new
-      → IsTreeWalked {A = Unit {0}} (Hears heard) at_schema file [] schema_reference r marks w.sink.now t.sink.now × ((V : List Reference) → Survey file V → OnOk r (IsSchemaOf file V new.rows t.has_rows))
-  by_result (Err e) d = (subst (λ at. IsTreeWalked {A = Unit {0}} (Hears heard) at file [] schema_reference (Err e) marks w.sink.now t.sink.now) start d.tree, λ V s. tt)
+module _ {S : Type 0} (hears cuts : S → Notice → S → Type 0) (file : List ℕ) (marks : List Mark) (w t : Teller S) (old new : Listed) (start : w.start.now ≡ at_schema) (unseen : w.has_rows ≡ false) (empty : old.rows ≡ []) where
+  by_result : (r : Result (Unit {0}) RunError) → IsWalkedOver {A = Unit {0}} hears cuts TakesRow file [] schema_reference r marks w t old new
+      → IsTreeWalked {A = Unit {0}} hears cuts at_schema file [] schema_reference r marks w.sink.now t.sink.now × ((V : List Reference) → Survey file V → OnOk r (IsSchemaOf file V new.rows t.has_rows))
+  by_result (Err e) d = (subst (λ at. IsTreeWalked {A = Unit {0}} hears cuts at file [] schema_reference (Err e) marks w.sink.now t.sink.now) start d.tree, λ V s. tt)
   by_result (Ok u) d =
       let items = told_below file [] (Go schema_reference ∷ []) in
       let P = schema_part file in (
-        subst (λ at. IsTreeWalked {A = Unit {0}} (Hears heard) at file [] schema_reference (Ok u) marks w.sink.now t.sink.now) start d.tree,
+        subst (λ at. IsTreeWalked {A = Unit {0}} hears cuts at file [] schema_reference (Ok u) marks w.sink.now t.sink.now) start d.tree,
         λ V s.
             let same : schema file V ≡ schema file P = (by_starts file V s).1 in
             let rows = schema_roots file P old new empty (d.given refl) ∙ ap (λ cs. take last_root_start (rooted_rows cs)) (sym same) in
@@ -62,18 +62,18 @@ module _ {S : Type 0} (heard : Hearing S) (file : List ℕ) (marks : List Mark) 
   module _ (h : HeaderBytes) (is : IsHeaderOf h file) (code : Encoding) (coded : code ≡ encoding_of h.bytes) (named : Root) (root : named ≡ schema_root code) (first : List Mark) (fresh : AreMarksOf file [] first) where
     abbrev IsWalked : Result (Unit {0}) RunError → Type 0
     IsWalked r = named.encoding ≡ encoding_of file → (W : List Reference) (c : Reference) → IsRootAfter file named W c first → (held : Listed → ℕ) → (named.kind ≡ Schema → StartsEmpty TakesRow held old)
-        → IsWalkedOver (Hears heard) TakesRow file W c r marks w t old new
+        → IsWalkedOver hears cuts TakesRow file W c r marks w t old new
 
     from_schema : (r : Result (Unit {0}) RunError) → IsWalked r
-        → IsTreeWalked (Hears heard) at_schema file [] schema_reference r marks w.sink.now t.sink.now × ((V : List Reference) → Survey file V → OnOk r (IsSchemaOf file V new.rows t.has_rows))
+        → IsTreeWalked hears cuts at_schema file [] schema_reference r marks w.sink.now t.sink.now × ((V : List Reference) → Survey file V → OnOk r (IsSchemaOf file V new.rows t.has_rows))
     from_schema r walked =
         by_result r (walked (ap (λ (r : Root). r.encoding) root ∙ coded ∙ ap encoding_of is.begins ∙ encoding_within file) [] schema_reference
         (subst (λ r. IsRootAfter file r [] schema_reference first) (sym root) (schema_first file code first fresh)) (λ l. length l.rows) (λ k. roots_start_empty old empty))
 
-    pub schema_stopped : (e : RunError) → IsWalked (Err e) → IsSchemaWalked (Hears heard) file (Err e) marks new.rows w.sink.now t.sink.now
+    pub schema_stopped : (e : RunError) → IsWalked (Err e) → IsSchemaWalked hears cuts file (Err e) marks new.rows w.sink.now t.sink.now
     schema_stopped e walked = let d = from_schema (Err e) walked in record { tree = record { marked = tt; told = d.0.told }; schema = λ V s. tt }
 
-    pub schema_walked : (any : Bool) → any ≡ t.has_rows → IsWalked (Ok tt) → IsSchemaWalked (Hears heard) file (Ok any) marks new.rows w.sink.now t.sink.now
+    pub schema_walked : (any : Bool) → any ≡ t.has_rows → IsWalked (Ok tt) → IsSchemaWalked hears cuts file (Ok any) marks new.rows w.sink.now t.sink.now
     schema_walked any e walked =
         let d = from_schema (Ok tt) walked in
         record { tree = record { marked = d.0.marked; told = d.0.told }; schema = λ V s. subst (IsSchemaOf file V new.rows) (sym e) (d.1 V s) }

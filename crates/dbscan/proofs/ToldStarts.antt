@@ -1,45 +1,46 @@
 -- Of what is told of a file, the findings alone.
-use Rattle.std.proofs.Common.{◌≡◌, ℕ, true, false, inl, inr, List, [], ◌∷◌, ◌++◌, length, map, take, Option, Some, None, Result, Ok, Err, refl, sym, ap, ap₂, subst, ◌∙◌, append-nil}
+use Rattle.std.proofs.Common.{◌≡◌, ℕ, List, [], ◌∷◌, ◌++◌, length, map, take, Option, Some, None, refl, sym, ap, ap₂, ◌∙◌, append-nil}
 use Rattle.std.specs.Prelude.{filter_map}
 use Rattle.std.specs.List.{enumerate_from}
 use Rattle.std.proofs.lemmas.List.Elements.{filter_map-append}
-use Rattle.dbsurvey.specs.Moves.{Moves, Stops, MovesBySome}
 use Rattle.dbsurvey.specs.Story.{Go, Follow, errands_at}
-use Rattle.dbsurvey.proofs.Moving.{some_none}
 use Rattle.dbformat.specs.Address.{last_root_start}
 use Rattle.dbformat.specs.EndFaults.{end_faults}
 use Rattle.dbformat.specs.HeaderFaults.{header_faults}
 use Rattle.dbformat.specs.Reference.{Reference}
+use Rattle.dbformat.specs.Report.{faults}
 use Rattle.dbformat.specs.Schema.{schema, rooted_rows}
 use Rattle.dbformat.specs.SchemaRow.{SchemaRow}
 use Rattle.dbformat.specs.Story.{start_errands}
 use Rattle.dbformat.specs.Survey.{Survey}
-use Rattle.dbsource.specs.declared.error.RunError.{RunError}
-use Rattle.dbsource.specs.declared.error.RunError.TheVariants.{ReadFailed, WriteFailed, OutOfMemory, Refused}
-use Rattle.dbtrace.specs.Finding.{Finding, told_below, visited_below}
-use Rattle.dbwalk.specs.Telling.{Tells, findings}
+use Rattle.dbformat.specs.declared.Fault.{Fault}
+use Rattle.dbtrace.specs.Finding.{Finding, told_row, told_fault, told_alone, told_below, visited_below}
+use Rattle.dbwalk.specs.Telling.{findings}
 use Rattle.dbwalk.proofs.Telling.Belows.{told_join}
-use Rattle.dbscan.specs.Notices.{Notice, whole, found, ended, Hearing, Hears, errands_left, root_reference, tree_notices, later_notices, start_notices, run_notices}
+use Rattle.dbscan.specs.Notices.{Notice, whole, found, ended, walked, faults_heard, errands_left, root_reference, tree_notices, later_notices, start_notices, end_notices, run_notices}
+use Rattle.dbscan.specs.Findings.{faults_in}
 use Rattle.dbscan.specs.RunItems.{run_items}
 use Rattle.dbscan.specs.Starts.{At, at_freelist, at_row, at_schema, schema_reference}
 use Rattle.dbscan.proofs.RootsTaken.{starts_listed}
 use Rattle.dbscan.proofs.RunItems.{starts_are}
+use Rattle.dbscan.proofs.RunTold.{run_faults}
 use Rattle.dbscan.proofs.StartByStart.{of_later}
 use Rattle.dbscan.proofs.Starts.{quiet_go}
 
 -- the finding of a notice, if it is one
 abbrev finding_in : Notice → Option Finding
-finding_in (whole item) = Some item
+finding_in (whole f) = Some (told_alone f)
 finding_in (found at item) = Some item
 finding_in (ended at) = None
+finding_in (walked g marks) = None
 
 -- the findings among notices
 abbrev pub findings_in : List Notice → List Finding
 findings_in notices = filter_map finding_in notices
 
-of_whole : (items : List Finding) → findings_in (map whole items) ≡ items
+of_whole : (fs : List Fault) → findings_in (map whole fs) ≡ findings fs
 of_whole [] = refl
-of_whole (i ∷ items) = ap (λ l. i ∷ l) (of_whole items)
+of_whole (f ∷ fs) = ap (λ l. told_alone f ∷ l) (of_whole fs)
 
 of_found : (at : At) (items : List Finding) → findings_in (map (found at) items) ≡ items
 of_found at [] = refl
@@ -80,61 +81,21 @@ of_starts file V s =
 -- those of the whole run
 of_run : (file : List ℕ) (V : List Reference) → Survey file V → findings_in (run_notices file V) ≡ run_items file V
 of_run file V s =
-    let first = findings (header_faults file (length file)) in
-    let last = findings (end_faults file V) in
-    filter_map-append finding_in (map whole first) (start_notices file V ++ map whole last)
-    ∙ ap₂ (λ a b. a ++ b) (of_whole first) (filter_map-append finding_in (start_notices file V) (map whole last) ∙ ap₂ (λ a b. a ++ b) (of_starts file V s) (of_whole last))
+    let first = header_faults file (length file) in
+    let last = end_notices file V in
+    filter_map-append finding_in (map whole first) (start_notices file V ++ last)
+    ∙ ap₂ (λ a b. a ++ b) (of_whole first) (filter_map-append finding_in (start_notices file V) last ∙ ap₂ (λ a b. a ++ b) (of_starts file V s) (of_whole (end_faults file V)))
 
--- ---- what is told to a sink to which it is nothing where it is found
+-- ---- the faults among it
 
-module _ {S : Type 0} (takes drops : S → Finding → S → Type 0) where
-  abbrev pub anywhere : Hearing S
-  anywhere = record {
-    takes = takes;
-    drops = drops;
-    takes_at = λ s at item t. takes s item t;
-    drops_at = λ s at item t. drops s item t;
-    ends = λ s at t. t ≡ s;
-    cuts = λ s at t. ⊥;
-  }
+heard_found : (notices : List Notice) → faults_heard notices ≡ faults_in (findings_in notices)
+heard_found [] = refl
+heard_found (whole f ∷ ns) = ap (λ l. f ∷ l) (heard_found ns)
+heard_found (found at (told_row r) ∷ ns) = heard_found ns
+heard_found (found at (told_fault f why) ∷ ns) = ap (λ l. f ∷ l) (heard_found ns)
+heard_found (ended at ∷ ns) = heard_found ns
+heard_found (walked g marks ∷ ns) = heard_found ns
 
-  abbrev all : S → Notice → S → Type 0
-  all = Hears anywhere true
-
-  abbrev part : S → Notice → S → Type 0
-  part = Hears anywhere false
-
-  all_found : (notices : List Notice) (s t : S) → Moves all s notices t → Moves takes s (findings_in notices) t
-  all_found [] s t h = h
-  all_found (ended at ∷ ns) s t h = subst (λ m. Moves takes m (findings_in ns) t) h.1 (all_found ns h.0 t h.2)
-  all_found (whole i ∷ ns) s t h = (h.0, h.1, all_found ns h.0 t h.2)
-  all_found (found at i ∷ ns) s t h = (h.0, h.1, all_found ns h.0 t h.2)
-
-  some_found : (notices : List Notice) (s t : S) → MovesBySome all s notices t → MovesBySome takes s (findings_in notices) t
-  some_found [] s t h = h
-  some_found (ended at ∷ ns) s t (inl e) = subst (λ m. MovesBySome takes s (findings_in ns) m) e (some_none takes s (findings_in ns))
-  some_found (ended at ∷ ns) s t (inr h) = subst (λ m. MovesBySome takes m (findings_in ns) t) h.1 (some_found ns h.0 t h.2)
-  some_found (whole i ∷ ns) s t (inl e) = inl e
-  some_found (whole i ∷ ns) s t (inr h) = inr (h.0, h.1, some_found ns h.0 t h.2)
-  some_found (found at i ∷ ns) s t (inl e) = inl e
-  some_found (found at i ∷ ns) s t (inr h) = inr (h.0, h.1, some_found ns h.0 t h.2)
-
-  stops_found : (notices : List Notice) (s t : S) → Stops all part s notices t → Stops takes drops s (findings_in notices) t
-  stops_found [] s t h = absurd h
-  stops_found (ended at ∷ ns) s t (inl h) = absurd h
-  stops_found (ended at ∷ ns) s t (inr h) = subst (λ m. Stops takes drops m (findings_in ns) t) h.1 (stops_found ns h.0 t h.2)
-  stops_found (whole i ∷ ns) s t (inl h) = inl h
-  stops_found (whole i ∷ ns) s t (inr h) = inr (h.0, h.1, stops_found ns h.0 t h.2)
-  stops_found (found at i ∷ ns) s t (inl h) = inl h
-  stops_found (found at i ∷ ns) s t (inr h) = inr (h.0, h.1, stops_found ns h.0 t h.2)
-
-  findings_told : {A : Type 0} (r : Result A RunError) (notices : List Notice) (s t : S) → Tells all part r s notices t → Tells takes drops r s (findings_in notices) t
-  findings_told (Ok a) notices s t h = all_found notices s t h
-  findings_told (Err (Refused r)) notices s t h = some_found notices s t h
-  findings_told (Err ReadFailed) notices s t h = some_found notices s t h
-  findings_told (Err OutOfMemory) notices s t h = some_found notices s t h
-  findings_told (Err WriteFailed) notices s t h = stops_found notices s t h
-
-  -- all findings of a run
-  pub run_told : {A : Type 0} (file : List ℕ) (V : List Reference) → Survey file V → (r : Result A RunError) (s t : S) → Tells all part r s (run_notices file V) t → Tells takes drops r s (run_items file V) t
-  run_told file V survey r s t h = subst (λ items. Tells takes drops r s items t) (of_run file V survey) (findings_told r (run_notices file V) s t h)
+-- they are the faults of the file
+pub run_heard : (file : List ℕ) (V : List Reference) → Survey file V → faults_heard (run_notices file V) ≡ faults file V
+run_heard file V s = heard_found (run_notices file V) ∙ ap faults_in (of_run file V s) ∙ run_faults file V s

@@ -1,5 +1,5 @@
 -- The walks from the starts, one after another: what a walk over the next tree leaves to be told.
-use Rattle.std.proofs.Common.{◌≡◌, ℕ, suc, ◌+◌, ◌-◌, ◌<◌, Bool, true, false, cond, inl, List, [], ◌∷◌, ◌++◌, drop, length, map, Some, Result, Ok, Err, refl, sym, ap, subst, ◌∙◌, arith, append_assoc, append-nil}
+use Rattle.std.proofs.Common.{◌≡◌, ℕ, suc, ◌+◌, ◌-◌, ◌<◌, Bool, false, cond, inl, List, [], ◌∷◌, ◌++◌, drop, length, map, Some, Result, Ok, Err, refl, sym, ap, subst, ◌∙◌, arith, append_assoc, append-nil}
 use Rattle.std.specs.Prelude.{slice_get, ◌==◌}
 use Rattle.std.specs.List.{enumerate_from}
 use Rattle.dbsurvey.specs.Moves.{Moves}
@@ -25,14 +25,14 @@ use Rattle.dbmarks.specs.declared.marks.Mark.{Mark}
 use Rattle.dbwalk.specs.declared.taker.Taken.{Taken}
 use Rattle.dbwalk.proofs.Telling.Belows.{told_none, stops_by_first, stops_by_after}
 use Rattle.dbwalk.proofs.Telling.Lefts.{left_call, left_none}
-use Rattle.dbscan.specs.Notices.{Notice, found, ended, Hearing, Hears, errands_left, root_reference, tree_notices, later_notices, start_notices}
+use Rattle.dbscan.specs.Notices.{Notice, found, ended, errands_left, root_reference, tree_notices, later_notices, start_notices}
 use Rattle.dbscan.specs.Starts.{IsSchemaOf, at_freelist, at_row, at_schema, later_errands, root_of, schema_reference}
 use Rattle.dbscan.specs.Tellers.{HandsOn}
 use Rattle.dbscan.specs.Walks.{Any, IsAt, IsTreeWalked, IsWalkedOver, IsSchemaWalked, IsTelling, StopsTelling, AreTold, AreWalked}
 use Rattle.dbscan.specs.declared.teller.Teller.{Teller}
 use Rattle.dbscan.proofs.RunItems.{all_visited, starts_left, survey_below_starts}
 use Rattle.dbscan.proofs.Starts.{drop_more, quiet_go, root_next, row_there}
-use Rattle.dbscan.proofs.Tellers.{moves_as, stopped_as, teller_moves, teller_stops}
+use Rattle.dbscan.proofs.Tellers.{teller_moves, teller_stops}
 
 any_moves : (items : List Finding) → Moves Any tt items tt
 any_moves [] = refl
@@ -49,18 +49,15 @@ at_end : (file : List ℕ) (V : List Reference) (survey : Survey file V) (U : Li
 at_end file V survey U marks h =
     subst (λ W. AreMarksOf file W marks) (all_visited file V survey) (left_none Any file [] (start_errands file V) tt U marks tt {A = Unit {0}} Any tt h).marked
 
-module _ {S : Type 0} (heard : Hearing S) where
-  abbrev hears : Bool → S → Notice → S → Type 0
-  hears = Hears heard
-
+module _ {S : Type 0} (hears cuts : S → Notice → S → Type 0) where
   -- ---- what a teller is told, as what its sink hears
 
   module _ (items : List Finding) (w t : Teller S) where
-    moved : Moves (HandsOn heard.takes_at) w items t → Moves (hears true) w.sink.now (map (found w.start.now) items) t.sink.now
-    moved h = moves_as (found w.start.now) (hears true) (hears false) items w.sink.now t.sink.now (teller_moves heard.takes_at heard.drops_at items w t h).0
+    moved : Moves (HandsOn hears) w items t → Moves hears w.sink.now (map (found w.start.now) items) t.sink.now
+    moved h = (teller_moves hears cuts items w t h).0
 
-    stopped : (e : RunError) → StopsBy (HandsOn heard.takes_at) (HandsOn heard.drops_at) e w items t → StopsBy (hears true) (hears false) e w.sink.now (map (found w.start.now) items) t.sink.now
-    stopped e h = stopped_as (found w.start.now) (hears true) (hears false) e items w.sink.now t.sink.now (teller_stops heard.takes_at heard.drops_at e items w t h)
+    stopped : (e : RunError) → StopsBy (HandsOn hears) (HandsOn cuts) e w items t → StopsBy hears cuts e w.sink.now (map (found w.start.now) items) t.sink.now
+    stopped e h = teller_stops hears cuts e items w t h
 
   -- ---- one tree
 
@@ -69,38 +66,38 @@ module _ {S : Type 0} (heard : Hearing S) where
     items = told_below file W (Go c ∷ [])
 
     abbrev IsDoneBy : Result (Unit {0}) RunError → Type 0
-    IsDoneBy r = IsTreeDone (HandsOn heard.takes_at) (HandsOn heard.drops_at) keeps refuses file W c r marks w m first u
+    IsDoneBy r = IsTreeDone (HandsOn hears) (HandsOn cuts) keeps refuses file W c r marks w m first u
 
     -- an error stopped the walk
-    pub tree_stopped : (e : RunError) → IsDoneBy (Err e) → IsWalkedOver {A = Unit {0}} hears keeps file W c (Err e) marks w m first u
+    pub tree_stopped : (e : RunError) → IsDoneBy (Err e) → IsWalkedOver {A = Unit {0}} hears cuts keeps file W c (Err e) marks w m first u
     tree_stopped e d = record {
-      tree = record { marked = tt; told = stops_by_first (hears true) (hears false) e w.sink.now m.sink.now (map (found w.start.now) items) (ended w.start.now ∷ []) (stopped items w m e d.done.told) };
+      tree = record { marked = tt; told = stops_by_first hears cuts e w.sink.now m.sink.now (map (found w.start.now) items) (ended w.start.now ∷ []) (stopped items w m e d.done.told) };
       has_rows = tt;
       given = λ k. tt;
     }
 
     module _ (t : Teller S) (d : IsDoneBy (Ok tt)) where
       start_kept : m.start.now ≡ w.start.now
-      start_kept = (teller_moves heard.takes_at heard.drops_at items w m d.done.told).1
+      start_kept = (teller_moves hears cuts items w m d.done.told).1
 
       -- all was told, and then the tree ended
-      pub tree_ended : heard.ends m.sink.now m.start.now t.sink.now → t.has_rows ≡ m.has_rows → IsWalkedOver {A = Unit {0}} hears keeps file W c (Ok tt) marks w t first u
+      pub tree_ended : hears m.sink.now (ended m.start.now) t.sink.now → t.has_rows ≡ m.has_rows → IsWalkedOver {A = Unit {0}} hears cuts keeps file W c (Ok tt) marks w t first u
       tree_ended e rows = record {
         tree = record {
           marked = d.done.marked;
-          told = Moves-append (hears true) w.sink.now m.sink.now t.sink.now (map (found w.start.now) items) (ended w.start.now ∷ []) (moved items w m d.done.told)
-              (t.sink.now, subst (λ at. heard.ends m.sink.now at t.sink.now) start_kept e, refl);
+          told = Moves-append hears w.sink.now m.sink.now t.sink.now (map (found w.start.now) items) (ended w.start.now ∷ []) (moved items w m d.done.told)
+              (t.sink.now, subst (λ at. hears m.sink.now (ended at) t.sink.now) start_kept e, refl);
         };
-        has_rows = rows ∙ (teller_moves heard.takes_at heard.drops_at items w m d.done.told).2;
+        has_rows = rows ∙ (teller_moves hears cuts items w m d.done.told).2;
         given = d.given;
       }
 
-      pub tree_cut : heard.cuts m.sink.now m.start.now t.sink.now → IsWalkedOver {A = Unit {0}} hears keeps file W c (Err WriteFailed) marks w t first u
+      pub tree_cut : cuts m.sink.now (ended m.start.now) t.sink.now → IsWalkedOver {A = Unit {0}} hears cuts keeps file W c (Err WriteFailed) marks w t first u
       tree_cut e = record {
         tree = record {
           marked = tt;
-          told = stops_by_after (hears true) (hears false) WriteFailed w.sink.now m.sink.now t.sink.now (map (found w.start.now) items) (ended w.start.now ∷ []) (moved items w m d.done.told)
-              (inl (subst (λ at. heard.cuts m.sink.now at t.sink.now) start_kept e));
+          told = stops_by_after hears cuts WriteFailed w.sink.now m.sink.now t.sink.now (map (found w.start.now) items) (ended w.start.now ∷ []) (moved items w m d.done.told)
+              (inl (subst (λ at. cuts m.sink.now (ended at) t.sink.now) start_kept e));
         };
         has_rows = tt;
         given = λ k. tt;
@@ -110,8 +107,8 @@ module _ {S : Type 0} (heard : Hearing S) where
     -- ---- the schema's tree
 
     -- it is done, and the trees of its rows are left
-    pub schema_told : (marks marks' : List Mark) (rows : List SchemaRow) (any : Bool) (t : S) → AreMarksOf file [] marks → IsSchemaWalked hears file (Ok any) marks' rows before t
-        → IsTelling hears file V before (enumerate_from 1 rows) marks' t
+    pub schema_told : (marks marks' : List Mark) (rows : List SchemaRow) (any : Bool) (t : S) → AreMarksOf file [] marks → IsSchemaWalked hears cuts file (Ok any) marks' rows before t
+        → IsTelling hears cuts file V before (enumerate_from 1 rows) marks' t
     schema_told marks marks' rows any t fresh d =
         let U = [] ++ visited_below file [] (Go schema_reference ∷ []) in
         let of = d.schema V survey in
@@ -126,8 +123,8 @@ module _ {S : Type 0} (heard : Hearing S) where
     -- ---- the tree of the next row
 
     module _ (marks marks' : List Mark) (s t : S) where
-      next_told : (k : ℕ) (row : SchemaRow) (left : List (ℕ × SchemaRow)) (h : IsTelling hears file V before ((k, row) ∷ left) marks s)
-          → (r : Result (Unit {0}) RunError) → IsTreeWalked hears (at_row k row) file h.visits (root_reference file k row) r marks' s t → StopsTelling hears file V before left r marks' t
+      next_told : (k : ℕ) (row : SchemaRow) (left : List (ℕ × SchemaRow)) (h : IsTelling hears cuts file V before ((k, row) ∷ left) marks s)
+          → (r : Result (Unit {0}) RunError) → IsTreeWalked hears cuts (at_row k row) file h.visits (root_reference file k row) r marks' s t → StopsTelling hears cuts file V before left r marks' t
       next_told k row left h (Ok u) d =
           let c = root_reference file k row in
           let its = tree_notices (at_row k row) file h.visits c in
@@ -135,37 +132,37 @@ module _ {S : Type 0} (heard : Hearing S) where
             visits = h.visits ++ visited_below file h.visits (Go c ∷ []);
             at = at_next file V h.visits c (errands_left file left) marks marks' h.at d.marked;
             notices = h.notices ++ its;
-            told = Moves-append (hears true) before s t h.notices its h.told d.told;
+            told = Moves-append hears before s t h.notices its h.told d.told;
             rest = append_assoc h.notices its (later_notices file (h.visits ++ visited_below file h.visits (Go c ∷ [])) left) ∙ h.rest;
           }
       next_told k row left h (Err e) d =
           let c = root_reference file k row in
           let its = tree_notices (at_row k row) file h.visits c in
           let others = later_notices file (h.visits ++ visited_below file h.visits (Go c ∷ [])) left in
-          subst (λ L. StopsBy (hears true) (hears false) e before L t) (append_assoc h.notices its others ∙ h.rest)
-          (stops_by_first (hears true) (hears false) e before t (h.notices ++ its) others (stops_by_after (hears true) (hears false) e before s t h.notices its h.told d.told))
+          subst (λ L. StopsBy hears cuts e before L t) (append_assoc h.notices its others ∙ h.rest)
+          (stops_by_first hears cuts e before t (h.notices ++ its) others (stops_by_after hears cuts e before s t h.notices its h.told d.told))
 
       pub root_told : (rows : List SchemaRow) (i : ℕ) (r : Result (Unit {0}) RunError) → i < length rows
-          → IsTelling hears file V before (enumerate_from (i + 1) (drop i rows)) marks s
+          → IsTelling hears cuts file V before (enumerate_from (i + 1) (drop i rows)) marks s
           → ((row : SchemaRow) → slice_get rows (i + 1 - 1) ≡ Some row → (U : List Reference) (d : Reference) → IsRootAfter file (root_of (encoding file) (i + 1) row) U d marks
-          → IsTreeWalked hears (at_row (i + 1) row) file U d r marks' s t)
-          → StopsTelling hears file V before (enumerate_from (i + 1 + 1) (drop (i + 1) rows)) r marks' t
+          → IsTreeWalked hears cuts (at_row (i + 1) row) file U d r marks' s t)
+          → StopsTelling hears cuts file V before (enumerate_from (i + 1 + 1) (drop (i + 1) rows)) r marks' t
       root_told rows i r l h walked =
           let n : i + 1 - 1 ≡ i = omega arith in
           let k : suc i ≡ i + 1 = omega arith in
           let there = row_there rows i l in
           let here : drop i rows ≡ there.0 ∷ drop (i + 1) rows = drop_more rows i there.0 there.1 ∙ ap (λ j. there.0 ∷ drop j rows) k in
           let rest = enumerate_from (i + 1 + 1) (drop (i + 1) rows) in
-          let left : IsTelling hears file V before ((i + 1, there.0) ∷ rest) marks s = subst (λ l. IsTelling hears file V before (enumerate_from (i + 1) l) marks s) here h in
+          let left : IsTelling hears cuts file V before ((i + 1, there.0) ∷ rest) marks s = subst (λ l. IsTelling hears cuts file V before (enumerate_from (i + 1) l) marks s) here h in
           let next = root_next file V left.visits marks (encoding file) (i + 1) there.0 (errands_left file rest) (survey_below_starts file V survey) left.at in
           next_told (i + 1) there.0 rest left r (walked there.0 (ap (slice_get rows) n ∙ there.1) left.visits (root_reference file (i + 1) there.0) next)
 
     -- ---- the freelist, which is the last
 
     pub freelist_told : (marks marks' : List Mark) (w t : Teller S) (first : ℕ) (r : Result (Unit {0}) RunError) → w.start.now ≡ at_freelist → (first == 0) ≡ false → first ≡ first_trunk file
-        → IsTelling hears file V before [] marks w.sink.now
-        → ((U : List Reference) (d : Reference) → IsFirstTrunk first d → IsNext U d → AreMarksOf file U marks → IsDone (HandsOn heard.takes_at) (HandsOn heard.drops_at) file U (Go d ∷ []) r marks' w t)
-        → AreTold hears file V r marks' before t.sink.now
+        → IsTelling hears cuts file V before [] marks w.sink.now
+        → ((U : List Reference) (d : Reference) → IsFirstTrunk first d → IsNext U d → AreMarksOf file U marks → IsDone (HandsOn hears) (HandsOn cuts) file U (Go d ∷ []) r marks' w t)
+        → AreTold hears cuts file V r marks' before t.sink.now
     freelist_told marks marks' w t first r start some e h walked = by_result r (walked h.visits d (record { page = refl; role = refl; from = refl; item = refl }) at.past at.marked)
       where
         d : Reference
@@ -184,23 +181,23 @@ module _ {S : Type 0} (heard : Hearing S) where
         all : h.notices ++ map (found w.start.now) items ≡ start_notices file V
         all = ap (λ at. h.notices ++ map (found at) items) start ∙ ap (λ es. h.notices ++ map (found at_freelist) (told_below file h.visits es)) (sym one) ∙ h.rest
 
-        by_result : (r : Result (Unit {0}) RunError) → IsDone (HandsOn heard.takes_at) (HandsOn heard.drops_at) file h.visits (Go d ∷ []) r marks' w t → AreTold hears file V r marks' before t.sink.now
+        by_result : (r : Result (Unit {0}) RunError) → IsDone (HandsOn hears) (HandsOn cuts) file h.visits (Go d ∷ []) r marks' w t → AreTold hears cuts file V r marks' before t.sink.now
         by_result (Ok u) k = record {
           marked = at_end file V survey _ marks' (at_next file V h.visits d [] marks marks' at k.marked);
-          told = subst (λ L. Moves (hears true) before L t.sink.now) all
-              (Moves-append (hears true) before w.sink.now t.sink.now h.notices (map (found w.start.now) items) h.told (moved items w t k.told));
+          told = subst (λ L. Moves hears before L t.sink.now) all
+              (Moves-append hears before w.sink.now t.sink.now h.notices (map (found w.start.now) items) h.told (moved items w t k.told));
         }
         by_result (Err x) k = record {
           marked = tt;
-          told = subst (λ L. StopsBy (hears true) (hears false) x before L t.sink.now) all
-              (stops_by_after (hears true) (hears false) x before w.sink.now t.sink.now h.notices (map (found w.start.now) items) h.told (stopped items w t x k.told));
+          told = subst (λ L. StopsBy hears cuts x before L t.sink.now) all
+              (stops_by_after hears cuts x before w.sink.now t.sink.now h.notices (map (found w.start.now) items) h.told (stopped items w t x k.told));
         }
 
     -- there is none
-    pub no_freelist_told : (marks : List Mark) (s : S) → first_trunk file ≡ 0 → IsTelling hears file V before [] marks s → AreTold {A = Unit {0}} hears file V (Ok tt) marks before s
+    pub no_freelist_told : (marks : List Mark) (s : S) → first_trunk file ≡ 0 → IsTelling hears cuts file V before [] marks s → AreTold {A = Unit {0}} hears cuts file V (Ok tt) marks before s
     no_freelist_told marks s e h = record {
       marked = at_end file V survey h.visits marks (subst (λ es. IsAt file V h.visits es marks) none h.at);
-      told = subst (λ L. Moves (hears true) before L s) all h.told;
+      told = subst (λ L. Moves hears before L s) all h.told;
     }
       where
         none : errands_left file [] ≡ []
@@ -214,16 +211,16 @@ module _ {S : Type 0} (heard : Hearing S) where
 
   module _ (file : List ℕ) (V : List Reference) (marks : List Mark) (rows : List SchemaRow) (s t : S) where
     -- an error stopped the walk over the schema's tree, or those behind it
-    pub schema_stopped : (e : RunError) → IsTreeWalked {A = Bool} hears at_schema file [] schema_reference (Err e) marks s t → AreWalked hears file V (Err e) marks rows s t
+    pub schema_stopped : (e : RunError) → IsTreeWalked {A = Bool} hears cuts at_schema file [] schema_reference (Err e) marks s t → AreWalked hears cuts file V (Err e) marks rows s t
     schema_stopped e d = record {
-      all = record { marked = tt; told = stops_by_first (hears true) (hears false) e s t (tree_notices at_schema file [] schema_reference) _ d.told };
+      all = record { marked = tt; told = stops_by_first hears cuts e s t (tree_notices at_schema file [] schema_reference) _ d.told };
       has_rows = tt;
       listed = tt;
     }
 
-    pub later_stopped : (e : RunError) → AreTold {A = Unit {0}} hears file V (Err e) marks s t → AreWalked hears file V (Err e) marks rows s t
+    pub later_stopped : (e : RunError) → AreTold {A = Unit {0}} hears cuts file V (Err e) marks s t → AreWalked hears cuts file V (Err e) marks rows s t
     later_stopped e d = record { all = record { marked = tt; told = d.told }; has_rows = tt; listed = tt }
 
     -- all was walked over
-    pub all_walked : (any : Bool) → IsSchemaOf file V rows any → AreTold {A = Unit {0}} hears file V (Ok tt) marks s t → AreWalked hears file V (Ok any) marks rows s t
+    pub all_walked : (any : Bool) → IsSchemaOf file V rows any → AreTold {A = Unit {0}} hears cuts file V (Ok tt) marks s t → AreWalked hears cuts file V (Ok any) marks rows s t
     all_walked any of d = record { all = record { marked = d.marked; told = d.told }; has_rows = of.has_rows; listed = of.listed }

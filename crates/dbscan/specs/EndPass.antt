@@ -9,10 +9,10 @@ use Rattle.dbformat.specs.Tests.{told_if}
 use Rattle.dbformat.specs.declared.Fault.{Fault}
 use Rattle.dbformat.specs.declared.FaultCode.TheVariants.{H08, H09, H10}
 use Rattle.dbmarks.specs.EndMarks.{mark_fault, late_fault}
-use Rattle.dbtrace.specs.Finding.{Finding, told_fault}
 use Rattle.dbmarks.specs.Marking.{mark_of}
 use Rattle.dbmarks.specs.declared.marks.Mark.{Mark}
 use Rattle.dbmarks.specs.declared.marks.Mark.TheVariants.{Fixed}
+use Rattle.dbscan.specs.Notices.{Notice, whole}
 
 -- the faults of the whole, by the header, whether the schema has rows, the greatest root and the count of the freelist
 abbrev pub counted_faults : List ℕ → Bool → ℕ → ℕ → List Fault
@@ -27,9 +27,9 @@ is_fixed_mark Fixed = true
 is_fixed_mark _ = false
 
 -- what is told of page p, by its mark and the least page that is no root
-abbrev pub page_items : List ℕ → Option ℕ → ℕ → Mark → List Finding
-page_items file least p mark = map told_fault (mark_fault p (map_entry file p) mark ++ late_fault (geometry file).has_map p mark least)
+abbrev pub page_items : List ℕ → Option ℕ → ℕ → Mark → List Notice
+page_items file least p mark = map whole (mark_fault p (map_entry file p) mark ++ late_fault (geometry file).has_map p mark least)
 
 -- what is told of the first n pages, after the visits of V
-abbrev pub pages_items : List ℕ → List Reference → Option ℕ → ℕ → List Finding
+abbrev pub pages_items : List ℕ → List Reference → Option ℕ → ℕ → List Notice
 pages_items file V least n = flat_map (λ p. page_items file least p (mark_of (geometry file) V p)) (range_with_len 1 n)

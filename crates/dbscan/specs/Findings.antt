@@ -10,7 +10,7 @@ use Rattle.dbtrace.specs.Finding.{Finding, told_row, told_fault}
 -- the fault of a finding, if it is one
 abbrev pub fault_in : Finding → Option Fault
 fault_in (told_row r) = None
-fault_in (told_fault f) = Some f
+fault_in (told_fault f why) = Some f
 
 -- the faults among findings
 abbrev pub faults_in : List Finding → List Fault
@@ -23,9 +23,9 @@ is_leaf _ = false
 
 -- whether a row of the statistics is of a leaf of the schema with a cell
 abbrev pub is_schema_leaf : StatRow → Bool
-is_schema_leaf r = (r.start == schema_start) && is_leaf r.pagetype && not (r.ncell == 0)
+is_schema_leaf r = (r.start == schema_start) && is_leaf r.pagetype && not (r.counts.ncell == 0)
 
 -- whether a finding is such a row
 abbrev pub is_schema_row : Finding → Bool
 is_schema_row (told_row r) = is_schema_leaf r
-is_schema_row (told_fault f) = false
+is_schema_row (told_fault f why) = false

@@ -2,6 +2,7 @@ pub mod DeskSizes
 pub mod Desks
 pub mod EndPass
 pub mod Findings
+pub mod Finishes
 pub mod Looks
 pub mod MapReads
 pub mod Notices

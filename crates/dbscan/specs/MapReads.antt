@@ -1,17 +1,11 @@
 -- Which pages of the pointer map are read at the end of a run, and when (Database File Format, section 1.8).
 use Rattle.std.specs.Prelude.{◌≡◌, ℕ, ◌+◌, ◌-◌, ◌*◌, ◌/◌, ◌<◌, ◌≤◌, true, List, Some}
-use Rattle.dbformat.specs.File as format
 use Rattle.dbformat.specs.File.{page_bytes}
 use Rattle.dbformat.specs.FixedPages.{fixed_use, entries_per_map}
 use Rattle.dbformat.specs.declared.ByteRange.{ByteRange}
 use Rattle.dbformat.specs.declared.Geometry.{Geometry}
 use Rattle.dbformat.specs.declared.Fixed.TheVariants.{Map}
 use Rattle.dbscan.specs.Looks.{ReadsOrNot, ReadsRising, ReadsRisingBefore}
-use Rattle.dbscan.specs.declared.map_entry.MapEntry.{MapEntry}
-
--- an entry of the format
-abbrev pub entry_value : MapEntry → format.MapEntry
-entry_value e = record { type = e.kind; number = e.number }
 
 -- page p is a map page with pages behind it
 abbrev pub IsMapInUse : Geometry → ℕ → Type 0

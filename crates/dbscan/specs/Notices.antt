@@ -1,48 +1,66 @@
--- What a sink is told of a file, as one list: what is found of the whole file and at each start, and where a tree ends.
-use Rattle.std.specs.Prelude.{ℕ, Bool, true, false, List, [], ◌∷◌, ◌++◌, length, map, take}
+-- What a reporter hears of a file, as one list: what is found of the whole file and at each start, and where a tree ends.
+use Rattle.std.specs.Prelude.{◌≡◌, ℕ, List, [], ◌∷◌, ◌++◌, length, map, take, filter_map, Option, Some, None}
 use Rattle.std.specs.List.{enumerate_from}
 use Rattle.dbsurvey.specs.Story.{Errand, Go, Follow, errands_at}
 use Rattle.dbformat.specs.Address.{last_root_start}
 use Rattle.dbformat.specs.EndFaults.{end_faults}
+use Rattle.dbformat.specs.File.{geometry}
 use Rattle.dbformat.specs.HeaderFaults.{header_faults}
 use Rattle.dbformat.specs.Reference.{root, Way, Reference}
 use Rattle.dbformat.specs.Schema.{schema, root_kind, root_start, rooted_rows, freelist_starts}
 use Rattle.dbformat.specs.SchemaRow.{SchemaRow}
 use Rattle.dbformat.specs.Story.{Event}
-use Rattle.dbtrace.specs.Finding.{Finding, told_below, visited_below}
-use Rattle.dbwalk.specs.Telling.{findings}
-use Rattle.dbwalk.specs.declared.sink.Sink.{Ghosts as SinkWords}
+use Rattle.dbformat.specs.declared.Fault.{Fault}
+use Rattle.dbformat.specs.declared.Geometry.{Geometry}
+use Rattle.dbmarks.specs.Marking.{marks_of}
+use Rattle.dbmarks.specs.declared.marks.Mark.{Mark}
+use Rattle.dbtrace.specs.Finding.{Finding, told_fault, told_row, told_below, visited_below}
+use Rattle.dbwalk.specs.Rows.{row_of}
+use Rattle.dbscan.specs.Findings.{fault_in}
 use Rattle.dbscan.specs.Starts.{At, at_schema, at_row, at_freelist, schema_reference}
-use Rattle.dbscan.specs.declared.tree_sink.TreeSink.{Ghosts as TreeWords}
+use Rattle.dbscan.specs.declared.notice.Notice.{Notice as Lent}
+use Rattle.dbscan.specs.declared.notice.Notice.TheVariants as lent
 
--- something is found of the whole file, or at a start; or the tree of a start has ended
+-- A fault is found of the whole file; something is found at a start; the tree of a start has ended; or all starts have been walked
+-- from, and then the pages of the file have these marks.
 pub data Notice : Type 0 where
-  whole : Finding → Notice
+  whole : Fault → Notice
   found : At → Finding → Notice
   ended : At → Notice
+  walked : Geometry → List Mark → Notice
 
--- What a sink makes of what it is told: of a finding of the whole file that it takes whole and of one that it does not, of a
--- finding at a start, and of the end of a tree.
-pub record Hearing (S : Type 0) : Type 1 where
-  pub takes : S → Finding → S → Type 0
-  pub drops : S → Finding → S → Type 0
-  pub takes_at : S → At → Finding → S → Type 0
-  pub drops_at : S → At → Finding → S → Type 0
-  pub ends : S → At → S → Type 0
-  pub cuts : S → At → S → Type 0
+-- the notice that is lent
+abbrev pub notice_of : Lent → Notice
+notice_of (lent.Whole f) = whole f.now
+notice_of (lent.Fault at f why) = found at.now (told_fault f.now why.now)
+notice_of (lent.Row at r) = found at.now (told_row (row_of r.now))
+notice_of (lent.Ended at) = ended at.now
 
--- that of a sink, by the words of its traits
-abbrev pub hearing : {S : Type 0} → SinkWords S → TreeWords S → Hearing S
-hearing sink tree = record { takes = sink.takes; drops = sink.drops; takes_at = tree.takes_at; drops_at = tree.drops_at; ends = tree.ends; cuts = tree.cuts }
+-- the fault of a notice, if it is one
+abbrev pub fault_of : Notice → Option Fault
+fault_of (whole f) = Some f
+fault_of (found at item) = fault_in item
+fault_of (ended at) = None
+fault_of (walked g marks) = None
 
--- what a notice makes of a sink: one that it takes whole, or else one that it does not
-abbrev pub Hears : {S : Type 0} → Hearing S → Bool → S → Notice → S → Type 0
-Hears h true s (whole item) t = h.takes s item t
-Hears h true s (found at item) t = h.takes_at s at item t
-Hears h true s (ended at) t = h.ends s at t
-Hears h false s (whole item) t = h.drops s item t
-Hears h false s (found at item) t = h.drops_at s at item t
-Hears h false s (ended at) t = h.cuts s at t
+-- those among notices
+abbrev pub faults_heard : List Notice → List Fault
+faults_heard notices = filter_map fault_of notices
+
+-- A reporter to which faults alone are something: what a fault makes of it that it takes whole, and of one that it does not.
+abbrev pub HearsFaults : {S : Type 0} → (S → Fault → S → Type 0) → S → Notice → S → Type 0
+HearsFaults takes s (whole f) t = takes s f t
+HearsFaults takes s (found at (told_fault f why)) t = takes s f t
+HearsFaults takes s (found at (told_row r)) t = t ≡ s
+HearsFaults takes s (ended at) t = t ≡ s
+HearsFaults takes s (walked g marks) t = t ≡ s
+
+abbrev pub CutsFaults : {S : Type 0} → (S → Fault → S → Type 0) → S → Notice → S → Type 0
+CutsFaults cuts s (whole f) t = cuts s f t
+CutsFaults cuts s (found at (told_fault f why)) t = cuts s f t
+CutsFaults cuts s (found at (told_row r)) t = ⊥
+CutsFaults cuts s (ended at) t = ⊥
+CutsFaults cuts s (walked g marks) t = ⊥
 
 -- the reference to the root of a row, as that of start k
 abbrev pub root_reference : List ℕ → ℕ → SchemaRow → Reference
@@ -69,6 +87,10 @@ start_notices file V =
     tree_notices at_schema file [] schema_reference
     ++ later_notices file ([] ++ visited_below file [] (Go schema_reference ∷ [])) (enumerate_from 1 (take last_root_start (rooted_rows (schema file V))))
 
--- all that is told of a file: the faults of its header, what is found at its starts, and the faults at the end
+-- all that is told after the walks: the marks of the pages, and the faults at the end
+abbrev pub end_notices : List ℕ → List Reference → List Notice
+end_notices file V = walked (geometry file) (marks_of (geometry file) V) ∷ map whole (end_faults file V)
+
+-- all that is told of a file: the faults of its header, what is found at its starts, and what is told after the walks
 abbrev pub run_notices : List ℕ → List Reference → List Notice
-run_notices file V = map whole (findings (header_faults file (length file))) ++ (start_notices file V ++ map whole (findings (end_faults file V)))
+run_notices file V = map whole (header_faults file (length file)) ++ (start_notices file V ++ end_notices file V)

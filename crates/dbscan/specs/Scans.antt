@@ -1,5 +1,5 @@
 -- What a scan of a file leaves, of every survey.
-use Rattle.std.specs.Prelude.{Bool, true, false, ℕ, List, Result, OnOk}
+use Rattle.std.specs.Prelude.{ℕ, List, Result, OnOk}
 use Rattle.dbformat.specs.Reference.{Reference}
 use Rattle.dbformat.specs.SchemaRow.{SchemaRow}
 use Rattle.dbsource.specs.declared.error.RunError.{RunError}
@@ -11,7 +11,7 @@ use Rattle.dbscan.specs.Notices.{Notice, run_notices}
 
 -- All that a run tells was told, or after an error a beginning of it. At Ok the survey is marked, and a list has the rows of the
 -- schema with a root page.
-pub record IsScanned {S A : Type 0} (hears : Bool → S → Notice → S → Type 0) (file : List ℕ) (V : List Reference) (r : Result A RunError) (marks : List Mark) (rows : List SchemaRow) (before after : S) : Type 0 where
-  pub told : Tells (hears true) (hears false) r before (run_notices file V) after
+pub record IsScanned {S A : Type 0} (hears cuts : S → Notice → S → Type 0) (file : List ℕ) (V : List Reference) (r : Result A RunError) (marks : List Mark) (rows : List SchemaRow) (before after : S) : Type 0 where
+  pub told : Tells hears cuts r before (run_notices file V) after
   pub marked : OnOk r (AreMarksOf file V marks)
   pub listed : OnOk r (AreListed file V rows)

@@ -3,12 +3,12 @@ use Rattle.std.specs.Prelude.{◌≡◌, ◌||◌, ◌∷◌}
 use Rattle.dbtrace.specs.Finding.{Finding}
 use Rattle.dbwalk.specs.Telling.{SinkState}
 use Rattle.dbscan.specs.Findings.{is_schema_row}
-use Rattle.dbscan.specs.Starts.{At}
+use Rattle.dbscan.specs.Notices.{Notice, found}
 use Rattle.dbscan.specs.declared.teller.Teller.{Teller}
 
 -- a finding was handed on with the start, and moved the sink by this relation
-pub record HandsOn {K : Type 0} (moves : K → At → Finding → K → Type 0) (s : Teller K) (item : Finding) (t : Teller K) : Type 0 where
-  pub moved : moves s.sink.now s.start.now item t.sink.now
+pub record HandsOn {K : Type 0} (moves : K → Notice → K → Type 0) (s : Teller K) (item : Finding) (t : Teller K) : Type 0 where
+  pub moved : moves s.sink.now (found s.start.now item) t.sink.now
   pub start : t.start.now ≡ s.start.now
   pub has_rows : t.has_rows ≡ (s.has_rows || is_schema_row item)
 

@@ -1,8 +1,8 @@
--- Faults as they are told to a sink.
+-- Faults as they are told to a reporter.
 use Rattle.std.specs.Prelude.{List, map, flat_map, option_to_list, Option}
 use Rattle.dbformat.specs.declared.Fault.{Fault}
-use Rattle.dbtrace.specs.Finding.{Finding, told_fault}
+use Rattle.dbscan.specs.Notices.{Notice, whole}
 
 -- those that are faults, one after another
-abbrev pub items_of : List (Option Fault) → List Finding
-items_of faults = map told_fault (flat_map option_to_list faults)
+abbrev pub items_of : List (Option Fault) → List Notice
+items_of faults = map whole (flat_map option_to_list faults)

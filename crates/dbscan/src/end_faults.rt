@@ -1,12 +1,11 @@
 // The faults that are told when all pages have been visited.
 ghost use Rattle.std.specs.Prelude.{◌≡◌, flat_map, option_to_list, option_map};
-ghost use Rattle.dbmarks.specs.EndMarks.{late_fault, mark_fault};
+ghost use Rattle.dbmarks.specs.EndMarks.{entry_value, late_fault, mark_fault};
 ghost use Rattle.dbscan.specs.EndPass.{counted_faults};
-ghost use Rattle.dbscan.specs.MapReads.{entry_value};
 
 use crate::counts::Counts;
-use crate::map_entry::{MapEntry, mark_entry};
 use dbformat::{Fault, FaultCode};
+use dbmarks::MapEntry;
 use dbsource::Header;
 use dbwalk::Mark;
 
@@ -19,7 +18,7 @@ pub(crate) fn use_fault(page: u32, entry: Option<MapEntry>, mark: Mark) -> Optio
         Mark::Fixed => None,
         _ => {
             let stored = entry?;
-            let own = mark_entry(mark);
+            let own = mark.entry();
             let is_same = stored.kind == own.kind && stored.number == own.number;
             let kind = u32::from(stored.kind);
             (!is_same).then_some(Fault::new(FaultCode::M01, page, kind, stored.number))

@@ -1,6 +1,6 @@
-// What is told at the end of a run: of the whole, and then of each page.
-ghost use Rattle.std.specs.Prelude.{◌≡◌, ◌↔◌, ℕ, ◌+◌, List, ◌≤◌, true, Some, None, length, map, option_map, IfErr, OnOk};
-ghost use Rattle.dbformat.specs.EndFaults.{end_faults, has_rows};
+// What is told after the walks: the marks, and then the faults at the end, of the whole and of each page.
+ghost use Rattle.std.specs.Prelude.{◌≡◌, ◌↔◌, ℕ, ◌+◌, List, ◌≤◌, true, Some, None, length, option_map, IfErr, OnOk};
+ghost use Rattle.dbformat.specs.EndFaults.{has_rows};
 ghost use Rattle.dbformat.specs.File.{geometry, map_entry, refusal};
 ghost use Rattle.dbformat.specs.FixedPages.{IsInRange, is_fixed};
 ghost use Rattle.dbformat.specs.Reference.{Reference};
@@ -8,21 +8,24 @@ ghost use Rattle.dbformat.specs.Survey.{Survey};
 ghost use Rattle.dbsource.specs.Errors.{is_read_failed, is_write_failed};
 ghost use Rattle.dbsource.specs.Headers.{IsHeaderOf};
 ghost use Rattle.dbsource.specs.Sources.{Asks};
-ghost use Rattle.dbtrace.specs.Finding.{told_fault};
+ghost use Rattle.dbmarks.specs.EndMarks.{entry_value};
 ghost use Rattle.dbmarks.specs.Marking.{AreMarksOf, page_mark};
 ghost use Rattle.dbwalk.specs.Telling.{Tells, IsReadOrWrite, SinkAfter};
 ghost use Rattle.dbmarks.specs.declared.marks.Mark as marking;
 ghost use Rattle.dbscan.specs.Desks.{shape_of};
 ghost use Rattle.dbscan.specs.EndPass.{is_fixed_mark, page_items, pages_items};
-ghost use Rattle.dbscan.specs.MapReads.{entry_value, HasMapFor, IsMapInUse, IsMapTurn, MapReads};
+ghost use Rattle.dbscan.specs.MapReads.{HasMapFor, IsMapInUse, IsMapTurn, MapReads};
+ghost use Rattle.dbscan.specs.Notices.{end_notices};
 
 use crate::Desk;
 use crate::counts::count_marks;
 use crate::end_faults::{counted_faults, late_fault, use_fault};
-use crate::map_entry::{MapEntry, stored_entry};
+use crate::map_entry::stored_entry;
+use crate::reporter::Reporter;
 use crate::tell::tell_all;
+use dbmarks::MapEntry;
 use dbsource::{Bench, Fixed, Geometry, RunError, Source};
-use dbwalk::{CHAIN, Mark, Marks, Sink};
+use dbwalk::{CHAIN, Mark, Marks};
 use std::alloc::Allocator;
 
 // Whether this is a map page with pages behind it.
@@ -54,7 +57,7 @@ fn entry_of<A: Allocator>(bench: &Bench<A>, page: u32) -> Option<MapEntry>
 }
 
 // Reads a page, where it is a map page with pages behind it, or tells what is to be told of it.
-fn end_page<S: Source, K: Sink, A: Allocator, B: Allocator>(
+fn end_page<S: Source, K: Reporter, A: Allocator, B: Allocator>(
     source: &mut S,
     bench: &mut Bench<A>,
     marks: &Marks<B>,
@@ -67,7 +70,7 @@ fn end_page<S: Source, K: Sink, A: Allocator, B: Allocator>(
     ensures asks { Asks S.step (IsMapTurn bench.old.geometry page)
         (λ file. (mark : marking.Mark) → page_mark marks.now page ≡ Some mark → bench.old.geometry ≡ geometry file → refusal file ≡ None
         → is_fixed_mark mark ≡ is_fixed (geometry file) page → HasMapFor file (geometry file) page bench.old.chain
-        → Tells K.takes K.drops result sink.old (page_items file least_other page mark) sink.new
+        → Tells K.hears K.cuts result sink.old (page_items file least_other page mark) sink.new
         × OnOk result (HasMapFor file (geometry file) (page + 1) bench.new.chain))
         is_read_failed result (S.held source.old) (S.held source.new) }
     ensures writes { SinkAfter is_write_failed result (K.held sink.old) (K.held sink.new) }
@@ -91,7 +94,7 @@ fn end_page<S: Source, K: Sink, A: Allocator, B: Allocator>(
 }
 
 // Does so for all pages, by number.
-fn end_pages<S: Source, K: Sink, A: Allocator, B: Allocator>(
+fn end_pages<S: Source, K: Reporter, A: Allocator, B: Allocator>(
     source: &mut S,
     bench: &mut Bench<A>,
     marks: &Marks<B>,
@@ -100,7 +103,7 @@ fn end_pages<S: Source, K: Sink, A: Allocator, B: Allocator>(
 ) -> Result<(), RunError>
     ensures asks { Asks S.step (MapReads bench.old.geometry) (λ file. bench.old.geometry ≡ geometry file → refusal file ≡ None
         → (V : List Reference) → AreMarksOf file V marks.now
-        → Tells K.takes K.drops result sink.old (pages_items file V least_other (geometry file).pages) sink.new)
+        → Tells K.hears K.cuts result sink.old (pages_items file V least_other (geometry file).pages) sink.new)
         is_read_failed result (S.held source.old) (S.held source.new) }
     ensures writes { SinkAfter is_write_failed result (K.held sink.old) (K.held sink.new) }
     ensures only { IfErr result IsReadOrWrite }
@@ -112,15 +115,15 @@ fn end_pages<S: Source, K: Sink, A: Allocator, B: Allocator>(
     Ok(())
 }
 
-/// Tells what is to be told when all pages have been visited, by the header and the marks: first of the whole, and then of
-/// each page. `any_rows` says whether the schema has rows. Each map page with pages behind it is read once, to the chain
-/// buffer, when its number has its turn.
+/// Tells what is left when all pages have been visited: the marks, and then the faults at the end, by the header and the marks,
+/// first of the whole and then of each page. `any_rows` says whether the schema has rows. Each map page with pages after it is
+/// read once, to the chain buffer, when its number has its turn.
 ///
 /// # Errors
 ///
-/// [`RunError::ReadFailed`] exactly where the source failed, [`RunError::WriteFailed`] exactly where the sink failed: the
-/// sink was told a beginning then.
-pub fn tell_end<S: Source, K: Sink, A: Allocator>(
+/// [`RunError::ReadFailed`] exactly where the source failed, [`RunError::WriteFailed`] exactly where the reporter failed: it was
+/// told a beginning then.
+pub fn tell_end<S: Source, K: Reporter, A: Allocator>(
     desk: &mut Desk<A>,
     source: &mut S,
     any_rows: bool,
@@ -129,11 +132,12 @@ pub fn tell_end<S: Source, K: Sink, A: Allocator>(
     ensures desk { desk.new ≡ record desk.old { pages = desk.new.pages } }
     ensures asks { Asks S.step (MapReads (shape_of desk.old)) (λ file. IsHeaderOf desk.old.header file
         → (V : List Reference) → Survey file V → AreMarksOf file V desk.old.marks → any_rows ≡ has_rows file V
-        → Tells K.takes K.drops result sink.old (map told_fault (end_faults file V)) sink.new)
+        → Tells K.hears K.cuts result sink.old (end_notices file V) sink.new)
         is_read_failed result (S.held source.old) (S.held source.new) }
     ensures writes { SinkAfter is_write_failed result (K.held sink.old) (K.held sink.new) }
     ensures only { IfErr result IsReadOrWrite }
 {
+    sink.walked(desk.header.geometry(), &desk.marks)?;
     let counts = count_marks(&desk.marks);
     let faults = counted_faults(&desk.header, any_rows, counts);
     tell_all(&faults, sink)?;

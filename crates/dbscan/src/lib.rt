@@ -1,12 +1,12 @@
-//! A scan of a file: what its header, the walks over all its starts and its end tell a sink, in the order of the report.
+//! A scan of a file: what its header, the walks over all its starts and its end tell a reporter, in the order of the report.
 //!
 //! A [`Desk`] has what a run keeps of a file: its header, page buffers, a mark for each page, and the list of roots. [`scan`] tells a
-//! [`TreeSink`] all that is found in the file, in three steps. [`tell_header`] tells the faults of the header. [`walk_starts`] walks
-//! over the schema, then over each root that the schema names, and along the freelist; of what is found there the sink is told at
+//! [`Reporter`] all that is found in the file, in three steps. [`tell_header`] tells the faults of the header. [`walk_starts`] walks
+//! over the schema, then over each root that the schema names, and along the freelist; of what is found there the reporter hears at
 //! which [`Start`] it is, and where each tree ends. [`tell_end`] tells what is left when all pages have been visited: by the marks,
 //! the header and the pages of the pointer map.
 //!
-//! What a sink is told stands in specs/Notices; specs/Desks says what a desk holds, and specs/Walks how far a walk over the starts has
+//! What a reporter hears stands in specs/Notices; specs/Desks says what a desk holds, and specs/Walks how far a walk over the starts has
 //! come.
 #![tactic(auto)]
 
@@ -14,26 +14,30 @@ mod counts;
 mod desk;
 mod end_faults;
 mod end_pass;
+mod finish;
 mod header_faults;
 mod looks;
 mod map_entry;
 mod no_rows;
+mod notice;
 mod placed;
+mod reporter;
 mod scans;
 mod start;
 mod tell;
 mod teller;
-mod tree_sink;
 mod walks;
 
 pub use dbowner::RootList;
 pub use dbsource::{Bench, Header, RunError, Source};
-pub use dbwalk::{Marks, Sink};
+pub use dbwalk::Marks;
 pub use desk::Desk;
 pub use end_pass::tell_end;
-pub use placed::faults_are_told_at_their_starts;
+pub use finish::{Finish, Viewed, run_over};
+pub use notice::Notice;
+pub use placed::{faults_are_told_at_their_starts, faults_are_told_with_their_causes};
+pub use reporter::Reporter;
 pub use scans::scan;
 pub use start::Start;
 pub use tell::tell_header;
-pub use tree_sink::TreeSink;
 pub use walks::walk_starts;

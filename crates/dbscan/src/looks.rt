@@ -5,12 +5,11 @@ ghost use Rattle.dbformat.specs.Log.{page_range};
 ghost use Rattle.dbsource.specs.Failures.{is_any};
 ghost use Rattle.dbsource.specs.Headers.{IsHeaderOf};
 ghost use Rattle.dbsource.specs.Sources.{Asks};
-ghost use Rattle.dbowner.specs.Explained.{look_at};
+ghost use Rattle.dbformat.specs.Looks.{look_at};
 ghost use Rattle.dbscan.specs.Desks.{shape_of};
 
 use crate::Desk;
-use dbowner::Look;
-use dbpage::PageView;
+use dbpage::{Look, look_of};
 use dbsource::{Bench, ReadFailed, Source};
 use dbwalk::CHAIN;
 use std::alloc::Allocator;
@@ -20,7 +19,7 @@ fn look_at<S: Source, A: Allocator>(
     bench: &mut Bench<A>,
     source: &mut S,
     page: u32,
-) -> Result<Option<Look>, ReadFailed>
+) -> Result<Look, ReadFailed>
     requires { 1 ≤ page }
     ensures asks { Asks S.step (λ log. log ≡ page_range bench.old.geometry.page_size page ∷ [])
         (λ file. bench.old.geometry ≡ geometry file → IfOk result (λ look. look ≡ look_at file page))
@@ -29,26 +28,16 @@ fn look_at<S: Source, A: Allocator>(
 {
     bench.load(CHAIN, source, page)?;
     let usable = bench.geometry().usable;
-    match PageView::new(bench.page(CHAIN), page, usable) {
-        Ok(view) => Ok(Some(Look {
-            kind: view.kind(),
-            cells: view.cells(),
-        })),
-        Err(_) => Ok(None),
-    }
+    Ok(look_of(bench.page(CHAIN), page, usable))
 }
 
 impl<A: Allocator> Desk<A> {
-    /// Reads a page to the chain buffer, once, and says what it looks like, where its head is that of a page of a tree.
+    /// Reads a page to the chain buffer, once, and says what it looks like.
     ///
     /// # Errors
     ///
     /// [`ReadFailed`] exactly where the source failed.
-    pub fn look_at<S: Source>(
-        &mut self,
-        source: &mut S,
-        page: u32,
-    ) -> Result<Option<Look>, ReadFailed>
+    pub fn look_at<S: Source>(&mut self, source: &mut S, page: u32) -> Result<Look, ReadFailed>
         requires { 1 ≤ page }
         ensures desk { self.new ≡ record self.old { pages = self.new.pages } }
         ensures asks { Asks S.step (λ log. log ≡ page_range (shape_of self.old).page_size page ∷ [])

@@ -9,13 +9,12 @@ ghost use Rattle.dbsource.specs.Sources.{Asks};
 ghost use Rattle.dbwalk.specs.Telling.{IsReadWriteOrMemory, SinkAfter};
 ghost use Rattle.dbscan.specs.Desks.{IsFresh, shape_of};
 ghost use Rattle.dbscan.specs.Looks.{ReadsMarked};
-ghost use Rattle.dbscan.specs.Notices.{Hears, hearing};
 ghost use Rattle.dbscan.specs.Scans.{IsScanned};
 
 use crate::Desk;
 use crate::end_pass::tell_end;
+use crate::reporter::Reporter;
 use crate::tell::tell_header;
-use crate::tree_sink::TreeSink;
 use crate::walks::walk_starts;
 use dbsource::{RunError, Source};
 use std::alloc::Allocator;
@@ -26,7 +25,7 @@ use std::alloc::Allocator;
 ///
 /// [`RunError::ReadFailed`] exactly where the source failed, [`RunError::WriteFailed`] exactly where the sink failed, and
 /// [`RunError::OutOfMemory`] exactly where the list of roots was refused memory. The sink was told a beginning then.
-pub fn scan<A: Allocator, S: Source, K: TreeSink>(
+pub fn scan<A: Allocator, S: Source, K: Reporter>(
     desk: &mut Desk<A>,
     source: &mut S,
     sink: &mut K,
@@ -35,7 +34,7 @@ pub fn scan<A: Allocator, S: Source, K: TreeSink>(
     ensures header { desk.new.header ≡ desk.old.header }
     ensures asks { Asks S.step (ReadsMarked (shape_of desk.old) desk.new.marks) (λ file. IsHeaderOf desk.old.header file
         → (V : List Reference) → Survey file V
-        → IsScanned (Hears (hearing K.Sink K.TreeSink.own)) file V result desk.new.marks desk.new.roots.rows sink.old sink.new)
+        → IsScanned K.hears K.cuts file V result desk.new.marks desk.new.roots.rows sink.old sink.new)
         is_read_failed result (S.held source.old) (S.held source.new) }
     ensures writes { SinkAfter is_write_failed result (K.held sink.old) (K.held sink.new) }
     ensures refusals { desk.new.roots.refusals ≡ failures_after is_out_of_memory result desk.old.roots.refusals }

@@ -3,7 +3,7 @@ ghost use Rattle.std.specs.Prelude.{◌≡◌, ℕ, ◌≤◌, None};
 ghost use Rattle.std.specs.Option.{option_copied};
 ghost use Rattle.dbscan.specs.Starts.{at_freelist, at_schema};
 
-use dbowner::{FREELIST_START, SCHEMA_START};
+use dbformat::{FREELIST_START, SCHEMA_START};
 use std::marker::Model;
 
 /// A start of a file: the schema, a root that it names, or the freelist.

@@ -1,25 +1,27 @@
 // Telling faults to a sink, and those of the header.
-ghost use Rattle.std.specs.Prelude.{◌≡◌, IfErr};
+ghost use Rattle.std.specs.Prelude.{◌≡◌, IfErr, map};
 ghost use Rattle.dbformat.specs.HeaderFaults.{header_faults};
 ghost use Rattle.dbsource.specs.Errors.{is_write_failed};
 ghost use Rattle.dbsource.specs.declared.error.RunError.TheVariants.{WriteFailed};
-ghost use Rattle.dbwalk.specs.Telling.{Tells, SinkAfter, findings};
+ghost use Rattle.dbwalk.specs.Telling.{Tells, SinkAfter};
+ghost use Rattle.dbscan.specs.Notices.{whole};
 ghost use Rattle.dbscan.specs.Telling.{items_of};
 
 use crate::header_faults::header_faults as faults_of;
+use crate::notice::Notice;
+use crate::reporter::Reporter;
 use dbformat::Fault;
 use dbsource::{Header, RunError};
-use dbwalk::Sink;
 
 // Tells those that are faults.
-pub(crate) fn tell_all<K: Sink>(faults: &[Option<Fault>], sink: &mut K) -> Result<(), RunError>
-    ensures told { Tells K.takes K.drops result sink.old (items_of faults.now) sink.new }
+pub(crate) fn tell_all<K: Reporter>(faults: &[Option<Fault>], sink: &mut K) -> Result<(), RunError>
+    ensures told { Tells K.hears K.cuts result sink.old (items_of faults.now) sink.new }
     ensures writes { SinkAfter is_write_failed result (K.held sink.old) (K.held sink.new) }
     ensures only { IfErr result (λ e. e ≡ WriteFailed) }
 {
     for fault in faults {
         if let Some(fault) = fault {
-            sink.fault(fault)?;
+            sink.hear(&Notice::Whole(fault))?;
         }
     }
     Ok(())
@@ -30,8 +32,8 @@ pub(crate) fn tell_all<K: Sink>(faults: &[Option<Fault>], sink: &mut K) -> Resul
 /// # Errors
 ///
 /// [`RunError::WriteFailed`] exactly where the sink failed.
-pub fn tell_header<K: Sink>(header: &Header, sink: &mut K) -> Result<(), RunError>
-    ensures told { Tells K.takes K.drops result sink.old (findings (header_faults header.now.bytes header.now.file_len)) sink.new }
+pub fn tell_header<K: Reporter>(header: &Header, sink: &mut K) -> Result<(), RunError>
+    ensures told { Tells K.hears K.cuts result sink.old (map whole (header_faults header.now.bytes header.now.file_len)) sink.new }
     ensures writes { SinkAfter is_write_failed result (K.held sink.old) (K.held sink.new) }
     ensures only { IfErr result (λ e. e ≡ WriteFailed) }
 {

@@ -4,12 +4,14 @@ ghost use Rattle.dbsource.specs.Failures.{is_any};
 ghost use Rattle.dbwalk.specs.Rows.{row_of};
 ghost use Rattle.dbwalk.specs.Telling.{SinkAfter};
 ghost use Rattle.dbscan.specs.Findings.{is_schema_leaf};
+ghost use Rattle.dbscan.specs.Notices.{ended};
 
+use crate::notice::Notice;
+use crate::reporter::Reporter;
 use crate::start::Start;
-use crate::tree_sink::TreeSink;
-use dbowner::SCHEMA_START;
+use dbformat::SCHEMA_START;
 use dbsource::WriteFailed;
-use dbwalk::{Fault, PageType, Row, Sink};
+use dbwalk::{Cause, Fault, PageType, Row, Sink};
 
 // Hands on what it is told, and notes whether that shows a row of the schema.
 #[derive(Drop)]
@@ -19,7 +21,7 @@ pub(crate) struct Teller<'a, K> {
     has_rows: bool,
 }
 
-impl<'a, K: TreeSink> Teller<'a, K> {
+impl<'a, K: Reporter> Teller<'a, K> {
     // One that was told nothing.
     pub(crate) fn new(sink: &'a mut K, start: &'a Start<'a>) -> Teller<'a, K>
         ensures same_sink { result.sink.ghost_name ≡ sink.entry.ghost_name }
@@ -45,30 +47,30 @@ impl<'a, K: TreeSink> Teller<'a, K> {
     pub(crate) fn end(&mut self) -> Result<(), WriteFailed>
         ensures same_sink { self.new.sink.ghost_name ≡ self.old.sink.ghost_name }
         ensures rows { self.new.has_rows ≡ self.old.has_rows }
-        ensures ends { MatchResult result (λ _. K.ends self.old.sink.now self.old.start.now self.new.sink.now)
-            (λ _. K.cuts self.old.sink.now self.old.start.now self.new.sink.now) }
+        ensures ends { MatchResult result (λ _. K.hears self.old.sink.now (ended self.old.start.now) self.new.sink.now)
+            (λ _. K.cuts self.old.sink.now (ended self.old.start.now) self.new.sink.now) }
         ensures count { SinkAfter is_any result (K.held self.old.sink.now) (K.held self.new.sink.now) }
     {
-        self.sink.end_tree(self.start)
+        self.sink.hear(&Notice::Ended(self.start))
     }
 }
 
-impl<K: TreeSink> Sink for Teller<'_, K> {
+impl<K: Reporter> Sink for Teller<'_, K> {
     ghost use Rattle.dbscan.specs.Tellers.{HandsOn, lent_by};
 
-    ghost takes = { HandsOn K.takes_at };
+    ghost takes = { HandsOn K.hears };
 
-    ghost drops = { HandsOn K.drops_at };
+    ghost drops = { HandsOn K.cuts };
 
     ghost held = { lent_by K.held };
 
-    fn fault(&mut self, fault: &Fault) -> Result<(), WriteFailed> {
-        self.sink.fault_at(self.start, fault)
+    fn fault(&mut self, fault: &Fault, cause: &Cause) -> Result<(), WriteFailed> {
+        self.sink.hear(&Notice::Fault(self.start, fault, cause))
     }
 
     fn row(&mut self, row: &Row<'_>) -> Result<(), WriteFailed> {
         self.has_rows = self.has_rows || is_schema_leaf(row);
-        self.sink.row_at(self.start, row)
+        self.sink.hear(&Notice::Row(self.start, row))
     }
 }
 
@@ -80,5 +82,5 @@ fn is_schema_leaf(row: &Row<'_>) -> bool
         PageType::Leaf => true,
         _ => false,
     };
-    row.start == SCHEMA_START && is_leaf && row.ncell != 0
+    row.start == SCHEMA_START && is_leaf && row.counts.ncell != 0
 }

@@ -17,15 +17,14 @@ ghost use Rattle.dbwalk.specs.Rows.{schema_row_of};
 ghost use Rattle.dbwalk.specs.Taking.{StartsEmpty};
 ghost use Rattle.dbwalk.specs.declared.root.RootKind.TheVariants as root_kind;
 ghost use Rattle.dbscan.specs.Desks.{AsksOver, IsFresh};
-ghost use Rattle.dbscan.specs.Notices.{Hears, hearing};
 ghost use Rattle.dbscan.specs.Starts.{at_freelist, at_row, kind_by, root_of, schema_root};
 ghost use Rattle.dbscan.specs.Walks.{AreTold, AreWalked, IsSchemaWalked, IsTelling, IsTreeWalked, IsWalkedOver, StopsTelling};
 
 use crate::Desk;
 use crate::no_rows::NoRows;
+use crate::reporter::Reporter;
 use crate::start::Start;
 use crate::teller::Teller;
-use crate::tree_sink::TreeSink;
 use dbbytes::SchemaRow;
 use dbformat::{Encoding, RowKind};
 use dbowner::RootList;
@@ -68,7 +67,7 @@ fn root_of(row: &SchemaRow<'_>, start: u32, encoding: Encoding) -> Root
 }
 
 // Walks over the tree of a root, to its end.
-fn walk_over<A: Allocator, S: Source, T: Taker, K: TreeSink>(
+fn walk_over<A: Allocator, S: Source, T: Taker, K: Reporter>(
     source: &mut S,
     bench: &mut Bench<A>,
     marks: &mut Marks<A>,
@@ -82,7 +81,7 @@ fn walk_over<A: Allocator, S: Source, T: Taker, K: TreeSink>(
     ensures asks { Asks S.step (Reads bench.old.geometry.page_size marks.old marks.new) (λ file. bench.old.geometry ≡ geometry file
         → root.encoding ≡ encoding_of file → (W : List Reference) (c : Reference) → IsRootAfter file root W c marks.old
         → (held : T → ℕ) → (root.kind ≡ root_kind.Schema → StartsEmpty T.takes held taker.old)
-        → IsWalkedOver (Hears (hearing K.Sink K.TreeSink.own)) T.takes file W c result marks.new teller.old teller.new taker.old taker.new)
+        → IsWalkedOver K.hears K.cuts T.takes file W c result marks.new teller.old teller.new taker.old taker.new)
         is_read_failed result (S.held source.old) (S.held source.new) }
     ensures writes { SinkAfter is_write_failed result (K.held teller.old.sink.now) (K.held teller.new.sink.now) }
     ensures refusals { T.refusals taker.new ≡ failures_after is_out_of_memory result (T.refusals taker.old) }
@@ -94,7 +93,7 @@ fn walk_over<A: Allocator, S: Source, T: Taker, K: TreeSink>(
 }
 
 // Walks over the schema's tree, to its end. The list takes its rows. It answers whether there are any.
-fn walk_schema<A: Allocator, S: Source, K: TreeSink>(
+fn walk_schema<A: Allocator, S: Source, K: Reporter>(
     desk: &mut Desk<A>,
     source: &mut S,
     sink: &mut K,
@@ -102,7 +101,7 @@ fn walk_schema<A: Allocator, S: Source, K: TreeSink>(
     requires fresh { IsFresh desk.old }
     ensures header { desk.new.header ≡ desk.old.header }
     ensures asks { AsksOver S.step desk.old desk.new (λ file.
-        IsSchemaWalked (Hears (hearing K.Sink K.TreeSink.own)) file result desk.new.marks desk.new.roots.rows sink.old sink.new)
+        IsSchemaWalked K.hears K.cuts file result desk.new.marks desk.new.roots.rows sink.old sink.new)
         result (S.held source.old) (S.held source.new) }
     ensures writes { SinkAfter is_write_failed result (K.held sink.old) (K.held sink.new) }
     ensures refusals { desk.new.roots.refusals ≡ failures_after is_out_of_memory result desk.old.roots.refusals }
@@ -123,7 +122,7 @@ fn walk_schema<A: Allocator, S: Source, K: TreeSink>(
 }
 
 // Walks over the tree of a row of a list, to its end. The sink is lent its name.
-fn walk_row<A: Allocator, S: Source, K: TreeSink>(
+fn walk_row<A: Allocator, S: Source, K: Reporter>(
     source: &mut S,
     bench: &mut Bench<A>,
     marks: &mut Marks<A>,
@@ -138,7 +137,7 @@ fn walk_row<A: Allocator, S: Source, K: TreeSink>(
     ensures asks { Asks S.step (Reads bench.old.geometry.page_size marks.old marks.new) (λ file. bench.old.geometry ≡ geometry file
         → encoding ≡ encoding_of file → (row : NamingRow) → slice_get roots.now.rows (number - 1) ≡ Some row
         → (W : List Reference) (c : Reference) → IsRootAfter file (root_of encoding number row) W c marks.old
-        → IsTreeWalked (Hears (hearing K.Sink K.TreeSink.own)) (at_row number row) file W c result marks.new sink.old sink.new)
+        → IsTreeWalked K.hears K.cuts (at_row number row) file W c result marks.new sink.old sink.new)
         is_read_failed result (S.held source.old) (S.held source.new) }
     ensures writes { SinkAfter is_write_failed result (K.held sink.old) (K.held sink.new) }
     ensures only { IfErr result IsReadOrWrite }
@@ -153,7 +152,7 @@ fn walk_row<A: Allocator, S: Source, K: TreeSink>(
 }
 
 // Walks over the tree of a row of the desk's list, to its end.
-fn walk_root<A: Allocator, S: Source, K: TreeSink>(
+fn walk_root<A: Allocator, S: Source, K: Reporter>(
     desk: &mut Desk<A>,
     source: &mut S,
     number: u32,
@@ -164,7 +163,7 @@ fn walk_root<A: Allocator, S: Source, K: TreeSink>(
     ensures kept { (desk.new.header ≡ desk.old.header) × (desk.new.roots ≡ desk.old.roots) }
     ensures asks { AsksOver S.step desk.old desk.new (λ file. (row : NamingRow) → slice_get desk.old.roots.rows (number - 1) ≡ Some row
         → (W : List Reference) (c : Reference) → IsRootAfter file (root_of (encoding_of file) number row) W c desk.old.marks
-        → IsTreeWalked (Hears (hearing K.Sink K.TreeSink.own)) (at_row number row) file W c result desk.new.marks sink.old sink.new)
+        → IsTreeWalked K.hears K.cuts (at_row number row) file W c result desk.new.marks sink.old sink.new)
         result (S.held source.old) (S.held source.new) }
     ensures writes { SinkAfter is_write_failed result (K.held sink.old) (K.held sink.new) }
     ensures only { IfErr result IsReadOrWrite }
@@ -182,15 +181,15 @@ fn walk_root<A: Allocator, S: Source, K: TreeSink>(
 }
 
 // Walks over the trees of the list, one after another.
-fn walk_roots<A: Allocator, S: Source, K: TreeSink>(
+fn walk_roots<A: Allocator, S: Source, K: Reporter>(
     desk: &mut Desk<A>,
     source: &mut S,
     sink: &mut K,
 ) -> Result<(), RunError>
     ensures kept { (desk.new.header ≡ desk.old.header) × (desk.new.roots ≡ desk.old.roots) }
     ensures asks { AsksOver S.step desk.old desk.new (λ file. (V : List Reference) → Survey file V → (before : K)
-        → IsTelling (Hears (hearing K.Sink K.TreeSink.own)) file V before (enumerate_from 1 desk.old.roots.rows) desk.old.marks sink.old
-        → StopsTelling (Hears (hearing K.Sink K.TreeSink.own)) file V before [] result desk.new.marks sink.new)
+        → IsTelling K.hears K.cuts file V before (enumerate_from 1 desk.old.roots.rows) desk.old.marks sink.old
+        → StopsTelling K.hears K.cuts file V before [] result desk.new.marks sink.new)
         result (S.held source.old) (S.held source.new) }
     ensures writes { SinkAfter is_write_failed result (K.held sink.old) (K.held sink.new) }
     ensures only { IfErr result IsReadOrWrite }
@@ -202,7 +201,7 @@ fn walk_roots<A: Allocator, S: Source, K: TreeSink>(
 }
 
 // Walks along the freelist, if there is one.
-fn walk_trunks<A: Allocator, S: Source, K: TreeSink>(
+fn walk_trunks<A: Allocator, S: Source, K: Reporter>(
     desk: &mut Desk<A>,
     source: &mut S,
     teller: &mut Teller<'_, K>,
@@ -211,8 +210,8 @@ fn walk_trunks<A: Allocator, S: Source, K: TreeSink>(
     ensures same_sink { teller.new.sink.ghost_name ≡ teller.old.sink.ghost_name }
     ensures kept { (desk.new.header ≡ desk.old.header) × (desk.new.roots ≡ desk.old.roots) }
     ensures asks { AsksOver S.step desk.old desk.new (λ file. (V : List Reference) → Survey file V → (before : K)
-        → IsTelling (Hears (hearing K.Sink K.TreeSink.own)) file V before [] desk.old.marks teller.old.sink.now
-        → AreTold (Hears (hearing K.Sink K.TreeSink.own)) file V result desk.new.marks before teller.new.sink.now)
+        → IsTelling K.hears K.cuts file V before [] desk.old.marks teller.old.sink.now
+        → AreTold K.hears K.cuts file V result desk.new.marks before teller.new.sink.now)
         result (S.held source.old) (S.held source.new) }
     ensures writes { SinkAfter is_write_failed result (K.held teller.old.sink.now) (K.held teller.new.sink.now) }
     ensures only { IfErr result IsReadOrWrite }
@@ -225,15 +224,15 @@ fn walk_trunks<A: Allocator, S: Source, K: TreeSink>(
 }
 
 // Walks over the trees of the list, one after another, and then along the freelist.
-fn walk_later<A: Allocator, S: Source, K: TreeSink>(
+fn walk_later<A: Allocator, S: Source, K: Reporter>(
     desk: &mut Desk<A>,
     source: &mut S,
     sink: &mut K,
 ) -> Result<(), RunError>
     ensures kept { (desk.new.header ≡ desk.old.header) × (desk.new.roots ≡ desk.old.roots) }
     ensures asks { AsksOver S.step desk.old desk.new (λ file. (V : List Reference) → Survey file V → (before : K)
-        → IsTelling (Hears (hearing K.Sink K.TreeSink.own)) file V before (enumerate_from 1 desk.old.roots.rows) desk.old.marks sink.old
-        → AreTold (Hears (hearing K.Sink K.TreeSink.own)) file V result desk.new.marks before sink.new)
+        → IsTelling K.hears K.cuts file V before (enumerate_from 1 desk.old.roots.rows) desk.old.marks sink.old
+        → AreTold K.hears K.cuts file V result desk.new.marks before sink.new)
         result (S.held source.old) (S.held source.new) }
     ensures writes { SinkAfter is_write_failed result (K.held sink.old) (K.held sink.new) }
     ensures only { IfErr result IsReadOrWrite }
@@ -251,7 +250,7 @@ fn walk_later<A: Allocator, S: Source, K: TreeSink>(
 ///
 /// [`RunError::ReadFailed`] exactly where the source failed, [`RunError::WriteFailed`] exactly where the sink failed, and
 /// [`RunError::OutOfMemory`] exactly where the list was refused memory.
-pub fn walk_starts<A: Allocator, S: Source, K: TreeSink>(
+pub fn walk_starts<A: Allocator, S: Source, K: Reporter>(
     desk: &mut Desk<A>,
     source: &mut S,
     sink: &mut K,
@@ -259,7 +258,7 @@ pub fn walk_starts<A: Allocator, S: Source, K: TreeSink>(
     requires fresh { IsFresh desk.old }
     ensures header { desk.new.header ≡ desk.old.header }
     ensures asks { AsksOver S.step desk.old desk.new (λ file. (V : List Reference) → Survey file V
-        → AreWalked (Hears (hearing K.Sink K.TreeSink.own)) file V result desk.new.marks desk.new.roots.rows sink.old sink.new)
+        → AreWalked K.hears K.cuts file V result desk.new.marks desk.new.roots.rows sink.old sink.new)
         result (S.held source.old) (S.held source.new) }
     ensures writes { SinkAfter is_write_failed result (K.held sink.old) (K.held sink.new) }
     ensures refusals { desk.new.roots.refusals ≡ failures_after is_out_of_memory result desk.old.roots.refusals }

@@ -7,6 +7,7 @@
 //! ```
 #![tactic(auto)]
 
+mod hidden;
 mod pieces;
 mod shown;
 mod xml;

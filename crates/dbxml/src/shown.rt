@@ -3,6 +3,7 @@ ghost use Rattle.std.specs.Prelude.{◌≡◌, ◌≤◌, length, IfSome};
 ghost use Rattle.dbsource.specs.Outs.{Puts};
 ghost use Rattle.dbxml.specs.Xml.{escaped, PutsEscaped};
 
+use crate::hidden::{code, is_hidden};
 use crate::xml::{is_plain, put_escaped};
 use arrayvec::ArrayVec;
 use dbbytes::name_text;
@@ -14,11 +15,17 @@ use std::alloc::Allocator;
 // How many bytes of a text are kept: more than the widest that is shown.
 const KEPT: usize = 320;
 
-/// The beginning of a text. It is UTF-8 without control characters, as names are shown, and without the two numbers at the end
-/// of the first plane that are no characters, which XML forbids.
+/// The beginning of a text. It is UTF-8 without control characters, as names are shown, and without those that turn a text around or
+/// that XML forbids: they are shown by their codes too.
 #[derive(Drop)]
 pub struct Shown {
     bytes: ArrayVec<u8, KEPT>,
+}
+
+impl Default for Shown {
+    fn default() -> Shown {
+        Shown::new()
+    }
 }
 
 impl Shown {
@@ -41,24 +48,38 @@ impl Shown {
         }
     }
 
-    // Adds a byte, if there is room. U+FFFE and U+FFFF, which are EF BF BE and EF BF BF, become U+FFFD.
-    fn add(&mut self, byte: u8) {
-        let before = self.bytes.as_slice();
-        let is_last = before.ends_with(&[0xEF, 0xBF]);
-        let byte = if is_last && byte >= 0xBE { 0xBD } else { byte };
-        let _ = self.bytes.try_push(byte);
+    /// Whether it is shown as another one is, in a number of columns.
+    pub fn is_like(&self, other: &Shown, width: u32) -> bool {
+        self.seen(width) == other.seen(width)
+    }
+
+    // The bytes that fit in a number of columns.
+    fn seen(&self, width: u32) -> &[u8] {
+        let text = self.bytes.as_slice();
+        &text[..fitting(text, width)]
+    }
+
+    // Adds bytes, as far as there is room.
+    fn add(&mut self, bytes: &[u8]) {
+        for byte in bytes {
+            let _ = self.bytes.try_push(*byte);
+        }
     }
 }
 
-// Texts are put to it. It takes what there is room for, and tells nothing.
+// Texts are put to it, each of whole characters. It takes what there is room for, and tells nothing.
 impl Out for Shown {
     ghost use Rattle.std.specs.Prelude.{[], None};
 
     ghost held = { λ s. record { bytes = None; pending = []; failures = 0 } };
 
     fn put(&mut self, piece: &[u8]) -> Result<(), WriteFailed> {
-        for byte in piece {
-            self.add(*byte);
+        for (at, byte) in piece.iter().enumerate() {
+            if *byte >= 0x80 && is_hidden(piece, at) {
+                self.add(&code(*byte));
+            } else {
+                self.add(&[*byte]);
+            }
         }
         Ok(())
     }

@@ -24,34 +24,35 @@ pub(crate) fn small(alloc: Global) -> Result<Vec<u8>, AllocError> {
 }
 
 // Texts that the picture of this file has, in this order.
-const TEXTS: [&str; 19] = [
+const TEXTS: [&str; 20] = [
     "<svg xmlns=\"http://www.w3.org/2000/svg\" width=\"988\" height=\"252\" viewBox=\"0 0 988 252\"",
     " role=\"img\" aria-label=\"Pages of a&lt;b&gt;&amp;.db\">\n",
     "<title>Pages of a&lt;b&gt;&amp;.db</title>\n",
-    ">7 pages of 512 bytes (0.0 MiB), 1 fault; a square is a page, in the order of the file</text>\n",
+    ">7 pages of 512 bytes (3.5 KiB), 1 fault; a square is a page, in the order of the file</text>\n",
     "<text x=\"64\" y=\"81\">1</text>\n",
-    "<g transform=\"translate(72,64)\">\n<g fill=\"#E69F00\">\n<rect x=\"0\" width=\"27\" height=\"27\"><title>page 1: root of sqlite_schema</title></rect>\n</g>\n",
-    "<g fill=\"#0072B2\">\n<rect x=\"28\" width=\"27\" height=\"27\"><title>page 2: root of table a</title></rect>\n</g>\n",
-    "<g fill=\"#99C7E0\">\n<rect x=\"56\" width=\"27\" height=\"27\"><title>page 3: in table a, overflow page of page 2</title></rect>\n</g>\n",
-    "<g fill=\"#009E73\">\n<rect x=\"84\" width=\"27\" height=\"27\"><title>page 4: root of index &lt;&amp;&quot;\\x0a&#39;&gt;</title></rect>\n</g>\n",
-    "<g fill=\"#ECECEC\">\n<rect x=\"112\" width=\"27\" height=\"27\"><title>page 5: trunk of the freelist</title></rect>\n",
+    "<g transform=\"translate(72,64)\">\n<g fill=\"#E6B006\">\n<rect x=\"0\" width=\"27\" height=\"27\"><title>page 1: root of sqlite_schema</title></rect>\n</g>\n",
+    "<g fill=\"#067CFF\">\n<rect x=\"28\" width=\"27\" height=\"27\"><title>page 2: root of table a</title></rect>\n</g>\n",
+    "<g fill=\"#C6E1FF\">\n<rect x=\"56\" width=\"27\" height=\"27\"><title>page 3: in table a, overflow page of page 2</title></rect>\n</g>\n",
+    "<g fill=\"#A001C6\">\n<rect x=\"84\" width=\"27\" height=\"27\"><title>page 4: root of index &lt;&amp;&quot;\\x0a&#39;&gt;</title></rect>\n</g>\n",
+    "<g fill=\"#DBDBDB\">\n<rect x=\"112\" width=\"27\" height=\"27\"><title>page 5: trunk of the freelist</title></rect>\n",
     "<rect x=\"140\" width=\"27\" height=\"27\"><title>page 6: leaf of the freelist</title></rect>\n</g>\n",
-    "<g><title>page 7: in no tree, overflow chain or freelist, with a fault</title><rect x=\"168\" y=\"0\" width=\"27\" height=\"27\" fill=\"#DD0000\"/>",
-    "<rect x=\"171\" y=\"3\" width=\"21\" height=\"21\" stroke=\"#FFFFFF\"/></g>\n</g>\n</g>\n",
+    "<rect x=\"169\" y=\"1\" width=\"25\" height=\"25\" stroke=\"#BE0700\" stroke-width=\"4\"><title>page 7: in no tree, overflow chain or freelist, with N01</title></rect>\n",
+    "</g>\n</g>\n<g transform=\"translate(0 92)\">\n",
     ">table a</text><text x=\"580\" y=\"40\" text-anchor=\"end\">2</text><text x=\"710\" y=\"40\" text-anchor=\"end\">1</text>",
-    "<text x=\"860\" y=\"40\" text-anchor=\"end\">28.6</text>",
+    "<text x=\"790\" y=\"40\" text-anchor=\"end\">1.0 KiB</text><text x=\"860\" y=\"40\" text-anchor=\"end\">28.6</text>",
     ">sqlite_schema</text>",
     ">index &lt;&amp;&quot;\\x0a&#39;&gt;</text>",
+    ">freelist</text>",
     ">in no tree, overflow chain or freelist</text>",
     ">pages with a fault</text>",
 ];
 
-// That the texts stand in a picture one after another, and then its end.
-fn has_texts(rt: &impl Abort, picture: &str) {
+// That a picture has these texts one after another, and then its end.
+fn has_texts(rt: &impl Abort, picture: &str, texts: &[&str]) {
     let mut at: usize = 0;
-    for text in TEXTS {
-        let found = picture.get(at..).unwrap_or("").find(text);
-        holds!(*rt; found.is_some(), text);
+    for text in texts {
+        let found = picture.get(at..).unwrap_or("").find(*text);
+        holds!(*rt; found.is_some(), *text);
         let from = at.wrapping_add(found.unwrap_or(0));
         at = from.wrapping_add(text.len());
     }
@@ -66,18 +67,23 @@ fn draws_each_kind_of_page(rt: HostRuntime) -> Result<(), Fail> {
     let mut out = MemOut::new(rt.alloc());
     let verdict = map(rt.alloc(), "a<b>&.db", &mut source, &mut out);
     holds!(rt; verdict == Ok(Verdict::Faulty(1)));
-    has_texts(&rt, str::from_utf8(out.bytes()).unwrap_or(""));
+    has_texts(&rt, str::from_utf8(out.bytes()).unwrap_or(""), &TEXTS);
     Ok(())
 }
 
-// What the picture of 40000 pages has: of them a square stands for 4.
-const OF_RUNS: [&str; 3] = [
+// What the picture of 40000 pages has: of them a square covers 4. The first has two pages of `a` and one of each of two others, which
+// bring 12, 6 and 6 to the credit of their owners, and a band takes 4.
+const OF_RUNS: [&str; 7] = [
     "; a square is 4 pages, in the order of the file</text>\n",
-    "<title>pages 1 to 4: 2 in table a</title>",
-    "<title>pages 39997 to 40000: 4 in no tree, with a fault</title>",
+    "<g><title>pages 1 to 4: 2 in table a, 1 in sqlite_schema, 1 in index &lt;&amp;&quot;\\x0a&#39;&gt;</title>",
+    "<rect x=\"0\" y=\"0\" width=\"6\" height=\"3\" fill=\"#067CFF\"/>",
+    "<rect x=\"0\" y=\"3\" width=\"6\" height=\"2\" fill=\"#E6B006\"/>",
+    "<rect x=\"0\" y=\"5\" width=\"6\" height=\"1\" fill=\"#A001C6\"/></g>\n",
+    "<g><title>pages 5 to 8: 2 in the freelist, 2 in no tree, with N01</title>",
+    "<title>pages 39997 to 40000: 4 in no tree, with N01</title>",
 ];
 
-// That a picture has the texts of runs, and so many squares and a title.
+// That a picture has the texts of runs, and as many squares, and a title.
 fn has_runs(rt: &impl Abort, picture: &str) {
     for text in OF_RUNS {
         holds!(*rt; picture.contains(text), text);
@@ -85,7 +91,7 @@ fn has_runs(rt: &impl Abort, picture: &str) {
     holds!(*rt; picture.matches("</title>").count() == 10001);
 }
 
-// Of a file that gives zeros behind its first pages, these are in no tree.
+// Of a file that gives zeros after its first pages, these are in no tree.
 #[test]
 fn squares_stand_for_runs(rt: HostRuntime) -> Result<(), Fail> {
     let mut file = small(rt.alloc())?;
@@ -95,5 +101,99 @@ fn squares_stand_for_runs(rt: HostRuntime) -> Result<(), Fail> {
     let verdict = map(rt.alloc(), "x", &mut source, &mut out);
     holds!(rt; verdict == Ok(Verdict::Faulty(39994)));
     has_runs(&rt, str::from_utf8(out.bytes()).unwrap_or(""));
+    Ok(())
+}
+
+// The picture of a file.
+fn drawn(rt: &impl Abort, alloc: Global, file: &[u8], texts: &[&str]) {
+    let mut source = MemSource::new(file);
+    let mut out = MemOut::new(alloc);
+    let verdict = map(alloc, "x", &mut source, &mut out);
+    holds!(*rt; verdict.is_ok());
+    has_texts(rt, str::from_utf8(out.bytes()).unwrap_or(""), texts);
+}
+
+// What the picture of 7 pages has where the header states 12.
+const MISSING: [&str; 6] = [
+    " height=\"272\" viewBox=",
+    "<title>page 1: root of sqlite_schema, with H06</title>",
+    "</g>\n<g transform=\"translate(.5,.5)\" fill=\"#FFFFFF\" stroke=\"#AAAAAA\">\n<rect x=\"196\" width=\"26\" height=\"26\"><title>page 8: not in the file</title></rect>\n",
+    "<rect x=\"308\" width=\"26\" height=\"26\"><title>page 12: not in the file</title></rect>\n</g>\n</g>\n",
+    ">stated in the header, not in the file</text><text x=\"580\" y=\"160\" text-anchor=\"end\">5</text>",
+    ">2.5 KiB</text>\n",
+];
+
+// The same where it states as many as it can: a row more than the file has.
+const MANY_MISSING: [&str; 4] = [
+    "<text x=\"64\" y=\"109\">33</text>\n</g>\n",
+    "<title>page 32: not in the file</title></rect>\n</g>\n</g>\n<g transform=\"translate(72,92)\">\n<g transform=\"translate(.5,.5)\"",
+    "<rect x=\"868\" width=\"26\" height=\"26\"><title>page 64: not in the file</title></rect>\n</g>\n</g>\n",
+    ">4294967288</text>",
+];
+
+// Pages that the header states and the file does not have are outlines.
+#[test]
+fn outlines_are_drawn(rt: HostRuntime) -> Result<(), Fail> {
+    let mut file = small(rt.alloc())?;
+    patch(&mut file, 28, &12u32.to_be_bytes());
+    drawn(&rt, rt.alloc(), file.as_slice(), &MISSING);
+    patch(&mut file, 28, &u32::MAX.to_be_bytes());
+    drawn(&rt, rt.alloc(), file.as_slice(), &MANY_MISSING);
+    Ok(())
+}
+
+// What the picture has of two trees of one name, and of a name that turns text around.
+const NAMES: [&str; 5] = [
+    "<title>page 2: root of table t</title>",
+    "<title>page 4: root of table \\xe2\\x80\\xaeb\\xe2\\x81\\xa6\\xef\\xbf\\xbf\u{202f}</title>",
+    ">table t, root page 2</text>",
+    ">table t, root page 3</text>",
+    ">table \\xe2\\x80\\xaeb\\xe2\\x81\\xa6\\xef\\xbf\\xbf\u{202f}</text>",
+];
+
+#[test]
+fn names_are_told_apart(rt: HostRuntime) -> Result<(), Fail> {
+    let mut file = TestFile::new(rt.alloc(), 512, 4)?;
+    file.schema(&[
+        schema_row(b"table", b"t", 2),
+        schema_row(b"table", b"t", 3),
+        schema_row(
+            b"table",
+            b"\xe2\x80\xaeb\xe2\x81\xa6\xef\xbf\xbf\xe2\x80\xaf",
+            4,
+        ),
+    ]);
+    file.leaf_table(2);
+    file.leaf_table(3);
+    file.leaf_table(4);
+    drawn(&rt, rt.alloc(), file.into_bytes().as_slice(), &NAMES);
+    Ok(())
+}
+
+// What the picture has of a pointer map, and of five trees with a page each, in the order of their rows.
+const OWNERS: [&str; 7] = [
+    "<g fill=\"#067CFF\">\n<rect x=\"0\" width=\"27\" height=\"27\"><title>page 1: root of sqlite_schema</title></rect>\n</g>\n",
+    "<g fill=\"#000000\">\n<rect x=\"28\" width=\"27\" height=\"27\"><title>page 2: pointer map</title></rect>\n</g>\n",
+    "<g fill=\"#E6B006\">\n<rect x=\"56\" width=\"27\" height=\"27\"><title>page 3: root of table a</title></rect>\n</g>\n",
+    "<g fill=\"#A001C6\">\n<rect x=\"84\" width=\"27\" height=\"27\"><title>page 4: root of table b</title></rect>\n</g>\n",
+    "<g fill=\"#728551\">\n<rect x=\"112\" width=\"27\" height=\"27\"><title>page 5: root of table c</title></rect>\n</g>\n",
+    "<g fill=\"#F18740\">\n<rect x=\"140\" width=\"27\" height=\"27\"><title>page 6: root of table d</title></rect>\n</g>\n",
+    ">pointer map and lock-byte page</text>",
+];
+
+#[test]
+fn owners_have_their_colours(rt: HostRuntime) -> Result<(), Fail> {
+    let mut file = TestFile::new(rt.alloc(), 512, 6)?;
+    file.schema(&[
+        schema_row(b"table", b"a", 3),
+        schema_row(b"table", b"b", 4),
+        schema_row(b"table", b"c", 5),
+        schema_row(b"table", b"d", 6),
+    ]);
+    file.map(6, &[(1, 0), (1, 0), (1, 0), (1, 0)]);
+    for page in 3..7u32 {
+        file.leaf_table(page);
+    }
+    drawn(&rt, rt.alloc(), file.into_bytes().as_slice(), &OWNERS);
     Ok(())
 }

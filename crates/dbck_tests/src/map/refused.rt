@@ -36,17 +36,29 @@ fn each_read_fails_in_turn(rt: HostRuntime) -> Result<(), Fail> {
     Ok(())
 }
 
+// How many bytes the picture has.
+fn len(rt: &impl Abort, alloc: Global, file: &[u8]) -> usize {
+    let mut source = MemSource::new(file);
+    let mut out = MemOut::new(alloc);
+    let verdict = map(alloc, "x", &mut source, &mut out);
+    holds!(*rt; verdict == Ok(Verdict::Faulty(1)));
+    out.bytes().len()
+}
+
+// No more than 192 bytes are put at a time: in steps of 97 each put fails in turn.
 #[test]
-fn writes_fail(rt: HostRuntime) -> Result<(), Fail> {
+fn each_write_fails_in_turn(rt: HostRuntime) -> Result<(), Fail> {
     let file = small(rt.alloc())?;
-    for room in [0usize, 1, 100, 1000, 3000] {
-        let mut held = Vec::from_elem(rt.alloc(), 0u8, room)?;
+    let len = len(&rt, rt.alloc(), file.as_slice());
+    holds!(rt; len > 3000);
+    for step in 0..len.div_ceil(97) {
+        let mut held = Vec::from_elem(rt.alloc(), 0u8, step.wrapping_mul(97))?;
         fails_in(&rt, rt.alloc(), file.as_slice(), held.as_mut_slice());
     }
     Ok(())
 }
 
-// A heap of so many bytes answers so: nothing of it is held then, and nothing was put where it is an error.
+// A heap of this many bytes answers so: nothing of it is held then, and nothing was put where it is an error.
 fn in_room(
     rt: &impl Abort,
     alloc: Global,

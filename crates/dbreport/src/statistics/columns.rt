@@ -6,6 +6,7 @@ ghost use Rattle.dbreport.specs.Columns.{counts_text, place_text};
 
 use crate::statistics::hex::append_hex;
 use arrayvec::ArrayVec;
+use dbformat::Counts;
 use dblines::append;
 use itoa::Buffer;
 
@@ -29,21 +30,15 @@ pub(crate) fn append_number<const CAP: usize>(line: &mut ArrayVec<u8, CAP>, numb
 }
 
 // Adds the columns of what a page or a tree counts.
-pub(crate) fn append_counts<const CAP: usize>(
-    line: &mut ArrayVec<u8, CAP>,
-    ncell: u64,
-    payload: u64,
-    unused: u64,
-    mx_payload: u64,
-)
+pub(crate) fn append_counts<const CAP: usize>(line: &mut ArrayVec<u8, CAP>, counts: &Counts)
     requires { array_vec_len line.old + 84 ≤ CAP }
-    ensures text { line.new.items ≡ line.old.items ++ counts_text ncell payload unused mx_payload }
+    ensures text { line.new.items ≡ line.old.items ++ counts_text counts.now }
     ensures short { array_vec_len line.new ≤ array_vec_len line.old + 84 }
 {
-    append_number(line, ncell);
-    append_number(line, payload);
-    append_number(line, unused);
-    append_number(line, mx_payload);
+    append_number(line, counts.ncell);
+    append_number(line, counts.payload);
+    append_number(line, counts.unused);
+    append_number(line, counts.mx_payload);
 }
 
 // Adds the last columns of the row of a page, where it begins in the file and its size, and the end of the line.

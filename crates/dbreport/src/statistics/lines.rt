@@ -18,6 +18,7 @@ use crate::statistics::page_texts::{OtherPage, other_text, pagetype_text};
 use crate::statistics::sums::Sums;
 use crate::statistics::tree_name::Label;
 use arrayvec::ArrayVec;
+use dbformat::Counts;
 use dblines::append;
 use dbsource::{Out, WriteFailed};
 use dbwalk::Row;
@@ -65,13 +66,7 @@ fn page_end(row: &Row<'_>, page_size: u32) -> ArrayVec<u8, 192>
     append_chain(&mut line, row.chain);
     append_number(&mut line, u64::from(row.page));
     append_text(&mut line, pagetype_text(row.pagetype));
-    append_counts(
-        &mut line,
-        u64::from(row.ncell),
-        row.payload,
-        row.unused,
-        row.mx_payload,
-    );
+    append_counts(&mut line, &row.counts);
     append_place(&mut line, row.page, page_size);
     line
 }
@@ -99,13 +94,7 @@ fn tree_end(sums: &Sums, page_size: u32) -> ArrayVec<u8, 160>
     append(&mut line, "\t-");
     append_number(&mut line, sums.pages);
     append(&mut line, "\t-");
-    append_counts(
-        &mut line,
-        sums.ncell,
-        sums.payload,
-        sums.unused,
-        sums.mx_payload,
-    );
+    append_counts(&mut line, &sums.counts);
     append(&mut line, "\t-");
     let bytes = sums.pages.saturating_mul(u64::from(page_size));
     append_number(&mut line, bytes);
@@ -133,7 +122,7 @@ fn other_line(page_size: u32, page: u32, what: OtherPage) -> ArrayVec<u8, 160>
     append(&mut line, "-\t-");
     append_number(&mut line, u64::from(page));
     append_text(&mut line, other_text(what));
-    append_counts(&mut line, 0, 0, 0, 0);
+    append_counts(&mut line, &Counts::NONE);
     append_place(&mut line, page, page_size);
     line
 }

@@ -1,22 +1,25 @@
 // What the statistics write of what they are told.
-ghost use Rattle.std.specs.Prelude.{◌≡◌, [], List, true};
+ghost use Rattle.std.specs.Prelude.{◌≡◌, [], List, true, MatchResult};
 ghost use Rattle.dbformat.specs.FixedPages.{IsInRange};
 ghost use Rattle.dbformat.specs.Rows.{StatRow};
 ghost use Rattle.dbsource.specs.Failures.{CountsAfter, failures_after, is_any};
 ghost use Rattle.dbsource.specs.Outs.{Puts};
-ghost use Rattle.dbreport.specs.StatSink.{PutsOthers, end_text, failures_of_each, found_verdict};
+ghost use Rattle.dbwalk.specs.Rows.{row_of};
+ghost use Rattle.dbreport.specs.StatSink.{AreSameOuts, CutsEnd, CutsFault, CutsOthers, CutsRow, EndsTree, PutsOthers, TakesFault, TakesRow};
+ghost use Rattle.dbreport.specs.StatSink.{end_text, failures_of_each, found_verdict};
 ghost use Rattle.dbreport.specs.Sums.{sums_of};
 ghost use Rattle.dbreport.specs.TreeNames.{label_text};
 
+use crate::statistics::Form;
 use crate::statistics::lines::{put_page_row, put_tree_row};
 use crate::statistics::other_pages::put_others;
 use crate::statistics::sums::Sums;
 use crate::statistics::tree_name::Label;
 use dbformat::{Encoding, Verdict};
 use dblines::put_fault;
-use dbscan::{Start, TreeSink};
-use dbsource::{Geometry, Out, WriteFailed};
-use dbwalk::{Fault, Marks, Row, Sink};
+use dbscan::{Desk, Finish, Notice, Reporter, Start};
+use dbsource::{Geometry, Out, RunError, Source, WriteFailed};
+use dbwalk::{Fault, Marks, Row};
 use std::alloc::Allocator;
 
 // Writes rows to the one Out and the lines of faults to the other, as they come. In the aggregate form it adds up the rows
@@ -28,7 +31,7 @@ pub(crate) struct StatSink<'a, O, E> {
     err: &'a mut E,
     encoding: Encoding,
     page_size: u32,
-    aggregate: bool,
+    form: Form,
     sums: Sums,
     found: u64,
 }
@@ -40,7 +43,7 @@ impl<'a, O: Out, E: Out> StatSink<'a, O, E> {
         err: &'a mut E,
         encoding: Encoding,
         page_size: u32,
-        aggregate: bool,
+        form: Form,
     ) -> StatSink<'a, O, E>
         ensures same_out { result.out.ghost_name ≡ out.entry.ghost_name }
         ensures same_err { result.err.ghost_name ≡ err.entry.ghost_name }
@@ -48,7 +51,7 @@ impl<'a, O: Out, E: Out> StatSink<'a, O, E> {
         ensures err { result.err.now ≡ err.old }
         ensures encoding { result.encoding ≡ encoding }
         ensures page_size { result.page_size ≡ page_size }
-        ensures aggregate { result.aggregate ≡ aggregate }
+        ensures form { result.form ≡ form }
         ensures sums { result.sums ≡ sums_of [] }
         ensures found { result.found ≡ 0 }
     {
@@ -57,27 +60,10 @@ impl<'a, O: Out, E: Out> StatSink<'a, O, E> {
             err,
             encoding,
             page_size,
-            aggregate,
+            form,
             sums: Sums::new(),
             found: 0,
         }
-    }
-
-    // Writes the rows of the pages that are in no tree and in no overflow chain, as the marks tell them.
-    pub(crate) fn put_others<A: Allocator>(
-        &mut self,
-        shape: Geometry,
-        marks: &Marks<A>,
-    ) -> Result<(), WriteFailed>
-        requires { IsInRange shape }
-        ensures same_out { self.new.out.ghost_name ≡ self.old.out.ghost_name }
-        ensures same_err { self.new.err.ghost_name ≡ self.old.err.ghost_name }
-        ensures others { PutsOthers O.held E.held result shape marks.now self.old self.new }
-        ensures count { CountsAfter is_any result (failures_of_each (O.held self.old.out.now) (E.held self.old.err.now))
-            (failures_of_each (O.held self.new.out.now) (E.held self.new.err.now)) }
-    {
-        self.err.flush()?;
-        put_others(shape, marks, self.out)
     }
 
     // What the rows of the tree of a start show.
@@ -91,6 +77,75 @@ impl<'a, O: Out, E: Out> StatSink<'a, O, E> {
         }
     }
 
+    // Writes the line of a fault, and counts it.
+    fn fault(&mut self, fault: &Fault) -> Result<(), WriteFailed>
+        ensures item { MatchResult result (λ _. TakesFault O.held E.held self.old fault.now self.new)
+            (λ _. CutsFault O.held E.held self.old fault.now self.new) }
+        ensures same { AreSameOuts self.old self.new }
+        ensures count { CountsAfter is_any result (failures_of_each (O.held self.old.out.now) (E.held self.old.err.now))
+            (failures_of_each (O.held self.new.out.now) (E.held self.new.err.now)) }
+    {
+        self.out.flush()?;
+        put_fault(self.err, fault)?;
+        self.found = self.found.saturating_add(1);
+        Ok(())
+    }
+
+    // Writes a row of the tree of a start, or counts it for the row of the tree.
+    #[tactic(auto, using(dbsource::proofs::Beginnings::begins_nothing))]
+    fn row(&mut self, start: &Start<'_>, row: &Row<'_>) -> Result<(), WriteFailed>
+        ensures item { MatchResult result (λ _. TakesRow O.held E.held self.old start.now (row_of row.now) self.new)
+            (λ _. CutsRow O.held E.held self.old start.now (row_of row.now) self.new) }
+        ensures same { AreSameOuts self.old self.new }
+        ensures count { CountsAfter is_any result (failures_of_each (O.held self.old.out.now) (E.held self.old.err.now))
+            (failures_of_each (O.held self.new.out.now) (E.held self.new.err.now)) }
+    {
+        if !self.form.aggregate {
+            self.err.flush()?;
+            let label = self.label(start);
+            put_page_row(self.out, &label, row)?;
+        }
+        self.sums.add(row);
+        Ok(())
+    }
+
+    // Writes the row of a tree, where the rows of its pages are added up.
+    fn end_tree(&mut self, start: &Start<'_>) -> Result<(), WriteFailed>
+        ensures item { MatchResult result (λ _. EndsTree O.held E.held self.old start.now self.new) (λ _. CutsEnd O.held E.held self.old start.now self.new) }
+        ensures same { AreSameOuts self.old self.new }
+        ensures count { CountsAfter is_any result (failures_of_each (O.held self.old.out.now) (E.held self.old.err.now))
+            (failures_of_each (O.held self.new.out.now) (E.held self.new.err.now)) }
+    {
+        if self.form.aggregate {
+            self.err.flush()?;
+            let label = self.label(start);
+            put_sums(self.out, &label, &self.sums)?;
+        }
+        self.sums = Sums::new();
+        Ok(())
+    }
+
+    // Writes the rows of the pages in no tree and in no overflow chain, where they are asked for.
+    #[tactic(auto, using(dbsource::proofs::Beginnings::begins_nothing))]
+    fn put_others<A: Allocator>(
+        &mut self,
+        geometry: Geometry,
+        marks: &Marks<A>,
+    ) -> Result<(), WriteFailed>
+        requires { IsInRange geometry }
+        ensures item { MatchResult result (λ _. PutsOthers O.held E.held self.old geometry marks.now self.new)
+            (λ _. CutsOthers O.held E.held self.old geometry marks.now self.new) }
+        ensures same { AreSameOuts self.old self.new }
+        ensures count { CountsAfter is_any result (failures_of_each (O.held self.old.out.now) (E.held self.old.err.now))
+            (failures_of_each (O.held self.new.out.now) (E.held self.new.err.now)) }
+    {
+        if self.form.all {
+            self.err.flush()?;
+            put_others(geometry, marks, self.out)?;
+        }
+        Ok(())
+    }
+
     // What was found.
     pub(crate) fn verdict(&self) -> Verdict
         ensures { result ≡ found_verdict self.now.found }
@@ -102,63 +157,43 @@ impl<'a, O: Out, E: Out> StatSink<'a, O, E> {
     }
 }
 
-impl<O: Out, E: Out> Sink for StatSink<'_, O, E> {
-    ghost use Rattle.std.specs.Prelude.{[], ◌∷◌};
-    ghost use Rattle.dbreport.specs.StatSink.{Counts, Breaks, failures_of_each};
+impl<O: Out, E: Out> Reporter for StatSink<'_, O, E> {
+    ghost use Rattle.dbreport.specs.StatSink.{CutsStat, HearsStat, stat_held};
 
-    ghost takes = { Counts O.held E.held };
+    ghost hears = { HearsStat O.held E.held };
 
-    ghost drops = { Breaks O.held E.held };
+    ghost cuts = { CutsStat O.held E.held };
 
-    ghost held = { λ s. record { lent = s.out.ghost_name ∷ s.err.ghost_name ∷ []; failures = failures_of_each (O.held s.out.now) (E.held s.err.now) } };
+    ghost held = { stat_held O.held E.held };
 
-    fn fault(&mut self, fault: &Fault) -> Result<(), WriteFailed> {
-        self.out.flush()?;
-        put_fault(self.err, fault)?;
-        self.found = self.found.saturating_add(1);
-        Ok(())
+    fn hear(&mut self, notice: &Notice<'_>) -> Result<(), WriteFailed> {
+        match notice {
+            Notice::Whole(fault) | Notice::Fault(_, fault, _) => self.fault(fault),
+            Notice::Row(start, row) => self.row(start, row),
+            Notice::Ended(start) => self.end_tree(start),
+        }
     }
 
-    // A row is told at a start.
-    fn row(&mut self, _row: &Row<'_>) -> Result<(), WriteFailed> {
-        Ok(())
+    fn walked<A: Allocator>(
+        &mut self,
+        geometry: Geometry,
+        marks: &Marks<A>,
+    ) -> Result<(), WriteFailed> {
+        self.put_others(geometry, marks)
     }
 }
 
-impl<O: Out, E: Out> TreeSink for StatSink<'_, O, E> {
-    ghost use Rattle.dbreport.specs.StatSink.{BreaksAt, CountsAt, CutsEnd, EndsTree};
+impl<O: Out, E: Out, A: Allocator> Finish<Desk<A>> for StatSink<'_, O, E> {
+    ghost use Rattle.dbreport.specs.StatStarts.{LeavesStat};
 
-    ghost takes_at = { CountsAt O.held E.held };
+    ghost leaves = { LeavesStat O.held E.held };
 
-    ghost drops_at = { BreaksAt O.held E.held };
-
-    ghost ends = { EndsTree O.held E.held };
-
-    ghost cuts = { CutsEnd O.held E.held };
-
-    fn fault_at(&mut self, _start: &Start<'_>, fault: &Fault) -> Result<(), WriteFailed> {
-        self.fault(fault)
-    }
-
-    #[tactic(auto, using(dbsource::proofs::Beginnings::begins_nothing))]
-    fn row_at(&mut self, start: &Start<'_>, row: &Row<'_>) -> Result<(), WriteFailed> {
-        if !self.aggregate {
-            self.err.flush()?;
-            let label = self.label(start);
-            put_page_row(self.out, &label, row)?;
-        }
-        self.sums.add(row);
-        Ok(())
-    }
-
-    fn end_tree(&mut self, start: &Start<'_>) -> Result<(), WriteFailed> {
-        if self.aggregate {
-            self.err.flush()?;
-            let label = self.label(start);
-            put_sums(self.out, &label, &self.sums)?;
-        }
-        self.sums = Sums::new();
-        Ok(())
+    fn finish<S: Source>(
+        &mut self,
+        _desk: &mut Desk<A>,
+        _source: &mut S,
+    ) -> Result<Verdict, RunError> {
+        Ok(self.verdict())
     }
 }
 

@@ -3,8 +3,7 @@ ghost use Rattle.dbsource.specs.Outs.{Puts};
 ghost use Rattle.dbreport.specs.TreeNames.{label_text};
 
 use dbbytes::name_text;
-use dbformat::Encoding;
-use dbowner::SCHEMA_START;
+use dbformat::{Encoding, SCHEMA_START};
 use dbscan::Start;
 use dbsource::{Out, WriteFailed};
 

@@ -15,7 +15,8 @@ use Rattle.dbsource.proofs.Logs.{has_ranges, open_failures}
 use Rattle.dbowner.specs.Explained.{explain_report}
 use Rattle.dbexplain.proofs.Reports.{explain_run}
 use Rattle.dbreport.proofs.RunAnswers.{none_by, read_refused, read_unwritten, refused_answer, refused_failures, refused_log, refused_unwritten}
-use Rattle.dbreport.proofs.RunLogs.{behind_weaker, header_run, opened_run, whole_run}
+use Rattle.dbscan.proofs.BehindHeader.{behind_weaker}
+use Rattle.dbreport.proofs.RunLogs.{header_run, opened_run, whole_run}
 use Rattle.dbexplain.proofs.runs.explain_in.Goals as goal
 
 -- ---- the header was not read

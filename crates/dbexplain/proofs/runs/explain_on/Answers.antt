@@ -14,7 +14,7 @@ use Rattle.dbsource.proofs.Runs.{same_front}
 use Rattle.dbowner.specs.Explained.{explain_report}
 use Rattle.dbexplain.proofs.Reports.{explain_out, explain_answer}
 use Rattle.dbreport.proofs.RunAnswers.{if_ok}
-use Rattle.dbreport.proofs.RunLogs.{behind_headed}
+use Rattle.dbscan.proofs.BehindHeader.{behind_headed}
 use Rattle.dbexplain.proofs.runs.explain_on.Goals as goal
 
 pub returns-clause-read : goal.returns-clause-read

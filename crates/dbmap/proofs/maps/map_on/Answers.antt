@@ -1,32 +1,19 @@
-use Rattle.std.proofs.Common.{rules, ◌≡◌, List, ℕ, ap, subst, ◌∙◌}
-use Rattle.std.specs.Prelude.{IfOk}
-use Rattle.dbformat.specs.FixedPages.{geometry_of}
-use Rattle.dbformat.specs.Log.{IsPageLog}
-use Rattle.dbformat.specs.Reference.{Reference}
-use Rattle.dbformat.specs.Report.{faults, verdict}
-use Rattle.dbformat.specs.Survey.{Survey}
-use Rattle.dbsource.specs.Errors.{is_read_failed}
+use Rattle.std.proofs.Common.{rules, ◌≡◌, ap, ◌∙◌}
+use Rattle.dbsource.specs.Errors.{is_write_failed}
 use Rattle.dbsource.specs.Failures.{failures_after}
-use Rattle.dbsource.specs.HeaderBytes.{HeaderBytes}
-use Rattle.dbsource.specs.Snapshots.{HasReadBehind}
-use Rattle.dbsource.proofs.Logs.{has_weaker}
-use Rattle.dbsource.proofs.Runs.{same_front}
-use Rattle.dbreport.proofs.RunLogs.{behind_headed}
+use Rattle.dbscan.proofs.BehindHeader.{behind_weaker}
+use Rattle.dbscan.proofs.Tellers.{first}
+use Rattle.dbreport.proofs.SinkStates.{lent_same, one_failed}
+use Rattle.dbmap.proofs.Counting.{map_left}
 use Rattle.dbmap.proofs.maps.map_on.Goals as goal
 
 pub returns-clause-read : goal.returns-clause-read
 returns-clause-read g c =
-    let h = c.renew.new.self.header in
-    let same = (same_front g.S.Source.step _ _ _ _ _ _ _ _ c.map_file.ensures.asks.log).0 in
-    let k : c.source-1.given.0 ≡ c.map_file.new.source.source.now = search (rules, same) in
-    let T = λ (file : List ℕ). (V : List Reference) → Survey file V → IfOk c.map_file.result (λ v. v ≡ verdict (faults file V)) in
-    let Q = λ (x : HeaderBytes). HasReadBehind g.S.Source.step (IsPageLog (geometry_of x.bytes x.file_len)) x T (g.S.Source.held c.args.source.now) (g.S.Source.held c.source-1.given.0) in
-    subst Q c.renew.ensures.header
-    (behind_headed g.S.Source.held h c.new-headed.result.header.now (c.new-headed.ensures.header ∙ c.header.ensures.value) c.new-headed.ensures.source k c.header.ensures.accepted
-    (has_weaker _ _ c.map_file.ensures.asks.log (λ log p. p) (λ file text is V s. text is V s)))
+    behind_weaker _ _ c.run_over.ensures.read (λ file is left V s. map_left file V c.run_over.result c.new-sink.result c.run_over.new.sink c.new-sink.ensures.faults (left V s))
 
-pub returns-clause-reads : goal.returns-clause-reads
-returns-clause-reads g c =
-    let same = (same_front g.S.Source.step _ _ _ _ _ _ _ _ c.map_file.ensures.asks.log).0 in
-    let k : c.source-1.given.0 ≡ c.map_file.new.source.source.now = search (rules, same) in
-    rw k (c.map_file.ensures.asks.count ∙ ap (λ s. failures_after is_read_failed c.map_file.result (g.S.Source.held s).failures) c.new-headed.ensures.source)
+pub returns-clause-writes : goal.returns-clause-writes
+returns-clause-writes g c =
+    let r = c.run_over.result in
+    let same = ap first (lent_same r _ _ c.run_over.ensures.writes) in
+    let k : c.out-1.given.0 ≡ c.run_over.new.sink.out.now = search (rules, same) in
+    ap (λ o. (g.O.Out.held o).failures) k ∙ one_failed r _ _ _ _ c.run_over.ensures.writes ∙ ap (λ o. failures_after is_write_failed r (g.O.Out.held o).failures) c.new-sink.ensures.out

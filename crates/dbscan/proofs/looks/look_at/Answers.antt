@@ -1,21 +1,19 @@
 use Rattle.std.proofs.Common.{rules, ◌≡◌, ℕ, List, Ok, Err, refl, sym, ap, ◌∙◌}
 use Rattle.std.proofs.lemmas.Result.{err_from_is_err_and}
-use Rattle.std.specs.Prelude.{Result}
 use Rattle.dbformat.specs.File.{geometry, page_bytes}
-use Rattle.dbformat.specs.Head.{View, view}
+use Rattle.dbformat.specs.Looks.{look_at, look_of}
 use Rattle.dbformat.specs.declared.Geometry.{Geometry}
-use Rattle.dbformat.specs.declared.HeadFault.{HeadFault}
+use Rattle.dbformat.specs.declared.Look.{Look}
 use Rattle.dbsource.specs.Bench.{Pages}
 use Rattle.dbsource.proofs.Logs.{has_weaker}
 use Rattle.dbmarks.proofs.Readings.{log_load}
 use Rattle.dbwalk.proofs.Chaining.Overflows.{page_read}
-use Rattle.dbowner.specs.Explained.{look_at, look_of}
 use Rattle.dbscan.proofs.looks.look_at.Goals as goal
 
 -- what a page looks like, by its bytes as they were read
-seen : (file : List ℕ) (p : ℕ) (g : Geometry) (usable : ℕ) (bytes : List ℕ) (r : Result View HeadFault) → g ≡ geometry file → usable ≡ g.usable
-    → bytes ≡ page_bytes file p → r ≡ view p usable bytes → look_of r ≡ look_at file p
-seen file p g usable bytes r e u b k = ap look_of (rw k (rw u (rw e (rw b refl))))
+seen : (file : List ℕ) (p : ℕ) (g : Geometry) (usable : ℕ) (bytes : List ℕ) (look : Look) → g ≡ geometry file → usable ≡ g.usable
+    → bytes ≡ page_bytes file p → look ≡ look_of p usable bytes → look ≡ look_at file p
+seen file p g usable bytes look e u b k = k ∙ rw u (rw e (rw b refl))
 
 pub returns-in_err-load-clause-asks : goal.returns-in_err-load-clause-asks
 returns-in_err-load-clause-asks g c =
@@ -27,34 +25,15 @@ returns-in_err-load-clause-asks g c =
       count = c.in_err-load.ensures.count;
     }))
 
-pub returns-in-Ok-clause-asks : goal.returns-in-Ok-clause-asks
-returns-in-Ok-clause-asks g c =
+pub returns-clause-asks : goal.returns-clause-asks
+returns-clause-asks g c =
     let size = c.args.bench.now.geometry.page_size in
     let level = c.in_ok-load.ensures.level in
     let chain = ap (λ (b : Pages). b.chain) level.only in
     let usable = ap (λ (s : Geometry). s.usable) (c.geometry-usable.ensures.value ∙ ap (λ (b : Pages). b.geometry) level.only) in
     record {
       log = has_weaker _ _ (log_load size c.args.page level.bytes (Ok tt) c.in_ok-load.ensures.told level.size level.holds) (λ log l. l)
-          (λ file bytes e. search (
-            rules,
-            seen file c.args.page c.args.bench.now.geometry _ _ c.new.result e usable
-                (c.page.ensures.bytes ∙ chain ∙ page_read file level.bytes size c.args.page level.size bytes (ap (λ (s : Geometry). s.page_size) (sym e))) c.new.ensures.view,
-          ));
-      count = c.in_ok-load.ensures.count;
-    }
-
-pub returns-in-Err-clause-asks : goal.returns-in-Err-clause-asks
-returns-in-Err-clause-asks g c =
-    let size = c.args.bench.now.geometry.page_size in
-    let level = c.in_ok-load.ensures.level in
-    let chain = ap (λ (b : Pages). b.chain) level.only in
-    let usable = ap (λ (s : Geometry). s.usable) (c.geometry-usable.ensures.value ∙ ap (λ (b : Pages). b.geometry) level.only) in
-    record {
-      log = has_weaker _ _ (log_load size c.args.page level.bytes (Ok tt) c.in_ok-load.ensures.told level.size level.holds) (λ log l. l)
-          (λ file bytes e. search (
-            rules,
-            seen file c.args.page c.args.bench.now.geometry _ _ c.new.result e usable
-                (c.page.ensures.bytes ∙ chain ∙ page_read file level.bytes size c.args.page level.size bytes (ap (λ (s : Geometry). s.page_size) (sym e))) c.new.ensures.view,
-          ));
+          (λ file bytes e. seen file c.args.page c.args.bench.now.geometry _ _ c.look_of.result e usable
+          (c.page.ensures.bytes ∙ chain ∙ page_read file level.bytes size c.args.page level.size bytes (ap (λ (s : Geometry). s.page_size) (sym e))) c.look_of.ensures);
       count = c.in_ok-load.ensures.count;
     }

@@ -7,7 +7,6 @@ use Rattle.dbsource.proofs.Logs.{asks_weaker}
 use Rattle.dbsource.specs.HeaderBytes.{HeaderBytes}
 use Rattle.dbsource.specs.Headers.{IsHeaderOf}
 use Rattle.dbmarks.proofs.Readings.{asks_then, log_none}
-use Rattle.dbscan.specs.Notices.{Hears, hearing}
 use Rattle.dbowner.specs.Roots.{Listed}
 use Rattle.dbscan.specs.Walks.{IsTelling}
 use Rattle.dbscan.proofs.Starts.{drop_none}
@@ -31,7 +30,7 @@ returns-in_err-walk_root-clause-asks g c =
     let same = c.loop-index.invariant.header in
     rw q.1 (rw q.2 (asks_then _ _ (ap (λ (h : HeaderBytes). (geometry_of h.bytes h.file_len).page_size) same) c.loop-index.invariant.asks c.in_err-walk_root.ensures.asks
     (λ file left walked is V s before h.
-    root_told (hearing g.K.Sink g.K.TreeSink) file V s before c.loop-index.desk.marks c.walk_root.new.desk.marks c.loop-index.sink c.walk_root.new.sink c.args.desk.now.roots.rows c.loop-index.index
+    root_told g.K.Reporter.hears g.K.Reporter.cuts file V s before c.loop-index.desk.marks c.walk_root.new.desk.marks c.loop-index.sink c.walk_root.new.sink c.args.desk.now.roots.rows c.loop-index.index
     (Err c.in_err-walk_root.field-0.0) (omega arith) (left is V s before h)
     (λ row at. walked (subst (λ (h : HeaderBytes). IsHeaderOf h file) (sym same) is) row (ap (λ (l : Listed). slice_get l.rows (c.loop-index.index + 1 - 1)) c.loop-index.invariant.roots ∙ at)))))
 
@@ -42,7 +41,7 @@ loop-index-preserved g c =
       roots = c.in_ok-walk_root.ensures.kept.1 ∙ c.loop-index.invariant.roots;
       asks = asks_then _ _ (ap (λ (h : HeaderBytes). (geometry_of h.bytes h.file_len).page_size) same) c.loop-index.invariant.asks c.in_ok-walk_root.ensures.asks
           (λ file left walked is V s before h.
-          root_told (hearing g.K.Sink g.K.TreeSink) file V s before c.loop-index.desk.marks c.walk_root.new.desk.marks c.loop-index.sink c.walk_root.new.sink c.args.desk.now.roots.rows c.loop-index.index
+          root_told g.K.Reporter.hears g.K.Reporter.cuts file V s before c.loop-index.desk.marks c.walk_root.new.desk.marks c.loop-index.sink c.walk_root.new.sink c.args.desk.now.roots.rows c.loop-index.index
           (Ok tt) (omega arith) (left is V s before h)
           (λ row at. walked (subst (λ (h : HeaderBytes). IsHeaderOf h file) (sym same) is) row (ap (λ (l : Listed). slice_get l.rows (c.loop-index.index + 1 - 1)) c.loop-index.invariant.roots ∙ at)));
       writes = c.in_ok-walk_root.ensures.writes ∙ c.loop-index.invariant.writes;
@@ -53,4 +52,4 @@ returns-clause-asks g c = asks_weaker _ _ (Ok tt) (λ n. refl) c.loop-index.inva
     let rows = c.args.desk.now.roots.rows in
     let count : c.loop-index.index ≡ length rows = omega arith in
     let none : drop c.loop-index.index rows ≡ [] = drop_none rows c.loop-index.index (omega (arith, count)) in
-    subst (λ l. IsTelling (Hears (hearing g.K.Sink g.K.TreeSink)) file V before (enumerate_from (c.loop-index.index + 1) l) c.loop-index.desk.marks c.loop-index.sink) none (left is V s before h))
+    subst (λ l. IsTelling g.K.Reporter.hears g.K.Reporter.cuts file V before (enumerate_from (c.loop-index.index + 1) l) c.loop-index.desk.marks c.loop-index.sink) none (left is V s before h))

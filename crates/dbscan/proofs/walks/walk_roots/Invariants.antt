@@ -3,7 +3,6 @@ use Rattle.std.specs.List.{enumerate_from}
 use Rattle.dbformat.specs.Reference.{Reference}
 use Rattle.dbformat.specs.Survey.{Survey}
 use Rattle.dbscan.specs.Desks.{AsksOver}
-use Rattle.dbscan.specs.Notices.{Hears, hearing}
 use Rattle.dbscan.specs.Walks.{IsTelling}
 use Rattle.dbscan.proofs.walks.walk_roots.Given as goal
 
@@ -12,8 +11,8 @@ invariant-loop-index g l = record {
   header : l.desk.header ≡ l.initial.desk.header;
   roots : l.desk.roots ≡ l.initial.desk.roots;
   asks : AsksOver {A = Unit {0}} g.S.Source.step l.initial.desk l.desk (λ file. (V : List Reference) → Survey file V → (before : g.row.K.Denot)
-      → IsTelling (Hears (hearing g.K.Sink g.K.TreeSink)) file V before (enumerate_from 1 l.initial.desk.roots.rows) l.initial.desk.marks l.initial.sink
-      → IsTelling (Hears (hearing g.K.Sink g.K.TreeSink)) file V before (enumerate_from (l.index + 1) (drop l.index l.initial.desk.roots.rows)) l.desk.marks l.sink)
+      → IsTelling g.K.Reporter.hears g.K.Reporter.cuts file V before (enumerate_from 1 l.initial.desk.roots.rows) l.initial.desk.marks l.initial.sink
+      → IsTelling g.K.Reporter.hears g.K.Reporter.cuts file V before (enumerate_from (l.index + 1) (drop l.index l.initial.desk.roots.rows)) l.desk.marks l.sink)
       (Ok tt) (g.S.Source.held l.initial.source) (g.S.Source.held l.source);
-  writes : g.K.Sink.held l.sink ≡ g.K.Sink.held l.initial.sink;
+  writes : g.K.Reporter.held l.sink ≡ g.K.Reporter.held l.initial.sink;
 }

@@ -4,7 +4,6 @@ use Rattle.dbsource.proofs.Logs.{asks_weaker}
 use Rattle.dbwalk.specs.Roots.{IsRootAfter}
 use Rattle.dbwalk.specs.Rows.{schema_row_of}
 use Rattle.dbwalk.specs.declared.root.Root.{Root}
-use Rattle.dbscan.specs.Notices.{Hears, hearing}
 use Rattle.dbscan.specs.Starts.{at_row, root_of}
 use Rattle.dbscan.specs.Walks.{IsTreeWalked}
 use Rattle.dbscan.proofs.Starts.{no_schema_kind, some_is}
@@ -17,6 +16,6 @@ returns-clause-asks g c = asks_weaker _ _ c.walk_over.result (λ n. refl) c.walk
     let at : c.new-teller.result.start.now ≡ at_row c.args.number row = c.new-teller.ensures.start ∙ c.tree-start.ensures ∙ ap (at_row c.args.number) same in
     let w = walked shape (ap (λ (r : Root). r.encoding) root ∙ code) W d (subst (λ r. IsRootAfter file r W d c.args.marks.now) (sym root) after) (λ l. 0) (λ k. absurd (no_schema_kind c.in-Some.row.kind (ap (λ (r : Root). r.kind) (sym c.root_of-root.ensures) ∙ k))) in
     let end = c.walk_over.new.teller.sink.now in
-    subst (λ t. IsTreeWalked (Hears (hearing g.K.Sink g.K.TreeSink)) (at_row c.args.number row) file W d c.walk_over.result c.walk_over.new.marks c.args.sink.now t) (search rules)
-    (subst (λ s. IsTreeWalked (Hears (hearing g.K.Sink g.K.TreeSink)) (at_row c.args.number row) file W d c.walk_over.result c.walk_over.new.marks s end) c.new-teller.ensures.sink
-    (subst (λ at. IsTreeWalked (Hears (hearing g.K.Sink g.K.TreeSink)) at file W d c.walk_over.result c.walk_over.new.marks c.new-teller.result.sink.now end) at w.tree)))
+    subst (λ t. IsTreeWalked g.K.Reporter.hears g.K.Reporter.cuts (at_row c.args.number row) file W d c.walk_over.result c.walk_over.new.marks c.args.sink.now t) (search rules)
+    (subst (λ s. IsTreeWalked g.K.Reporter.hears g.K.Reporter.cuts (at_row c.args.number row) file W d c.walk_over.result c.walk_over.new.marks s end) c.new-teller.ensures.sink
+    (subst (λ at. IsTreeWalked g.K.Reporter.hears g.K.Reporter.cuts at file W d c.walk_over.result c.walk_over.new.marks c.new-teller.result.sink.now end) at w.tree)))

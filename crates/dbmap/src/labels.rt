@@ -1,0 +1,44 @@
+// The names of the largest trees.
+use crate::tally::{COLOURED, Tree};
+use arrayvec::ArrayVec;
+use dbowner::TreeNames;
+use dbxml::{Shown, shown_tree};
+use std::alloc::Allocator;
+
+/// The names of the largest trees, by their ranks.
+#[derive(Drop)]
+pub(crate) struct Labels {
+    names: ArrayVec<Shown, COLOURED>,
+}
+
+impl Labels {
+    /// Those of some trees.
+    pub(crate) fn new<A: Allocator>(names: &TreeNames<'_, A>, largest: &[Tree]) -> Labels {
+        let mut labels = Labels {
+            names: ArrayVec::new(),
+        };
+        for tree in largest {
+            let _ = labels.names.try_push(shown_tree(names, tree.start));
+        }
+        labels
+    }
+
+    /// The name of the tree of a rank, if there is such a tree.
+    pub(crate) fn get(&self, rank: usize) -> Option<&Shown> {
+        self.names.as_slice().get(rank)
+    }
+
+    /// Whether another of the trees has the same name as far as it is shown in a number of columns.
+    pub(crate) fn is_twice(&self, rank: usize, width: u32) -> bool {
+        let names = self.names.as_slice();
+        let Some(name) = names.get(rank) else {
+            return false;
+        };
+        for (other, shown) in names.iter().enumerate() {
+            if other != rank && shown.is_like(name, width) {
+                return true;
+            }
+        }
+        false
+    }
+}

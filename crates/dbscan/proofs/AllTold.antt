@@ -1,0 +1,41 @@
+-- What is told with its causes is the faults of the file, in their order.
+use Rattle.std.proofs.Common.{◌≡◌, ℕ, List, [], ◌∷◌, ◌++◌, length, map, refl, ap₂, ◌∙◌}
+use Rattle.std.proofs.lemmas.List.{map-append}
+use Rattle.dbsurvey.specs.Story as story
+use Rattle.dbsurvey.proofs.Lists.{flat_map-same, map-flat_map}
+use Rattle.dbformat.specs.Address.{start_of}
+use Rattle.dbformat.specs.EndFaults.{end_faults}
+use Rattle.dbformat.specs.HeaderFaults.{header_faults}
+use Rattle.dbformat.specs.Reference.{Reference}
+use Rattle.dbformat.specs.Report.{event_faults, walk_faults, faults}
+use Rattle.dbformat.specs.Story.{Event, telling}
+use Rattle.dbformat.specs.declared.Fault.{Fault}
+use Rattle.dbtrace.specs.Causes.{cause_of}
+use Rattle.dbtrace.specs.declared.Part.TheVariants as part
+use Rattle.dbtrace.specs.declared.Reported.{Reported}
+use Rattle.dbscan.specs.Placed.{at_start, of_file, walk_told, told_faults, faults_of}
+
+-- faults, of whatever each is told with
+bare : (tell : Fault → Reported) → ((f : Fault) → (tell f).fault ≡ f) → (fs : List Fault) → faults_of (map tell fs) ≡ fs
+bare tell same [] = refl
+bare tell same (f ∷ fs) = ap₂ (λ g gs. g ∷ gs) (same f) (bare tell same fs)
+
+of_walk : (file : List ℕ) (V : List Reference) → faults_of (walk_told file V) ≡ walk_faults file V
+unfolding walk_faults
+of_walk file V =
+    map-flat_map here (λ t. t.fault) (telling file V)
+    ∙ flat_map-same (λ t. faults_of (here t)) (λ t. event_faults file V t.event) (telling file V)
+    (λ t i. bare (λ f. at_start (start_of t.key) f (cause_of file V t.event f.code)) (λ f. refl) (event_faults file V t.event))
+  where
+    here : story.Told Event → List Reported
+    here t = map (λ f. at_start (start_of t.key) f (cause_of file V t.event f.code)) (event_faults file V t.event)
+
+pub all_told : (file : List ℕ) (V : List Reference) → faults_of (told_faults file V) ≡ faults file V
+unfolding faults
+all_told file V =
+    let first = map (of_file part.Header) (header_faults file (length file)) in
+    let last = map (of_file part.End) (end_faults file V) in
+    map-append (λ t. t.fault) (first ++ walk_told file V) last
+    ∙ ap₂ (λ a b. a ++ b)
+    (map-append (λ t. t.fault) first (walk_told file V) ∙ ap₂ (λ a b. a ++ b) (bare (of_file part.Header) (λ f. refl) (header_faults file (length file))) (of_walk file V))
+    (bare (of_file part.End) (λ f. refl) (end_faults file V))

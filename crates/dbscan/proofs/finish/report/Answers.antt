@@ -1,0 +1,52 @@
+use Rattle.std.proofs.Common.{inl, inr, Err, refl, sym, ap, ◌∙◌, subst}
+use Rattle.std.proofs.lemmas.Result.{err_from_is_err_and}
+use Rattle.dbformat.specs.FixedPages.{geometry_of}
+use Rattle.dbformat.specs.declared.Geometry.{Geometry}
+use Rattle.dbsource.specs.Errors.{is_write_failed}
+use Rattle.dbsource.specs.HeaderBytes.{HeaderBytes}
+use Rattle.dbsource.specs.Headers.{IsHeaderOf}
+use Rattle.dbsource.proofs.Logs.{asks_then, asks_weaker}
+use Rattle.dbowner.specs.Roots.{Listed}
+use Rattle.dbwalk.specs.Telling.{SinkAfter}
+use Rattle.dbscan.specs.Looks.{IsUnmarked, ReadsMarked, ReadsRising}
+use Rattle.dbscan.proofs.MapLogs.{looks_log}
+use Rattle.dbscan.proofs.Refusals.{memory_kept, read_or_write}
+use Rattle.dbscan.proofs.finish.report.Goals as goal
+
+pub returns-in_err-scan-clause-asks : goal.returns-in_err-scan-clause-asks
+returns-in_err-scan-clause-asks g c =
+    let q = err_from_is_err_and c.from_residual.result c.from_residual.ensures.1 in
+    let e = c.in_err-scan.field-0.0 in
+    rw q.1 (rw q.2 (asks_weaker _ _ (Err e) (λ n. refl) c.in_err-scan.ensures.asks (λ log r. r.pages)
+    (λ file done is V s. inr (e, refl, (done is V s).told))))
+
+pub returns-in_err-scan-clause-desk : goal.returns-in_err-scan-clause-desk
+returns-in_err-scan-clause-desk g c =
+    let q = err_from_is_err_and c.from_residual.result c.from_residual.ensures.1 in
+    rw q.1 (rw q.2 (record { header = c.in_err-scan.ensures.header; memory = c.in_err-scan.ensures.refusals; only = c.in_err-scan.ensures.only }))
+
+pub returns-clause-asks : goal.returns-clause-asks
+returns-clause-asks g c =
+    let geo = geometry_of c.args.desk.now.header.bytes c.args.desk.now.header.file_len in
+    let d = c.scan.new.desk in
+    let same = c.in_ok-scan.ensures.header in
+    let shape = ap (λ (h : HeaderBytes). geometry_of h.bytes h.file_len) same in
+    asks_then (ReadsMarked geo d.marks) (ReadsRising (geometry_of d.header.bytes d.header.file_len).page_size (IsUnmarked d.marks)) _ _ c.finish.result
+    (λ n. refl) (λ n. refl) c.in_ok-scan.ensures.asks c.finish.ensures.asks
+    (λ l m r k. looks_log geo d.marks l m r (subst (λ (s : Geometry). ReadsRising s.page_size (IsUnmarked d.marks) m) shape k))
+    (λ file done ended is V s.
+    let k = done is V s in
+    inl (ended V c.args.sink.now (record {
+      desk = record { header = subst (λ (h : HeaderBytes). IsHeaderOf h file) (sym same) is; survey = s; marks = k.marked; rows = k.listed };
+      heard = k.told;
+    })))
+
+pub returns-clause-desk : goal.returns-clause-desk
+returns-clause-desk g c = record {
+  header = c.finish.ensures.kept.0 ∙ c.in_ok-scan.ensures.header;
+  memory = ap (λ (l : Listed). l.refusals) c.finish.ensures.kept.1 ∙ c.in_ok-scan.ensures.refusals ∙ memory_kept c.finish.result c.args.desk.now.roots.refusals c.finish.ensures.only;
+  only = read_or_write c.finish.result c.finish.ensures.only;
+}
+
+pub returns-clause-writes : goal.returns-clause-writes
+returns-clause-writes g c = subst (λ s. SinkAfter is_write_failed c.finish.result s (g.K.Reporter.held c.finish.new.self)) c.in_ok-scan.ensures.writes c.finish.ensures.writes

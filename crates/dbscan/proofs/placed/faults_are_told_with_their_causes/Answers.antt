@@ -1,0 +1,21 @@
+use Rattle.dbscan.proofs.AllTold.{all_told}
+use Rattle.dbscan.proofs.FileCodes.{header_codes, end_codes}
+use Rattle.dbscan.proofs.PlacedFaults.{starts_told}
+use Rattle.dbscan.proofs.StartsRise.{starts_rise}
+use Rattle.std.proofs.Common.{length}
+use Rattle.dbscan.proofs.placed.faults_are_told_with_their_causes.Goals as goal
+
+pub returns-clause-told : goal.returns-clause-told
+returns-clause-told c file V s = starts_told file V s
+
+pub returns-clause-rising : goal.returns-clause-rising
+returns-clause-rising c file V = starts_rise file V
+
+pub returns-clause-all : goal.returns-clause-all
+returns-clause-all c file V = all_told file V
+
+pub returns-clause-header : goal.returns-clause-header
+returns-clause-header c file f i = header_codes file (length file) f i
+
+pub returns-clause-ending : goal.returns-clause-ending
+returns-clause-ending c file V f i = end_codes file V f i

@@ -1,0 +1,88 @@
+// A run over a desk: a reporter hears all of a file, and ends its report.
+ghost use Rattle.std.specs.Prelude.{List};
+ghost use Rattle.dbformat.specs.Log.{IsPageLog};
+ghost use Rattle.dbformat.specs.Reference.{Reference};
+ghost use Rattle.dbformat.specs.Survey.{Survey};
+ghost use Rattle.dbsource.specs.Errors.{is_read_failed, is_write_failed};
+ghost use Rattle.dbsource.specs.Headers.{IsHeaderOf};
+ghost use Rattle.dbsource.specs.Sources.{Asks};
+ghost use Rattle.dbwalk.specs.Telling.{SinkAfter};
+ghost use Rattle.dbscan.specs.Desks.{IsFresh, shape_of};
+ghost use Rattle.dbscan.specs.Finishes.{HasFinished, HasReported, HasUsed, Leaves};
+
+use crate::Desk;
+use crate::reporter::Reporter;
+use crate::scans::scan;
+use dbformat::Verdict;
+use dbsource::{HeadedSource, RunError, Source};
+use std::alloc::Allocator;
+
+/// A desk, as the contract of [`Finish`] sees it. It is a trait, since a trait's method with a `&mut Desk<A>` gets no clauses yet.
+pub trait Viewed {
+    ghost use Rattle.dbscan.specs.Desks.{Things};
+
+    // What is on it.
+    ghost things: { Self → Things };
+}
+
+impl<A: Allocator> Viewed for Desk<A> {
+    ghost things = { λ d. d };
+}
+
+/// A reporter that ends its report when it has heard all of a file, and answers what was found. `D` is a [`Desk`].
+pub trait Finish<D: Viewed>: Reporter {
+    ghost use Rattle.std.specs.Prelude.{ℕ, List, Result};
+    ghost use Rattle.dbformat.specs.Reference.{Reference};
+    ghost use Rattle.dbformat.specs.declared.Verdict.{Verdict};
+    ghost use Rattle.dbsource.specs.declared.error.RunError.{RunError};
+
+    // What a run over a file leaves, by a survey of the file and the answer, of the reporter that the first of the two was before.
+    ghost leaves: { List ℕ → List Reference → Result Verdict RunError → Self → Self → Type 0 };
+
+    /// Ends the report of a file, when all of it has been heard, by what the walks left on the desk. It may read pages that were not
+    /// visited, each once.
+    ///
+    /// # Errors
+    ///
+    /// [`RunError::ReadFailed`] exactly where the source failed, and [`RunError::WriteFailed`] exactly where an Out failed.
+    fn finish<S: Source>(&mut self, desk: &mut D, source: &mut S) -> Result<Verdict, RunError>
+        ensures { HasFinished S.Source Self.hears Self.held leaves result (D.things desk.old) (D.things desk.new)
+            (source.old, self.old) (source.new, self.new) };
+}
+
+// Tells a reporter all that is found in a file, and has it end its report.
+fn report<A: Allocator, S: Source, K: Finish<Desk<A>>>(
+    desk: &mut Desk<A>,
+    source: &mut S,
+    sink: &mut K,
+) -> Result<Verdict, RunError>
+    requires fresh { IsFresh desk.old }
+    ensures asks { Asks S.step (IsPageLog (shape_of desk.old)) (λ file. IsHeaderOf desk.old.header file → (V : List Reference) → Survey file V
+        → Leaves K.hears K.cuts K.leaves file V result sink.old sink.new)
+        is_read_failed result (S.held source.old) (S.held source.new) }
+    ensures writes { SinkAfter is_write_failed result (K.held sink.old) (K.held sink.new) }
+    ensures desk { HasUsed result desk.old desk.new }
+{
+    scan(desk, source, sink)?;
+    sink.finish(desk, source)
+}
+
+/// Tells a reporter all that is found in the file whose header is on the desk, and has it end its report. The header is not
+/// read again, and a desk may be used any number of times. Only the list of roots takes memory.
+///
+/// # Errors
+///
+/// [`RunError::ReadFailed`] exactly where the source failed, [`RunError::WriteFailed`] exactly where an Out of the reporter failed,
+/// and [`RunError::OutOfMemory`] exactly where the list of roots was refused memory.
+pub fn run_over<A: Allocator, S: Source, K: Finish<Desk<A>>>(
+    desk: &mut Desk<A>,
+    source: &mut S,
+    sink: &mut K,
+) -> Result<Verdict, RunError>
+    ensures { HasReported S.Source K.held (Leaves K.hears K.cuts K.leaves) result desk.old desk.new (source.old, sink.old) (source.new, sink.new) }
+{
+    desk.renew();
+    let header = *desk.header();
+    let mut headed = HeadedSource::new(&header, source);
+    report(desk, &mut headed, sink)
+}
