@@ -1,7 +1,7 @@
 -- What a status says of what was asked of a file, by the outcome that it stands for.
-use Rattle.std.proofs.Common.{inl, inr, ◌≡◌, ◌↔◌, ℕ, List, [], Option, Some, Result, Ok, Err, ◌≤◌, refl, sym, ap, subst, arith}
-use Rattle.std.specs.Prelude.{OnOk, IfOk}
-use Rattle.std.specs.Io.KnownBytes.{Appends}
+use Rattle.std.proofs.Common.{inl, inr, ◌≡◌, ◌↔◌, ℕ, List, [], Option, Some, None, Result, Ok, Err, ◌≤◌, ◌%◌, ◌^◌, refl, sym, ◌∙◌, ap, subst, arith}
+use Rattle.std.specs.Prelude.{OnErr, OnOk, IfErr, IfOk}
+use Rattle.std.specs.Io.KnownBytes.{Appends, Keeps}
 use Rattle.std.proofs.KnownBytes.{Appends-trans}
 use Rattle.std.proofs.lemmas.List.{append-nil}
 use Rattle.dbformat.specs.File.{refusal}
@@ -16,6 +16,7 @@ use Rattle.dbformat.specs.declared.Verdict.{Verdict}
 use Rattle.dbformat.specs.declared.Verdict.TheVariants.{Clean, Faulty}
 use Rattle.dbreport.specs.Runs.{AsksHeaderAlone, IsAnswerOf, IsRunBy, IsUnwritten}
 use Rattle.dbsource.proofs.Beginnings.{all_begun}
+use Rattle.dbsource.proofs.Puts.{appends_kept, appends_nothing}
 use Rattle.dbsource.specs.Answers.{Step, Trail}
 use Rattle.dbsource.specs.Headers.{IsOpenLog}
 use Rattle.dbsource.specs.Outs.{Begins, OutState, Writes}
@@ -23,8 +24,10 @@ use Rattle.dbsource.specs.Sources.{HasRanges}
 use Rattle.dbsource.specs.declared.error.OpenError.TheVariants as opening
 use Rattle.dbsource.specs.declared.error.RunError.{RunError}
 use Rattle.dbsource.specs.declared.error.RunError.TheVariants.{Refused, ReadFailed, OutOfMemory, WriteFailed}
-use Rattle.dbcli.specs.Exit.{BeginsThenLine, IsExit, IsExitOf, IsFinishOf, IsKnown, IsMapExit, IsOkIfSound, IsStatusOf, PutsLine}
-use Rattle.dbcli.specs.Requests.{IsRunFor}
+use Rattle.dbcli.proofs.Failures.{FewFailed, none_failed, more_failures}
+use Rattle.dbcli.specs.ErrorLines.{error_line, exit_line, refused_line}
+use Rattle.dbcli.specs.Exit.{BeginsThenLine, EndsWithLine, IsExit, IsExitOf, IsFinishOf, IsKnown, IsMapExit, second_most}
+use Rattle.dbcli.specs.Requests.{IsRunFor, WritesToFirst}
 use Rattle.dbcli.specs.Status.{exit_status}
 use Rattle.dbcli.specs.declared.request.Request.{Request}
 use Rattle.dbcli.specs.declared.request.Request.TheVariants as request
@@ -42,9 +45,9 @@ unfolding explain_report
 explain_answers limit file V e h = rw h refl
 
 -- a status that is none of 0, 1 and 3
-neither : (n : ℕ) (r : Report) (out out' err err' : OutState) → 4 ≤ n → Begins out.bytes out'.bytes r.out → BeginsThenLine err.bytes err'.bytes r.err
-    → IsExit n r out out' err err'
-neither n r out out' err err' h begun told = record {
+neither : (n : ℕ) (r : Report) (why : Option Refusal) (out out' err err' : OutState) → 4 ≤ n → Begins out.bytes out'.bytes r.out
+    → BeginsThenLine err err' r.err (exit_line n why) → IsExit n r why out out' err err'
+neither n r why out out' err err' h begun told = record {
   begun = begun;
   told = told;
   clean = λ e. absurd (omega arith);
@@ -53,26 +56,45 @@ neither n r out out' err err' h begun told = record {
 }
 
 -- all of it is a beginning of it, with no line behind
-all_then_line : (old new : Option (List ℕ)) (bytes : List ℕ) → Appends old new bytes → BeginsThenLine old new bytes
+all_then_line : (old new : OutState) (bytes : List ℕ) → Appends old.bytes new.bytes bytes → BeginsThenLine old new bytes []
 all_then_line old new bytes a = record {
   part = bytes;
   rest = [];
   whole = append-nil bytes;
-  line = [];
-  short = omega arith;
-  added = let P : List ℕ → Type 0 = λ l. Appends old new l in subst P (sym (append-nil bytes)) a;
+  shown = [];
+  cut = [];
+  of_line = refl;
+  added = let P : List ℕ → Type 0 = λ l. Appends old.bytes new.bytes l in subst P (sym (append-nil bytes)) a;
+  uncut = λ e. refl;
 }
 
 -- a beginning, and then the line of an error
-begins_then_line : (old mid new : OutState) (bytes : List ℕ) → Begins old.bytes mid.bytes bytes → PutsLine mid new → BeginsThenLine old.bytes new.bytes bytes
-begins_then_line old mid new bytes b l = record {
+begins_then_line : (most : ℕ) (old mid new : OutState) (bytes line : List ℕ) → most ≤ 3 → Begins old.bytes mid.bytes bytes → FewFailed most old mid
+    → EndsWithLine line 2 mid new → BeginsThenLine old new bytes line
+begins_then_line most old mid new bytes line room b f l = record {
   part = b.part;
   rest = b.rest;
   whole = b.whole;
-  line = l.line;
-  short = l.short;
-  added = Appends-trans old.bytes mid.bytes new.bytes b.part l.line b.added l.added;
+  shown = l.shown;
+  cut = l.cut;
+  of_line = l.of_line;
+  added = Appends-trans old.bytes mid.bytes new.bytes b.part l.shown b.added l.added;
+  uncut = λ e. l.uncut (none_failed old.failures f.moved l.tried.failed
+      (ap (λ n. n % 2 ^ 64) (sym e) ∙ more_failures old.failures mid.failures new.failures f.moved l.tried.failed f.count l.tried.count)
+      (let x = f.bound in let y = l.tried.bound in omega (arith, room, x, y)));
 }
+
+-- nothing, and then the line
+kept_then_line : (most : ℕ) (old mid new : OutState) (line : List ℕ) → most ≤ 3 → Keeps old.bytes mid.bytes → FewFailed most old mid
+    → EndsWithLine line 2 mid new → BeginsThenLine old new [] line
+kept_then_line most old mid new line room k f l =
+    begins_then_line most old mid new [] line room
+    (record { part = []; rest = []; whole = refl; added = appends_kept old.bytes old.bytes mid.bytes [] (appends_nothing old.bytes) k }) f l
+
+-- the line of a refusal
+refused_told : (err err' : OutState) (bytes : List ℕ) (why : Option Refusal) (e : Refusal) → why ≡ Some e
+    → BeginsThenLine err err' bytes (error_line (Refused e)) → BeginsThenLine err err' bytes (refused_line why)
+refused_told err err' bytes why e h told = let P : Option Refusal → Type 0 = λ w. BeginsThenLine err err' bytes (refused_line w) in subst P (sym h) told
 
 -- what the second Out got of a report, where nothing more was put to it
 err_written : (err mid err' : OutState) (bytes : List ℕ) → Appends err.bytes mid.bytes bytes → err' ≡ mid → Appends err.bytes err'.bytes bytes
@@ -81,43 +103,56 @@ err_written err mid err' bytes h e = let P : OutState → Type 0 = λ o. Appends
 exit_by_outcome : (rep : Report) (file : List ℕ) → ((e : Refusal) → refusal file ≡ Some e → rep.answer ≡ Err e) → (outcome : Result Verdict RunError) (out out' err mid err' : OutState)
     → IsAnswerOf outcome file → Writes outcome out.bytes out'.bytes rep.out → Writes outcome err.bytes mid.bytes rep.err
     → IfOk outcome (λ v. rep.answer ≡ Ok v) → IsUnwritten outcome out.bytes out'.bytes
-    → OnOk outcome (err' ≡ mid) → PutsLine mid err' → IsExit (exit_status outcome) rep out out' err err'
-exit_by_outcome rep file refusing (Ok Clean) out out' err mid err' answer written second verdict unwritten quiet line = record {
+    → OnOk outcome (err' ≡ mid) → OnErr outcome (FewFailed (second_most (exit_status outcome)) err mid)
+    → IfErr outcome (λ error. EndsWithLine (error_line error) 2 mid err') → IsExit (exit_status outcome) rep (refusal file) out out' err err'
+exit_by_outcome rep file refusing (Ok Clean) out out' err mid err' answer written second verdict unwritten quiet few line = record {
   begun = all_begun out.bytes out'.bytes rep.out written;
-  told = all_then_line err.bytes err'.bytes rep.err (err_written err mid err' rep.err second quiet);
+  told = all_then_line err err' rep.err (err_written err mid err' rep.err second quiet);
   clean = λ e. (verdict, record { first = written; second = err_written err mid err' rep.err second quiet });
   faulty = λ e. absurd (omega arith);
   refused = λ e. absurd (omega arith);
 }
-exit_by_outcome rep file refusing (Ok (Faulty n)) out out' err mid err' answer written second verdict unwritten quiet line = record {
+exit_by_outcome rep file refusing (Ok (Faulty n)) out out' err mid err' answer written second verdict unwritten quiet few line = record {
   begun = all_begun out.bytes out'.bytes rep.out written;
-  told = all_then_line err.bytes err'.bytes rep.err (err_written err mid err' rep.err second quiet);
+  told = all_then_line err err' rep.err (err_written err mid err' rep.err second quiet);
   clean = λ e. absurd (omega arith);
   faulty = λ e. (n, verdict, record { first = written; second = err_written err mid err' rep.err second quiet });
   refused = λ e. absurd (omega arith);
 }
-exit_by_outcome rep file refusing (Err (Refused e)) out out' err mid err' answer written second verdict unwritten quiet line = record {
+exit_by_outcome rep file refusing (Err (Refused e)) out out' err mid err' answer written second verdict unwritten quiet few line = record {
   begun = written;
-  told = begins_then_line err mid err' rep.err second line;
+  told = refused_told err err' rep.err (refusal file) e answer
+      (begins_then_line 2 err mid err' rep.err (error_line (Refused e)) (omega arith) second few line);
   clean = λ h. absurd (omega arith);
   faulty = λ h. absurd (omega arith);
   refused = λ h. (e, refusing e answer, unwritten);
 }
-exit_by_outcome rep file refusing (Err ReadFailed) out out' err mid err' answer written second verdict unwritten quiet line =
-    neither 4 rep out out' err err' (omega arith) written (begins_then_line err mid err' rep.err second line)
-exit_by_outcome rep file refusing (Err OutOfMemory) out out' err mid err' answer written second verdict unwritten quiet line =
-    neither 5 rep out out' err err' (omega arith) written (begins_then_line err mid err' rep.err second line)
-exit_by_outcome rep file refusing (Err WriteFailed) out out' err mid err' answer written second verdict unwritten quiet line =
-    neither 6 rep out out' err err' (omega arith) written (begins_then_line err mid err' rep.err second line)
+exit_by_outcome rep file refusing (Err ReadFailed) out out' err mid err' answer written second verdict unwritten quiet few line =
+    neither 4 rep (refusal file) out out' err err' (omega arith) written
+    (begins_then_line 2 err mid err' rep.err (error_line ReadFailed) (omega arith) second few line)
+exit_by_outcome rep file refusing (Err OutOfMemory) out out' err mid err' answer written second verdict unwritten quiet few line =
+    neither 5 rep (refusal file) out out' err err' (omega arith) written
+    (begins_then_line 2 err mid err' rep.err (error_line OutOfMemory) (omega arith) second few line)
+exit_by_outcome rep file refusing (Err WriteFailed) out out' err mid err' answer written second verdict unwritten quiet few line =
+    neither 6 rep (refusal file) out out' err err' (omega arith) written
+    (begins_then_line 3 err mid err' rep.err (error_line WriteFailed) (omega arith) second few line)
 
--- a status by its outcome
-status_by : (outcome : Result Verdict RunError) (file : List ℕ) → IsAnswerOf outcome file → IsStatusOf (exit_status outcome) file
-status_by (Ok Clean) file answer = record { memory = λ e. absurd (omega arith); unwritable = λ e. absurd (omega arith) }
-status_by (Ok (Faulty n)) file answer = record { memory = λ e. absurd (omega arith); unwritable = λ e. absurd (omega arith) }
-status_by (Err (Refused e)) file answer = record { memory = λ e. absurd (omega arith); unwritable = λ e. absurd (omega arith) }
-status_by (Err ReadFailed) file answer = record { memory = λ e. absurd (omega arith); unwritable = λ e. absurd (omega arith) }
-status_by (Err OutOfMemory) file answer = record { memory = λ e. answer; unwritable = λ e. absurd (omega arith) }
-status_by (Err WriteFailed) file answer = record { memory = λ e. absurd (omega arith); unwritable = λ e. answer }
+-- want of memory and a failed write end the run of a file that is read
+memory_by : (outcome : Result Verdict RunError) (file : List ℕ) → IsAnswerOf outcome file → exit_status outcome ≡ 5 → refusal file ≡ None
+memory_by (Ok Clean) file answer e = absurd (omega arith)
+memory_by (Ok (Faulty n)) file answer e = absurd (omega arith)
+memory_by (Err (Refused r)) file answer e = absurd (omega arith)
+memory_by (Err ReadFailed) file answer e = absurd (omega arith)
+memory_by (Err OutOfMemory) file answer e = answer
+memory_by (Err WriteFailed) file answer e = absurd (omega arith)
+
+unwritable_by : (outcome : Result Verdict RunError) (file : List ℕ) → IsAnswerOf outcome file → exit_status outcome ≡ 6 → refusal file ≡ None
+unwritable_by (Ok Clean) file answer e = absurd (omega arith)
+unwritable_by (Ok (Faulty n)) file answer e = absurd (omega arith)
+unwritable_by (Err (Refused r)) file answer e = absurd (omega arith)
+unwritable_by (Err ReadFailed) file answer e = absurd (omega arith)
+unwritable_by (Err OutOfMemory) file answer e = absurd (omega arith)
+unwritable_by (Err WriteFailed) file answer e = answer
 
 -- the statuses that there are
 pub known : (outcome : Result Verdict RunError) → IsKnown (exit_status outcome)
@@ -129,7 +164,8 @@ known (Err OutOfMemory) = inr (omega arith, omega arith)
 known (Err WriteFailed) = inr (omega arith, omega arith)
 
 -- of the two statuses of a verdict 0 is that of a sound file
-sound_by : (outcome : Result Verdict RunError) (file : List ℕ) → IfOk outcome (λ v. v ≡ Clean ↔ Sound file) → IsOkIfSound (exit_status outcome) file
+sound_by : (outcome : Result Verdict RunError) (file : List ℕ) → IfOk outcome (λ v. v ≡ Clean ↔ Sound file)
+    → exit_status outcome ≤ 1 → exit_status outcome ≡ 0 ↔ Sound file
 sound_by (Ok Clean) file h = λ m. (λ e. h.0 refl, λ s. refl)
 sound_by (Ok (Faulty n)) file h = λ m. (λ e. absurd (omega arith), λ s. let e : Faulty n ≡ Clean = h.1 s in cc)
 sound_by (Err (Refused e)) file h = λ m. absurd (omega arith)
@@ -138,50 +174,69 @@ sound_by (Err OutOfMemory) file h = λ m. absurd (omega arith)
 sound_by (Err WriteFailed) file h = λ m. absurd (omega arith)
 
 -- what the status says of a map
-map_neither : (n : ℕ) (file : List ℕ) (V : List Reference) (out out' : OutState) → 4 ≤ n → IsMapExit n file V out out'
-map_neither n file V out out' h = record { clean = λ e. absurd (omega arith); faulty = λ e. absurd (omega arith); refused = λ e. absurd (omega arith) }
+map_neither : (n : ℕ) (file : List ℕ) (V : List Reference) (out out' err err' : OutState) → 4 ≤ n
+    → BeginsThenLine err err' [] (exit_line n (refusal file)) → IsMapExit n file V out out' err err'
+map_neither n file V out out' err err' h told =
+    record { told = told; clean = λ e. absurd (omega arith); faulty = λ e. absurd (omega arith); refused = λ e. absurd (omega arith) }
 
-map_exit : (file : List ℕ) (V : List Reference) (outcome : Result Verdict RunError) (out out' : OutState) → IsAnswerOf outcome file
-    → IfOk outcome (λ v. v ≡ verdict (faults file V)) → IsUnwritten outcome out.bytes out'.bytes → IsMapExit (exit_status outcome) file V out out'
-map_exit file V (Ok Clean) out out' answer found unwritten = record {
+-- nothing was put at a verdict
+quiet_told : (err mid err' : OutState) → Keeps err.bytes mid.bytes → err' ≡ mid → BeginsThenLine err err' [] []
+quiet_told err mid err' kept quiet = all_then_line err err' []
+    (err_written err mid err' [] (appends_kept err.bytes err.bytes mid.bytes [] (appends_nothing err.bytes) kept) quiet)
+
+map_exit : (file : List ℕ) (V : List Reference) (outcome : Result Verdict RunError) (out out' err mid err' : OutState) → IsAnswerOf outcome file
+    → IfOk outcome (λ v. v ≡ verdict (faults file V)) → IsUnwritten outcome out.bytes out'.bytes → Keeps err.bytes mid.bytes
+    → OnOk outcome (err' ≡ mid) → OnErr outcome (FewFailed (second_most (exit_status outcome)) err mid)
+    → IfErr outcome (λ error. EndsWithLine (error_line error) 2 mid err') → IsMapExit (exit_status outcome) file V out out' err err'
+map_exit file V (Ok Clean) out out' err mid err' answer found unwritten kept quiet few line = record {
+  told = quiet_told err mid err' kept quiet;
   clean = λ e. sym found;
   faulty = λ e. absurd (omega arith);
   refused = λ e. absurd (omega arith);
 }
-map_exit file V (Ok (Faulty n)) out out' answer found unwritten = record {
+map_exit file V (Ok (Faulty n)) out out' err mid err' answer found unwritten kept quiet few line = record {
+  told = quiet_told err mid err' kept quiet;
   clean = λ e. absurd (omega arith);
   faulty = λ e. (n, sym found);
   refused = λ e. absurd (omega arith);
 }
-map_exit file V (Err (Refused e)) out out' answer found unwritten = record {
+map_exit file V (Err (Refused e)) out out' err mid err' answer found unwritten kept quiet few line = record {
+  told = refused_told err err' [] (refusal file) e answer (kept_then_line 2 err mid err' (error_line (Refused e)) (omega arith) kept few line);
   clean = λ h. absurd (omega arith);
   faulty = λ h. absurd (omega arith);
   refused = λ h. (e, answer, unwritten);
 }
-map_exit file V (Err ReadFailed) out out' answer found unwritten = map_neither 4 file V out out' (omega arith)
-map_exit file V (Err OutOfMemory) out out' answer found unwritten = map_neither 5 file V out out' (omega arith)
-map_exit file V (Err WriteFailed) out out' answer found unwritten = map_neither 6 file V out out' (omega arith)
+map_exit file V (Err ReadFailed) out out' err mid err' answer found unwritten kept quiet few line =
+    map_neither 4 file V out out' err err' (omega arith) (kept_then_line 2 err mid err' (error_line ReadFailed) (omega arith) kept few line)
+map_exit file V (Err OutOfMemory) out out' err mid err' answer found unwritten kept quiet few line =
+    map_neither 5 file V out out' err err' (omega arith) (kept_then_line 2 err mid err' (error_line OutOfMemory) (omega arith) kept few line)
+map_exit file V (Err WriteFailed) out out' err mid err' answer found unwritten kept quiet few line =
+    map_neither 6 file V out out' err err' (omega arith) (kept_then_line 3 err mid err' (error_line WriteFailed) (omega arith) kept few line)
 
 -- of a report, by any survey
 report_exit : (rep : List ℕ → List Reference → Report) → AnswersRefusals rep
     → (file : List ℕ) (outcome : Result Verdict RunError) (out out' err mid err' : OutState)
-    → IsRunBy rep file outcome out.bytes out'.bytes err.bytes mid.bytes → IsUnwritten outcome out.bytes out'.bytes → OnOk outcome (err' ≡ mid) → PutsLine mid err'
-    → (V : List Reference) → Survey file V → IsExit (exit_status outcome) (rep file V) out out' err err'
-report_exit rep refusing file outcome out out' err mid err' run unwritten quiet line V s =
+    → IsRunBy rep file outcome out.bytes out'.bytes err.bytes mid.bytes → IsUnwritten outcome out.bytes out'.bytes
+    → OnOk outcome (err' ≡ mid) → OnErr outcome (FewFailed (second_most (exit_status outcome)) err mid)
+    → IfErr outcome (λ error. EndsWithLine (error_line error) 2 mid err')
+    → (V : List Reference) → Survey file V → IsExit (exit_status outcome) (rep file V) (refusal file) out out' err err'
+report_exit rep refusing file outcome out out' err mid err' run unwritten quiet few line V s =
     let k = run.reported V s in
-    exit_by_outcome (rep file V) file (refusing file V) outcome out out' err mid err' run.answer k.out k.err k.verdict unwritten quiet line
+    exit_by_outcome (rep file V) file (refusing file V) outcome out out' err mid err' run.answer k.out k.err k.verdict unwritten quiet few line
 
 -- and of what was asked
 exit_of : (asked : Request) (file : List ℕ) (outcome : Result Verdict RunError) (out out' err mid err' : OutState)
     → IsRunFor asked file outcome out.bytes out'.bytes err.bytes mid.bytes
-    → IsUnwritten outcome out.bytes out'.bytes → OnOk outcome (err' ≡ mid) → PutsLine mid err'
+    → IsUnwritten outcome out.bytes out'.bytes → (WritesToFirst asked → Keeps err.bytes mid.bytes)
+    → OnOk outcome (err' ≡ mid) → OnErr outcome (FewFailed (second_most (exit_status outcome)) err mid)
+    → IfErr outcome (λ error. EndsWithLine (error_line error) 2 mid err')
     → IsExitOf (exit_status outcome) asked file out out' err err'
-exit_of (request.Report command) file outcome out out' err mid err' run unwritten quiet line =
-    report_exit (report command) (command_answers command) file outcome out out' err mid err' run unwritten quiet line
-exit_of (request.Explain limit) file outcome out out' err mid err' run unwritten quiet line =
-    report_exit (explain_report limit) (explain_answers limit) file outcome out out' err mid err' run unwritten quiet line
-exit_of (request.Map name) file outcome out out' err mid err' run unwritten quiet line =
-    λ V s. map_exit file V outcome out out' run.answer (run.verdict V s) unwritten
+exit_of (request.Report command) file outcome out out' err mid err' run unwritten kept quiet few line =
+    report_exit (report command) (command_answers command) file outcome out out' err mid err' run unwritten quiet few line
+exit_of (request.Explain limit) file outcome out out' err mid err' run unwritten kept quiet few line =
+    report_exit (explain_report limit) (explain_answers limit) file outcome out out' err mid err' run unwritten quiet few line
+exit_of (request.Map name) file outcome out out' err mid err' run unwritten kept quiet few line =
+    λ V s. map_exit file V outcome out out' err mid err' run.answer (run.verdict V s) unwritten (kept tt) quiet few line
 
 -- each run has an answer for the file, and its verdict says whether that is sound
 answer_of : (asked : Request) (file : List ℕ) (outcome : Result Verdict RunError) (out out' err mid : Option (List ℕ))
@@ -194,13 +249,16 @@ answer_of (request.Map name) file outcome out out' err mid run = (run.answer, ru
 -- what finishing left of a file, by what its run left of it
 pub finish_of : (asked : Request) (file : List ℕ) (outcome : Result Verdict RunError) (out out' err mid err' : OutState)
     → IsRunFor asked file outcome out.bytes out'.bytes err.bytes mid.bytes
-    → IsUnwritten outcome out.bytes out'.bytes → OnOk outcome (err' ≡ mid) → PutsLine mid err'
+    → IsUnwritten outcome out.bytes out'.bytes → (WritesToFirst asked → Keeps err.bytes mid.bytes)
+    → OnOk outcome (err' ≡ mid) → OnErr outcome (FewFailed (second_most (exit_status outcome)) err mid)
+    → IfErr outcome (λ error. EndsWithLine (error_line error) 2 mid err')
     → IsFinishOf (exit_status outcome) asked file out out' err err'
-finish_of asked file outcome out out' err mid err' run unwritten quiet line =
+finish_of asked file outcome out out' err mid err' run unwritten kept quiet few line =
     let k = answer_of asked file outcome out.bytes out'.bytes err.bytes mid.bytes run in record {
-      exit = exit_of asked file outcome out out' err mid err' run unwritten quiet line;
-      errors = status_by outcome file k.0;
+      exit = exit_of asked file outcome out out' err mid err' run unwritten kept quiet few line;
       sound = sound_by outcome file k.1;
+      memory = memory_by outcome file k.0;
+      unwritable = unwritable_by outcome file k.0;
     }
 
 -- at a refusal it is as it was

@@ -1,8 +1,8 @@
 -- What handing on makes of the outcome of a run, and of what is said of it.
-use Rattle.std.proofs.Common.{◌≡◌, ◌↔◌, ◌∙◌, ℕ, ◌+◌, ◌%◌, ◌^◌, ◌≤◌, List, Option, Result, Ok, Err, inl, inr, refl, sym, ap, subst, arith, true}
-use Rattle.std.specs.Prelude.{IfOk, OnErr, OnOk, ◌≢◌, ◌⊎◌, is_ok}
-use Rattle.std.specs.Io.KnownBytes.{Keeps}
-use Rattle.std.proofs.Math.Nat.{mod-add-mod, mod-mod}
+use Rattle.std.proofs.Common.{◌≡◌, ◌↔◌, ◌∙◌, ℕ, ◌+◌, ◌%◌, ◌^◌, ◌≤◌, List, [], ◌++◌, Option, Result, Ok, Err, inl, inr, refl, sym, ap, subst, arith, true, false}
+use Rattle.std.specs.Prelude.{IfErr, IfOk, OnErr, OnOk, ◌≢◌, ◌⊎◌, is_ok}
+use Rattle.std.specs.Io.KnownBytes.{Appends, Keeps}
+use Rattle.std.proofs.lemmas.List.{append-nil}
 use Rattle.dbformat.specs.Reference.{Reference}
 use Rattle.dbformat.specs.Report.{Report, faults, report, verdict}
 use Rattle.dbformat.specs.Sound.{Sound}
@@ -11,24 +11,22 @@ use Rattle.dbformat.specs.declared.Verdict.TheVariants.{Clean, Faulty}
 use Rattle.dbreport.specs.Runs.{AsksHeaderAlone, IsAnswerOf, IsRunBy, IsUnwritten}
 use Rattle.dbreport.specs.StatSink.{failures_of_each}
 use Rattle.dbsource.proofs.Beginnings.{all_begun}
-use Rattle.dbsource.proofs.Puts.{appends_kept}
+use Rattle.dbsource.proofs.Puts.{appends_kept, keeps_same}
 use Rattle.dbsource.specs.Answers.{Step, Trail}
 use Rattle.dbsource.specs.Errors.{is_read_failed, is_write_failed}
 use Rattle.dbsource.specs.Failures.{CountsAfter, HasOneMore, failures_after, is_any, one_more}
-use Rattle.dbsource.specs.Outs.{Begins, Flushes, OutState, Writes}
+use Rattle.dbsource.specs.Outs.{Begins, Flushes, OutState, Puts, Writes}
 use Rattle.dbsource.specs.declared.error.RunError.{RunError}
 use Rattle.dbsource.specs.declared.error.RunError.TheVariants.{Refused, ReadFailed, OutOfMemory, WriteFailed}
-use Rattle.dbcli.specs.Exit.{HasFailed, IsHandedOn, IsHandedOnOrFailed, failures_at_4, first_most, second_most}
+use Rattle.dbcli.proofs.Failures.{FewFailed, after_one, failed_then, few_then, few_then_line, kept_appends, more_count, more_failures, none_moved, not_same, one_moved, same_count}
+use Rattle.dbcli.specs.ErrorLines.{error_line}
+use Rattle.dbcli.specs.Exit.{EndsWithLine, HasFailed, IsHandedOn, IsHandedOnOrFailed, failures_at_4, first_most, second_most}
 use Rattle.dbcli.specs.Handing.{IsHanded, StopsFlushing, TriesToFlush}
 use Rattle.dbowner.specs.Explained.{explain_report}
 use Rattle.dbcli.specs.Requests.{IsRunFor}
 use Rattle.dbcli.specs.Status.{exit_status}
 use Rattle.dbcli.specs.declared.request.Request.{Request}
 use Rattle.dbcli.specs.declared.request.Request.TheVariants as request
-
--- a count is not the one before it
-not_same : (m n : ℕ) → n ≡ one_more m → n ≢ m
-not_same m n h = λ e. absurd (omega (arith, h, e))
 
 -- ---- what was so of an outcome is so behind it
 
@@ -136,60 +134,6 @@ module _ (out out' err err' : OutState) where
 
 -- ---- failures
 
--- two counts of failures, of which so many moved by one
-record Moved (k : ℕ) (out err out' err' : OutState) : Type 0 where
-  first : ℕ
-  second : ℕ
-  sum : first + second ≡ k
-  count : out'.failures % 2 ^ 64 ≡ (out.failures + first) % 2 ^ 64
-  second_count : err'.failures % 2 ^ 64 ≡ (err.failures + second) % 2 ^ 64
-
-same_count : (n now : ℕ) → now ≡ n → now % 2 ^ 64 ≡ (n + 0) % 2 ^ 64
-same_count n now h = ap (λ k. k % 2 ^ 64) (let q : now ≡ n + 0 = omega arith in q)
-
-more_count : (n now : ℕ) → now ≡ one_more n → now % 2 ^ 64 ≡ (n + 1) % 2 ^ 64
-more_count n now h = ap (λ k. k % 2 ^ 64) h ∙ mod-mod (n + 1) (2 ^ 64)
-
-none_moved : (out err out' err' : OutState) → failures_of_each out' err' ≡ failures_of_each out err → Moved 0 out err out' err'
-none_moved out err out' err' same = let e : out'.failures ≡ out.failures = cc in let f : err'.failures ≡ err.failures = cc in record {
-  first = 0;
-  second = 0;
-  sum = refl;
-  count = same_count out.failures out'.failures e;
-  second_count = same_count err.failures err'.failures f;
-}
-
-one_moved : (out err out' err' : OutState) → HasOneMore (failures_of_each out err) (failures_of_each out' err') → Moved 1 out err out' err'
-one_moved out err out' err' (inl (first, same)) = let f : err'.failures ≡ err.failures = cc in record {
-  first = 1;
-  second = 0;
-  sum = refl;
-  count = more_count out.failures out'.failures first;
-  second_count = same_count err.failures err'.failures f;
-}
-one_moved out err out' err' (inr (same, inl (second, none))) = record {
-  first = 0;
-  second = 1;
-  sum = refl;
-  count = same_count out.failures out'.failures same;
-  second_count = more_count err.failures err'.failures second;
-}
-one_moved out err out' err' (inr (same, inr (also, none))) = absurd none
-
--- more failures behind others
-more_failures : (before now after s x : ℕ) → now % 2 ^ 64 ≡ (before + s) % 2 ^ 64 → after % 2 ^ 64 ≡ (now + x) % 2 ^ 64 → after % 2 ^ 64 ≡ (before + s + x) % 2 ^ 64
-more_failures before now after s x h k = k ∙ sym (mod-add-mod now (2 ^ 64) x) ∙ ap (λ n. (n + x) % 2 ^ 64) h ∙ mod-add-mod (before + s) (2 ^ 64) x
-
-failed_then : (a most n : ℕ) (old mid new : OutState) → a + most ≤ n → mid.failures % 2 ^ 64 ≡ (old.failures + a) % 2 ^ 64
-    → IsHandedOnOrFailed most mid new → IsHandedOnOrFailed n old new
-failed_then a most n old mid new room count t = let b = t.bound in record {
-  failed = a + t.failed;
-  bound = omega (arith, b, room);
-  count = more_failures old.failures mid.failures new.failures a t.failed count t.count
-      ∙ ap (λ k. k % 2 ^ 64) (let q : old.failures + a + t.failed ≡ old.failures + (a + t.failed) = omega arith in q);
-  all = λ e. t.all (omega (arith, e));
-}
-
 -- of two Outs that were flushed, the first
 stopped_first : (out out' err err' : OutState) → StopsFlushing out out' err err' → IsHandedOnOrFailed 1 out out'
 stopped_first out out' err err' s = by_once s.once
@@ -197,10 +141,6 @@ stopped_first out out' err err' s = by_once s.once
     by_once : HasOneMore (failures_of_each out err) (failures_of_each out' err') → IsHandedOnOrFailed 1 out out'
     by_once (inl (first, same)) = record { failed = 1; bound = omega arith; count = more_count out.failures out'.failures first; all = λ e. absurd (omega arith) }
     by_once (inr (same, more)) = record { failed = 0; bound = omega arith; count = same_count out.failures out'.failures same; all = λ e. s.first same }
-
--- a count that moved, and then perhaps a little more
-after_one : (most : ℕ) (old mid new : OutState) → mid.failures ≡ one_more old.failures → most ≤ 2 → IsHandedOnOrFailed most mid new → HasFailed old new
-after_one most old mid new one little t = λ e. let c = t.count in let b = t.bound in absurd (omega (arith, one, little, c, b, e))
 
 module _ (out err out1 err1 out2 err2 err3 : OutState) where
   -- at a verdict
@@ -229,26 +169,70 @@ module _ (out err out1 err1 out2 err2 err3 : OutState) where
   first_at_error (Err OutOfMemory) r same h k = rw h.0 (let m = none_moved out err out1 err1 same in let s = m.sum in failed_then m.first 1 1 out out1 out2 (omega (arith, s)) m.count h.1.once)
   first_at_error (Err WriteFailed) r one h k = rw h.0 (let m = one_moved out err out1 err1 one in let s = m.sum in failed_then m.first 1 2 out out1 out2 (omega (arith, s)) m.count h.1.once)
 
-  none_then : failures_of_each out1 err1 ≡ failures_of_each out err → err2 ≡ err1 → IsHandedOnOrFailed 2 err2 err3 → IsHandedOnOrFailed 2 err err3
-  none_then same e t = let m = none_moved out err out1 err1 same in let s = m.sum in
-      failed_then m.second 2 2 err err1 err3 (omega (arith, s)) m.second_count (subst (λ x. IsHandedOnOrFailed 2 x err3) e t)
+  none_few : failures_of_each out1 err1 ≡ failures_of_each out err → err2 ≡ err1 → FewFailed 2 err err2
+  none_few same e = let m = none_moved out err out1 err1 same in let s = m.sum in record {
+    moved = m.second;
+    bound = omega (arith, s);
+    count = subst (λ x. x.failures % 2 ^ 64 ≡ (err.failures + m.second) % 2 ^ 64) (sym e) m.second_count;
+  }
 
-  one_then : HasOneMore (failures_of_each out err) (failures_of_each out1 err1) → err2 ≡ err1 → IsHandedOnOrFailed 2 err2 err3 → IsHandedOnOrFailed 3 err err3
-  one_then one e t = let m = one_moved out err out1 err1 one in let s = m.sum in
-      failed_then m.second 2 3 err err1 err3 (omega (arith, s)) m.second_count (subst (λ x. IsHandedOnOrFailed 2 x err3) e t)
+  one_few : HasOneMore (failures_of_each out err) (failures_of_each out1 err1) → err2 ≡ err1 → FewFailed 3 err err2
+  one_few one e = let m = one_moved out err out1 err1 one in let s = m.sum in record {
+    moved = m.second;
+    bound = omega (arith, s);
+    count = subst (λ x. x.failures % 2 ^ 64 ≡ (err.failures + m.second) % 2 ^ 64) (sym e) m.second_count;
+  }
 
-  -- the second, to which the line was put
-  pub second_at_error : (o r : Result Verdict RunError) → CountsAfter is_write_failed o (failures_of_each out err) (failures_of_each out1 err1)
-      → IsHanded o r out1 out2 err1 err2 → OnErr r (IsHandedOnOrFailed 2 err2 err3) → 3 ≤ exit_status r → IsHandedOnOrFailed (second_most (exit_status r)) err err3
-  second_at_error (Ok v) (Ok w) same h t k = let q = at_verdict w in absurd (omega arith)
-  second_at_error (Ok v) (Err e) same h t k = rw h.0 (
+  stopped_few : failures_of_each out1 err1 ≡ failures_of_each out err → HasOneMore (failures_of_each out1 err1) (failures_of_each out2 err2)
+      → FewFailed 3 err err2
+  stopped_few same once =
       let m = none_moved out err out1 err1 same in let s = m.sum in
-      let n = one_moved out1 err1 out2 err2 h.1.once in let d = n.sum in
-      failed_then m.second 3 3 err err1 err3 (omega (arith, s)) m.second_count (failed_then n.second 2 3 err1 err2 err3 (omega (arith, d)) n.second_count t))
-  second_at_error (Err (Refused x)) r same h t k = let u : IsHandedOnOrFailed 2 err2 err3 = rw h.0 at t in rw h.0 (none_then same h.2 u)
-  second_at_error (Err ReadFailed) r same h t k = let u : IsHandedOnOrFailed 2 err2 err3 = rw h.0 at t in rw h.0 (none_then same h.2 u)
-  second_at_error (Err OutOfMemory) r same h t k = let u : IsHandedOnOrFailed 2 err2 err3 = rw h.0 at t in rw h.0 (none_then same h.2 u)
-  second_at_error (Err WriteFailed) r one h t k = let u : IsHandedOnOrFailed 2 err2 err3 = rw h.0 at t in rw h.0 (one_then one h.2 u)
+      let n = one_moved out1 err1 out2 err2 once in let d = n.sum in record {
+        moved = m.second + n.second;
+        bound = omega (arith, s, d);
+        count = more_failures err.failures err1.failures err2.failures m.second n.second m.second_count n.second_count
+            ∙ ap (λ k. k % 2 ^ 64) (let q : err.failures + m.second + n.second ≡ err.failures + (m.second + n.second) = omega arith in q);
+      }
+
+  -- the second before the line of the error
+  pub second_few : (o r : Result Verdict RunError) → CountsAfter is_write_failed o (failures_of_each out err) (failures_of_each out1 err1)
+      → IsHanded o r out1 out2 err1 err2 → OnErr r (FewFailed (second_most (exit_status r)) err err2)
+  second_few (Ok v) (Ok w) same h = tt
+  second_few (Ok v) (Err e) same h = rw h.0 (stopped_few same h.1.once)
+  second_few (Err (Refused x)) r same h = rw h.0 (none_few same h.2)
+  second_few (Err ReadFailed) r same h = rw h.0 (none_few same h.2)
+  second_few (Err OutOfMemory) r same h = rw h.0 (none_few same h.2)
+  second_few (Err WriteFailed) r one h = rw h.0 (one_few one h.2)
+
+  -- and with it
+  pub second_at_error : (r : Result Verdict RunError) → OnErr r (FewFailed (second_most (exit_status r)) err err2)
+      → IfErr r (λ error. EndsWithLine (error_line error) 2 err2 err3) → 3 ≤ exit_status r → IsHandedOnOrFailed (second_most (exit_status r)) err err3
+  second_at_error (Ok w) few line k = let q = at_verdict w in absurd (omega (arith, q, k))
+  second_at_error (Err e) few line k = few_then (second_most (exit_status (Err e))) err err2 err3 few line.tried
+
+  -- where the run put nothing to it
+  pub line_at_error : (r : Result Verdict RunError) → OnErr r (FewFailed (second_most (exit_status r)) err err2)
+      → IfErr r (λ error. EndsWithLine (error_line error) 2 err2 err3) → Keeps err.bytes err2.bytes → 3 ≤ exit_status r
+      → (error : RunError) × (exit_status (Err error) ≡ exit_status r) × EndsWithLine (error_line error) (second_most (exit_status r)) err err3
+  line_at_error (Ok w) few line kept k = let q = at_verdict w in absurd (omega (arith, q, k))
+  line_at_error (Err e) few line kept k = (e, refl, few_then_line (error_line e) (second_most (exit_status (Err e))) err err2 err3 kept few line)
+
+  -- at a verdict nothing is put behind that
+  pub quiet_at_verdict : (r : Result Verdict RunError) → OnOk r (err3 ≡ err2) → Keeps err.bytes err2.bytes → exit_status r ≤ 1 → Keeps err.bytes err3.bytes
+  quiet_at_verdict (Ok w) quiet kept k = subst (λ x. Keeps err.bytes x.bytes) (sym quiet) kept
+  quiet_at_verdict (Err (Refused x)) quiet kept k = absurd (omega (arith, k))
+  quiet_at_verdict (Err ReadFailed) quiet kept k = absurd (omega (arith, k))
+  quiet_at_verdict (Err OutOfMemory) quiet kept k = absurd (omega (arith, k))
+  quiet_at_verdict (Err WriteFailed) quiet kept k = absurd (omega (arith, k))
+
+  -- handing on keeps what was put to it
+  pub second_kept : (o r : Result Verdict RunError) → IsHanded o r out1 out2 err1 err2 → err1 ≡ err → Keeps err.bytes err2.bytes
+  second_kept (Ok v) (Ok w) h e = subst (λ x. Keeps x.bytes err2.bytes) e h.2.kept
+  second_kept (Ok v) (Err x) h e = subst (λ x. Keeps x.bytes err2.bytes) e h.1.second_kept
+  second_kept (Err (Refused x)) r h e = subst (λ x. Keeps err.bytes x.bytes) (sym (h.2 ∙ e)) (keeps_same err.bytes)
+  second_kept (Err ReadFailed) r h e = subst (λ x. Keeps err.bytes x.bytes) (sym (h.2 ∙ e)) (keeps_same err.bytes)
+  second_kept (Err OutOfMemory) r h e = subst (λ x. Keeps err.bytes x.bytes) (sym (h.2 ∙ e)) (keeps_same err.bytes)
+  second_kept (Err WriteFailed) r h e = subst (λ x. Keeps err.bytes x.bytes) (sym (h.2 ∙ e)) (keeps_same err.bytes)
 
   run_failed : HasOneMore (failures_of_each out err) (failures_of_each out1 err1) → TriesToFlush out1 out2 → IsHandedOnOrFailed 2 err1 err3
       → HasFailed out out2 ⊎ HasFailed err err3
@@ -283,11 +267,58 @@ flushed_once : {C Z : Type 0} (r : Result C Z) (old new : OutState) → Flushes 
 flushed_once (Ok x) old new f = record { failed = 0; bound = omega arith; count = same_count old.failures new.failures f.count; all = λ e. f.empty }
 flushed_once (Err x) old new f = record { failed = 1; bound = omega arith; count = more_count old.failures new.failures f.count; all = λ e. absurd (omega arith) }
 
+-- a flush behind a line
+line_after : {C Z : Type 0} (t : Result C Z) (line shown cut : List ℕ) (k : ℕ) (a c d : OutState) → k ≤ 1 → shown ++ cut ≡ line
+    → Appends a.bytes c.bytes shown → c.failures % 2 ^ 64 ≡ (a.failures + k) % 2 ^ 64 → (k ≡ 0 → cut ≡ []) → Flushes t c d → EndsWithLine line 2 a d
+line_after t line shown cut k a c d room of_line added count uncut f = let o = flushed_once t c d f in record {
+  tried = record {
+    failed = k + o.failed;
+    bound = let b = o.bound in omega (arith, b, room);
+    count = more_failures a.failures c.failures d.failures k o.failed count o.count
+        ∙ ap (λ n. n % 2 ^ 64) (let q : a.failures + k + o.failed ≡ a.failures + (k + o.failed) = omega arith in q);
+    all = λ e. o.all (omega (arith, e));
+  };
+  shown = shown;
+  cut = cut;
+  of_line = of_line;
+  added = appends_kept a.bytes c.bytes d.bytes shown added f.kept;
+  uncut = λ e. uncut (omega (arith, e));
+}
+
 -- of the two calls before a flush one did not fail
-pub line_tried : {A B C X Y Z : Type 0} (r : Result A X) (q : Result B Y) (t : Result C Z) (a b c d : OutState) → (is_ok r ≡ true) ⊎ (is_ok q ≡ true)
-    → b.failures ≡ failures_after is_any r a.failures → c.failures ≡ failures_after is_any q b.failures → Flushes t c d → IsHandedOnOrFailed 2 a d
-line_tried (Ok x) (Ok y) t a b c d h m n f = failed_then 0 1 2 a c d (omega arith) (same_count a.failures c.failures (n ∙ m)) (flushed_once t c d f)
-line_tried (Ok x) (Err y) t a b c d h m n f = failed_then 1 1 2 a c d (omega arith) (more_count a.failures c.failures (n ∙ ap one_more m)) (flushed_once t c d f)
-line_tried (Err x) (Ok y) t a b c d h m n f = failed_then 1 1 2 a c d (omega arith) (more_count a.failures c.failures (n ∙ m)) (flushed_once t c d f)
-line_tried (Err x) (Err y) t a b c d (inl e) m n f = cc
-line_tried (Err x) (Err y) t a b c d (inr e) m n f = cc
+pub line_tried : {A B C X Y Z : Type 0} (r : Result A X) (q : Result B Y) (t : Result C Z) (line : List ℕ) (a b c d : OutState)
+    → (is_ok r ≡ true) ⊎ (is_ok q ≡ true) → Flushes r a b → Puts q b c line → Flushes t c d → EndsWithLine line 2 a d
+line_tried (Ok x) (Ok y) t line a b c d h m n f = line_after t line line [] 0 a c d (omega arith) (append-nil line)
+    (kept_appends a.bytes b.bytes c.bytes line m.kept n.held) (same_count a.failures c.failures (n.count ∙ m.count)) (λ e. refl) f
+line_tried (Ok x) (Err y) t line a b c d h m n f = line_after t line n.held.part n.held.rest 1 a c d (omega arith) n.held.whole
+    (kept_appends a.bytes b.bytes c.bytes n.held.part m.kept n.held.added) (more_count a.failures c.failures (n.count ∙ ap one_more m.count))
+    (λ e. absurd (omega (arith, e))) f
+line_tried (Err x) (Ok y) t line a b c d h m n f = line_after t line line [] 1 a c d (omega arith) (append-nil line)
+    (kept_appends a.bytes b.bytes c.bytes line m.kept n.held) (more_count a.failures c.failures (n.count ∙ m.count)) (λ e. refl) f
+line_tried (Err x) (Err y) t line a b c d (inl e) m n f = cc
+line_tried (Err x) (Err y) t line a b c d (inr e) m n f = cc
+
+-- both failed
+pub line_untried : {A B X Y : Type 0} (r : Result A X) (q : Result B Y) (line : List ℕ) (a b c : OutState)
+    → is_ok r ≡ false → is_ok q ≡ false → Flushes r a b → Puts q b c line → EndsWithLine line 2 a c
+line_untried (Ok x) q line a b c g h m n = cc
+line_untried (Err x) (Ok y) line a b c g h m n = cc
+line_untried (Err x) (Err y) line a b c g h m n = record {
+  tried = record {
+    failed = 2;
+    bound = omega arith;
+    count = more_failures a.failures b.failures c.failures 1 1 (more_count a.failures b.failures m.count) (more_count b.failures c.failures n.count)
+        ∙ ap (λ k. k % 2 ^ 64) (let q : a.failures + 1 + 1 ≡ a.failures + 2 = omega arith in q);
+    all = λ e. absurd (omega (arith, e));
+  };
+  shown = n.held.part;
+  cut = n.held.rest;
+  of_line = n.held.whole;
+  added = kept_appends a.bytes b.bytes c.bytes n.held.part m.kept n.held.added;
+  uncut = λ e. absurd (omega (arith, e));
+}
+
+-- the attempt of it alone
+pub tried_of : (r : Result Verdict RunError) (a b : OutState) → IfErr r (λ error. EndsWithLine (error_line error) 2 a b) → OnErr r (IsHandedOnOrFailed 2 a b)
+tried_of (Ok v) a b line = tt
+tried_of (Err e) a b line = line.tried

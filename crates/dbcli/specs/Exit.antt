@@ -11,6 +11,7 @@ use Rattle.dbformat.specs.declared.Verdict.TheVariants.{Clean, Faulty}
 use Rattle.dbsource.specs.Failures.{one_more}
 use Rattle.dbsource.specs.Outs.{Begins, OutState}
 use Rattle.dbowner.specs.Explained.{explain_report}
+use Rattle.dbcli.specs.ErrorLines.{exit_line}
 use Rattle.dbcli.specs.declared.request.Request.{Request}
 use Rattle.dbcli.specs.declared.request.Request.TheVariants as request
 
@@ -19,20 +20,16 @@ pub record IsWritten (r : Report) (out out' err err' : OutState) : Type 0 where
   pub first : Appends out.bytes out'.bytes r.out
   pub second : Appends err.bytes err'.bytes r.err
 
--- a line of at most 96 bytes was put, or a beginning of it, perhaps nothing
-pub record PutsLine (old new : OutState) : Type 0 where
-  pub line : List ℕ
-  pub short : length line ≤ 96
-  pub added : Appends old.bytes new.bytes line
-
--- told bytes grew by a beginning of these, and then by a line of at most 96 bytes, or a beginning of it, perhaps nothing
-pub record BeginsThenLine (old new : Option (List ℕ)) (bytes : List ℕ) : Type 0 where
+-- Told bytes grew by a beginning of these, and then by a beginning of a line: by all of the line, unless a call of the Out failed.
+pub record BeginsThenLine (old new : OutState) (bytes line : List ℕ) : Type 0 where
   pub part : List ℕ
   pub rest : List ℕ
   pub whole : part ++ rest ≡ bytes
-  pub line : List ℕ
-  pub short : length line ≤ 96
-  pub added : Appends old new (part ++ line)
+  pub shown : List ℕ
+  pub cut : List ℕ
+  pub of_line : shown ++ cut ≡ line
+  pub added : Appends old.bytes new.bytes (part ++ shown)
+  pub uncut : new.failures ≡ old.failures → cut ≡ []
 
 -- nothing of an Out is pending, and no call of it failed
 pub record IsHandedOn (old new : OutState) : Type 0 where
@@ -45,6 +42,15 @@ pub record IsHandedOnOrFailed (most : ℕ) (old new : OutState) : Type 0 where
   pub bound : failed ≤ most
   pub count : new.failures % 2 ^ 64 ≡ (old.failures + failed) % 2 ^ 64
   pub all : failed ≡ 0 → new.pending ≡ []
+
+-- The same where a line was put last: a beginning of it, and all of it where no call failed.
+pub record EndsWithLine (line : List ℕ) (most : ℕ) (old new : OutState) : Type 0 where
+  pub tried : IsHandedOnOrFailed most old new
+  pub shown : List ℕ
+  pub cut : List ℕ
+  pub of_line : shown ++ cut ≡ line
+  pub added : Appends old.bytes new.bytes shown
+  pub uncut : tried.failed ≡ 0 → cut ≡ []
 
 -- how many calls of the first Out fail at most: the last handing on, and at 6 one that ended the run
 abbrev pub first_most : ℕ → ℕ
@@ -66,44 +72,46 @@ failures_at_4 status count = if status == 4 then one_more count else count
 abbrev pub IsKnown : ℕ → Type 0
 IsKnown status = (status ≤ 1) ⊎ ((3 ≤ status) × (status ≤ 6))
 
--- Whatever the status, what the first Out got is a beginning of its part of the report, and what the second got one of its
--- own, and then perhaps the line of an error. 0 is answered only where no fault was found,
--- 1 where some were, and all of the report was written; 3 where the file is refused, and nothing of it was.
-pub record IsExit (status : ℕ) (r : Report) (out out' err err' : OutState) : Type 0 where
+-- What an exit status says of a report and of what was written of it, where this is why its file is refused, if it is.
+pub record IsExit (status : ℕ) (r : Report) (why : Option Refusal) (out out' err err' : OutState) : Type 0 where
+  -- whatever the status, the first Out got a beginning of its part of the report
   pub begun : Begins out.bytes out'.bytes r.out
-  pub told : BeginsThenLine err.bytes err'.bytes r.err
+  -- and the second one of its own, and then the line of the error
+  pub told : BeginsThenLine err err' r.err (exit_line status why)
+  -- 0 is answered only where no fault was found, and all of the report was written
   pub clean : status ≡ 0 → (r.answer ≡ Ok Clean) × IsWritten r out out' err err'
+  -- 1 only where some were, and all of the report was written
   pub faulty : status ≡ 1 → (n : ℕ) × (r.answer ≡ Ok (Faulty n)) × IsWritten r out out' err err'
+  -- 3 only where the file is refused, and nothing of it was written
   pub refused : status ≡ 3 → (e : Refusal) × (r.answer ≡ Err e) × (out'.bytes ≡ out.bytes)
 
--- The same of a map, of whose bytes nothing is said: 0 is answered only where the verdict on the faults is that there is none, 1 only
--- where there are some; 3 where the file is refused, and nothing was written.
-pub record IsMapExit (status : ℕ) (file : List ℕ) (V : List Reference) (out out' : OutState) : Type 0 where
+-- The same of a map, of whose bytes nothing is said.
+pub record IsMapExit (status : ℕ) (file : List ℕ) (V : List Reference) (out out' err err' : OutState) : Type 0 where
+  -- the second Out got the line of the error
+  pub told : BeginsThenLine err err' [] (exit_line status (refusal file))
+  -- 0 is answered only where the verdict on the faults is that there is none
   pub clean : status ≡ 0 → verdict (faults file V) ≡ Clean
+  -- 1 only where there are some
   pub faulty : status ≡ 1 → (n : ℕ) × (verdict (faults file V) ≡ Faulty n)
+  -- 3 only where the file is refused, and nothing was written
   pub refused : status ≡ 3 → (e : Refusal) × (refusal file ≡ Some e) × (out'.bytes ≡ out.bytes)
 
 -- by what was asked, and by every survey of the file
 abbrev pub IsExitOf : ℕ → Request → List ℕ → OutState → OutState → OutState → OutState → Type 0
 IsExitOf status (request.Report command) file out out' err err' =
-    (V : List Reference) → Survey file V → IsExit status (report command file V) out out' err err'
+    (V : List Reference) → Survey file V → IsExit status (report command file V) (refusal file) out out' err err'
 IsExitOf status (request.Explain limit) file out out' err err' =
-    (V : List Reference) → Survey file V → IsExit status (explain_report limit file V) out out' err err'
+    (V : List Reference) → Survey file V → IsExit status (explain_report limit file V) (refusal file) out out' err err'
 IsExitOf status (request.Map name) file out out' err err' =
-    (V : List Reference) → Survey file V → IsMapExit status file V out out'
+    (V : List Reference) → Survey file V → IsMapExit status file V out out' err err'
 
--- Want of memory and a failed write come only where the file is not refused.
-pub record IsStatusOf (status : ℕ) (file : List ℕ) : Type 0 where
-  pub memory : status ≡ 5 → refusal file ≡ None
-  pub unwritable : status ≡ 6 → refusal file ≡ None
-
--- of the two statuses of a verdict 0 is that of a sound file
-abbrev pub IsOkIfSound : ℕ → List ℕ → Type 0
-IsOkIfSound status file = status ≤ 1 → status ≡ 0 ↔ Sound file
-
--- What finishing left is so of a file: what the status says of what was asked and of what was written of it; that want of memory
--- and a failed write end the run of a file that is read alone; and that of the statuses of a verdict 0 is a sound file's.
+-- What an exit status says of a file.
 pub record IsFinishOf (status : ℕ) (asked : Request) (file : List ℕ) (out out' err err' : OutState) : Type 0 where
+  -- what was asked, and what was written of it
   pub exit : IsExitOf status asked file out out' err err'
-  pub errors : IsStatusOf status file
-  pub sound : IsOkIfSound status file
+  -- of the two statuses of a verdict 0 is that of a sound file
+  pub sound : status ≤ 1 → status ≡ 0 ↔ Sound file
+  -- want of memory ends the run of a file that is read alone
+  pub memory : status ≡ 5 → refusal file ≡ None
+  -- and so does a failed write
+  pub unwritable : status ≡ 6 → refusal file ≡ None

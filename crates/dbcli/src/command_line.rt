@@ -52,6 +52,17 @@ impl From<clap::Error> for LineError {
     }
 }
 
+impl From<AllocError> for LineError {
+    ghost use Rattle.std.specs.Prelude.{◌≡◌};
+    ghost use Rattle.dbcli.specs.Status.{line_status};
+
+    ghost from_gives = { λ _ error. line_status error ≡ 5 };
+
+    fn from(error: AllocError) -> LineError {
+        LineError::Words(clap::Error::from(error))
+    }
+}
+
 /// The version of the program: it stands here alone.
 const VERSION: &str = "0.1.0";
 

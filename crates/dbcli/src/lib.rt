@@ -3,24 +3,30 @@
 #![tactic(auto)]
 
 mod command_line;
+mod error_lines;
 mod finishing;
 mod line_out;
 mod logs;
 mod notes;
+mod opening;
 mod progress;
 mod request;
 mod running;
 mod shown;
 mod status;
 mod watched;
+mod words;
 
 pub use command_line::{Line, LineError, line_of, shown_error};
 pub use dbreport::{Command, Verdict};
 pub use dbsource::{Out, ReadFailed, RunError, Source};
+pub use error_lines::error_line;
 pub use finishing::{Notes, end, finish, finish_opened, hand_on};
 pub use line_out::LineOut;
 pub use logs::put_log_notes;
+pub use opening::{Opener, SystemFiles};
 pub use progress::Progress;
 pub use request::Request;
-pub use running::{run_line, run_words, tell};
+pub use running::{System, answer_words, run_line, run_words, tell};
 pub use status::{line_status, status_of};
+pub use words::{texts_of, words_of};

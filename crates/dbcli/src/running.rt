@@ -1,48 +1,78 @@
 // From the words of a command line to an exit status.
-ghost use Rattle.std.specs.Prelude.{◌≡◌, ◌≤◌, ◌⊎◌, [], IfErr, IfOk, OnErr, map};
+ghost use Rattle.std.specs.Prelude.{◌≡◌, [], Ok, Err, IfErr, IfOk, OnErr, map};
 ghost use Rattle.clap.specs.Words.{fault_of};
 ghost use Rattle.dbcli.specs.CommandLine.{IsErrorOf, dbck_app};
-ghost use Rattle.dbcli.specs.Exit.{IsHandedOn, IsKnown, PutsLine};
-ghost use Rattle.dbcli.specs.Requests.{WritesToFirst};
-ghost use Rattle.dbcli.specs.Status.{line_status};
+ghost use Rattle.dbcli.specs.Running.{AnswersWords, IsTold, IsUnrun, RunsLine, RunsWords};
 
 use crate::command_line::{Line, LineError, line_of, shown_error};
 use crate::finishing::finish;
 use crate::notes::FileNotes;
+use crate::opening::Opener;
 use crate::progress::Progress;
 use crate::status::line_status;
 use crate::watched::{Watch, Watched};
 use clap::error::ErrorKind;
-use dbsource::{FileSource, Out};
+use dbsource::{Out, ReadFailed, Source};
 use std::fs::File;
 use std::rt::Files;
 
+/// The system of a run: where notes come from, and who opens its file.
+#[derive(Drop)]
+pub struct System<'a, R, F> {
+    /// Where memory comes from, and what is asked of a path for the notes.
+    pub rt: &'a R,
+    /// Who opens the file that is run.
+    pub files: F,
+}
+
+impl<'a, R, F> System<'a, R, F> {
+    /// One of these.
+    pub fn new(rt: &'a R, files: F) -> System<'a, R, F>
+        ensures { result.files ≡ files }
+    {
+        System { rt, files }
+    }
+}
+
+// What was opened, watched.
+fn watch_opened<'w, 'p, S: Source, W: Print>(
+    opened: Result<S, ReadFailed>,
+    watch: &'w Watch,
+    progress: &'p Progress<W>,
+) -> Result<Watched<'w, 'p, S, W>, ReadFailed>
+    ensures ok { IfOk result (λ watched. opened ≡ Ok watched.source) }
+    ensures err { IfErr result (λ error. opened ≡ Err error) }
+{
+    match opened {
+        Ok(source) => Ok(Watched::new(source, watch, progress)),
+        Err(error) => Err(error),
+    }
+}
+
 /// Runs what a line asks for, on the file alone, and answers the exit status. What is told of the file beside the report is
 /// put to `notes`, and the progress is wiped at the end.
-pub fn run_line<R: Files<File = File> + AllocGlobal, O: Out, E: Out, N: Out, W: Print>(
-    rt: &R,
+pub fn run_line<R: Files<File = File> + AllocGlobal, F: Opener, O: Out, E: Out, N: Out, W: Print>(
+    system: &mut System<'_, R, F>,
     line: Line<'_>,
     out: &mut O,
     err: &mut E,
     notes: &mut N,
     progress: &Progress<W>,
 ) -> u8
-    ensures statuses { IsKnown result }
-    ensures whole { result ≤ 1
-        → IsHandedOn (O.held out.old) (O.held out.new) × IsHandedOn (E.held err.old) (E.held err.new) }
-    ensures unwritten { result ≡ 3 → out.new ≡ out.old }
-    ensures line { WritesToFirst line.entry.request → PutsLine (E.held err.old) (E.held err.new) }
+    ensures { RunsLine F.opens F.File.Source O.Out E.Out line.entry.request line.entry.file.now result
+        (system.old.files, out.old, err.old) (system.new.files, out.new, err.new) }
 {
+    let rt = system.rt;
     let watch = Watch::new();
     let mut notes = FileNotes::new(rt, line.file, &watch, notes);
-    let opened = FileSource::open(rt, line.file);
+    let opened = system.files.open(line.file);
     if opened.is_ok() {
         notes.opened();
     }
     if !line.progress {
         progress.turn_off();
     }
-    let opened = opened.map(|source| Watched::new(source, &watch, progress));
+    let opened = watch_opened(opened, &watch, progress);
     let status = finish(rt.alloc(), line.request, opened, out, err, &mut notes);
     progress.wipe();
     status
@@ -52,9 +82,17 @@ pub fn run_line<R: Files<File = File> + AllocGlobal, O: Out, E: Out, N: Out, W: 
 ///
 /// # Errors
 ///
-/// As [`line_of`], with its words as [`shown_error`] has them. Nothing was put then.
-pub fn run_words<'a, R: Files<File = File> + AllocGlobal, O: Out, E: Out, N: Out, W: Print>(
-    rt: &R,
+/// As [`line_of`], with its words as [`shown_error`] has them. Nothing was opened and nothing put then.
+pub fn run_words<
+    'a,
+    R: Files<File = File> + AllocGlobal,
+    F: Opener,
+    O: Out,
+    E: Out,
+    N: Out,
+    W: Print,
+>(
+    system: &mut System<'_, R, F>,
     words: &'a [&'a str],
     out: &mut O,
     err: &mut E,
@@ -62,22 +100,52 @@ pub fn run_words<'a, R: Files<File = File> + AllocGlobal, O: Out, E: Out, N: Out
     progress: &Progress<W>,
 ) -> Result<u8, LineError>
     ensures taken { IfOk result (λ status. fault_of dbck_app (map (λ word. word.now) words.entry.now) ≡ []) }
+    ensures ran { IfOk result (λ status. RunsWords F.opens F.File.Source O.Out E.Out (map (λ word. word.now) words.entry.now) status
+        (system.old.files, out.old, err.old) (system.new.files, out.new, err.new)) }
     ensures refused { IfErr result (λ error. IsErrorOf error (map (λ word. word.now) words.entry.now)) }
-    ensures first { OnErr result (out.new ≡ out.old) }
-    ensures second { OnErr result (E.held err.new ≡ E.held err.old) }
+    ensures unrun { OnErr result (IsUnrun F.opens F.File.Source O.Out E.Out
+        (system.old.files, out.old, err.old) (system.new.files, out.new, err.new)) }
     ensures notes { OnErr result (N.held notes.new ≡ N.held notes.old) }
 {
-    let line = match line_of(rt.alloc(), words) {
+    let line = match line_of(system.rt.alloc(), words) {
         Ok(line) => line,
-        Err(error) => return Err(shown_error(rt.alloc(), words, error)),
+        Err(error) => return Err(shown_error(system.rt.alloc(), words, error)),
     };
-    Ok(run_line(rt, line, out, err, notes, progress))
+    Ok(run_line(system, line, out, err, notes, progress))
+}
+
+/// Runs what the words ask for, or tells why they ask for nothing, and answers the exit status. The first of them is the
+/// program's name.
+pub fn answer_words<
+    'a,
+    R: Files<File = File> + AllocGlobal + Print + Eprint,
+    F: Opener,
+    O: Out,
+    E: Out,
+    N: Out,
+    W: Print,
+>(
+    system: &mut System<'_, R, F>,
+    words: &'a [&'a str],
+    out: &mut O,
+    err: &mut E,
+    notes: &mut N,
+    progress: &Progress<W>,
+) -> u8
+    ensures { AnswersWords F.opens F.File.Source O.Out E.Out (map (λ word. word.now) words.entry.now) result
+        (system.old.files, out.old, err.old) (system.new.files, out.new, err.new) }
+{
+    let rt = system.rt;
+    match run_words(system, words, out, err, notes, progress) {
+        Ok(status) => status,
+        Err(error) => tell(rt, &error),
+    }
 }
 
 /// Tells why the words are no command line, or the help that they ask for, and answers the exit status: 6 where what they
 /// ask for cannot be printed.
 pub fn tell<R: Print + Eprint>(rt: &R, error: &LineError) -> u8
-    ensures { (result ≡ line_status error.now) ⊎ ((line_status error.now ≡ 0) × (result ≡ 6)) }
+    ensures { IsTold result error.now }
 {
     let status = line_status(error);
     let printed = match error {

@@ -1,9 +1,11 @@
 // What the end of a run makes of outs that fail, of a file that is not opened or not read, and of want of memory.
-use crate::fake_outs::{FakeOut, NoNotes};
-use dbcli::{Request, end, finish, hand_on};
+use crate::fake_outs::{FakeOut, LogWriter, NoNotes};
+use crate::fake_sources::PeekingSource;
+use dbcli::{Request, end, error_line, finish, hand_on};
 use dbfiles::{StatedSource, TestFile};
 use dbreport::Command;
-use dbsource::{ReadFailed, RunError};
+use dbsource::{MemOut, ReadFailed, Refusal, RunError, StreamOut};
+use std::cell::{Cell, RefCell};
 use std::test::Fail;
 
 const CHECK: Request = Request::Report(Command::Check { limit: 100 });
@@ -91,6 +93,51 @@ fn ends_runs(rt: HostRuntime) -> Result<(), Fail> {
         holds!(rt; found == status, what);
         holds!(rt; out.tells(handed), handed);
         holds!(rt; err.tells(told), told);
+    }
+    Ok(())
+}
+
+// What is found is written before the next page is read: the row of page 1 stands there when the read of page 2 fails.
+#[test]
+fn holds_nothing_back(rt: HostRuntime) -> Result<(), Fail> {
+    let file = TestFile::of(rt.alloc(), PARENT)?.into_bytes();
+    let log = RefCell::new(Vec::new(rt.alloc()));
+    let seen = Cell::new(0);
+    let source = PeekingSource::new(opened("parent", file.as_slice(), "3")?, &log, &seen);
+    let mut out = StreamOut::new(LogWriter::new(&log, usize::MAX));
+    let mut err = MemOut::new(rt.alloc());
+    let status = finish(
+        rt.alloc(),
+        STAT,
+        Ok(source),
+        &mut out,
+        &mut err,
+        &mut NoNotes,
+    );
+    holds!(rt; status == 4, "parent");
+    holds!(rt; seen.get() == PARENT_ROW.len(), "parent");
+    Ok(())
+}
+
+const ERRORS: [RunError; 10] = [
+    RunError::Refused(Refusal::Short),
+    RunError::Refused(Refusal::Magic),
+    RunError::Refused(Refusal::PageSize),
+    RunError::Refused(Refusal::Usable),
+    RunError::Refused(Refusal::NoPage),
+    RunError::Refused(Refusal::TooManyPages),
+    RunError::Refused(Refusal::MapAtLock),
+    RunError::ReadFailed,
+    RunError::OutOfMemory,
+    RunError::WriteFailed,
+];
+
+// The line of an error says what its text does.
+#[test]
+fn has_lines_of_errors(rt: HostRuntime) -> Result<(), Fail> {
+    for error in ERRORS {
+        let line = format!(in rt.alloc(); "dbck: {error}\n")?;
+        holds!(rt; error_line(error) == line.as_str(), line.as_str());
     }
     Ok(())
 }

@@ -4,7 +4,8 @@ use std::cell::Cell;
 use std::fs::{File, Metadata, OpenOptions};
 use std::io;
 use std::path::PathBuf;
-use std::rt::Files;
+use std::rt::{Clock, Files};
+use std::time::Duration;
 
 /// What is allowed beside a look at a path.
 #[derive(Clone, Copy, PartialEq)]
@@ -13,16 +14,21 @@ pub enum Allowed {
     Looking,
     /// To open a file for reading alone.
     Reading,
+    /// The same, where a look at a path finds 512 bytes, whatever the file has.
+    Lying,
     /// The same, where a device takes the place of each file behind the look, which finds 512 bytes.
     Swapping,
 }
 
-/// The files of the system. A call that is not allowed is refused, and that is noted.
+/// The files of the system. A call that is not allowed is refused, and that is noted. Each look at the clock finds it some
+/// microseconds after the one before, none at first.
 #[derive(Drop)]
 pub struct FakeFiles<'a> {
     rt: &'a HostRuntime,
     allowed: Allowed,
     has_refused: Cell<bool>,
+    pace: Cell<u64>,
+    looks: Cell<u64>,
 }
 
 impl<'a> FakeFiles<'a> {
@@ -31,7 +37,19 @@ impl<'a> FakeFiles<'a> {
             rt,
             allowed,
             has_refused: Cell::new(false),
+            pace: Cell::new(0),
+            looks: Cell::new(0),
         }
+    }
+
+    /// How many microseconds there are from now on between two looks at the clock.
+    pub fn set_pace(&self, micros: u64) {
+        self.pace.set(micros);
+    }
+
+    /// How often the clock was looked at.
+    pub fn looks(&self) -> u64 {
+        self.looks.get()
     }
 
     /// Whether a call was refused.
@@ -60,6 +78,18 @@ impl<'a> Alloc for FakeFiles<'a> {
     }
 }
 
+impl<'a> Clock for FakeFiles<'a> {
+    fn monotonic(&self) -> io::Result<Duration> {
+        let looks = self.looks.get().saturating_add(1);
+        self.looks.set(looks);
+        Ok(Duration::from_micros(looks.saturating_mul(self.pace.get())))
+    }
+
+    fn since_1970(&self) -> io::Result<Duration> {
+        Err(self.refusal())
+    }
+}
+
 impl<'a> Files for FakeFiles<'a> {
     type File = File;
 
@@ -67,7 +97,7 @@ impl<'a> Files for FakeFiles<'a> {
 
     fn open_file(&self, how: &OpenOptions, path: &str) -> io::Result<File> {
         match self.allowed {
-            Allowed::Reading if only_reads(how) => how.open(self.rt, path),
+            Allowed::Reading | Allowed::Lying if only_reads(how) => how.open(self.rt, path),
             Allowed::Swapping if only_reads(how) => how.open(self.rt, "/dev/zero"),
             _ => Err(self.refusal()),
         }
@@ -78,7 +108,7 @@ impl<'a> Files for FakeFiles<'a> {
     }
 
     fn metadata(&self, path: &str) -> io::Result<Metadata> {
-        if self.allowed == Allowed::Swapping {
+        if self.allowed == Allowed::Swapping || self.allowed == Allowed::Lying {
             Ok(Metadata::of_file(512))
         } else {
             self.rt.metadata(path)

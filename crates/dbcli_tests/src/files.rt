@@ -7,7 +7,7 @@ use std::process::Abort;
 use std::test::Fail;
 
 // Compares the length, and five bytes from a place on, with what is wanted. Where no bytes are wanted they cannot be read.
-fn compare(rt: &impl Abort, source: &mut FileSource, len: u64, at: u64, bytes: &str) {
+fn compare(rt: &impl Abort, source: &mut impl Source, len: u64, at: u64, bytes: &str) {
     let mut buf = [0u8; 5];
     holds!(*rt; source.len() == Ok(len), bytes);
     let is_read = source.read_at(at, &mut buf).is_ok();
@@ -37,6 +37,20 @@ fn reads_files(rt: HostRuntime) -> Result<(), Fail> {
     let places = &[(4294967298, "bytes"), (2, "\0\0\0\0\0")];
     reads(&rt, &rt, "far.db", 4294967303, places);
     fs::remove_file(&rt, "far.db")?;
+    Ok(())
+}
+
+// The length is that of the end of the file, not the one that was found at its path before it was opened.
+#[test]
+fn goes_to_the_end(rt: HostRuntime) -> Result<(), Fail> {
+    fs::write(&rt, "end.db", b"7 bytes".as_slice())?;
+    let files = FakeFiles::new(&rt, Allowed::Lying);
+    let mut source = FileSource::open(&files, "end.db");
+    holds!(rt; source.is_ok() && !files.has_refused(), "end.db");
+    if let Ok(source) = &mut source {
+        compare(&rt, source, 7, 2, "bytes");
+    }
+    fs::remove_file(&rt, "end.db")?;
     Ok(())
 }
 

@@ -16,6 +16,8 @@ mod fake_files;
 #[cfg(test)]
 mod fake_outs;
 #[cfg(test)]
+mod fake_sources;
+#[cfg(test)]
 mod files;
 #[cfg(test)]
 mod lines;
@@ -23,6 +25,8 @@ mod lines;
 mod logs;
 #[cfg(test)]
 mod one_log;
+#[cfg(test)]
+mod read_ahead;
 #[cfg(test)]
 mod runs;
 

@@ -1,7 +1,7 @@
 // Lines that are run on real files: the status, and what stands in the outs.
 use crate::fake_files::{Allowed, FakeFiles};
 use crate::fake_outs::LogWriter;
-use dbcli::{Progress, run_words};
+use dbcli::{Progress, System, SystemFiles, run_words};
 use dbfiles::TestFile;
 use dbsource::{BufferedOut, MemOut};
 use std::cell::RefCell;
@@ -184,8 +184,9 @@ fn status_of(
 ) -> u8 {
     let files = FakeFiles::new(rt, Allowed::Reading);
     let progress = Progress::new(rt.stderr(), false);
+    let mut system = System::new(&files, SystemFiles::new(&files));
     // No status of a run is 255.
-    match run_words(&files, words, out, err, notes, &progress) {
+    match run_words(&mut system, words, out, err, notes, &progress) {
         Ok(status) if !files.has_refused() => status,
         _ => 255,
     }

@@ -1,0 +1,83 @@
+-- What finishing leaves, and what a run of a line does: from a source and two Outs to what these have become, by what their
+-- traits say of them.
+use Rattle.std.specs.Prelude.{◌≡◌, ◌≤◌, ◌⊎◌, ℕ, List, Result, Ok, Err}
+use Rattle.std.specs.Io.KnownBytes.{Keeps}
+use Rattle.dbformat.specs.File.{geometry}
+use Rattle.dbformat.specs.Log.{IsRunLog, IsSomeRunLog}
+use Rattle.dbformat.specs.declared.Refusal.{Refusal}
+use Rattle.dbsource.specs.Headers.{IsOpenLog}
+use Rattle.dbsource.specs.Snapshots.{HasRead}
+use Rattle.dbsource.specs.Sources.{HasRanges}
+use Rattle.dbsource.specs.declared.error.OpenError.TheVariants as opening
+use Rattle.dbsource.specs.declared.error.RunError.{RunError}
+use Rattle.dbsource.specs.declared.error.RunError.TheVariants.{ReadFailed}
+use Rattle.dbsource.specs.declared.out.Out.{Ghosts as OutWords}
+use Rattle.dbsource.specs.declared.source.ReadFailed.{ReadFailed as Unread}
+use Rattle.dbsource.specs.declared.source.Source.{Ghosts as SourceWords}
+use Rattle.dbcli.specs.ErrorLines.{error_line}
+use Rattle.dbcli.specs.Exit.{EndsWithLine, HasFailed, IsFinishOf, IsHandedOn, IsHandedOnOrFailed, IsKnown, failures_at_4, first_most, second_most}
+use Rattle.dbcli.specs.Requests.{WritesToFirst}
+use Rattle.dbcli.specs.Status.{exit_status}
+use Rattle.dbcli.specs.declared.request.Request.{Request}
+
+module _ {S O E : Type 0} (source : SourceWords S) (out : OutWords O) (err : OutWords E) where
+  -- What was read, and what became of it.
+  pub record IsFinished (asked : Request) (status : ℕ) (old new : S × O × E) : Type 0 where
+    -- There is a file, of the length that the source answered, that agrees with every byte that the run used; and of each such
+    -- file the run asked for what one over it asks for, no page twice but page 1 behind its header, and the status says its end.
+    pub read : HasRead source.step source.lengths IsSomeRunLog
+        (λ file ranges. IsRunLog (geometry file) ranges × IsFinishOf status asked file (out.held old.1) (out.held new.1) (err.held old.2) (err.held new.2))
+        (source.held old.0) (source.held new.0)
+    -- at 3 the header alone was asked for, once; and not even that, where the file is too short to have one
+    pub refused : status ≡ 3
+        → (why : Refusal) × HasRanges source.step (IsOpenLog (Err (opening.Refused why))) (source.held old.0).trail (source.held new.0).trail
+
+  -- Who failed.
+  pub record FailsByStatus (status : ℕ) (old new : S × O × E) : Type 0 where
+    -- the source, once, exactly at 4
+    pub reads : (source.held new.0).failures ≡ failures_at_4 status (source.held old.0).failures
+    -- at 6 one of the Outs
+    pub writes : status ≡ 6 → HasFailed (out.held old.1) (out.held new.1) ⊎ HasFailed (err.held old.2) (err.held new.2)
+
+  -- What is on the first Out, beside what the status says of a file.
+  pub record LeavesFirst (status : ℕ) (old new : O) : Type 0 where
+    -- at a verdict all was handed on, and no call of it failed
+    pub whole : status ≤ 1 → IsHandedOn (out.held old) (out.held new)
+    -- at a refusal it is as it was
+    pub unwritten : status ≡ 3 → new ≡ old
+    -- at the other errors what was pending was handed on, if that could be
+    pub tried : 4 ≤ status → IsHandedOnOrFailed (first_most status) (out.held old) (out.held new)
+
+  -- What is on the second.
+  pub record LeavesSecond (asked : Request) (status : ℕ) (old new : E) : Type 0 where
+    -- at a verdict all was handed on, and no call of it failed
+    pub whole : status ≤ 1 → IsHandedOn (err.held old) (err.held new)
+    -- at an error what was pending and the line of the error were handed on, if that could be
+    pub tried : 3 ≤ status → IsHandedOnOrFailed (second_most status) (err.held old) (err.held new)
+    -- of a check, an explanation or a map it got nothing at a verdict
+    pub quiet : WritesToFirst asked → status ≤ 1 → Keeps (err.held old).bytes (err.held new).bytes
+    -- and at an error the line of one with this status
+    pub line : WritesToFirst asked → 3 ≤ status
+        → (error : RunError) × (exit_status (Err error) ≡ status) × EndsWithLine (error_line error) (second_most status) (err.held old) (err.held new)
+
+  -- All of this: of a source that finishing was given, and what it left of that.
+  pub record Finishes (asked : Request) (status : ℕ) (old new : S × O × E) : Type 0 where
+    pub read : IsFinished asked status old new
+    pub known : IsKnown status
+    pub failed : FailsByStatus status old new
+    pub first : LeavesFirst status old.1 new.1
+    pub second : LeavesSecond asked status old.2 new.2
+
+  -- Where no file was opened.
+  pub record IsUnopened (status : ℕ) (old new : O × E) : Type 0 where
+    -- the status is that of a file that cannot be read
+    pub at_4 : status ≡ 4
+    -- nothing was done to the first Out
+    pub first : new.0 ≡ old.0
+    -- the second got the line E8, and that was handed on, if it could be
+    pub second : EndsWithLine (error_line ReadFailed) 2 (err.held old.1) (err.held new.1)
+
+  -- What was opened was finished, and was left in some state; or nothing was.
+  abbrev pub FinishesOpened : Request → ℕ → Result S Unread → O × E → O × E → Type 0
+  FinishesOpened asked status (Ok s) old new = (left : S) × Finishes asked status (s, old.0, old.1) (left, new.0, new.1)
+  FinishesOpened asked status (Err e) old new = IsUnopened status old new

@@ -1,0 +1,44 @@
+-- From the words of a command line to an exit status: what was opened, and what became of it.
+use Rattle.std.specs.Prelude.{◌≡◌, ◌⊎◌, ℕ, List, Result}
+use Rattle.clap.specs.Words.{Text, subcommand_of}
+use Rattle.dbsource.specs.declared.out.Out.{Ghosts as OutWords}
+use Rattle.dbsource.specs.declared.source.ReadFailed.{ReadFailed as Unread}
+use Rattle.dbsource.specs.declared.source.Source.{Ghosts as SourceWords}
+use Rattle.dbcli.specs.CommandLine.{AsksFor, HasLimit, IsErrorOf, dbck_app}
+use Rattle.dbcli.specs.Finishing.{FinishesOpened}
+use Rattle.dbcli.specs.Status.{line_status}
+use Rattle.dbcli.specs.declared.command_line.LineError.{LineError}
+use Rattle.dbcli.specs.declared.request.Request.{Request}
+
+-- the status of an error of the words, or 6 where they ask for help or the version, which could not be printed
+abbrev pub IsTold : ℕ → LineError → Type 0
+IsTold status error = (status ≡ line_status error) ⊎ ((line_status error ≡ 0) × (status ≡ 6))
+
+module _ {F S O E : Type 0} (opens : F → List ℕ → Result S Unread → F → Type 0) (source : SourceWords S) (out : OutWords O) (err : OutWords E) where
+  -- What became of a line that asks this of the file at this path.
+  pub record RunsLine (asked : Request) (path : Text) (status : ℕ) (old new : F × O × E) : Type 0 where
+    -- that file was opened, or could not be, and no other
+    pub answer : Result S Unread
+    pub opened : opens old.0 path answer new.0
+    -- and what was opened was finished
+    pub finished : FinishesOpened source out err asked status answer (old.1, old.2) (new.1, new.2)
+
+  -- What became of words that are taken: what they ask for, of the file that they name, was run.
+  pub record RunsWords (words : List Text) (status : ℕ) (old new : F × O × E) : Type 0 where
+    pub request : Request
+    pub file : Text
+    pub asked : AsksFor (subcommand_of dbck_app words) request file
+    pub limit : HasLimit request
+    pub ran : RunsLine request file status old new
+
+  -- What became of words that are not: no file was opened, and nothing was put to an Out.
+  pub record IsUnrun (old new : F × O × E) : Type 0 where
+    pub files : new.0 ≡ old.0
+    pub first : new.1 ≡ old.1
+    pub second : err.held new.2 ≡ err.held old.2
+
+  -- And of any: they were taken; or they have an error, of which the status says what it is.
+  abbrev pub AnswersWords : List Text → ℕ → F × O × E → F × O × E → Type 0
+  AnswersWords words status old new =
+      RunsWords words status old new
+      ⊎ ((error : LineError) × IsErrorOf error words × IsTold status error × IsUnrun old new)

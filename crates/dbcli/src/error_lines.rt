@@ -1,0 +1,33 @@
+// The lines of errors.
+ghost use Rattle.std.specs.Prelude.{◌≡◌};
+ghost use Rattle.dbcli.specs.ErrorLines.{error_line, refusal_line};
+
+use dbsource::{Refusal, RunError};
+
+#[tactic(auto, unfolding(crate::specs::ErrorLines::refusal_line))]
+fn refusal_line(refusal: Refusal) -> &'static str
+    ensures { result.now ≡ refusal_line refusal }
+{
+    match refusal {
+        Refusal::Short => "dbck: E1 file is shorter than 100 bytes\n",
+        Refusal::Magic => "dbck: E2 file is not a SQLite 3 database\n",
+        Refusal::PageSize => "dbck: E3 page size is not valid\n",
+        Refusal::Usable => "dbck: E4 usable size is below 480\n",
+        Refusal::NoPage => "dbck: E5 file has no whole page\n",
+        Refusal::TooManyPages => "dbck: E6 file has more than 67108864 pages\n",
+        Refusal::MapAtLock => "dbck: E7 pointer map at the lock-byte page\n",
+    }
+}
+
+/// The line of an error, with its line feed. What it says is the text of the error.
+#[tactic(auto, unfolding(crate::specs::ErrorLines::error_line))]
+pub fn error_line(error: RunError) -> &'static str
+    ensures { result.now ≡ error_line error }
+{
+    match error {
+        RunError::Refused(refusal) => refusal_line(refusal),
+        RunError::ReadFailed => "dbck: E8 the file cannot be read\n",
+        RunError::OutOfMemory => "dbck: E9 out of memory\n",
+        RunError::WriteFailed => "dbck: E10 the output cannot be written\n",
+    }
+}

@@ -1,0 +1,187 @@
+// What is read of a file that is read ahead, and along, and when it is.
+use crate::fake_files::{Allowed, FakeFiles};
+use dbsource::{FileSource, Source};
+use std::fs;
+use std::fs::File;
+use std::process::Abort;
+use std::rt::{Clock, Files};
+use std::test::Fail;
+use std::time::Duration;
+
+const WINDOW: u64 = 1_048_576;
+
+// The bounds, in microseconds: each window is read ahead, those that come from a device, and none.
+const BOUNDS: [Option<u64>; 3] = [Some(0), Some(15), None];
+
+// How long the files are.
+const LENGTHS: [u64; 5] = [0, 5, WINDOW, 2 * WINDOW, 2 * WINDOW + 77_777];
+
+// How long reads are: of pages, and of parts that cross windows.
+const SIZES: [usize; 4] = [4096, 65_536, 3000, 300_000];
+
+// In which order parts are read: each is so many after the one before. 1 is a row, and the others jump.
+const STEPS: [u64; 3] = [1, 3, 101];
+
+fn byte_at(place: u64) -> u8 {
+    (place % 251) as u8
+}
+
+fn are_right(offset: u64, bytes: &[u8]) -> bool {
+    let mut place = offset;
+    for byte in bytes {
+        if *byte != byte_at(place) {
+            return false;
+        }
+        place = place.wrapping_add(1);
+    }
+    true
+}
+
+fn make_file(rt: &HostRuntime, path: &str, len: u64) -> Result<(), Fail> {
+    let mut bytes = Vec::new(rt.alloc());
+    for place in 0..len {
+        bytes.push(byte_at(place))?;
+    }
+    fs::write(rt, path, bytes.as_slice())?;
+    Ok(())
+}
+
+fn open<'r, R: Files<File = File> + Clock + AllocGlobal>(
+    rt: &'r R,
+    path: &str,
+    bound: Option<u64>,
+) -> Result<FileSource<'r, R>, Fail> {
+    Ok(FileSource::open_with(rt, path, bound.map(Duration::from_micros))?)
+}
+
+// Reads into `buf` from a place on, in a file of so many bytes: its bytes, or nothing where they pass its end.
+fn read_part(stop: &impl Abort, source: &mut impl Source, len: u64, offset: u64, buf: &mut [u8]) {
+    let is_inside = offset.saturating_add(buf.len() as u64) <= len;
+    let is_read = source.read_at(offset, buf).is_ok();
+    holds!(*stop; is_read == is_inside, "a part");
+    holds!(*stop; !is_read || are_right(offset, buf), "a part");
+}
+
+// The same of a page, by its number from 0 on.
+fn read_page(stop: &impl Abort, source: &mut impl Source, len: u64, number: u64, page: &mut [u8]) {
+    let size = page.len() as u64;
+    read_part(stop, source, len, number.wrapping_mul(size), page);
+}
+
+// Reads all parts of a file, and two behind its end.
+fn read_parts(stop: &impl Abort, source: &mut impl Source, len: u64, step: u64, buf: &mut [u8]) {
+    let size = buf.len() as u64;
+    let parts = len.checked_div(size).unwrap_or(0).saturating_add(2);
+    let mut part = 0u64;
+    for _ in 0..parts {
+        read_page(stop, source, len, part, buf);
+        part = part.wrapping_add(step).checked_rem(parts).unwrap_or(0);
+    }
+}
+
+#[test]
+fn reads_the_same_at_each_bound(rt: HostRuntime) -> Result<(), Fail> {
+    for len in LENGTHS {
+        make_file(&rt, "parts.db", len)?;
+        for bound in BOUNDS {
+            let mut source = open(&rt, "parts.db", bound)?;
+            for size in SIZES {
+                let mut buf = vec![in rt.alloc(); 0; size]?;
+                for step in STEPS {
+                    read_parts(&rt, &mut source, len, step, &mut buf);
+                }
+            }
+        }
+    }
+    fs::remove_file(&rt, "parts.db")?;
+    Ok(())
+}
+
+fn cut(rt: &HostRuntime, path: &str, len: u64) -> Result<(), Fail> {
+    File::options().write(true).open(rt, path)?.set_len(len)?;
+    Ok(())
+}
+
+// Behind the end of a file that was cut short nothing is read, but what a longer read returned before.
+#[test]
+fn reads_a_file_that_is_cut_short(rt: HostRuntime) -> Result<(), Fail> {
+    let mut page = [0u8; 4096];
+    for bound in BOUNDS {
+        make_file(&rt, "cut.db", 2 * WINDOW)?;
+        let mut source = open(&rt, "cut.db", bound)?;
+        read_page(&rt, &mut source, 2 * WINDOW, 0, &mut page);
+        cut(&rt, "cut.db", 80_000)?;
+        for number in [200, 2, 300, 19, 18, 5, 6, 7, 8, 9, 10, 11] {
+            read_page(&rt, &mut source, 80_000, number, &mut page);
+        }
+        // The last of these was a longer read of 32768 bytes.
+        cut(&rt, "cut.db", 20_000)?;
+        for (number, is_read) in [(12, true), (17, true), (18, false), (2, true), (5, false)] {
+            let offset = 4096u64.wrapping_mul(number);
+            holds!(rt; source.read_at(offset, &mut page).is_ok() == is_read, "a page");
+            holds!(rt; !is_read || are_right(offset, &page), "a page");
+        }
+    }
+    fs::remove_file(&rt, "cut.db")?;
+    Ok(())
+}
+
+// How often the clock is looked at while each page is read twice, with gaps.
+fn looks(rt: &HostRuntime, bound: Option<u64>, pages: u64) -> Result<u64, Fail> {
+    let files = FakeFiles::new(rt, Allowed::Reading);
+    let mut page = [0u8; 4096];
+    let mut source = open(&files, "looks.db", bound)?;
+    for turn in 0..pages.saturating_mul(2) {
+        let number = turn.wrapping_mul(7).checked_rem(pages).unwrap_or(0);
+        let _ = source.read_at(number.wrapping_mul(4096), &mut page);
+    }
+    Ok(files.looks())
+}
+
+#[test]
+fn looks_at_the_clock_once_a_window(rt: HostRuntime) -> Result<(), Fail> {
+    for (len, found) in [(0, 0), (4096, 2), (WINDOW, 2), (WINDOW + 4096, 4)] {
+        make_file(&rt, "looks.db", len)?;
+        for bound in BOUNDS {
+            // A look before the read, and one behind it.
+            let wanted = if bound.is_some() { found } else { 0 };
+            holds!(rt; looks(&rt, bound, len / 4096)? == wanted, "looks");
+        }
+    }
+    fs::remove_file(&rt, "looks.db")?;
+    Ok(())
+}
+
+// How many bytes this process has read, if the system counts them.
+fn bytes_read(rt: &HostRuntime) -> Option<u64> {
+    let text = fs::read_to_string(rt, "/proc/self/io").ok()?;
+    let line = text.as_str().lines().next()?;
+    line.strip_prefix("rchar: ")?.parse::<u64>().ok()
+}
+
+// How many windows are read ahead while four pages of two windows are read, where a read takes so many microseconds.
+fn windows_read(rt: &HostRuntime, stop: &impl Abort, pace: u64) -> Result<Option<u64>, Fail> {
+    let files = FakeFiles::new(rt, Allowed::Reading);
+    files.set_pace(pace);
+    let mut page = [0u8; 4096];
+    let mut source = FileSource::open(&files, "ahead.db")?;
+    let before = bytes_read(rt);
+    for number in [300, 2, 400, 9] {
+        read_page(stop, &mut source, 2 * WINDOW, number, &mut page);
+    }
+    match (before, bytes_read(rt)) {
+        (Some(before), Some(after)) => Ok(Some(after.saturating_sub(before) / WINDOW)),
+        _ => Ok(None),
+    }
+}
+
+#[test]
+fn reads_ahead_what_a_device_has(rt: HostRuntime) -> Result<(), Fail> {
+    make_file(&rt, "ahead.db", 2 * WINDOW)?;
+    for (pace, wanted) in [(0, 0), (14, 0), (15, 2), (1000, 2)] {
+        let found = windows_read(&rt, &rt, pace)?;
+        holds!(rt; found.is_none() || found == Some(wanted), "windows");
+    }
+    fs::remove_file(&rt, "ahead.db")?;
+    Ok(())
+}
