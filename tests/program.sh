@@ -73,6 +73,23 @@ expect 1 $'*\n-\t-\t8\tunowned\t0\t0\t0\t0\t3584\t512\n' "$twice$unused" stat --
 expect 1 $'sqlite_schema\t-\t*' "$twice$unused" stat --aggregate "$data/two-owners.db"
 expect 1 $'*\n-\t-\t8\tunowned\t0\t0\t0\t0\t3584\t512\n' "$twice$unused" stat --aggregate --all "$data/two-owners.db"
 
+# 999 faults, of which the limit says how many are written: pages 2 to 1000 are not in use.
+cp "$data/empty.db" "$work/unused.db"
+truncate -s 512000 "$work/unused.db"
+lines=$(seq -f 'N01 page %.0f item 0 value 0: page is not in use' 2 1000)
+expect 1 "$lines"$'\n' '' check --limit 999 "$work/unused.db"
+expect 1 "$(head -n 998 <<< "$lines")"$'\nmore 1\n' '' check --limit 998 "$work/unused.db"
+expect 1 "$(head -n 100 <<< "$lines")"$'\nmore 899\n' '' check "$work/unused.db"
+# explained LIMIT MORE: whether the last run explained so many of them, and says how many more there are.
+explained() {
+    ended 1 $'*\n999 faults\n*' '' && diff <(grep '^N01' "$work/out") <(head -n "$1" <<< "$lines") > "$work/why" &&
+        [ "$(grep '^more' "$work/out")" = "$2" ]
+}
+run explain --limit 999 "$work/unused.db"
+count '999 faults explained' explained 999 ''
+run explain --limit 998 "$work/unused.db"
+count '998 faults explained' explained 998 'more 1'
+
 # The same faults, explained.
 note='table note'
 twice_below="    page 2 at byte 512: root of $note"$'\n'"    page 7 at byte 3072: in $note, child of page 2"$'\n'
@@ -87,7 +104,7 @@ expect 1 $'H10 page 1 item 0 value 3: freelist count differs from the header\n  
 # Pictures, with the name of the file and no line of a fault.
 picture='<svg xmlns=*<title>Pages of'
 expect 0 "$picture"$' whole.db</title>\n*, no fault; *</svg>\n' '' map "$data/whole.db"
-expect 1 "$picture"$' two-owners.db</title>\n*, 2 faults; *<title>page 8: in no tree, *, with a fault</title>*</svg>\n' '' map "$data/two-owners.db"
+expect 1 "$picture"$' two-owners.db</title>\n*, 2 faults; *<title>page 8: in no tree, *, with N01</title>*</svg>\n' '' map "$data/two-owners.db"
 cp "$data/empty.db" "$work/<b>&.db"
 expect 0 "$picture"$' &lt;b&gt;&amp;.db</title>\n*</svg>\n' '' map "$work/<b>&.db"
 
@@ -143,6 +160,13 @@ for command in check explain map stat; do
     done
     expect 4 '' "dbck: note: $work/no-bytes.db/x: Not a directory"$'\n'"$unread" "$command" "$work/no-bytes.db/x"
 done
+# A named pipe is not waited for.
+mkfifo "$work/named"
+for command in check explain map stat; do
+    timeout 10 "$dbck" "$command" "$work/named" > "$work/out" 2> "$work/err" < /dev/null
+    status=$?
+    count "$command of a named pipe" ended 4 '' "dbck: note: $work/named: not a regular file"$'\n'"$unread"
+done
 # A file that has fewer bytes than it says.
 lying=/sys/devices/system/cpu/online
 if [ -f "$lying" ]; then
@@ -161,6 +185,27 @@ if truncate -s 34359738368 "$work/many-pages.db" 2> "$work/why"; then
     done
 else
     echo "no run without memory: $(cat "$work/why")"
+fi
+
+# A page above 8 GiB is read: page 1 is an interior page whose one child is the last of 131074 pages of 65536 bytes, a leaf
+# without cells, which only a root may be. Page 16385 is the lock-byte page, and nothing names the others: 131071 are lost.
+put() {
+    printf '%b' "$2" | dd of="$work/far.db" bs=1 seek="$1" conv=notrunc status=none
+}
+if truncate -s 8590065664 "$work/far.db" 2> "$work/why"; then
+    put 0 'SQLite format 3\0'
+    put 16 '\0\01\01\01\0\0100\040\040'
+    put 100 '\05'
+    put 108 '\0\02\0\02'
+    put 8590000128 '\015'
+    expect 1 $'P10 page 131074 item 0 value 0: empty page that is not a root\nmore 131071\n' '' check --limit 1 "$work/far.db"
+    run stat "$work/far.db"
+    : > "$work/err"
+    count 'stat of a page above 8 GiB' ended 1 \
+        $'sqlite_schema\t/\t1\tinternal\t0\t0\t65424\t0\t0\t65536\nsqlite_schema\t/000/\t131074\tleaf\t0\t0\t65528\t0\t8590000128\t65536\n' ''
+    rm "$work/far.db"
+else
+    echo "no run above 8 GiB: $(cat "$work/why")"
 fi
 
 # 6: an output that takes nothing.
@@ -256,6 +301,58 @@ if [ "$(sqlite3 :memory: 'SELECT count(*) FROM dbstat' 2> /dev/null)" ]; then
     count 'the rows of dbstat' tests/compare_dbstat.sh "$dbck" "$data/whole.db" "$data/by-sqlite.db" tests/sqlite/*.db
 else
     echo 'no rows to compare with: there is no sqlite3 with dbstat'
+fi
+
+# verdict FILE: `ok`, `faults` or `refused`, by the first line and the status of the run.
+verdict() {
+    run check --limit 1 "$1"
+    case $status,$(< "$work/out") in
+        0,ok) echo ok ;;
+        1,*) echo faults ;;
+        3,) echo refused ;;
+        *) echo "status $status" ;;
+    esac
+}
+
+# make_damaged: makes damaged databases, which have to be those of the table.
+make_damaged() {
+    tests/damage.py --of tests/sqlite --copies 2 "$work/damaged" > "$work/out"
+    (cd "$work/damaged" && printf '%s\n' *) | LC_ALL=C sort > "$work/names"
+    grep -v '^#' tests/damaged.txt | cut -f 3 | LC_ALL=C sort | cmp -s - "$work/names"
+}
+
+# The examples of docs/SQLITE.md, each with the codes of all its faults.
+while read -r name wanted; do
+    run check "tests/beside/$name.db"
+    count "$name: $wanted" [ "$(cut -d ' ' -f 1 "$work/out" | paste -sd ' ')" = "$wanted" ]
+done << 'END'
+write-version H01
+text-encoding H04
+reserved-header-byte H05
+end-in-last-page H06 R01
+no-schema-format H08
+many-fragments P04
+name-not-text S02
+other-type S03 N01
+root-after-others M02
+end-after-last-page ok
+near-freeblocks ok
+index-order ok
+missing-from-index ok
+null-value ok
+unreadable-row ok
+schema-text ok
+END
+expect 3 '' '*dbck: E5 *' check tests/beside/less-than-a-page.db
+
+# Damaged databases: each has the verdict that SQLite gives, or that docs/SQLITE.md gives the reason for.
+if command -v python3 > "$work/out"; then
+    count 'damaged databases are made' make_damaged
+    while IFS=$'\t' read -r wanted _ name; do
+        count "$name: $wanted" [ "$(verdict "$work/damaged/$name")" = "$wanted" ]
+    done < <(grep -v '^#' tests/damaged.txt)
+else
+    echo 'no damaged databases to look at: there is no python3'
 fi
 
 # The words of the completions are those of the help.

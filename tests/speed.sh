@@ -4,6 +4,11 @@
 # quick_check, dbck check, the rows of dbstat, and dbck stat. Of each the least time of all rounds counts. The files are in the
 # page cache then. It prints a table: milliseconds, the ratios of dbck to SQLite and to cat, and the peak memory of dbck in
 # MiB, by GNU time.
+#
+# One of them, shuffled, has some 400 MiB: its rows and the entries of its index came in no order.
+#
+# As root it prints a second table: the times with nothing of the file in the page cache, in milliseconds, the least and the
+# greatest of a third as many rounds, for cat, quick_check and each command of dbck. A line before it says which disk that was.
 set -eu
 dbck=$(realpath "${1:?give the program}")
 folder=${2:-}
@@ -70,13 +75,22 @@ CREATE TABLE t(a INTEGER PRIMARY KEY, b);
 $(numbers 660) INSERT INTO t SELECT i, zeroblob(100000 + i) FROM n;
 SQL
 
+make shuffled.db <<SQL
+$settings
+PRAGMA cache_size = -600000;
+CREATE TABLE t(a INTEGER PRIMARY KEY, b, c);
+CREATE INDEX k ON t(b);
+$(numbers 2380000) INSERT INTO t
+    SELECT $mixed, printf('%08x-%08x', i * 2246822519 % 4294967296, i), printf('%0*d', 50 + i % 100, i) FROM n;
+SQL
+
 # The present time, in microseconds.
 now() {
     echo "${EPOCHREALTIME/./}"
 }
 
-# least NAME COMMAND..: keeps the least time of NAME, in microseconds. A status of 0 is wanted.
-declare -A time
+# least NAME COMMAND..: keeps the least and the greatest time of NAME, in microseconds. A status of 0 is wanted.
+declare -A time most
 least() {
     local name=$1 start end
     shift
@@ -86,6 +100,22 @@ least() {
     if [ -z "${time[$name]:-}" ] || [ $((end - start)) -lt "${time[$name]}" ]; then
         time[$name]=$((end - start))
     fi
+    if [ $((end - start)) -gt "${most[$name]:-0}" ]; then
+        most[$name]=$((end - start))
+    fi
+}
+
+# cold NAME COMMAND..: the same with nothing of the file in the page cache, where the program is.
+cold() {
+    sync
+    echo 3 > /proc/sys/vm/drop_caches
+    "$2" --version > /dev/null
+    least "$@"
+}
+
+# span NAME: the least and the greatest of its times.
+span() {
+    echo "$((time[$1] / 1000)) to $((most[$1] / 1000))"
 }
 
 # ratio NAME NAME: of two times, with two decimals.
@@ -117,4 +147,28 @@ for file in "$folder"/*.db; do
     printf '| %s | %d | %s | %s | %s | %s | %s | %s | %s | %s | %s, %s |\n' "$(basename "$file" .db)" \
         $(($(stat -c %s "$file") / 1048576)) "$(millis cat)" "$(millis quick)" "$(millis check)" "$(ratio check quick)" \
         "$(ratio check cat)" "$(millis dbstat)" "$(millis stat)" "$(ratio stat dbstat)" "$(memory check "$file")" "$(memory stat "$file")"
+done
+
+if ! { [ "$(id -u)" = 0 ] && echo 3 > /proc/sys/vm/drop_caches; } 2> /dev/null; then
+    echo 'no second table: the page cache cannot be dropped'
+    exit
+fi
+disk=$(df --output=source "$folder" | tail -n 1)
+printf '\non %s: ' "$disk"
+lsblk -n -d -o SIZE,ROTA,MODEL "$disk" 2> /dev/null || echo 'a disk that lsblk does not know'
+echo '| File | MiB | cat | quick_check | check | to it | to cat | stat | explain | map |'
+echo '|---|---|---|---|---|---|---|---|---|---|'
+for file in "$folder"/*.db; do
+    time=()
+    most=()
+    for _ in $(seq $(((rounds + 2) / 3))); do
+        cold cat cat "$file"
+        cold quick sqlite3 "$file" 'PRAGMA quick_check'
+        for command in check stat explain map; do
+            cold "$command" "$dbck" "$command" "$file"
+        done
+    done
+    printf '| %s | %d | %s | %s | %s | %s | %s | %s | %s | %s |\n' "$(basename "$file" .db)" \
+        $(($(stat -c %s "$file") / 1048576)) "$(span cat)" "$(span quick)" "$(span check)" "$(ratio check quick)" \
+        "$(ratio check cat)" "$(span stat)" "$(span explain)" "$(span map)"
 done
