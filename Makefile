@@ -13,11 +13,12 @@ KIT = $(patsubst %/,%,$(dir $(shell rt doc)))
 
 .PHONY: all install uninstall deb static version
 
-# rt builds only what is proved, and does again what has changed alone.
+# `rt run` builds only what is proved, and again only what has changed. The other targets depend on it, so that none of them takes
+# a program that is older than the sources.
 all:
 	cd crates/dbck && rt run -- --version
 
-install: $(PROGRAM)
+install: all
 	$(INSTALL) -D -m 755 $(PROGRAM) $(BIN)/dbck
 	$(INSTALL) -D -m 644 docs/dbck.1 $(SHARE)/man/man1/dbck.1
 	$(INSTALL) -D -m 644 completions/dbck.bash $(SHARE)/bash-completion/completions/dbck
@@ -28,15 +29,12 @@ uninstall:
 	rm -f $(BIN)/dbck $(SHARE)/man/man1/dbck.1 $(SHARE)/bash-completion/completions/dbck \
 	    $(SHARE)/zsh/site-functions/_dbck $(SHARE)/fish/vendor_completions.d/dbck.fish
 
-deb: $(PROGRAM)
+deb: all
 	packaging/make-deb $(PROGRAM) $(VERSION)
 
 # The same object file, linked with a C library that it brings along.
-static: $(PROGRAM)
+static: all
 	$(CC) -static -o $(PROGRAM)-static $(PROGRAM).o $(KIT)/c/libos_c.a $(KIT)/c/liblibc_c.a
 
 version:
 	@echo $(VERSION)
-
-$(PROGRAM):
-	$(MAKE) all
