@@ -15,45 +15,6 @@ pub(crate) struct Faulty {
     pub(crate) codes: Codes,
 }
 
-// All codes, in the order of the documentation.
-const CODES: [FaultCode; 35] = [
-    FaultCode::H01,
-    FaultCode::H02,
-    FaultCode::H03,
-    FaultCode::H04,
-    FaultCode::H05,
-    FaultCode::H06,
-    FaultCode::H07,
-    FaultCode::H08,
-    FaultCode::H09,
-    FaultCode::H10,
-    FaultCode::P01,
-    FaultCode::P02,
-    FaultCode::P03,
-    FaultCode::P04,
-    FaultCode::P05,
-    FaultCode::P06,
-    FaultCode::P07,
-    FaultCode::P08,
-    FaultCode::P09,
-    FaultCode::P10,
-    FaultCode::R01,
-    FaultCode::R02,
-    FaultCode::R03,
-    FaultCode::T04,
-    FaultCode::T05,
-    FaultCode::T06,
-    FaultCode::O01,
-    FaultCode::L01,
-    FaultCode::S01,
-    FaultCode::S02,
-    FaultCode::S03,
-    FaultCode::S04,
-    FaultCode::N01,
-    FaultCode::M01,
-    FaultCode::M02,
-];
-
 // Puts the codes, each after a space.
 fn put_codes<O: Out>(out: &mut O, codes: Codes) -> Result<(), WriteFailed>
     ensures { PutsSome result (O.held out.old) (O.held out.new) }
@@ -61,7 +22,7 @@ fn put_codes<O: Out>(out: &mut O, codes: Codes) -> Result<(), WriteFailed>
     if codes == Codes::default() {
         return out.put(b" a fault");
     }
-    for code in CODES {
+    for code in FaultCode::all() {
         if codes.has(code) {
             put_all(out, &[Piece::Markup(" "), Piece::Markup(code_text(code))])?;
         }
