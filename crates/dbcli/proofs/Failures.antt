@@ -12,7 +12,7 @@ use Rattle.dbcli.specs.Exit.{EndsWithLine, HasFailed, IsHandedOnOrFailed}
 pub not_same : (m n : ℕ) → n ≡ one_more m → n ≢ m
 not_same m n h = λ e. absurd (omega (arith, h, e))
 
--- two counts of failures, of which so many moved by one
+-- two counts of failures, of which some number moved by one
 pub record Moved (k : ℕ) (out err out' err' : OutState) : Type 0 where
   pub first : ℕ
   pub second : ℕ
@@ -52,7 +52,7 @@ one_moved out err out' err' (inr (same, inl (second, none))) = record {
 }
 one_moved out err out' err' (inr (same, inr (also, none))) = absurd none
 
--- more failures behind others
+-- more failures after others
 pub more_failures : (before now after s x : ℕ) → now % 2 ^ 64 ≡ (before + s) % 2 ^ 64 → after % 2 ^ 64 ≡ (now + x) % 2 ^ 64 → after % 2 ^ 64 ≡ (before + s + x) % 2 ^ 64
 more_failures before now after s x h k = k ∙ sym (mod-add-mod now (2 ^ 64) x) ∙ ap (λ n. (n + x) % 2 ^ 64) h ∙ mod-add-mod (before + s) (2 ^ 64) x
 
@@ -90,7 +90,7 @@ kept_appends (Some x) None n a h k = absurd h
 kept_appends (Some x) (Some y) None a h k = absurd k
 kept_appends (Some x) (Some y) (Some z) a h k = k ∙ ap (λ w. w ++ a) h
 
--- a line behind a few failures
+-- a line after a few failures
 pub few_then_line : (line : List ℕ) (most : ℕ) (old mid new : OutState) → Keeps old.bytes mid.bytes → FewFailed most old mid → EndsWithLine line 2 mid new
     → EndsWithLine line most old new
 few_then_line line most old mid new kept f l = record {

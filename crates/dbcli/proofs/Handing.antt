@@ -217,7 +217,7 @@ module _ (out err out1 err1 out2 err2 err3 : OutState) where
   line_at_error (Ok w) few line kept k = let q = at_verdict w in absurd (omega (arith, q, k))
   line_at_error (Err e) few line kept k = (e, refl, few_then_line (error_line e) (second_most (exit_status (Err e))) err err2 err3 kept few line)
 
-  -- at a verdict nothing is put behind that
+  -- at a verdict nothing is put after that
   pub quiet_at_verdict : (r : Result Verdict RunError) → OnOk r (err3 ≡ err2) → Keeps err.bytes err2.bytes → exit_status r ≤ 1 → Keeps err.bytes err3.bytes
   quiet_at_verdict (Ok w) quiet kept k = subst (λ x. Keeps err.bytes x.bytes) (sym quiet) kept
   quiet_at_verdict (Err (Refused x)) quiet kept k = absurd (omega (arith, k))
@@ -267,7 +267,7 @@ flushed_once : {C Z : Type 0} (r : Result C Z) (old new : OutState) → Flushes 
 flushed_once (Ok x) old new f = record { failed = 0; bound = omega arith; count = same_count old.failures new.failures f.count; all = λ e. f.empty }
 flushed_once (Err x) old new f = record { failed = 1; bound = omega arith; count = more_count old.failures new.failures f.count; all = λ e. absurd (omega arith) }
 
--- a flush behind a line
+-- a flush after a line
 line_after : {C Z : Type 0} (t : Result C Z) (line shown cut : List ℕ) (k : ℕ) (a c d : OutState) → k ≤ 1 → shown ++ cut ≡ line
     → Appends a.bytes c.bytes shown → c.failures % 2 ^ 64 ≡ (a.failures + k) % 2 ^ 64 → (k ≡ 0 → cut ≡ []) → Flushes t c d → EndsWithLine line 2 a d
 line_after t line shown cut k a c d room of_line added count uncut f = let o = flushed_once t c d f in record {

@@ -24,7 +24,7 @@ module _ {S O E : Type 0} (source : SourceWords S) (out : OutWords O) (err : Out
   -- What was read, and what became of it.
   pub record IsFinished (asked : Request) (status : ℕ) (old new : S × O × E) : Type 0 where
     -- There is a file, of the length that the source answered, that agrees with every byte that the run used; and of each such
-    -- file the run asked for what one over it asks for, no page twice but page 1 behind its header, and the status says its end.
+    -- file the run asked for what one over it asks for, no page twice but page 1 after its header, and the status says how it ended.
     pub read : HasRead source.step source.lengths IsSomeRunLog
         (λ file ranges. IsRunLog (geometry file) ranges × IsFinishOf status asked file (out.held old.1) (out.held new.1) (err.held old.2) (err.held new.2))
         (source.held old.0) (source.held new.0)
