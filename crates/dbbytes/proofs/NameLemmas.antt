@@ -1,36 +1,17 @@
 -- How a name is put, piece by piece.
-use Rattle.std.proofs.Common.{◌≡◌, ℕ, suc, ◌+◌, ◌/◌, ◌%◌, ◌<◌, ◌≤◌, true, false, List, [], ◌∷◌, ◌++◌, length, take, drop, get_or, Result, Ok, Err, eqb, refl, sym, ap, ◌∙◌, inl, inr, arith, append_assoc, append-nil, add-one, drop-cons}
+use Rattle.std.proofs.Common.{◌≡◌, ℕ, ◌+◌, ◌<◌, true, List, [], ◌∷◌, ◌++◌, length, take, drop, get_or, Result, Ok, Err, refl, sym, ap, ◌∙◌, arith, append_assoc, append-nil, add-one, drop-cons}
 use Rattle.std.specs.Prelude.{IsTrue}
-use Rattle.std.specs.Fmt.{digits, digits_onto, digit_glyph}
+use Rattle.std.specs.Char.Utf16.{utf16_lossy_chars}
 use Rattle.std.specs.List.{flat_map}
-use Rattle.std.proofs.lemmas.Bool.{cases_lt}
-use Rattle.std.proofs.lemmas.Bool.Decides.{nat_tests}
 use Rattle.std.proofs.lemmas.Grind.{flat_map-append}
-use Rattle.std.proofs.lemmas.List.{take-append-drop, drop-drop, drop_all, length-drop}
+use Rattle.std.proofs.lemmas.List.{take-append-drop, drop-drop, length-drop, at_drop_more}
 use Rattle.dbformat.specs.Text.{escape_byte, hex_text}
 use Rattle.dbsource.specs.Outs.{OutState, Puts}
 use Rattle.dbsource.specs.declared.out.WriteFailed.{WriteFailed}
 use Rattle.dbsource.proofs.Puts.{puts_then, puts_stop}
 use Rattle.dbbytes.specs.Escapes.{is_escaped}
-use Rattle.dbbytes.specs.Units.{text_of}
+use Rattle.dbbytes.specs.Units.{text_of, units}
 use Rattle.dbbytes.specs.declared.text.Order.{Order}
-
--- The two hexadecimal digits of a byte.
-one_digit : (k n : ℕ) → n < 16 → digits_onto (suc k) 16 false n [] ≡ digit_glyph false (n % 16) ∷ []
-one_digit k n h = let e : eqb (n / 16) 0 ≡ true = grind (arith, nat_tests) in rw e refl
-
-two_digits : (k n : ℕ) → 16 ≤ n → n < 256 → digits_onto (suc (suc k)) 16 false n [] ≡ digit_glyph false (n / 16 % 16) ∷ digit_glyph false (n % 16) ∷ []
-two_digits k n h m =
-    let e : eqb (n / 16) 0 ≡ false = grind (arith, nat_tests) in
-    let f : eqb (n / 16 / 16) 0 ≡ true = grind (arith, nat_tests) in
-    rw (e, f) refl
-
-pub hex_byte : (n : ℕ) → n < 256 → digit_glyph false (n / 16) ∷ digit_glyph false (n % 16) ∷ [] ≡ hex_text 2 n
-unfolding digits
-hex_byte n h = elim (cases_lt n 16) [
-  | inl small ↦ (let none : n / 16 ≡ 0 = omega arith in rw (one_digit 63 n small, none) refl)
-  | inr large ↦ (let all : n / 16 % 16 ≡ n / 16 = omega arith in rw (two_digits 62 n large h, all) refl)
-]
 
 -- an escaped byte is written by its code
 pub escaped_byte : (c : ℕ) → is_escaped c ≡ true → escape_byte c ≡ 92 ∷ 120 ∷ hex_text 2 c
@@ -85,9 +66,20 @@ put_all h e =
     let all = sym (append-nil h.done) ∙ rw e at h.split in
     rw all at h.put
 
+-- what is left of a list, by what is put of its next item
+pub rest_items : (f : ℕ → List ℕ) (xs : List ℕ) (at x d : ℕ) → (at < length xs) × (x ≡ get_or xs at d)
+    → flat_map f (drop at xs) ≡ f x ++ flat_map f (drop (at + 1) xs)
+rest_items f xs at x d h = at_drop_more (flat_map f) xs at d h.0 ∙ ap (λ w. f w ++ flat_map f (drop (at + 1) xs)) (sym h.1)
+
 -- what is left of a text in UTF-16, by what is put of it next
 pub rest_text : (order : Order) (name text : List ℕ) (at taken : ℕ) → text_of order (drop at name) ≡ text ++ text_of order (drop taken (drop at name))
     → flat_map escape_byte (text_of order (drop at name)) ≡ flat_map escape_byte text ++ flat_map escape_byte (text_of order (drop (at + taken) name))
 rest_text order name text at taken e =
     let same : text_of order (drop at name) ≡ text ++ text_of order (drop (at + taken) name) = rw drop-drop at e in
     ap (flat_map escape_byte) same ∙ flat_map-append escape_byte text (text_of order (drop (at + taken) name))
+
+-- and by its next character
+pub rest_chars : (f : ℕ → List ℕ) (order : Order) (name : List ℕ) (char at len : ℕ)
+    → utf16_lossy_chars (units order (drop at name)) ≡ char ∷ utf16_lossy_chars (units order (drop len (drop at name)))
+    → flat_map f (utf16_lossy_chars (units order (drop at name))) ≡ f char ++ flat_map f (utf16_lossy_chars (units order (drop (at + len) name)))
+rest_chars f order name char at len e = ap (flat_map f) (rw drop-drop at e)

@@ -1,6 +1,6 @@
 -- UTF-16, unit by unit.
 use Rattle.std.proofs.Common.{◌≡◌, ℕ, ◌+◌, ◌%◌, ◌<◌, ◌≤◌, Bool, true, false, not, ◌&&◌, List, [], ◌∷◌, length, drop, get_or, Some, None, Result, Ok, Err, MatchResult, is_ok, eqb, ltb, leb, refl, sym, ap, ◌∙◌, ◌⊎◌, inl, inr, arith}
-use Rattle.std.specs.Char.Utf16.{utf16_chars, lone_unit_char, is_high_surrogate, is_low_surrogate, surrogate_pair_char, has_unpaired_surrogate}
+use Rattle.std.specs.Char.Utf16.{utf16_chars, utf16_lossy_chars, lone_unit_char, is_high_surrogate, is_low_surrogate, surrogate_pair_char, has_unpaired_surrogate}
 use Rattle.std.specs.Str.{IsUtf8, is_utf8}
 use Rattle.std.proofs.lemmas.Str.{IsUtf8-from_is_utf8, is_utf8-from_IsUtf8}
 use Rattle.std.proofs.lemmas.Bool.Decides.{nat_tests}
@@ -137,6 +137,9 @@ utf8_test P Q (Ok x) bytes h = sym (is_utf8-from_IsUtf8 bytes h.1)
 utf8_test P Q (Err e) bytes h = sym (no_utf8 bytes (is_utf8 bytes) refl h.0)
 
 -- there is none of less than a unit
-pub text_none : (order : Order) (bytes : List ℕ) → length bytes < 2 → text_of order bytes ≡ []
+pub chars_none : (order : Order) (bytes : List ℕ) → length bytes < 2 → utf16_lossy_chars (units order bytes) ≡ []
 unfolding utf16_chars
-text_none order bytes h = rw (units_short order bytes h) refl
+chars_none order bytes h = rw (units_short order bytes h) refl
+
+pub text_none : (order : Order) (bytes : List ℕ) → length bytes < 2 → text_of order bytes ≡ []
+text_none order bytes h = rw (chars_none order bytes h) refl

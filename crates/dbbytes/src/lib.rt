@@ -15,6 +15,7 @@
 mod name;
 mod partial;
 mod payload;
+mod plain;
 mod record_header;
 mod row;
 mod serial;
@@ -27,6 +28,7 @@ pub use dbformat::{Encoding, PayloadKind, RowFault, RowKind};
 pub use dbsource::{Out, WriteFailed};
 pub use name::name_text;
 pub use payload::{local_len, most_local};
+pub use plain::plain_name_text;
 pub use row::SchemaRow;
 pub use serial::serial_len;
 pub use sieve::RowSieve;

@@ -9,7 +9,7 @@ ghost use Rattle.dbbytes.specs.Units.{text_of};
 
 use crate::text::{Order, first_char_lossy, is_well_formed};
 use arrayvec::ArrayVec;
-use dbformat::Encoding;
+use dbformat::{Encoding, hex_byte};
 use dbsource::{Out, WriteFailed};
 
 // How many bytes of a text in UTF-16 are turned into UTF-8 before they are put.
@@ -105,19 +105,10 @@ fn is_escaped(byte: u8) -> bool
     byte < 32 || byte == 127 || byte == b'\\'
 }
 
-fn escape(byte: u8) -> [u8; 4]
+// A byte by its code.
+pub(crate) fn escape(byte: u8) -> [u8; 4]
     ensures { result ≡ 92 ∷ 120 ∷ hex_text 2 byte }
 {
-    [b'\\', b'x', hex_digit(byte / 16), hex_digit(byte % 16)]
-}
-
-fn hex_digit(digit: u8) -> u8
-    requires { digit < 16 }
-    ensures { result ≡ digit_glyph false digit }
-{
-    if digit < 10 {
-        b'0' + digit
-    } else {
-        b'a' + (digit - 10)
-    }
+    let [high, low] = hex_byte(byte);
+    [b'\\', b'x', high, low]
 }

@@ -1,8 +1,8 @@
 // Texts in the three encodings (Database File Format, 1.3.13).
-ghost use Rattle.std.specs.Prelude.{◌≡◌, ◌<◌, ◌≤◌, ◌%◌, ◌==◌, ◌&&◌, not, ◌++◌, length, drop, encode_utf8, MatchOption};
-ghost use Rattle.std.specs.Char.Utf16.{has_unpaired_surrogate};
+ghost use Rattle.std.specs.Prelude.{◌≡◌, ◌<◌, ◌≤◌, ◌%◌, ◌==◌, ◌&&◌, not, ◌∷◌, length, drop, MatchOption};
+ghost use Rattle.std.specs.Char.Utf16.{has_unpaired_surrogate, utf16_lossy_chars};
 ghost use Rattle.dbformat.specs.Text.{is_well_formed};
-ghost use Rattle.dbbytes.specs.Units.{BeginsUnpaired, BeginsWith, text_of, unit_of, units};
+ghost use Rattle.dbbytes.specs.Units.{BeginsUnpaired, BeginsWith, unit_of, units};
 
 use dbformat::Encoding;
 use std::str;
@@ -64,7 +64,7 @@ pub(crate) fn first_char(order: Order, bytes: &[u8]) -> Option<(char, usize)>
 // The same, with U+FFFD for a surrogate with no partner.
 pub(crate) fn first_char_lossy(order: Order, bytes: &[u8]) -> (char, usize)
     requires { 2 ≤ length bytes.now }
-    ensures text { text_of order bytes.now ≡ encode_utf8 result.0 ++ text_of order (drop result.1 bytes.now) }
+    ensures chars { utf16_lossy_chars (units order bytes.now) ≡ result.0 ∷ utf16_lossy_chars (units order (drop result.1 bytes.now)) }
     ensures some { 0 < result.1 }
     ensures within { result.1 ≤ length bytes.now }
 {

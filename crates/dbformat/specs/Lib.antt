@@ -7,6 +7,7 @@ pub mod EndFaults
 pub mod Errands
 pub mod Faults
 pub mod File
+pub mod FirstBytes
 pub mod FixedPages
 pub mod Head
 pub mod Header
@@ -20,6 +21,7 @@ pub mod Numbers
 pub mod Options
 pub mod PageFaults
 pub mod Payload
+pub mod PlainNames
 pub mod Record
 pub mod Reference
 pub mod ReferenceFaults

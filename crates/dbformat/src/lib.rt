@@ -25,11 +25,13 @@ ghost use Rattle.dbformat.specs.declared.Fault.{Fault};
 mod codes;
 mod counts;
 mod fixed_pages;
+mod hex;
 mod numbers;
 mod starts;
 
 pub use codes::codes_are_listed;
 pub use counts::Counts;
+pub use hex::{hex_byte, hex_digit};
 pub use numbers::{u16_at, u32_at};
 pub use starts::{FREELIST_START, MOST_ROOTS, SCHEMA_START};
 use thiserror::Error;

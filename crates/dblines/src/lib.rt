@@ -3,9 +3,14 @@
 #![tactic(auto)]
 
 mod codes;
+mod first_bytes;
 mod lines;
 mod pieces;
 
+pub use arrayvec::ArrayVec;
 pub use codes::{code_text, code_words};
+pub use dbformat::{Fault, FaultCode};
+pub use dbsource::{Out, WriteFailed};
+pub use first_bytes::append_first_bytes;
 pub use lines::{put_fault, put_ok, put_rest};
 pub use pieces::{append, append_number};
