@@ -118,3 +118,7 @@ none_of command file e out err answer = record {
   run = none_by (report command) file e out err answer;
   counts = λ V s. counts_pages command file V s;
 }
+
+-- the verdict of a run of a command is clean exactly where the file is sound
+abbrev pub IsSoundAnswer : Result Verdict RunError → List ℕ → Type 0
+IsSoundAnswer r file = IfOk r (λ v. v ≡ Clean ↔ Sound file)

@@ -1,5 +1,5 @@
 -- What an answer of a run says of the file, and of what was written.
-use Rattle.std.specs.Prelude.{◌≡◌, ◌<◌, ◌↔◌, ℕ, true, false, List, length, Option, None, Some, Result, Ok, Err, IfOk, IfSome, ⊤}
+use Rattle.std.specs.Prelude.{◌≡◌, ◌<◌, ◌↔◌, ℕ, true, false, List, length, Option, None, Some, Result, Ok, Err, IfOk, ⊤}
 use Rattle.dbformat.specs.File.{geometry, refusal}
 use Rattle.dbformat.specs.FixedPages.{geometry_of}
 use Rattle.dbformat.specs.Reference.{Reference}
@@ -19,7 +19,7 @@ use Rattle.dbsource.specs.Failures.{CountsAfter, failures_after}
 use Rattle.dbsource.specs.HeaderBytes.{HeaderBytes}
 use Rattle.dbsource.specs.Headers.{IsOpenLog}
 use Rattle.dbsource.specs.Outs.{Writes}
-use Rattle.dbsource.specs.Snapshots.{HasRead, HasReadBehind}
+use Rattle.dbsource.specs.Snapshots.{HasRead, HasReadBehind, ToldFileIsRead}
 use Rattle.dbsource.specs.Sources.{HasRanges, SourceState}
 use Rattle.dbsource.specs.declared.error.OpenError.TheVariants as opening
 use Rattle.dbsource.specs.declared.error.RunError.{RunError}
@@ -133,16 +133,14 @@ module _ {S O E : Type 0} (source : SourceWords S) (out : OutWords O) (err : Out
     pub first : IsUnwritten r old.1 new.1
     pub second : IsUnwritten r old.2 new.2
 
--- What a run left of a source that tells its bytes: it is so of them; they stay; it was asked for what a run over them asks
--- for, and of bytes too few for a header for nothing.
-pub record IsToldRun (step : Step) (command : Command) (r : Result Verdict RunError) (out_old out_new err_old err_new : Option (List ℕ)) (old new : SourceState) (file : List ℕ) : Type 0 where
-  pub run : IsRunOf command file r out_old out_new err_old err_new
-  pub stay : new.bytes ≡ Some file
-  pub log : HasRanges step (IsRunLog (geometry file)) old.trail new.trail
-  pub unread : length file < 100 → new.trail ≡ old.trail
+-- ---- what is so of a source that tells its bytes, in each case where it is so of each file that agrees with what was read
 
--- So it is where what was left is so of each file that agrees with what was read.
-abbrev pub ToldFilesAreRead : Step → Lengths → Type 0
-ToldFilesAreRead step lengths = (command : Command) (r : Result Verdict RunError) (out_old out_new err_old err_new : Option (List ℕ)) (old new : SourceState)
-    → HasRead step lengths IsSomeRunLog (λ file ranges. IsRunLog (geometry file) ranges × IsRunOf command file r out_old out_new err_old err_new) old new
-    → IfSome old.bytes (IsToldRun step command r out_old out_new err_old err_new old new)
+-- what `run` says
+abbrev pub ToldRunsAreRead : Step → Lengths → Type 0
+ToldRunsAreRead step lengths = (command : Command) (r : Result Verdict RunError) (out_old out_new err_old err_new : Option (List ℕ)) (old new : SourceState)
+    → ToldFileIsRead step lengths IsSomeRunLog (λ file ranges. IsRunLog (geometry file) ranges × IsRunOf command file r out_old out_new err_old err_new) old new
+
+-- what a run says that writes another report, as `HasRunBy` does
+abbrev pub ToldReportsAreRead : Step → Lengths → Type 0
+ToldReportsAreRead step lengths = (rep : List ℕ → List Reference → Report) (r : Result Verdict RunError) (out_old out_new : Option (List ℕ)) (old new : SourceState)
+    → ToldFileIsRead step lengths IsSomeRunLog (λ file ranges. IsRunLog (geometry file) ranges × ((err : Option (List ℕ)) → IsRunBy rep file r out_old out_new err err)) old new

@@ -16,4 +16,4 @@ pub use dbformat::{Command, Verdict};
 pub use dbscan::Desk;
 pub use dbsource::{Header, Out, RunError, Source};
 pub use opening::open_in;
-pub use runs::{run, run_in, run_on, told_files_are_read};
+pub use runs::{run, run_in, run_on, told_files_are_run};

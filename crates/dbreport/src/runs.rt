@@ -1,19 +1,21 @@
 // A run: from the bytes of a database to what is written of them.
-ghost use Rattle.std.specs.Prelude.{◌≡◌, List, IfOk, Ok};
+ghost use Rattle.std.specs.Prelude.{◌≡◌, ◌↔◌, List, IfOk, IfSome, Ok};
 ghost use Rattle.dbformat.specs.FixedPages.{geometry_of};
-ghost use Rattle.dbformat.specs.Log.{IsPageLog};
+ghost use Rattle.dbformat.specs.Log.{IsPageLog, IsSomeRunLog};
 ghost use Rattle.dbformat.specs.Reference.{Reference};
 ghost use Rattle.dbformat.specs.Report.{report};
+ghost use Rattle.dbformat.specs.Sound.{Sound};
 ghost use Rattle.dbformat.specs.Survey.{Survey};
 ghost use Rattle.dbformat.specs.declared.Command.TheVariants.{Check, Stat};
 ghost use Rattle.dbscan.specs.DeskSizes.{DeskFitsInMemory};
 ghost use Rattle.dbscan.specs.Finishes.{HasUsed};
-ghost use Rattle.dbreport.specs.Runs.{FailsAsAnswered, HasRun, HasRunBehind, IsCheck, IsLeftAlone, IsReported, ToldFilesAreRead};
+ghost use Rattle.dbreport.specs.Runs.{FailsAsAnswered, HasRun, HasRunBehind, IsCheck, IsLeftAlone, IsReported, ToldReportsAreRead, ToldRunsAreRead};
 ghost use Rattle.dbreport.specs.StatSink.{failures_of_each};
 ghost use Rattle.dbsource.specs.Errors.{is_read_failed, is_write_failed};
 ghost use Rattle.dbsource.specs.Failures.{CountsAfter, failures_after};
+ghost use Rattle.dbsource.specs.Headers.{IsHeaderOf};
 ghost use Rattle.dbsource.specs.Outs.{Writes};
-ghost use Rattle.dbsource.specs.Snapshots.{HasReadBehind};
+ghost use Rattle.dbsource.specs.Snapshots.{HasRead, HasReadBehind};
 
 use crate::checking::CheckSink;
 use crate::opening::open_in;
@@ -85,6 +87,10 @@ pub fn run_on<A: Allocator, S: Source, O: Out, E: Out>(
     // Whatever the source answers: there is a file of the desk's header that agrees with what was read behind it, and of each
     // such file this was the run.
     ensures read { HasRunBehind S.Source O.Out E.Out desk.old.header command result (source.old, out.old, err.old) (source.new, out.new, err.new) }
+    // The verdict is `Clean` exactly where such a file is sound, and so where told bytes are, if the header is theirs.
+    ensures sound { HasReadBehind S.step (IsPageLog (geometry_of desk.old.header.bytes desk.old.header.file_len)) desk.old.header
+        (λ file. IfOk result (λ v. v ≡ Verdict.Clean ↔ Sound file)) (S.held source.old) (S.held source.new) }
+    ensures told { IfSome (S.held source.old).bytes (λ file. IsHeaderOf desk.old.header file → IfOk result (λ v. v ≡ Verdict.Clean ↔ Sound file)) }
     ensures failed { FailsAsAnswered S.Source O.Out E.Out command result (source.old, out.old, err.old) (source.new, out.new, err.new) }
     ensures second { IsCheck command → err.new ≡ err.old }
     ensures desk { HasUsed result desk.old desk.new }
@@ -112,6 +118,10 @@ pub fn run_in<A: Allocator + Copy, S: Source, O: Out, E: Out>(
     // What is kept of the file is no larger than memory, as is so unless the allocator itself is about that large.
     requires fits { DeskFitsInMemory A.row A.Allocator }
     ensures read { HasRun S.Source O.Out E.Out command result (source.old, out.old, err.old) (source.new, out.new, err.new) }
+    // The verdict is `Clean` exactly where the file is sound: each file that agrees with what was read, and so told bytes.
+    ensures sound { HasRead S.step S.lengths IsSomeRunLog (λ file ranges. IfOk result (λ v. v ≡ Verdict.Clean ↔ Sound file))
+        (S.held source.old) (S.held source.new) }
+    ensures told { IfSome (S.held source.old).bytes (λ file. IfOk result (λ v. v ≡ Verdict.Clean ↔ Sound file)) }
     ensures failed { FailsAsAnswered S.Source O.Out E.Out command result (source.old, out.old, err.old) (source.new, out.new, err.new) }
     ensures refused { IsLeftAlone S.Source O.Out E.Out result (source.old, out.old, err.old) (source.new, out.new, err.new) }
     ensures second { IsCheck command → err.new ≡ err.old }
@@ -142,6 +152,10 @@ pub fn run<S: Source, O: Out, E: Out>(
     // Whatever the source answers: there is a file, of the length that it answered, that agrees with every byte that the run
     // used, and of each such file this was the run.
     ensures read { HasRun S.Source O.Out E.Out command result (source.old, out.old, err.old) (source.new, out.new, err.new) }
+    // The verdict is `Clean` exactly where the file is sound: each file that agrees with what was read, and so told bytes.
+    ensures sound { HasRead S.step S.lengths IsSomeRunLog (λ file ranges. IfOk result (λ v. v ≡ Verdict.Clean ↔ Sound file))
+        (S.held source.old) (S.held source.new) }
+    ensures told { IfSome (S.held source.old).bytes (λ file. IfOk result (λ v. v ≡ Verdict.Clean ↔ Sound file)) }
     ensures failed { FailsAsAnswered S.Source O.Out E.Out command result (source.old, out.old, err.old) (source.new, out.new, err.new) }
     ensures refused { IsLeftAlone S.Source O.Out E.Out result (source.old, out.old, err.old) (source.new, out.new, err.new) }
     ensures second { IsCheck command → err.new ≡ err.old }
@@ -150,7 +164,9 @@ pub fn run<S: Source, O: Out, E: Out>(
 }
 
 /// What [`run`] says of each file that agrees with what was read is so of the bytes that a source tells, as memory does: by any
-/// survey of them each Out got its part of the report, `Clean` is the answer exactly where they are sound, and so on.
-pub fn told_files_are_read<S: Source>()
-    ensures { ToldFilesAreRead S.step S.lengths }
+/// survey of them each Out got its part of the report, `Clean` is the answer exactly where they are sound, and so on. The same
+/// holds of a run that writes another report.
+pub fn told_files_are_run<S: Source>()
+    ensures runs { ToldRunsAreRead S.step S.lengths }
+    ensures reports { ToldReportsAreRead S.step S.lengths }
 {}

@@ -18,13 +18,13 @@ use Rattle.dbsource.specs.Failures.{failures_after, one_more}
 use Rattle.dbsource.specs.Headed.{over, over_answer, begun, headed, headed_trail, HeadedStep}
 use Rattle.dbsource.specs.HeaderBytes.{HeaderBytes}
 use Rattle.dbsource.specs.Headers.{IsHeaderOf, IsOpenLog, IsRefusalOf, Opens}
-use Rattle.dbsource.specs.Snapshots.{FitsBehindHeader, FitsRun, HasRead, HasReadBehind}
+use Rattle.dbsource.specs.Snapshots.{FitsBehindHeader, FitsRun, HasRead, HasReadBehind, HasReadTold, ToldFileIsRead}
 use Rattle.dbsource.specs.Sources.{HasLog, SourceState}
 use Rattle.dbsource.specs.declared.error.OpenError.{OpenError}
 use Rattle.dbsource.specs.declared.error.OpenError.TheVariants.{Refused, ReadFailed}
 use Rattle.dbsource.proofs.Headers.{header_of, opens_told}
 use Rattle.dbsource.proofs.Snapshots.{BeginsSo, snapshot}
-use Rattle.dbsource.proofs.Told.{if_told_both}
+use Rattle.dbsource.proofs.Told.{if_told, if_told_both}
 
 pub same_trail : (n m : ℕ) (a b : List ℕ) (o p : Option (List ℕ)) (s t : Trail) → headed_trail n a o s ≡ headed_trail m b p t → (n ≡ m) × (a ≡ b) × (o ≡ p) × (s ≡ t)
 same_trail n m a b o p s t e =
@@ -257,15 +257,25 @@ read_weaker P Q h f q = record {
 }
 
 -- What is so of each file that agrees is so of told bytes, which stay; and of one that is too short nothing was read.
-pub read_told : (step : Step) (lengths : Lengths) (P : List ByteRange → Type 0) (Q : List ℕ → List ByteRange → Type 0) (old new : SourceState) (h : HasRead step lengths P Q old new)
-    → IfSome old.bytes (λ file. Q file (map asked h.log) × (new.bytes ≡ Some file) × (length file < 100 → new.trail ≡ old.trail))
-read_told step lengths P Q old new h = by_told old.bytes h.tells refl
+pub told_file : (step : Step) (lengths : Lengths) (P : List ByteRange → Type 0) (Q : List ℕ → List ByteRange → Type 0) (old new : SourceState) → ToldFileIsRead step lengths P Q old new
+told_file step lengths P Q old new h = by_told old.bytes h.tells refl
   where
-    by_told : (o : Option (List ℕ)) → IfSome o (λ file. (length file ≡ h.len) × FitsRun file h.log) → o ≡ old.bytes
-        → IfSome o (λ file. Q file (map asked h.log) × (new.bytes ≡ Some file) × (length file < 100 → new.trail ≡ old.trail))
+    by_told : (o : Option (List ℕ)) → IfSome o (λ file. (length file ≡ h.len) × FitsRun file h.log) → o ≡ old.bytes → IfSome o (HasReadTold step P Q old new)
     by_told None k e = tt
-    by_told (Some file) k e = (
-      h.files file k.0 k.1,
-      h.told ∙ sym e,
-      λ l. let leads : Leads step old.trail [] new.trail = subst (λ log. Leads step old.trail log new.trail) (h.short (subst (λ n. n < 100) k.0 l)) h.leads in leads,
-    )
+    by_told (Some file) k e = record {
+      log = h.log;
+      leads = h.leads;
+      holds = h.holds;
+      fits = k.1;
+      claimed = h.files file k.0 k.1;
+      stay = h.told ∙ sym e;
+      unread = λ l. let leads : Leads step old.trail [] new.trail = subst (λ log. Leads step old.trail log new.trail) (h.short (subst (λ n. n < 100) k.0 l)) h.leads in leads;
+    }
+
+-- what is so of each file that agrees is so of told bytes
+pub of_told : {step : Step} {lengths : Lengths} {P : List ByteRange → Type 0} (T : List ℕ → Type 0) {old new : SourceState} → HasRead step lengths P (λ file ranges. T file) old new → IfSome old.bytes T
+of_told T {old = old} h = if_told old.bytes (λ file k. h.files file k.0 k.1) h.tells
+
+-- and of told bytes of this header
+pub of_told_behind : {step : Step} {P : List ByteRange → Type 0} (h : HeaderBytes) (T : List ℕ → Type 0) {old new : SourceState} → HasReadBehind step P h T old new → IfSome old.bytes (λ file. IsHeaderOf h file → T file)
+of_told_behind h T {old = old} k = if_told old.bytes (λ file fits is. k.files file is (fits is)) k.tells

@@ -1,5 +1,5 @@
 -- What a run read of a file: a file that agrees with all of it, put together of the pages as they were when each was read.
-use Rattle.std.specs.Prelude.{◌≡◌, ◌<◌, ◌⊎◌, ℕ, List, [], ◌∷◌, length, map, take, IfSome}
+use Rattle.std.specs.Prelude.{◌≡◌, ◌<◌, ◌⊎◌, ℕ, List, [], ◌∷◌, length, map, take, Some, IfSome}
 use Rattle.dbformat.specs.declared.ByteRange.{ByteRange}
 use Rattle.dbsource.specs.Answers.{Answer, FitsAnswer, Leads, Lengths, Step, asked}
 use Rattle.dbsource.specs.Failures.{one_more}
@@ -13,7 +13,7 @@ abbrev pub FitsBehindHeader : List ℕ → List Answer → Type 0
 FitsBehindHeader file [] = Unit {0}
 FitsBehindHeader file (a ∷ log) = FitsAnswer file (over_answer (take 100 file) a) × FitsBehindHeader file log
 
--- and with all that a run read, of which the first is the header
+-- and with all that a run read: with the first answer, which is the header's, as it is, and with each later one behind the header
 abbrev pub FitsRun : List ℕ → List Answer → Type 0
 FitsRun file [] = Unit {0}
 FitsRun file (a ∷ log) = FitsAnswer file a × FitsBehindHeader file log
@@ -23,24 +23,62 @@ FitsRun file (a ∷ log) = FitsAnswer file a × FitsBehindHeader file log
 -- this length that agrees with the log; of each such file, and of the ranges that were asked for, Q holds; and told bytes are
 -- such a file. Where the length is too short for a header nothing was read.
 pub record HasRead (step : Step) (lengths : Lengths) (P : List ByteRange → Type 0) (Q : List ℕ → List ByteRange → Type 0) (old new : SourceState) : Type 0 where
+  -- how many bytes the file has
   pub len : ℕ
+  -- the answers to the reads, in their order
   pub log : List Answer
+  -- they lead the source from the trail that it had to the one that it has
   pub leads : Leads step old.trail log new.trail
+  -- the bytes that it tells, if it does, are as they were
   pub told : new.bytes ≡ old.bytes
+  -- the source answered this length; or it failed at that, and nothing was read
   pub answered : lengths old.trail len ⊎ ((log ≡ []) × (new.failures ≡ one_more old.failures))
+  -- P is so of the ranges that were asked for
   pub holds : P (map asked log)
+  -- there is a file of this length that agrees with all that was read
   pub there_is : (file : List ℕ) × (length file ≡ len) × FitsRun file log
+  -- of each such file, and of the ranges, Q is so
   pub files : (file : List ℕ) → length file ≡ len → FitsRun file log → Q file (map asked log)
+  -- told bytes are such a file
   pub tells : IfSome old.bytes (λ file. (length file ≡ len) × FitsRun file log)
+  -- a file too short for a header is not read
   pub short : len < 100 → log ≡ []
 
 -- The same behind a header that had been read before. There is a file of this header that agrees with the log from its byte
 -- 100 on; of each such file Q holds; and told bytes are such a file, where the header is theirs.
 pub record HasReadBehind (step : Step) (P : List ByteRange → Type 0) (h : HeaderBytes) (Q : List ℕ → Type 0) (old new : SourceState) : Type 0 where
+  -- the answers to the reads behind the header, in their order
   pub log : List Answer
+  -- they lead the source from the trail that it had to the one that it has
   pub leads : Leads step old.trail log new.trail
+  -- the bytes that it tells, if it does, are as they were
   pub told : new.bytes ≡ old.bytes
+  -- P is so of the ranges that were asked for
   pub holds : P (map asked log)
+  -- there is a file of this header that agrees with all that was read
   pub there_is : (file : List ℕ) × IsHeaderOf h file × FitsBehindHeader file log
+  -- of each such file Q is so
   pub files : (file : List ℕ) → IsHeaderOf h file → FitsBehindHeader file log → Q file
+  -- told bytes agree, where this header is theirs
   pub tells : IfSome old.bytes (λ file. IsHeaderOf h file → FitsBehindHeader file log)
+
+-- What a run made of a source that tells its bytes.
+pub record HasReadTold (step : Step) (P : List ByteRange → Type 0) (Q : List ℕ → List ByteRange → Type 0) (old new : SourceState) (file : List ℕ) : Type 0 where
+  -- the answers to the reads, in their order
+  pub log : List Answer
+  -- they lead the source from the trail that it had to the one that it has
+  pub leads : Leads step old.trail log new.trail
+  -- P is so of the ranges that were asked for
+  pub holds : P (map asked log)
+  -- the bytes agree with all that was read
+  pub fits : FitsRun file log
+  -- of them, and of the ranges, Q is so
+  pub claimed : Q file (map asked log)
+  -- they stay
+  pub stay : new.bytes ≡ Some file
+  -- and where they are too few for a header nothing was read
+  pub unread : length file < 100 → new.trail ≡ old.trail
+
+-- So it is of told bytes wherever Q is so of each file that agrees with what was read.
+abbrev pub ToldFileIsRead : Step → Lengths → (List ByteRange → Type 0) → (List ℕ → List ByteRange → Type 0) → SourceState → SourceState → Type 0
+ToldFileIsRead step lengths P Q old new = HasRead step lengths P Q old new → IfSome old.bytes (HasReadTold step P Q old new)

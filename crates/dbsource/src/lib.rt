@@ -12,6 +12,7 @@
 
 mod bench;
 mod buffered_out;
+mod claims;
 mod error;
 mod failures;
 mod file_source;
@@ -31,6 +32,7 @@ mod stream_out;
 
 pub use bench::Bench;
 pub use buffered_out::BufferedOut;
+pub use claims::{Claim, told_files_are_read};
 pub use dbformat::{ByteRange, Encoding, Fixed, Geometry, Refusal};
 pub use error::{OpenError, RunError};
 pub use failures::Failures;

@@ -7,8 +7,7 @@ ghost use Rattle.dbreport.specs.Columns.{counts_text, place_text};
 use crate::statistics::hex::append_hex;
 use arrayvec::ArrayVec;
 use dbformat::Counts;
-use dblines::append;
-use itoa::Buffer;
+use dblines::{append, append_number};
 
 // Adds a column with a text, for which there is room.
 pub(crate) fn append_text<const CAP: usize>(line: &mut ArrayVec<u8, CAP>, text: &str)
@@ -20,13 +19,13 @@ pub(crate) fn append_text<const CAP: usize>(line: &mut ArrayVec<u8, CAP>, text: 
 }
 
 // Adds a column with a number.
-pub(crate) fn append_number<const CAP: usize>(line: &mut ArrayVec<u8, CAP>, number: u64)
+pub(crate) fn append_count<const CAP: usize>(line: &mut ArrayVec<u8, CAP>, number: u64)
     requires { array_vec_len line.old + 21 ≤ CAP }
     ensures text { line.new.items ≡ line.old.items ++ tab ∷ decimal number }
     ensures short { array_vec_len line.new ≤ array_vec_len line.old + 21 }
 {
-    let mut buffer = Buffer::new();
-    append_text(line, buffer.format(number));
+    append(line, "\t");
+    append_number(line, number);
 }
 
 // Adds the columns of what a page or a tree counts.
@@ -35,10 +34,10 @@ pub(crate) fn append_counts<const CAP: usize>(line: &mut ArrayVec<u8, CAP>, coun
     ensures text { line.new.items ≡ line.old.items ++ counts_text counts.now }
     ensures short { array_vec_len line.new ≤ array_vec_len line.old + 84 }
 {
-    append_number(line, counts.ncell);
-    append_number(line, counts.payload);
-    append_number(line, counts.unused);
-    append_number(line, counts.mx_payload);
+    append_count(line, counts.ncell);
+    append_count(line, counts.payload);
+    append_count(line, counts.unused);
+    append_count(line, counts.mx_payload);
 }
 
 // Adds the last columns of the row of a page, where it begins in the file and its size, and the end of the line.
@@ -50,8 +49,8 @@ pub(crate) fn append_place<const CAP: usize>(
     requires { array_vec_len line.old + 43 ≤ CAP }
     ensures { line.new.items ≡ line.old.items ++ place_text page page_size }
 {
-    append_number(line, offset_of(page, page_size));
-    append_number(line, u64::from(page_size));
+    append_count(line, offset_of(page, page_size));
+    append_count(line, u64::from(page_size));
     append(line, "\n");
 }
 

@@ -1,10 +1,11 @@
 // Numbers in hexadecimal.
 ghost use Rattle.arrayvec.specs.ArrayVec.{array_vec_len};
 ghost use Rattle.std.specs.Prelude.{◌≡◌, ◌+◌, ◌<◌, ◌≤◌, false, ◌++◌, take, drop};
-ghost use Rattle.std.specs.Fmt.{digit_glyph, digits};
+ghost use Rattle.std.specs.Fmt.{digits};
 ghost use Rattle.dbformat.specs.Text.{hex_text};
 
 use arrayvec::ArrayVec;
+use dbformat::hex_digit;
 
 // How many digits a number of 32 bits has at most.
 const MAX_DIGITS: usize = 8;
@@ -36,15 +37,4 @@ fn write_hex(number: u32, text: &mut [u8; MAX_DIGITS]) -> usize
     }
     text[at] = hex_digit(rest as u8);
     at
-}
-
-fn hex_digit(digit: u8) -> u8
-    requires { digit < 16 }
-    ensures { result ≡ digit_glyph false digit }
-{
-    if digit < 10 {
-        b'0' + digit
-    } else {
-        b'a' + (digit - 10)
-    }
 }

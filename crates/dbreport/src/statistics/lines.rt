@@ -11,7 +11,7 @@ ghost use Rattle.dbreport.specs.Sums.{sums_of};
 ghost use Rattle.dbreport.specs.TreeNames.{label_text};
 
 use crate::statistics::columns::{
-    append_chain, append_counts, append_number, append_place, append_text,
+    append_chain, append_count, append_counts, append_place, append_text,
 };
 use crate::statistics::hex::append_hex;
 use crate::statistics::page_texts::{OtherPage, other_text, pagetype_text};
@@ -64,7 +64,7 @@ fn page_end(row: &Row<'_>, page_size: u32) -> ArrayVec<u8, 192>
 {
     let mut line = ArrayVec::new();
     append_chain(&mut line, row.chain);
-    append_number(&mut line, u64::from(row.page));
+    append_count(&mut line, u64::from(row.page));
     append_text(&mut line, pagetype_text(row.pagetype));
     append_counts(&mut line, &row.counts);
     append_place(&mut line, row.page, page_size);
@@ -92,12 +92,12 @@ fn tree_end(sums: &Sums, page_size: u32) -> ArrayVec<u8, 160>
 {
     let mut line = ArrayVec::new();
     append(&mut line, "\t-");
-    append_number(&mut line, sums.pages);
+    append_count(&mut line, sums.pages);
     append(&mut line, "\t-");
     append_counts(&mut line, &sums.counts);
     append(&mut line, "\t-");
     let bytes = sums.pages.saturating_mul(u64::from(page_size));
-    append_number(&mut line, bytes);
+    append_count(&mut line, bytes);
     append(&mut line, "\n");
     line
 }
@@ -120,7 +120,7 @@ fn other_line(page_size: u32, page: u32, what: OtherPage) -> ArrayVec<u8, 160>
 {
     let mut line = ArrayVec::new();
     append(&mut line, "-\t-");
-    append_number(&mut line, u64::from(page));
+    append_count(&mut line, u64::from(page));
     append_text(&mut line, other_text(what));
     append_counts(&mut line, &Counts::NONE);
     append_place(&mut line, page, page_size);

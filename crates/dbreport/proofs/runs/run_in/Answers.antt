@@ -1,7 +1,9 @@
 use Rattle.std.proofs.lemmas.Result.{err_from_is_err_and}
+use Rattle.dbformat.specs.Log.{IsSomeRunLog}
+use Rattle.dbsource.proofs.Runs.{of_told, read_weaker}
 use Rattle.dbreport.specs.StatSink.{failures_of_each}
 use Rattle.dbreport.proofs.Openings.{no_failure, no_failures, nothing_read, run_failures, run_read}
-use Rattle.dbreport.proofs.RunAnswers.{none_of, read_refused, read_unwritten, refused_unwritten}
+use Rattle.dbreport.proofs.RunAnswers.{IsSoundAnswer, none_of, read_refused, read_unwritten, refused_unwritten}
 use Rattle.dbreport.proofs.runs.run_in.Goals as goal
 
 -- ---- there was no run
@@ -12,6 +14,12 @@ returns-in_err-desk-clause-read g c =
     let e = c.in_err-desk.field-0.0 in
     rw q.1 (rw q.2 (nothing_read g.S.Source c.args.source.now e c.open_in.new.source c.in_err-desk.ensures
     (λ file answer. none_of c.args.command file e (g.O.Out.held c.args.out.now).bytes (g.E.Out.held c.args.err.now).bytes answer)))
+
+pub returns-in_err-desk-clause-sound : goal.returns-in_err-desk-clause-sound
+returns-in_err-desk-clause-sound g c = read_weaker IsSomeRunLog _ (returns-in_err-desk-clause-read g c) (λ ranges p. p) (λ file ranges p t. t.1.run.sound)
+
+pub returns-in_err-desk-clause-told : goal.returns-in_err-desk-clause-told
+returns-in_err-desk-clause-told g c = of_told (IsSoundAnswer c.from_residual.result) (returns-in_err-desk-clause-sound g c)
 
 pub returns-in_err-desk-clause-failed : goal.returns-in_err-desk-clause-failed
 returns-in_err-desk-clause-failed g c =
@@ -36,6 +44,12 @@ returns-in_err-desk-clause-refused g c =
 
 pub returns-clause-read : goal.returns-clause-read
 returns-clause-read g c = run_read g.S.Source c.args.source.now c.in_ok-desk.desk.header c.open_in.new.source c.run_on.new.source c.in_ok-desk.ensures c.run_on.ensures.read
+
+pub returns-clause-sound : goal.returns-clause-sound
+returns-clause-sound g c = read_weaker IsSomeRunLog _ (returns-clause-read g c) (λ ranges p. p) (λ file ranges p t. t.1.run.sound)
+
+pub returns-clause-told : goal.returns-clause-told
+returns-clause-told g c = of_told (IsSoundAnswer c.run_on.result) (returns-clause-sound g c)
 
 pub returns-clause-failed : goal.returns-clause-failed
 returns-clause-failed g c = record {

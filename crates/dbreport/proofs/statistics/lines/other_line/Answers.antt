@@ -8,7 +8,7 @@ returns c =
       c.append_place.ensures,
       c.append_counts.ensures.text,
       c.append_text.ensures,
-      c.append_number.ensures.text,
+      c.append_count.ensures.text,
       c.append.ensures,
       c.new-line.ensures,
       c.other_text.ensures.text,
