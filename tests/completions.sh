@@ -47,4 +47,22 @@ for file in dbck.bash _dbck dbck.fish; do
     LC_ALL=C sort -o "$work/words" "$work/words"
     compare "$file: commands"
 done
+
+# Behind the word -- only files are offered: also one whose name begins with a dash.
+mkdir "$work/files"
+: > "$work/files/--limit.db"
+words=$(
+    . ./dbck.bash
+    cd "$work/files" || exit
+    for command in check explain map stat; do
+        COMP_WORDS=(dbck "$command" -- --) COMP_CWORD=3
+        _dbck
+        printf '%s\n' "$command: ${COMPREPLY[*]}"
+    done
+)
+for command in check explain map stat; do
+    echo "$command: --limit.db"
+done > "$work/help"
+echo "$words" > "$work/words"
+compare 'dbck.bash: files behind --'
 exit $status

@@ -80,26 +80,45 @@ lines=$(seq -f 'N01 page %.0f item 0 value 0: page is not in use' 2 1000)
 expect 1 "$lines"$'\n' '' check --limit 999 "$work/unused.db"
 expect 1 "$(head -n 998 <<< "$lines")"$'\nmore 1\n' '' check --limit 998 "$work/unused.db"
 expect 1 "$(head -n 100 <<< "$lines")"$'\nmore 899\n' '' check "$work/unused.db"
-# explained LIMIT MORE: whether the last run explained so many of them, and says how many more there are.
-explained() {
-    ended 1 $'*\n999 faults\n*' '' && diff <(grep '^N01' "$work/out") <(head -n "$1" <<< "$lines") > "$work/why" &&
-        [ "$(grep '^more' "$work/out")" = "$2" ]
-}
-run explain --limit 999 "$work/unused.db"
-count '999 faults explained' explained 999 ''
-run explain --limit 998 "$work/unused.db"
-count '998 faults explained' explained 998 'more 1'
+# Explained they are one entry.
+below=$'    page 2 at byte 512: in no tree, overflow chain or freelist\n    all zeros\n    and 998 more pages like it: 3 to 1000\n'
+expect 1 "$(head -n 1 <<< "$lines")"$'\n'"$below"$'999 faults\n    999 N01 page is not in use\n    999 in the whole file\n    1 of 1 tree without a fault\n' '' \
+    explain --limit 1 "$work/unused.db"
 
 # The same faults, explained.
 note='table note'
 twice_below="    page 2 at byte 512: root of $note"$'\n'"    page 7 at byte 3072: in $note, child of page 2"$'\n'
-unused_below=$'    page 8 at byte 3584: in no tree, overflow chain or freelist\n    looks like a leaf of a table with 6 cells\n'
-summary=$'2 faults\n    1 R03 page is already in use\n    1 N01 page is not in use\n    1 in table note\n    1 in the whole file\n'
+unused_below=$'    page 8 at byte 3584: in no tree, overflow chain or freelist\n    looks like a leaf of a table with 6 cells, rowids 25 to 30\n'
+summary=$'2 faults\n    1 R03 page is already in use\n    1 N01 page is not in use\n    1 in table note (root page 2), on 1 of its 5 pages\n'
+summary+=$'    1 in the whole file\n    2 of 3 trees without a fault\n'
 expect 0 $'ok\n' '' explain "$data/whole.db"
 expect 1 "$twice$twice_below$unused$unused_below$summary" '' explain "$data/two-owners.db"
 expect 1 "$twice$twice_below"$'more 1\n'"$summary" '' explain --limit 1 "$data/two-owners.db"
-expect 1 $'H10 page 1 item 0 value 3: freelist count differs from the header\n    header: *\n1 fault\n    1 H10 freelist count differs from the header\n    1 in the whole file\n' '' \
+expect 1 $'H10 page 1 item 0 value 3: freelist count differs from the header\n    header: 99\n1 fault\n    1 H10 freelist count differs from the header\n    1 in the whole file\n    2 of 2 trees without a fault\n' '' \
     explain "$data/view-last.db"
+
+# is_explained TEXT: whether the last run wrote the text of a file, byte for byte.
+is_explained() {
+    [ "$status" = 1 ] && cmp -s "$1" "$work/out" && [ ! -s "$work/err" ]
+}
+
+# sums FILE: the summary that a text ends with.
+sums() {
+    sed -n '/^[0-9]* faults*$/,$p' "$1"
+}
+
+# has_sums TEXT: whether the last run ended with the summary of a text.
+has_sums() {
+    [ "$status" = 1 ] && diff <(sums "$1") <(sums "$work/out") > "$work/why"
+}
+
+# Six damaged databases, and what is to be written of each. The summary is of all faults, whatever the limit.
+for text in tests/explain/*.explain; do
+    run explain "${text%.explain}.db"
+    count "explain ${text%.explain}.db" is_explained "$text"
+    run explain --limit 1 "${text%.explain}.db"
+    count "explain --limit 1 ${text%.explain}.db" has_sums "$text"
+done
 
 # Pictures, with the name of the file and no line of a fault.
 picture='<svg xmlns=*<title>Pages of'
@@ -136,18 +155,18 @@ for words in '' check explain map stat 'repair x' 'check x y' 'check --limit 0 x
     'check --limit 1 --limit 1 x' 'check --all x' 'explain --limit 10001 x' 'explain --all x' 'map --limit 1 x' 'map --all x' \
     'stat --limit 1 x' 'stat --all --all x' 'stat --all=true x' --limit; do
     # shellcheck disable=SC2086
-    expect 2 '' 'error: *' $words
+    expect 2 '' 'dbck: *' $words
 done
-expect 2 '' $'error: a word of the command line is not UTF-8\n' check $'\xff'
-expect 2 '' "error: unexpected argument 'y\\\\x1b\\[2J\\\\x0az' found"$'\n*' check x $'y\x1b[2J\nz'
-expect 2 '' "error: unrecognized subcommand 'a\\\\x0ab\\\\x9b'"$'\n*' $'a\nb\xc2\x9b'
-expect 2 '' "error: invalid value '5\\\\x0a' for '--limit <N>'*" check --limit $'5\n' x
+expect 2 '' $'dbck: a word of the command line is not UTF-8\n' check $'\xff'
+expect 2 '' "dbck: unexpected argument 'y\\\\x1b\\[2J\\\\x0az' found"$'\n*' check x $'y\x1b[2J\nz'
+expect 2 '' "dbck: unrecognized subcommand 'a\\\\x0ab\\\\xc2\\\\x9b'"$'\n*' $'a\nb\xc2\x9b'
+expect 2 '' "dbck: invalid value '5\\\\x0a' for '--limit <N>'*" check --limit $'5\n' x
 
 # 3: refused files.
 : > "$work/no-bytes.db"
 for command in check explain map stat; do
-    expect 3 '' "dbck: note: $work/no-bytes.db is not checked"$'\ndbck: E1 file is shorter than 100 bytes\n' "$command" "$work/no-bytes.db"
-    expect 3 '' $'dbck: note: tests/program.sh is not checked\ndbck: E2 file is not a SQLite 3 database\n' "$command" tests/program.sh
+    expect 3 '' "dbck: note: $work/no-bytes.db is not checked"$'\n'"dbck: note: $work/no-bytes.db has no bytes; to SQLite it is an empty database"$'\ndbck: E1 file is shorter than 100 bytes\n' "$command" "$work/no-bytes.db"
+    expect 3 '' $'dbck: note: tests/program.sh is not checked\ndbck: note: tests/program.sh begins with 23 21 2f 75 73 72 2f 62 69 6e 2f 65 6e 76 20 62  #!/usr/bin/env b\ndbck: E2 file is not a SQLite 3 database\n' "$command" tests/program.sh
 done
 
 # 4: what cannot be read.
@@ -223,7 +242,7 @@ echo log > "$work/noted.db-wal"
 expect 0 $'ok\n' "dbck: note: $work/noted.db-wal is not read; *" check "$work/noted.db"
 cp tests/program.sh "$work/text.db"
 echo log > "$work/text.db-wal"
-expect 3 '' "dbck: note: $work/text.db-wal is not read; *dbck: note: $work/text.db is not checked"$'\ndbck: E2 *' check "$work/text.db"
+expect 3 '' "dbck: note: $work/text.db-wal is not read; *dbck: note: $work/text.db is not checked"$'\n'"dbck: note: $work/text.db begins with *"$'\ndbck: E2 *' check "$work/text.db"
 rm "$work"/*-wal
 printf 'sevenby' >> "$work/noted.db"
 expect 0 $'ok\n' $'dbck: note: 7 bytes after page 1 are not read\n' check "$work/noted.db"
@@ -264,7 +283,7 @@ on_terminal() {
 # Progress, which is wiped before another line and at the end, on a terminal alone: a table of one row of 66930 overflow pages.
 if on_terminal true && sqlite3 "$work/large.db" 'PRAGMA page_size = 512; CREATE TABLE t (b); INSERT INTO t VALUES (zeroblob(34000000));'; then
     pages=$(($(wc -c < "$work/large.db") / 512))
-    line=$'\r'"dbck: 65536 of $pages pages, 97%"
+    line="dbck: 65536 of $pages pages, 97%"$'\r'
     wiped=$line$'\r                                        \r'
     on_terminal "'$dbck' check '$work/large.db'"
     count 'progress' ended 0 "$wiped"$'ok\r\n' ''

@@ -1,3 +1,7 @@
-// `explain` on whole files: what stands below each fault, the summary, and what is refused to it.
+// `explain` on whole files: what is listed of their faults, the summary, and what is refused to it.
+mod causes;
 mod explained;
+mod listed;
+mod lost;
+mod made;
 mod refused;

@@ -11,7 +11,7 @@ use Rattle.dbformat.specs.Sound.{Sound}
 use Rattle.dbformat.specs.Survey.{Survey}
 use Rattle.dbformat.specs.declared.Command.{Command}
 use Rattle.dbformat.specs.declared.Refusal.{Refusal}
-use Rattle.dbowner.specs.Explained.{explain_report}
+use Rattle.dbexplain.specs.Explained.{explain_report}
 use Rattle.dbformat.specs.declared.Verdict.{Verdict}
 use Rattle.dbformat.specs.declared.Verdict.TheVariants.{Clean, Faulty}
 use Rattle.dbreport.specs.Runs.{AsksHeaderAlone, IsAnswerOf, IsRunBy, IsUnwritten}
@@ -24,10 +24,12 @@ use Rattle.dbsource.specs.Sources.{HasRanges}
 use Rattle.dbsource.specs.declared.error.OpenError.TheVariants as opening
 use Rattle.dbsource.specs.declared.error.RunError.{RunError}
 use Rattle.dbsource.specs.declared.error.RunError.TheVariants.{Refused, ReadFailed, OutOfMemory, WriteFailed}
+use Rattle.dbcli.proofs.Explaining.{IsEndFor, IsExplainedTo, begun_not_at_4, explain_err, found_at_4, kept_writes, whole_text}
 use Rattle.dbcli.proofs.Failures.{FewFailed, none_failed, more_failures}
 use Rattle.dbcli.specs.ErrorLines.{error_line, exit_line, refused_line}
-use Rattle.dbcli.specs.Exit.{BeginsThenLine, EndsWithLine, IsExit, IsExitOf, IsFinishOf, IsKnown, IsMapExit, second_most}
-use Rattle.dbcli.specs.Requests.{IsRunFor, WritesToFirst}
+use Rattle.dbmap.specs.Maps.{DrawsMap}
+use Rattle.dbcli.specs.Exit.{BeginsThenLine, EndsWithLine, IsExit, IsExitOf, IsExplainExit, IsFinishOf, IsKnown, IsMapExit, IsStatusOf, second_most}
+use Rattle.dbcli.specs.Requests.{WritesToFirst}
 use Rattle.dbcli.specs.Status.{exit_status}
 use Rattle.dbcli.specs.declared.request.Request.{Request}
 use Rattle.dbcli.specs.declared.request.Request.TheVariants as request
@@ -45,10 +47,9 @@ unfolding explain_report
 explain_answers limit file V e h = rw h refl
 
 -- a status that is none of 0, 1 and 3
-neither : (n : ℕ) (r : Report) (why : Option Refusal) (out out' err err' : OutState) → 4 ≤ n → Begins out.bytes out'.bytes r.out
-    → BeginsThenLine err err' r.err (exit_line n why) → IsExit n r why out out' err err'
-neither n r why out out' err err' h begun told = record {
-  begun = begun;
+neither : (n : ℕ) (r : Report) (why : Option Refusal) (out out' err err' : OutState) → 4 ≤ n
+    → BeginsThenLine err err' r.err (exit_line n why) → IsStatusOf n r why out out' err err'
+neither n r why out out' err err' h told = record {
   told = told;
   clean = λ e. absurd (omega arith);
   faulty = λ e. absurd (omega arith);
@@ -100,41 +101,39 @@ refused_told err err' bytes why e h told = let P : Option Refusal → Type 0 = �
 err_written : (err mid err' : OutState) (bytes : List ℕ) → Appends err.bytes mid.bytes bytes → err' ≡ mid → Appends err.bytes err'.bytes bytes
 err_written err mid err' bytes h e = let P : OutState → Type 0 = λ o. Appends err.bytes o.bytes bytes in subst P (sym e) h
 
-exit_by_outcome : (rep : Report) (file : List ℕ) → ((e : Refusal) → refusal file ≡ Some e → rep.answer ≡ Err e) → (outcome : Result Verdict RunError) (out out' err mid err' : OutState)
-    → IsAnswerOf outcome file → Writes outcome out.bytes out'.bytes rep.out → Writes outcome err.bytes mid.bytes rep.err
+-- what the status says of a report
+status_by_outcome : (rep : Report) (file : List ℕ) → ((e : Refusal) → refusal file ≡ Some e → rep.answer ≡ Err e) → (outcome : Result Verdict RunError) (out out' err mid err' : OutState)
+    → IsAnswerOf outcome file → OnOk outcome (Appends out.bytes out'.bytes rep.out) → Writes outcome err.bytes mid.bytes rep.err
     → IfOk outcome (λ v. rep.answer ≡ Ok v) → IsUnwritten outcome out.bytes out'.bytes
     → OnOk outcome (err' ≡ mid) → OnErr outcome (FewFailed (second_most (exit_status outcome)) err mid)
-    → IfErr outcome (λ error. EndsWithLine (error_line error) 2 mid err') → IsExit (exit_status outcome) rep (refusal file) out out' err err'
-exit_by_outcome rep file refusing (Ok Clean) out out' err mid err' answer written second verdict unwritten quiet few line = record {
-  begun = all_begun out.bytes out'.bytes rep.out written;
+    → IfErr outcome (λ error. EndsWithLine (error_line error) 2 mid err') → IsStatusOf (exit_status outcome) rep (refusal file) out out' err err'
+status_by_outcome rep file refusing (Ok Clean) out out' err mid err' answer written second verdict unwritten quiet few line = record {
   told = all_then_line err err' rep.err (err_written err mid err' rep.err second quiet);
   clean = λ e. (verdict, record { first = written; second = err_written err mid err' rep.err second quiet });
   faulty = λ e. absurd (omega arith);
   refused = λ e. absurd (omega arith);
 }
-exit_by_outcome rep file refusing (Ok (Faulty n)) out out' err mid err' answer written second verdict unwritten quiet few line = record {
-  begun = all_begun out.bytes out'.bytes rep.out written;
+status_by_outcome rep file refusing (Ok (Faulty n)) out out' err mid err' answer written second verdict unwritten quiet few line = record {
   told = all_then_line err err' rep.err (err_written err mid err' rep.err second quiet);
   clean = λ e. absurd (omega arith);
   faulty = λ e. (n, verdict, record { first = written; second = err_written err mid err' rep.err second quiet });
   refused = λ e. absurd (omega arith);
 }
-exit_by_outcome rep file refusing (Err (Refused e)) out out' err mid err' answer written second verdict unwritten quiet few line = record {
-  begun = written;
+status_by_outcome rep file refusing (Err (Refused e)) out out' err mid err' answer written second verdict unwritten quiet few line = record {
   told = refused_told err err' rep.err (refusal file) e answer
       (begins_then_line 2 err mid err' rep.err (error_line (Refused e)) (omega arith) second few line);
   clean = λ h. absurd (omega arith);
   faulty = λ h. absurd (omega arith);
   refused = λ h. (e, refusing e answer, unwritten);
 }
-exit_by_outcome rep file refusing (Err ReadFailed) out out' err mid err' answer written second verdict unwritten quiet few line =
-    neither 4 rep (refusal file) out out' err err' (omega arith) written
+status_by_outcome rep file refusing (Err ReadFailed) out out' err mid err' answer written second verdict unwritten quiet few line =
+    neither 4 rep (refusal file) out out' err err' (omega arith)
     (begins_then_line 2 err mid err' rep.err (error_line ReadFailed) (omega arith) second few line)
-exit_by_outcome rep file refusing (Err OutOfMemory) out out' err mid err' answer written second verdict unwritten quiet few line =
-    neither 5 rep (refusal file) out out' err err' (omega arith) written
+status_by_outcome rep file refusing (Err OutOfMemory) out out' err mid err' answer written second verdict unwritten quiet few line =
+    neither 5 rep (refusal file) out out' err err' (omega arith)
     (begins_then_line 2 err mid err' rep.err (error_line OutOfMemory) (omega arith) second few line)
-exit_by_outcome rep file refusing (Err WriteFailed) out out' err mid err' answer written second verdict unwritten quiet few line =
-    neither 6 rep (refusal file) out out' err err' (omega arith) written
+status_by_outcome rep file refusing (Err WriteFailed) out out' err mid err' answer written second verdict unwritten quiet few line =
+    neither 6 rep (refusal file) out out' err err' (omega arith)
     (begins_then_line 3 err mid err' rep.err (error_line WriteFailed) (omega arith) second few line)
 
 -- want of memory and a failed write end the run of a file that is read
@@ -177,7 +176,7 @@ sound_by (Err WriteFailed) file h = λ m. absurd (omega arith)
 map_neither : (n : ℕ) (file : List ℕ) (V : List Reference) (out out' err err' : OutState) → 4 ≤ n
     → BeginsThenLine err err' [] (exit_line n (refusal file)) → IsMapExit n file V out out' err err'
 map_neither n file V out out' err err' h told =
-    record { told = told; clean = λ e. absurd (omega arith); faulty = λ e. absurd (omega arith); refused = λ e. absurd (omega arith) }
+    record { told = told; drawn = λ e. absurd (omega arith); clean = λ e. absurd (omega arith); faulty = λ e. absurd (omega arith); refused = λ e. absurd (omega arith) }
 
 -- nothing was put at a verdict
 quiet_told : (err mid err' : OutState) → Keeps err.bytes mid.bytes → err' ≡ mid → BeginsThenLine err err' [] []
@@ -185,62 +184,93 @@ quiet_told err mid err' kept quiet = all_then_line err err' []
     (err_written err mid err' [] (appends_kept err.bytes err.bytes mid.bytes [] (appends_nothing err.bytes) kept) quiet)
 
 map_exit : (file : List ℕ) (V : List Reference) (outcome : Result Verdict RunError) (out out' err mid err' : OutState) → IsAnswerOf outcome file
-    → IfOk outcome (λ v. v ≡ verdict (faults file V)) → IsUnwritten outcome out.bytes out'.bytes → Keeps err.bytes mid.bytes
+    → IfOk outcome (λ v. v ≡ verdict (faults file V)) → DrawsMap outcome out.bytes out'.bytes file V → IsUnwritten outcome out.bytes out'.bytes → Keeps err.bytes mid.bytes
     → OnOk outcome (err' ≡ mid) → OnErr outcome (FewFailed (second_most (exit_status outcome)) err mid)
     → IfErr outcome (λ error. EndsWithLine (error_line error) 2 mid err') → IsMapExit (exit_status outcome) file V out out' err err'
-map_exit file V (Ok Clean) out out' err mid err' answer found unwritten kept quiet few line = record {
+map_exit file V (Ok Clean) out out' err mid err' answer found picture unwritten kept quiet few line = record {
   told = quiet_told err mid err' kept quiet;
+  drawn = λ e. picture;
   clean = λ e. sym found;
   faulty = λ e. absurd (omega arith);
   refused = λ e. absurd (omega arith);
 }
-map_exit file V (Ok (Faulty n)) out out' err mid err' answer found unwritten kept quiet few line = record {
+map_exit file V (Ok (Faulty n)) out out' err mid err' answer found picture unwritten kept quiet few line = record {
   told = quiet_told err mid err' kept quiet;
+  drawn = λ e. picture;
   clean = λ e. absurd (omega arith);
   faulty = λ e. (n, sym found);
   refused = λ e. absurd (omega arith);
 }
-map_exit file V (Err (Refused e)) out out' err mid err' answer found unwritten kept quiet few line = record {
+map_exit file V (Err (Refused e)) out out' err mid err' answer found picture unwritten kept quiet few line = record {
   told = refused_told err err' [] (refusal file) e answer (kept_then_line 2 err mid err' (error_line (Refused e)) (omega arith) kept few line);
+  drawn = λ h. absurd (omega arith);
   clean = λ h. absurd (omega arith);
   faulty = λ h. absurd (omega arith);
   refused = λ h. (e, answer, unwritten);
 }
-map_exit file V (Err ReadFailed) out out' err mid err' answer found unwritten kept quiet few line =
+map_exit file V (Err ReadFailed) out out' err mid err' answer found picture unwritten kept quiet few line =
     map_neither 4 file V out out' err err' (omega arith) (kept_then_line 2 err mid err' (error_line ReadFailed) (omega arith) kept few line)
-map_exit file V (Err OutOfMemory) out out' err mid err' answer found unwritten kept quiet few line =
+map_exit file V (Err OutOfMemory) out out' err mid err' answer found picture unwritten kept quiet few line =
     map_neither 5 file V out out' err err' (omega arith) (kept_then_line 2 err mid err' (error_line OutOfMemory) (omega arith) kept few line)
-map_exit file V (Err WriteFailed) out out' err mid err' answer found unwritten kept quiet few line =
+map_exit file V (Err WriteFailed) out out' err mid err' answer found picture unwritten kept quiet few line =
     map_neither 6 file V out out' err err' (omega arith) (kept_then_line 3 err mid err' (error_line WriteFailed) (omega arith) kept few line)
 
+-- all was written at a verdict, and else a beginning
+whole_by : {A E : Type 0} (r : Result A E) (old new : Option (List ℕ)) (bytes : List ℕ) → Writes r old new bytes → OnOk r (Appends old new bytes)
+whole_by (Ok x) old new bytes h = h
+whole_by (Err x) old new bytes h = tt
+
+begun_by : {A E : Type 0} (r : Result A E) (old new : Option (List ℕ)) (bytes : List ℕ) → Writes r old new bytes → Begins old new bytes
+begun_by (Ok x) old new bytes h = all_begun old new bytes h
+begun_by (Err x) old new bytes h = h
+
 -- of a report, by any survey
-report_exit : (rep : List ℕ → List Reference → Report) → AnswersRefusals rep
-    → (file : List ℕ) (outcome : Result Verdict RunError) (out out' err mid err' : OutState)
-    → IsRunBy rep file outcome out.bytes out'.bytes err.bytes mid.bytes → IsUnwritten outcome out.bytes out'.bytes
+report_exit : (command : Command) (file : List ℕ) (outcome : Result Verdict RunError) (out out' err mid err' : OutState)
+    → IsRunBy (report command) file outcome out.bytes out'.bytes err.bytes mid.bytes → IsUnwritten outcome out.bytes out'.bytes
     → OnOk outcome (err' ≡ mid) → OnErr outcome (FewFailed (second_most (exit_status outcome)) err mid)
     → IfErr outcome (λ error. EndsWithLine (error_line error) 2 mid err')
-    → (V : List Reference) → Survey file V → IsExit (exit_status outcome) (rep file V) (refusal file) out out' err err'
-report_exit rep refusing file outcome out out' err mid err' run unwritten quiet few line V s =
+    → (V : List Reference) → Survey file V → IsExit (exit_status outcome) (report command file V) (refusal file) out out' err err'
+report_exit command file outcome out out' err mid err' run unwritten quiet few line V s =
     let k = run.reported V s in
-    exit_by_outcome (rep file V) file (refusing file V) outcome out out' err mid err' run.answer k.out k.err k.verdict unwritten quiet few line
+    let rep = report command file V in record {
+      begun = begun_by outcome out.bytes out'.bytes rep.out k.out;
+      says = status_by_outcome rep file (command_answers command file V) outcome out out' err mid err' run.answer
+          (whole_by outcome out.bytes out'.bytes rep.out k.out) k.err k.verdict unwritten quiet few line;
+    }
+
+-- of an explanation
+explain_exit : (limit : ℕ) (file : List ℕ) (outcome : Result Verdict RunError) (out out' err mid err' : OutState)
+    → IsExplainedTo limit file outcome out out' → IsUnwritten outcome out.bytes out'.bytes → Keeps err.bytes mid.bytes
+    → OnOk outcome (err' ≡ mid) → OnErr outcome (FewFailed (second_most (exit_status outcome)) err mid)
+    → IfErr outcome (λ error. EndsWithLine (error_line error) 2 mid err')
+    → (V : List Reference) → Survey file V → IsExplainExit (exit_status outcome) limit file V out out' err err'
+explain_exit limit file outcome out out' err mid err' run unwritten kept quiet few line V s =
+    let k = run.written V s in
+    let rep = explain_report limit file V in record {
+      found = found_at_4 limit file V outcome out out' k;
+      begun = begun_not_at_4 limit file V outcome out out' k;
+      says = status_by_outcome rep file (explain_answers limit file V) outcome out out' err mid err' run.answer
+          (whole_text limit file V outcome out out' k) (kept_writes outcome err.bytes mid.bytes rep.err (explain_err limit file V) kept)
+          (run.verdict V s) unwritten quiet few line;
+    }
 
 -- and of what was asked
 exit_of : (asked : Request) (file : List ℕ) (outcome : Result Verdict RunError) (out out' err mid err' : OutState)
-    → IsRunFor asked file outcome out.bytes out'.bytes err.bytes mid.bytes
+    → IsEndFor asked file outcome out out' err mid
     → IsUnwritten outcome out.bytes out'.bytes → (WritesToFirst asked → Keeps err.bytes mid.bytes)
     → OnOk outcome (err' ≡ mid) → OnErr outcome (FewFailed (second_most (exit_status outcome)) err mid)
     → IfErr outcome (λ error. EndsWithLine (error_line error) 2 mid err')
     → IsExitOf (exit_status outcome) asked file out out' err err'
 exit_of (request.Report command) file outcome out out' err mid err' run unwritten kept quiet few line =
-    report_exit (report command) (command_answers command) file outcome out out' err mid err' run unwritten quiet few line
+    report_exit command file outcome out out' err mid err' run unwritten quiet few line
 exit_of (request.Explain limit) file outcome out out' err mid err' run unwritten kept quiet few line =
-    report_exit (explain_report limit) (explain_answers limit) file outcome out out' err mid err' run unwritten quiet few line
+    explain_exit limit file outcome out out' err mid err' run unwritten (kept tt) quiet few line
 exit_of (request.Map name) file outcome out out' err mid err' run unwritten kept quiet few line =
-    λ V s. map_exit file V outcome out out' err mid err' run.answer (run.verdict V s) unwritten (kept tt) quiet few line
+    λ V s. map_exit file V outcome out out' err mid err' run.answer (run.verdict V s) (run.picture V s) unwritten (kept tt) quiet few line
 
 -- each run has an answer for the file, and its verdict says whether that is sound
-answer_of : (asked : Request) (file : List ℕ) (outcome : Result Verdict RunError) (out out' err mid : Option (List ℕ))
-    → IsRunFor asked file outcome out out' err mid
+answer_of : (asked : Request) (file : List ℕ) (outcome : Result Verdict RunError) (out out' err mid : OutState)
+    → IsEndFor asked file outcome out out' err mid
     → IsAnswerOf outcome file × IfOk outcome (λ v. v ≡ Clean ↔ Sound file)
 answer_of (request.Report command) file outcome out out' err mid run = (run.answer, run.sound)
 answer_of (request.Explain limit) file outcome out out' err mid run = (run.answer, run.sound)
@@ -248,13 +278,13 @@ answer_of (request.Map name) file outcome out out' err mid run = (run.answer, ru
 
 -- what finishing left of a file, by what its run left of it
 pub finish_of : (asked : Request) (file : List ℕ) (outcome : Result Verdict RunError) (out out' err mid err' : OutState)
-    → IsRunFor asked file outcome out.bytes out'.bytes err.bytes mid.bytes
+    → IsEndFor asked file outcome out out' err mid
     → IsUnwritten outcome out.bytes out'.bytes → (WritesToFirst asked → Keeps err.bytes mid.bytes)
     → OnOk outcome (err' ≡ mid) → OnErr outcome (FewFailed (second_most (exit_status outcome)) err mid)
     → IfErr outcome (λ error. EndsWithLine (error_line error) 2 mid err')
     → IsFinishOf (exit_status outcome) asked file out out' err err'
 finish_of asked file outcome out out' err mid err' run unwritten kept quiet few line =
-    let k = answer_of asked file outcome out.bytes out'.bytes err.bytes mid.bytes run in record {
+    let k = answer_of asked file outcome out out' err mid run in record {
       exit = exit_of asked file outcome out out' err mid err' run unwritten kept quiet few line;
       sound = sound_by outcome file k.1;
       memory = memory_by outcome file k.0;

@@ -1,6 +1,6 @@
 -- What handing on makes of the outcome of a run, and of what is said of it.
-use Rattle.std.proofs.Common.{◌≡◌, ◌↔◌, ◌∙◌, ℕ, ◌+◌, ◌%◌, ◌^◌, ◌≤◌, List, [], ◌++◌, Option, Result, Ok, Err, inl, inr, refl, sym, ap, subst, arith, true, false}
-use Rattle.std.specs.Prelude.{IfErr, IfOk, OnErr, OnOk, ◌≢◌, ◌⊎◌, is_ok}
+use Rattle.std.proofs.Common.{◌≡◌, ◌↔◌, ◌∙◌, ℕ, ◌+◌, ◌%◌, ◌^◌, ◌≤◌, List, [], ◌++◌, Option, None, Some, Result, Ok, Err, inl, inr, refl, sym, ap, subst, arith, true, false}
+use Rattle.std.specs.Prelude.{IfErr, IfOk, OnErr, OnOk, ◌⊎◌, is_ok}
 use Rattle.std.specs.Io.KnownBytes.{Appends, Keeps}
 use Rattle.std.proofs.lemmas.List.{append-nil}
 use Rattle.dbformat.specs.Reference.{Reference}
@@ -13,17 +13,21 @@ use Rattle.dbreport.specs.StatSink.{failures_of_each}
 use Rattle.dbsource.proofs.Beginnings.{all_begun}
 use Rattle.dbsource.proofs.Puts.{appends_kept, keeps_same}
 use Rattle.dbsource.specs.Answers.{Step, Trail}
-use Rattle.dbsource.specs.Errors.{is_read_failed, is_write_failed}
-use Rattle.dbsource.specs.Failures.{CountsAfter, HasOneMore, failures_after, is_any, one_more}
+use Rattle.dbsource.specs.Errors.{is_read_failed}
+use Rattle.dbsource.specs.Failures.{HasOneMore, failures_after, one_more}
 use Rattle.dbsource.specs.Outs.{Begins, Flushes, OutState, Puts, Writes}
 use Rattle.dbsource.specs.declared.error.RunError.{RunError}
 use Rattle.dbsource.specs.declared.error.RunError.TheVariants.{Refused, ReadFailed, OutOfMemory, WriteFailed}
+use Rattle.dbmap.specs.Maps.{DrawsMap, HasPicture}
+use Rattle.dbmap.specs.Pictures.{picture_text}
+use Rattle.dbcli.proofs.Explaining.{IsEndFor, LeavesText, gets_found}
 use Rattle.dbcli.proofs.Failures.{FewFailed, after_one, failed_then, few_then, few_then_line, kept_appends, more_count, more_failures, none_moved, not_same, one_moved, same_count}
 use Rattle.dbcli.specs.ErrorLines.{error_line}
-use Rattle.dbcli.specs.Exit.{EndsWithLine, HasFailed, IsHandedOn, IsHandedOnOrFailed, failures_at_4, first_most, second_most}
+use Rattle.dbcli.specs.Exit.{EndsWithLine, HasFailed, IsHandedOn, IsHandedOnOrFailed, failures_at_4, first_most, second_most, unread_most}
 use Rattle.dbcli.specs.Handing.{IsHanded, StopsFlushing, TriesToFlush}
-use Rattle.dbowner.specs.Explained.{explain_report}
-use Rattle.dbcli.specs.Requests.{IsRunFor}
+use Rattle.dbexplain.specs.Explained.{explain_report}
+use Rattle.dbexplain.specs.Runs.{WritesReport}
+use Rattle.dbcli.specs.Requests.{IsRunFor, OutsFail}
 use Rattle.dbcli.specs.Status.{exit_status}
 use Rattle.dbcli.specs.declared.request.Request.{Request}
 use Rattle.dbcli.specs.declared.request.Request.TheVariants as request
@@ -38,7 +42,30 @@ at_verdict (Faulty n) = omega arith
 begins_still : (o m n : Option (List ℕ)) (bytes : List ℕ) → Begins o m bytes → Keeps m n → Begins o n bytes
 begins_still o m n bytes b k = record { part = b.part; rest = b.rest; whole = b.whole; added = appends_kept o m n b.part b.added k }
 
+-- a picture of which less is said
+picture_for : {P Q : List ℕ → Type 0} (file : List ℕ) (V : List Reference) → ((text : List ℕ) → P text → Q text) → HasPicture P file V → HasPicture Q file V
+picture_for file V less h = record {
+  heading = h.heading;
+  ground = h.ground;
+  all = h.all;
+  lines = h.lines;
+  is = h.is;
+  holds = less (picture_text h.heading h.ground h.all h.lines) h.holds;
+}
+
+keeps_then : (o m n : Option (List ℕ)) → Keeps o m → Keeps m n → Keeps o n
+keeps_then None m n h k = tt
+keeps_then (Some x) None n h k = absurd h
+keeps_then (Some x) (Some y) None h k = absurd k
+keeps_then (Some x) (Some y) (Some z) h k = k ∙ h
+
 module _ (out out' err err' : OutState) where
+  -- nothing of a picture was put, or a beginning
+  begun_still : (before : Option (List ℕ)) (file : List ℕ) (V : List Reference) → Keeps out.bytes out'.bytes
+      → Keeps before out.bytes ⊎ HasPicture (Begins before out.bytes) file V → Keeps before out'.bytes ⊎ HasPicture (Begins before out'.bytes) file V
+  begun_still before file V kept (inl k) = inl (keeps_then before out.bytes out'.bytes k kept)
+  begun_still before file V kept (inr k) = inr (picture_for file V (λ text begun. begins_still before out.bytes out'.bytes text begun kept) k)
+
   -- the answer is one for the file
   still_answers : (o r : Result Verdict RunError) (file : List ℕ) → IsHanded o r out out' err err' → IsAnswerOf o file → IsAnswerOf r file
   still_answers (Ok v) (Ok w) file h a = a
@@ -109,14 +136,43 @@ module _ (out out' err err' : OutState) where
     sound = still_of (λ v. v ≡ Clean ↔ Sound file) o r h run.sound;
   }
 
+  -- the picture of a map
+  still_drawn : (o r : Result Verdict RunError) (before : Option (List ℕ)) (file : List ℕ) (V : List Reference)
+      → IsHanded o r out out' err err' → DrawsMap o before out.bytes file V → DrawsMap r before out'.bytes file V
+  still_drawn (Ok v) (Ok w) before file V h k = picture_for file V (λ text added. appends_kept before out.bytes out'.bytes text added h.1.kept) k
+  still_drawn (Ok v) (Err e) before file V h k =
+      inr (picture_for file V (λ text added. all_begun before out'.bytes text (appends_kept before out.bytes out'.bytes text added h.1.kept)) k)
+  still_drawn (Err (Refused x)) r before file V h k = rw h.0 (subst (λ g. DrawsMap {A = Verdict} {E = RunError} (Err (Refused x)) before g.bytes file V) (sym h.1) k)
+  still_drawn (Err ReadFailed) r before file V h k = rw h.0 (begun_still before file V h.1.kept k)
+  still_drawn (Err OutOfMemory) r before file V h k = rw h.0 (begun_still before file V h.1.kept k)
+  still_drawn (Err WriteFailed) r before file V h k = rw h.0 (begun_still before file V h.1.kept k)
+
+  -- what an explanation wrote
+  still_explained : (limit : ℕ) (file : List ℕ) (V : List Reference) (o r : Result Verdict RunError) (first : OutState) → IsHanded o r out out' err err'
+      → WritesReport limit file V o first out → LeavesText limit file V r first out'
+  still_explained limit file V (Ok v) (Ok w) first h k = still_writes (Ok v) (Ok w) first.bytes (explain_report limit file V).out h k
+  still_explained limit file V (Ok v) (Err e) first h k =
+      rw h.0 (let b = (explain_report limit file V).out in all_begun first.bytes out'.bytes b (appends_kept first.bytes out.bytes out'.bytes b k h.1.kept))
+  still_explained limit file V (Err (Refused x)) r first h k =
+      rw h.0 (subst (λ g. Begins first.bytes g.bytes (explain_report limit file V).out) (sym h.1) k)
+  still_explained limit file V (Err ReadFailed) r first h k = rw h.0 (gets_found limit file V first out out' k h.1)
+  still_explained limit file V (Err OutOfMemory) r first h k = rw h.0 (begins_still first.bytes out.bytes out'.bytes (explain_report limit file V).out k h.1.kept)
+  still_explained limit file V (Err WriteFailed) r first h k = rw h.0 (begins_still first.bytes out.bytes out'.bytes (explain_report limit file V).out k h.1.kept)
+
   -- for what was asked
-  pub still_for : (asked : Request) (file : List ℕ) (o r : Result Verdict RunError) (first second : Option (List ℕ)) → IsHanded o r out out' err err'
-      → IsRunFor asked file o first out.bytes second err.bytes → IsRunFor asked file r first out'.bytes second err'.bytes
-  still_for (request.Report command) file o r first second h run = still_run (report command) file o r first second h run
-  still_for (request.Explain limit) file o r first second h run = still_run (explain_report limit) file o r first second h run
+  pub still_for : (asked : Request) (file : List ℕ) (o r : Result Verdict RunError) (first second : OutState) → IsHanded o r out out' err err'
+      → IsRunFor asked file o first out second err → IsEndFor asked file r first out' second err'
+  still_for (request.Report command) file o r first second h run = still_run (report command) file o r first.bytes second.bytes h run
+  still_for (request.Explain limit) file o r first second h run = record {
+    written = λ V s. still_explained limit file V o r first h (run.written V s);
+    verdict = λ V s. still_of (λ v. (explain_report limit file V).answer ≡ Ok v) o r h (run.verdict V s);
+    answer = still_answers o r file h run.answer;
+    sound = still_of (λ v. v ≡ Clean ↔ Sound file) o r h run.sound;
+  }
   still_for (request.Map name) file o r first second h run = record {
     survey = run.survey;
     verdict = λ V s. still_of (λ v. v ≡ verdict (faults file V)) o r h (run.verdict V s);
+    picture = λ V s. still_drawn o r first.bytes file V h (run.picture V s);
     answer = still_answers o r file h run.answer;
     sound = still_of (λ v. v ≡ Clean ↔ Sound file) o r h run.sound;
   }
@@ -144,30 +200,39 @@ stopped_first out out' err err' s = by_once s.once
 
 module _ (out err out1 err1 out2 err2 err3 : OutState) where
   -- at a verdict
-  pub whole_at_verdict : (o r : Result Verdict RunError) → CountsAfter is_write_failed o (failures_of_each out err) (failures_of_each out1 err1)
+  pub whole_at_verdict : (asked : Request) (o r : Result Verdict RunError) → OutsFail o asked out out1 err err1
       → IsHanded o r out1 out2 err1 err2 → OnOk r (err3 ≡ err2) → exit_status r ≤ 1 → IsHandedOn out out2 × IsHandedOn err err3
-  whole_at_verdict (Ok v) (Ok w) same h quiet k =
+  whole_at_verdict asked (Ok v) (Ok w) same h quiet k =
       let e : out1.failures ≡ out.failures = cc in
       let f : err1.failures ≡ err.failures = cc in (
         record { all = h.1.empty; unfailed = h.1.count ∙ e },
         subst (λ x. IsHandedOn err x) (sym quiet) (record { all = h.2.empty; unfailed = h.2.count ∙ f }),
       )
-  whole_at_verdict (Ok v) (Err e) same h quiet k = let q : 6 ≤ 1 = rw h.0 at k in absurd (omega arith)
-  whole_at_verdict (Err (Refused x)) r same h quiet k = let q : 3 ≤ 1 = rw h.0 at k in absurd (omega arith)
-  whole_at_verdict (Err ReadFailed) r same h quiet k = let q : 4 ≤ 1 = rw h.0 at k in absurd (omega arith)
-  whole_at_verdict (Err OutOfMemory) r same h quiet k = let q : 5 ≤ 1 = rw h.0 at k in absurd (omega arith)
-  whole_at_verdict (Err WriteFailed) r same h quiet k = let q : 6 ≤ 1 = rw h.0 at k in absurd (omega arith)
+  whole_at_verdict asked (Ok v) (Err e) same h quiet k = let q : 6 ≤ 1 = rw h.0 at k in absurd (omega arith)
+  whole_at_verdict asked (Err (Refused x)) r same h quiet k = let q : 3 ≤ 1 = rw h.0 at k in absurd (omega arith)
+  whole_at_verdict asked (Err ReadFailed) r same h quiet k = let q : 4 ≤ 1 = rw h.0 at k in absurd (omega arith)
+  whole_at_verdict asked (Err OutOfMemory) r same h quiet k = let q : 5 ≤ 1 = rw h.0 at k in absurd (omega arith)
+  whole_at_verdict asked (Err WriteFailed) r same h quiet k = let q : 6 ≤ 1 = rw h.0 at k in absurd (omega arith)
 
-  -- the first Out behind an error
-  pub first_at_error : (o r : Result Verdict RunError) → CountsAfter is_write_failed o (failures_of_each out err) (failures_of_each out1 err1)
-      → IsHanded o r out1 out2 err1 err2 → 4 ≤ exit_status r → IsHandedOnOrFailed (first_most (exit_status r)) out out2
-  first_at_error (Ok v) (Ok w) same h k = let q = at_verdict w in absurd (omega arith)
-  first_at_error (Ok v) (Err e) same h k = rw h.0 (let m = none_moved out err out1 err1 same in let z : m.first ≡ 0 = (let s = m.sum in omega (arith, s)) in
+  -- the first Out after a failed read
+  first_unread : (asked : Request) → OutsFail (Err ReadFailed) asked out out1 err err1 → TriesToFlush out1 out2 → IsHandedOnOrFailed (unread_most asked) out out2
+  first_unread (request.Report command) same t =
+      let m = none_moved out err out1 err1 same in let s = m.sum in failed_then m.first 1 1 out out1 out2 (omega (arith, s)) m.count t.once
+  first_unread (request.Explain limit) (inl same, second) t = failed_then 0 1 2 out out1 out2 (omega arith) (same_count out.failures out1.failures same) t.once
+  first_unread (request.Explain limit) (inr more, second) t = failed_then 1 1 2 out out1 out2 (omega arith) (more_count out.failures out1.failures more) t.once
+  first_unread (request.Map name) same t =
+      let m = none_moved out err out1 err1 same in let s = m.sum in failed_then m.first 1 1 out out1 out2 (omega (arith, s)) m.count t.once
+
+  -- and behind any error
+  pub first_at_error : (asked : Request) (o r : Result Verdict RunError) → OutsFail o asked out out1 err err1
+      → IsHanded o r out1 out2 err1 err2 → 4 ≤ exit_status r → IsHandedOnOrFailed (first_most asked (exit_status r)) out out2
+  first_at_error asked (Ok v) (Ok w) same h k = let q = at_verdict w in absurd (omega arith)
+  first_at_error asked (Ok v) (Err e) same h k = rw h.0 (let m = none_moved out err out1 err1 same in let z : m.first ≡ 0 = (let s = m.sum in omega (arith, s)) in
       failed_then m.first 1 2 out out1 out2 (omega (arith, z)) m.count (stopped_first out1 out2 err1 err2 h.1))
-  first_at_error (Err (Refused x)) r same h k = let q : 4 ≤ 3 = rw h.0 at k in absurd (omega arith)
-  first_at_error (Err ReadFailed) r same h k = rw h.0 (let m = none_moved out err out1 err1 same in let s = m.sum in failed_then m.first 1 1 out out1 out2 (omega (arith, s)) m.count h.1.once)
-  first_at_error (Err OutOfMemory) r same h k = rw h.0 (let m = none_moved out err out1 err1 same in let s = m.sum in failed_then m.first 1 1 out out1 out2 (omega (arith, s)) m.count h.1.once)
-  first_at_error (Err WriteFailed) r one h k = rw h.0 (let m = one_moved out err out1 err1 one in let s = m.sum in failed_then m.first 1 2 out out1 out2 (omega (arith, s)) m.count h.1.once)
+  first_at_error asked (Err (Refused x)) r same h k = let q : 4 ≤ 3 = rw h.0 at k in absurd (omega arith)
+  first_at_error asked (Err ReadFailed) r same h k = rw h.0 (first_unread asked same h.1)
+  first_at_error asked (Err OutOfMemory) r same h k = rw h.0 (let m = none_moved out err out1 err1 same in let s = m.sum in failed_then m.first 1 1 out out1 out2 (omega (arith, s)) m.count h.1.once)
+  first_at_error asked (Err WriteFailed) r one h k = rw h.0 (let m = one_moved out err out1 err1 one in let s = m.sum in failed_then m.first 1 2 out out1 out2 (omega (arith, s)) m.count h.1.once)
 
   none_few : failures_of_each out1 err1 ≡ failures_of_each out err → err2 ≡ err1 → FewFailed 2 err err2
   none_few same e = let m = none_moved out err out1 err1 same in let s = m.sum in record {
@@ -194,15 +259,25 @@ module _ (out err out1 err1 out2 err2 err3 : OutState) where
             ∙ ap (λ k. k % 2 ^ 64) (let q : err.failures + m.second + n.second ≡ err.failures + (m.second + n.second) = omega arith in q);
       }
 
-  -- the second before the line of the error
-  pub second_few : (o r : Result Verdict RunError) → CountsAfter is_write_failed o (failures_of_each out err) (failures_of_each out1 err1)
+  -- the second after a failed read
+  second_unread : (asked : Request) → OutsFail (Err ReadFailed) asked out out1 err err1 → err2 ≡ err1 → FewFailed 2 err err2
+  second_unread (request.Report command) same e = none_few same e
+  second_unread (request.Explain limit) (first, same) e = record {
+    moved = 0;
+    bound = omega arith;
+    count = subst (λ x. x.failures % 2 ^ 64 ≡ (err.failures + 0) % 2 ^ 64) (sym e) (same_count err.failures err1.failures same);
+  }
+  second_unread (request.Map name) same e = none_few same e
+
+  -- before the line of the error
+  pub second_few : (asked : Request) (o r : Result Verdict RunError) → OutsFail o asked out out1 err err1
       → IsHanded o r out1 out2 err1 err2 → OnErr r (FewFailed (second_most (exit_status r)) err err2)
-  second_few (Ok v) (Ok w) same h = tt
-  second_few (Ok v) (Err e) same h = rw h.0 (stopped_few same h.1.once)
-  second_few (Err (Refused x)) r same h = rw h.0 (none_few same h.2)
-  second_few (Err ReadFailed) r same h = rw h.0 (none_few same h.2)
-  second_few (Err OutOfMemory) r same h = rw h.0 (none_few same h.2)
-  second_few (Err WriteFailed) r one h = rw h.0 (one_few one h.2)
+  second_few asked (Ok v) (Ok w) same h = tt
+  second_few asked (Ok v) (Err e) same h = rw h.0 (stopped_few same h.1.once)
+  second_few asked (Err (Refused x)) r same h = rw h.0 (none_few same h.2)
+  second_few asked (Err ReadFailed) r same h = rw h.0 (second_unread asked same h.2)
+  second_few asked (Err OutOfMemory) r same h = rw h.0 (none_few same h.2)
+  second_few asked (Err WriteFailed) r one h = rw h.0 (one_few one h.2)
 
   -- and with it
   pub second_at_error : (r : Result Verdict RunError) → OnErr r (FewFailed (second_most (exit_status r)) err err2)
@@ -247,17 +322,17 @@ module _ (out err out1 err1 out2 err2 err3 : OutState) where
   flush_failed e f (inr (same, inr (also, none))) t = absurd none
 
   -- one of them failed
-  pub failed_at_6 : (o r : Result Verdict RunError) → CountsAfter is_write_failed o (failures_of_each out err) (failures_of_each out1 err1)
+  pub failed_at_6 : (asked : Request) (o r : Result Verdict RunError) → OutsFail o asked out out1 err err1
       → IsHanded o r out1 out2 err1 err2 → OnErr r (IsHandedOnOrFailed 2 err2 err3) → exit_status r ≡ 6 → HasFailed out out2 ⊎ HasFailed err err3
-  failed_at_6 (Ok v) (Ok w) same h t k = let q = at_verdict w in absurd (omega arith)
-  failed_at_6 (Ok v) (Err e) same h t k =
+  failed_at_6 asked (Ok v) (Ok w) same h t k = let q = at_verdict w in absurd (omega arith)
+  failed_at_6 asked (Ok v) (Err e) same h t k =
       let e : out1.failures ≡ out.failures = cc in
       let f : err1.failures ≡ err.failures = cc in
       flush_failed e f h.1.once t
-  failed_at_6 (Err (Refused x)) r same h t k = let m : 6 ≤ exit_status r = omega (arith, k) in let q : 6 ≤ 3 = rw h.0 at m in absurd (omega arith)
-  failed_at_6 (Err ReadFailed) r same h t k = let m : 6 ≤ exit_status r = omega (arith, k) in let q : 6 ≤ 4 = rw h.0 at m in absurd (omega arith)
-  failed_at_6 (Err OutOfMemory) r same h t k = let m : 6 ≤ exit_status r = omega (arith, k) in let q : 6 ≤ 5 = rw h.0 at m in absurd (omega arith)
-  failed_at_6 (Err WriteFailed) r one h t k =
+  failed_at_6 asked (Err (Refused x)) r same h t k = let m : 6 ≤ exit_status r = omega (arith, k) in let q : 6 ≤ 3 = rw h.0 at m in absurd (omega arith)
+  failed_at_6 asked (Err ReadFailed) r same h t k = let m : 6 ≤ exit_status r = omega (arith, k) in let q : 6 ≤ 4 = rw h.0 at m in absurd (omega arith)
+  failed_at_6 asked (Err OutOfMemory) r same h t k = let m : 6 ≤ exit_status r = omega (arith, k) in let q : 6 ≤ 5 = rw h.0 at m in absurd (omega arith)
+  failed_at_6 asked (Err WriteFailed) r one h t k =
       let u : IsHandedOnOrFailed 2 err2 err3 = rw h.0 at t in
       run_failed one h.1 (subst (λ x. IsHandedOnOrFailed 2 x err3) h.2 u)
 

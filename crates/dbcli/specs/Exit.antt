@@ -1,5 +1,5 @@
 -- What an exit status says of what was asked of a file, and of what was written of it.
-use Rattle.std.specs.Prelude.{◌≡◌, ◌≢◌, ◌≤◌, ◌⊎◌, ◌↔◌, ℕ, ◌+◌, ◌%◌, ◌^◌, ◌==◌, if◌then◌else◌, List, [], ◌++◌, length, Option, Some, Ok, Err, None}
+use Rattle.std.specs.Prelude.{◌≡◌, ◌≢◌, ◌≤◌, ◌⊎◌, ◌↔◌, ℕ, ◌+◌, ◌%◌, ◌^◌, ◌==◌, if◌then◌else◌, List, [], ◌++◌, Option, Some, Ok, Err, None}
 use Rattle.dbformat.specs.File.{refusal}
 use Rattle.std.specs.Io.KnownBytes.{Appends}
 use Rattle.dbformat.specs.Reference.{Reference}
@@ -10,7 +10,8 @@ use Rattle.dbformat.specs.declared.Refusal.{Refusal}
 use Rattle.dbformat.specs.declared.Verdict.TheVariants.{Clean, Faulty}
 use Rattle.dbsource.specs.Failures.{one_more}
 use Rattle.dbsource.specs.Outs.{Begins, OutState}
-use Rattle.dbowner.specs.Explained.{explain_report}
+use Rattle.dbmap.specs.Maps.{HasPicture}
+use Rattle.dbexplain.specs.Explained.{IsFoundText, explain_report}
 use Rattle.dbcli.specs.ErrorLines.{exit_line}
 use Rattle.dbcli.specs.declared.request.Request.{Request}
 use Rattle.dbcli.specs.declared.request.Request.TheVariants as request
@@ -52,11 +53,16 @@ pub record EndsWithLine (line : List ℕ) (most : ℕ) (old new : OutState) : Ty
   pub added : Appends old.bytes new.bytes shown
   pub uncut : tried.failed ≡ 0 → cut ≡ []
 
--- how many calls of the first Out fail at most: the last handing on, and at 6 one that ended the run
-abbrev pub first_most : ℕ → ℕ
-first_most status = if status == 6 then 2 else 1
+-- how many calls of the first Out fail at most after a failed read: the last handing on, and of an explanation one before it
+abbrev pub unread_most : Request → ℕ
+unread_most (request.Explain limit) = 2
+unread_most _ = 1
 
--- how many of the second do: these, and the line of the error
+-- and at any status: at 6 the last handing on, and one that ended the run
+abbrev pub first_most : Request → ℕ → ℕ
+first_most asked status = if status == 6 then 2 else (if status == 4 then unread_most asked else 1)
+
+-- how many of the second do: the last handing on, the line of the error, and at 6 one that ended the run
 abbrev pub second_most : ℕ → ℕ
 second_most status = if status == 6 then 3 else 2
 
@@ -73,10 +79,8 @@ abbrev pub IsKnown : ℕ → Type 0
 IsKnown status = (status ≤ 1) ⊎ ((3 ≤ status) × (status ≤ 6))
 
 -- What an exit status says of a report and of what was written of it, where this is why its file is refused, if it is.
-pub record IsExit (status : ℕ) (r : Report) (why : Option Refusal) (out out' err err' : OutState) : Type 0 where
-  -- whatever the status, the first Out got a beginning of its part of the report
-  pub begun : Begins out.bytes out'.bytes r.out
-  -- and the second one of its own, and then the line of the error
+pub record IsStatusOf (status : ℕ) (r : Report) (why : Option Refusal) (out out' err err' : OutState) : Type 0 where
+  -- the second Out got a beginning of its part of the report, and then the line of the error
   pub told : BeginsThenLine err err' r.err (exit_line status why)
   -- 0 is answered only where no fault was found, and all of the report was written
   pub clean : status ≡ 0 → (r.answer ≡ Ok Clean) × IsWritten r out out' err err'
@@ -85,10 +89,33 @@ pub record IsExit (status : ℕ) (r : Report) (why : Option Refusal) (out out' e
   -- 3 only where the file is refused, and nothing of it was written
   pub refused : status ≡ 3 → (e : Refusal) × (r.answer ≡ Err e) × (out'.bytes ≡ out.bytes)
 
--- The same of a map, of whose bytes nothing is said.
+-- The same; and whatever the status, the first Out got a beginning of its part of the report.
+pub record IsExit (status : ℕ) (r : Report) (why : Option Refusal) (out out' err err' : OutState) : Type 0 where
+  pub begun : Begins out.bytes out'.bytes r.out
+  pub says : IsStatusOf status r why out out' err err'
+
+-- The first Out got the fault lines of the entries found so far, by this survey: a beginning of them, and all where no call of it failed.
+pub record GetsFound (limit : ℕ) (file : List ℕ) (V : List Reference) (out out' : OutState) : Type 0 where
+  pub text : List ℕ
+  pub found : IsFoundText limit file V text
+  pub begun : Begins out.bytes out'.bytes text
+  pub uncut : out'.failures ≡ out.failures → Appends out.bytes out'.bytes text
+
+-- What it says of an explanation.
+pub record IsExplainExit (status limit : ℕ) (file : List ℕ) (V : List Reference) (out out' err err' : OutState) : Type 0 where
+  -- at 4 the first Out got what was found so far
+  pub found : status ≡ 4 → GetsFound limit file V out out'
+  -- and at any other status a beginning of the report
+  pub begun : status ≢ 4 → Begins out.bytes out'.bytes (explain_report limit file V).out
+  -- the rest is as of any report
+  pub says : IsStatusOf status (explain_report limit file V) (refusal file) out out' err err'
+
+-- The same of a map.
 pub record IsMapExit (status : ℕ) (file : List ℕ) (V : List Reference) (out out' err err' : OutState) : Type 0 where
   -- the second Out got the line of the error
   pub told : BeginsThenLine err err' [] (exit_line status (refusal file))
+  -- 0 and 1 are answered only where a picture of the file was put to the first Out
+  pub drawn : status ≤ 1 → HasPicture (Appends out.bytes out'.bytes) file V
   -- 0 is answered only where the verdict on the faults is that there is none
   pub clean : status ≡ 0 → verdict (faults file V) ≡ Clean
   -- 1 only where there are some
@@ -101,7 +128,7 @@ abbrev pub IsExitOf : ℕ → Request → List ℕ → OutState → OutState →
 IsExitOf status (request.Report command) file out out' err err' =
     (V : List Reference) → Survey file V → IsExit status (report command file V) (refusal file) out out' err err'
 IsExitOf status (request.Explain limit) file out out' err err' =
-    (V : List Reference) → Survey file V → IsExit status (explain_report limit file V) (refusal file) out out' err err'
+    (V : List Reference) → Survey file V → IsExplainExit status limit file V out out' err err'
 IsExitOf status (request.Map name) file out out' err err' =
     (V : List Reference) → Survey file V → IsMapExit status file V out out' err err'
 

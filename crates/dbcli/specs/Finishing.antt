@@ -1,6 +1,6 @@
 -- What finishing leaves, and what a run of a line does: from a source and two Outs to what these have become, by what their
 -- traits say of them.
-use Rattle.std.specs.Prelude.{◌≡◌, ◌≤◌, ◌⊎◌, ℕ, List, Result, Ok, Err}
+use Rattle.std.specs.Prelude.{◌≡◌, ◌≤◌, ◌⊎◌, ℕ, Result, Ok, Err}
 use Rattle.std.specs.Io.KnownBytes.{Keeps}
 use Rattle.dbformat.specs.File.{geometry}
 use Rattle.dbformat.specs.Log.{IsRunLog, IsSomeRunLog}
@@ -40,13 +40,13 @@ module _ {S O E : Type 0} (source : SourceWords S) (out : OutWords O) (err : Out
     pub writes : status ≡ 6 → HasFailed (out.held old.1) (out.held new.1) ⊎ HasFailed (err.held old.2) (err.held new.2)
 
   -- What is on the first Out, beside what the status says of a file.
-  pub record LeavesFirst (status : ℕ) (old new : O) : Type 0 where
+  pub record LeavesFirst (asked : Request) (status : ℕ) (old new : O) : Type 0 where
     -- at a verdict all was handed on, and no call of it failed
     pub whole : status ≤ 1 → IsHandedOn (out.held old) (out.held new)
     -- at a refusal it is as it was
     pub unwritten : status ≡ 3 → new ≡ old
     -- at the other errors what was pending was handed on, if that could be
-    pub tried : 4 ≤ status → IsHandedOnOrFailed (first_most status) (out.held old) (out.held new)
+    pub tried : 4 ≤ status → IsHandedOnOrFailed (first_most asked status) (out.held old) (out.held new)
 
   -- What is on the second.
   pub record LeavesSecond (asked : Request) (status : ℕ) (old new : E) : Type 0 where
@@ -65,7 +65,7 @@ module _ {S O E : Type 0} (source : SourceWords S) (out : OutWords O) (err : Out
     pub read : IsFinished asked status old new
     pub known : IsKnown status
     pub failed : FailsByStatus status old new
-    pub first : LeavesFirst status old.1 new.1
+    pub first : LeavesFirst asked status old.1 new.1
     pub second : LeavesSecond asked status old.2 new.2
 
   -- Where no file was opened.

@@ -34,10 +34,10 @@ pub enum LineError {
     #[error(transparent)]
     Words(clap::Error),
     /// The limit passed the parser, and is no number in its range all the same.
-    #[error("error: the limit is not a number in its range")]
+    #[error("dbck: the limit is not a number in its range")]
     Limit,
     /// A word is not UTF-8.
-    #[error("error: a word of the command line is not UTF-8")]
+    #[error("dbck: a word of the command line is not UTF-8")]
     NotText,
 }
 
@@ -71,9 +71,9 @@ const MOST_SHOWN: u32 = 1000000;
 
 const MOST_EXPLAINED: u32 = 10000;
 
-const ABOUT: &str = "Checks the structure of a SQLite 3 database file, which it only reads";
+const ABOUT: &str = "Check the structure of a SQLite 3 database file, which is only read";
 
-const CHECK_ABOUT: &str = "Writes a line for each fault of the file, or 'ok'";
+const CHECK_ABOUT: &str = "Write a line for each fault of the file, or 'ok'";
 
 const CHECK_EXAMPLES: &str = "Examples:
   dbck check notes.db            The first 100 faults of notes.db, or 'ok'
@@ -83,20 +83,19 @@ const CHECK_EXAMPLES: &str = "Examples:
 'dbck --help' lists the exit statuses.";
 
 const EXPLAIN_ABOUT: &str =
-    "Writes the faults as check does, with the tree and the place of each page, and a summary";
+    "Write each injury once: where it is, what it goes back to, how far it reaches; and a summary";
 
 const EXPLAIN_EXAMPLES: &str =
-    "Below each fault: where its pages are, what a lost page looks like, or what the header says.
-After the last: how many faults there are, by code and by tree.
+    "Below each fault: where its pages are, what it goes back to, and how many faults belong to it.
+After the last: how many faults there are, by code and by tree, and how many trees have none.
 
 Examples:
-  dbck explain notes.db             The first 100 faults of notes.db, explained, or 'ok'
-  dbck explain --limit 1 notes.db   The first fault, and the summary of all
+  dbck explain notes.db             The first 100 injuries of notes.db, or 'ok'
+  dbck explain --limit 1 notes.db   The first injury, and the summary of all
 
 'dbck --help' lists the exit statuses.";
 
-const MAP_ABOUT: &str =
-    "Writes a picture of the pages, an SVG: each page in the colour of its tree";
+const MAP_ABOUT: &str = "Write a picture of the pages, an SVG: each page in the colour of its tree";
 
 const MAP_EXAMPLES: &str =
     "The picture is written to standard output, and no line of a fault. The status is that of check.
@@ -106,7 +105,7 @@ Example:
 
 'dbck --help' lists the exit statuses.";
 
-const STAT_ABOUT: &str = "Writes a row for each page of a tree, and the faults to standard error";
+const STAT_ABOUT: &str = "Write a row for each page of a tree, and the faults to standard error";
 
 const STAT_EXAMPLES: &str = "Columns, separated by tabs:
   name path pageno pagetype ncell payload unused mx_payload pgoffset pgsize
@@ -211,7 +210,7 @@ fn check_command<'a>(alloc: Global) -> Result<Words<'a>, AllocError>
 fn explain_command<'a>(alloc: Global) -> Result<Words<'a>, AllocError>
     ensures { IfOk result (λ c. (app_of c ≡ explain_app) × ((fields_of c).has_globals ≡ false)) }
 {
-    let help = "How many faults are explained at most, from 1 to 10000";
+    let help = "How many injuries are written at most, from 1 to 10000";
     limited_command(
         alloc,
         "explain",

@@ -89,7 +89,7 @@ pub fn finish_opened<S: Source, O: Out, E: Out, N: Notes>(
     ensures read { IsFinished S.Source O.Out E.Out request.entry result (source.old, out.old, err.old) (source.new, out.new, err.new) }
     ensures status { IsKnown result }
     ensures failed { FailsByStatus S.Source O.Out E.Out result (source.old, out.old, err.old) (source.new, out.new, err.new) }
-    ensures first { LeavesFirst S.Source O.Out E.Out result out.old out.new }
+    ensures first { LeavesFirst S.Source O.Out E.Out request.entry result out.old out.new }
     ensures second { LeavesSecond S.Source O.Out E.Out request.entry result err.old err.new }
 {
     let outcome = run_request(alloc, request, source, out, err);

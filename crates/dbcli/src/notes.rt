@@ -3,13 +3,15 @@ use crate::finishing::Notes;
 use crate::logs::put_log_notes;
 use crate::shown::shown;
 use crate::watched::Watch;
+use arrayvec::ArrayVec;
+use dblines::append_first_bytes;
 use dbreport::Verdict;
-use dbsource::{Out, RunError};
+use dbsource::{Out, Refusal, RunError};
 use std::alloc::{AllocError, Global};
 use std::fs::{File, Metadata};
 use std::os::unix::fs::{FileTypeExt, MetadataExt};
 use std::rt::Files;
-use std::{fs, io};
+use std::{fs, io, str};
 
 /// What notes are put on: the file at a path, of which a run asks what `watch` sees.
 #[derive(Drop)]
@@ -76,6 +78,20 @@ impl<'a, R: Files<File = File> + AllocGlobal, N: Out> FileNotes<'a, R, N> {
         Ok(Some(format!(in self.rt.alloc(); "{name} is not checked")?))
     }
 
+    // What is known of a file that is refused: that it has no bytes, or which ones it begins with.
+    fn known(&self, refusal: Refusal) -> Result<Option<String>, AllocError> {
+        let alloc = self.rt.alloc();
+        let known = match refusal {
+            Refusal::Short if self.watch.len() == 0 => {
+                String::from_str(alloc, "has no bytes; to SQLite it is an empty database")?
+            }
+            Refusal::Magic => beginning(alloc, self.watch.first())?,
+            _ => return Ok(None),
+        };
+        let name = shown(alloc, self.file)?;
+        Ok(Some(format!(in alloc; "{name} {known}")?))
+    }
+
     // That the file was changed, if its name still leads to it.
     fn changed(&self) -> Result<Option<String>, AllocError> {
         let Some(before) = &self.before else {
@@ -97,7 +113,11 @@ impl<R: Files<File = File> + AllocGlobal, N: Out> Notes for FileNotes<'_, R, N> 
     fn tell(&mut self, outcome: &Result<Verdict, RunError>) {
         let text = match outcome {
             Ok(_) => rest(self.rt.alloc(), self.watch),
-            Err(RunError::Refused(_)) => self.refused(),
+            Err(RunError::Refused(refusal)) => {
+                let refused = self.refused();
+                self.put(refused);
+                self.known(*refusal)
+            }
             Err(RunError::ReadFailed) => self.unread(),
             Err(_) => Ok(None),
         };
@@ -107,6 +127,16 @@ impl<R: Files<File = File> + AllocGlobal, N: Out> Notes for FileNotes<'_, R, N> 
             self.put(changed);
         }
     }
+}
+
+// The first bytes of a file.
+fn beginning(alloc: Global, first: [u8; 16]) -> Result<String, AllocError> {
+    if first == [0; 16] {
+        return String::from_str(alloc, "begins with zeros");
+    }
+    let mut line: ArrayVec<u8, 80> = ArrayVec::new();
+    append_first_bytes(&mut line, &first);
+    String::from_str(alloc, str::from_utf8(line.as_slice()).unwrap_or("?"))
 }
 
 // Whether one file has another length, or was written, between two looks at it.
@@ -166,7 +196,7 @@ fn open_reason<R: Files<File = File> + AllocGlobal>(
 fn text_of(alloc: Global, error: &io::Error) -> Result<String, AllocError> {
     let text = error.to_string(alloc)?;
     match text.as_str().split_once(" (os error ") {
-        Some((reason, _)) => String::from_str(alloc, reason),
-        None => Ok(text),
+        Some((reason, _)) => shown(alloc, reason),
+        None => shown(alloc, text.as_str()),
     }
 }

@@ -6,10 +6,11 @@ use std::fmt::Write;
 // After how many pages it is shown, each time.
 const STEP: u64 = 65_536;
 
-// As long as the longest text is, between two returns to where it began.
+// As long as the longest text is, and back to where it began.
 const BLANK: &str = "\r                                        \r";
 
-/// A line of a stream that is written over, if that is a terminal. That it cannot be written changes nothing.
+/// A line of a stream that is written over, if that is a terminal. After each text the cursor goes back to the line's beginning, so
+/// that also after a run that is interrupted the next text is written over it. That it cannot be written changes nothing.
 #[derive(Drop)]
 pub struct Progress<W> {
     stream: W,
@@ -43,7 +44,7 @@ impl<W: Print> Progress<W> {
             return;
         };
         let mut line: ArrayString<64> = ArrayString::new();
-        if write!(line, "\rdbck: {count} of {pages} pages, {percent}%").is_ok() {
+        if write!(line, "dbck: {count} of {pages} pages, {percent}%\r").is_ok() {
             self.is_shown.set(true);
             let _ = self.stream.print(line.as_str());
         }

@@ -3,11 +3,10 @@ ghost use Rattle.std.specs.Prelude.{◌≡◌};
 ghost use Rattle.dbformat.specs.File.{geometry};
 ghost use Rattle.dbformat.specs.Log.{IsRunLog, IsSomeRunLog};
 ghost use Rattle.dbreport.specs.Runs.{IsLeftAlone};
-ghost use Rattle.dbreport.specs.StatSink.{failures_of_each};
-ghost use Rattle.dbsource.specs.Errors.{is_read_failed, is_write_failed};
-ghost use Rattle.dbsource.specs.Failures.{CountsAfter, failures_after};
+ghost use Rattle.dbsource.specs.Errors.{is_read_failed};
+ghost use Rattle.dbsource.specs.Failures.{failures_after};
 ghost use Rattle.dbsource.specs.Snapshots.{HasRead};
-ghost use Rattle.dbcli.specs.Requests.{IsRunFor, WritesToFirst};
+ghost use Rattle.dbcli.specs.Requests.{IsRunFor, OutsFail, WritesToFirst};
 
 use dbexplain::explain;
 use dbmap::map;
@@ -40,10 +39,9 @@ pub(crate) fn run_request<S: Source, O: Out, E: Out>(
 ) -> Result<Verdict, RunError>
     ensures read { HasRead S.step S.lengths IsSomeRunLog
         (λ file ranges. IsRunLog (geometry file) ranges × IsRunFor request.entry file result
-        (O.held out.old).bytes (O.held out.new).bytes (E.held err.old).bytes (E.held err.new).bytes) (S.held source.old) (S.held source.new) }
+        (O.held out.old) (O.held out.new) (E.held err.old) (E.held err.new)) (S.held source.old) (S.held source.new) }
     ensures reads { (S.held source.new).failures ≡ failures_after is_read_failed result (S.held source.old).failures }
-    ensures writes { CountsAfter is_write_failed result (failures_of_each (O.held out.old) (E.held err.old))
-        (failures_of_each (O.held out.new) (E.held err.new)) }
+    ensures writes { OutsFail result request.entry (O.held out.old) (O.held out.new) (E.held err.old) (E.held err.new) }
     ensures refused { IsLeftAlone S.Source O.Out E.Out result (source.old, out.old, err.old) (source.new, out.new, err.new) }
     ensures second { WritesToFirst request.entry → err.new ≡ err.old }
 {

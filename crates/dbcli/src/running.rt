@@ -14,6 +14,7 @@ use crate::watched::{Watch, Watched};
 use clap::error::ErrorKind;
 use dbsource::{Out, ReadFailed, Source};
 use std::fs::File;
+use std::io;
 use std::rt::Files;
 
 /// The system of a run: where notes come from, and who opens its file.
@@ -142,16 +143,28 @@ pub fn answer_words<
     }
 }
 
+// Prints what is wrong with the words, as the program's own lines begin.
+fn print_error<R: Eprint + Print + AllocGlobal>(rt: &R, words: &clap::Error) -> io::Result<()> {
+    let Ok(text) = words.to_string(rt.alloc()) else {
+        return words.print(rt);
+    };
+    match text.as_str().strip_prefix("error: ") {
+        Some(said) => eprint!(rt; "dbck: {said}"),
+        None => words.print(rt),
+    }
+}
+
 /// Tells why the words are no command line, or the help that they ask for, and answers the exit status: 6 where what they
 /// ask for cannot be printed.
-pub fn tell<R: Print + Eprint>(rt: &R, error: &LineError) -> u8
+pub fn tell<R: Print + Eprint + AllocGlobal>(rt: &R, error: &LineError) -> u8
     ensures { IsTold result error.now }
 {
     let status = line_status(error);
     let printed = match error {
         LineError::Words(words) => match words.kind() {
             ErrorKind::OutOfMemory => rt.eprintln("dbck: E9 out of memory"),
-            _ => words.print(rt),
+            ErrorKind::DisplayHelp | ErrorKind::DisplayVersion => words.print(rt),
+            _ => print_error(rt, words),
         },
         _ => rt.eprintln(error),
     };

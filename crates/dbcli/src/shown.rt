@@ -1,17 +1,16 @@
 // Texts as one line shows them.
+use dbbytes::plain_name_text;
+use dbformat::Encoding;
+use dbsource::MemOut;
 use std::alloc::{AllocError, Global};
-use std::fmt::Write;
+use std::str;
 
-/// The text with its control characters, and so its line feeds, as a shown name has them: `\x` and two digits.
+/// The text as a name is shown where it must not turn its line around: control characters, and so line feeds, backslashes and
+/// characters that turn text around are shown by their codes.
 pub fn shown(alloc: Global, text: &str) -> Result<String, AllocError> {
-    let mut line = String::new(alloc);
-    for c in text.chars() {
-        if c.is_control() {
-            let code = u32::from(c);
-            write!(line, "\\x{code:02x}")?;
-        } else {
-            line.push(c)?;
-        }
+    let mut line = MemOut::new(alloc);
+    if plain_name_text(text.as_bytes(), Encoding::Utf8, &mut line).is_err() {
+        return Err(AllocError);
     }
-    Ok(line)
+    String::from_str(alloc, str::from_utf8(line.bytes()).unwrap_or("?"))
 }

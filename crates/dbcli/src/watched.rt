@@ -9,6 +9,7 @@ use std::cell::Cell;
 #[derive(Drop)]
 pub struct Watch {
     len: Cell<u64>,
+    first: Cell<[u8; 16]>,
     geometry: Cell<Option<Geometry>>,
     reads: Cell<u64>,
     failed: Cell<Option<ByteRange>>,
@@ -19,6 +20,7 @@ impl Watch {
     pub fn new() -> Watch {
         Watch {
             len: Cell::new(0),
+            first: Cell::new([0; 16]),
             geometry: Cell::new(None),
             reads: Cell::new(0),
             failed: Cell::new(None),
@@ -28,6 +30,11 @@ impl Watch {
     /// How many bytes there are, as the source said last.
     pub fn len(&self) -> u64 {
         self.len.get()
+    }
+
+    /// The first bytes, once the header was read.
+    pub fn first(&self) -> [u8; 16] {
+        self.first.get()
     }
 
     /// The shape of the file, once its header was read and accepted.
@@ -50,10 +57,20 @@ impl Watch {
             let len = bytes.len() as u64;
             self.failed.set(Some(ByteRange { offset, len }));
         } else if self.reads.get() == 0 {
+            self.first.set(first_of(bytes));
             self.geometry.set(geometry_of(bytes, self.len()));
         }
         self.reads.set(self.reads.get().saturating_add(1));
     }
+}
+
+// The first 16 bytes, with zeros for those that are not there.
+fn first_of(bytes: &[u8]) -> [u8; 16] {
+    let mut first = [0; 16];
+    for (to, from) in first.iter_mut().zip(bytes) {
+        *to = *from;
+    }
+    first
 }
 
 // The first bytes of a file of so many.

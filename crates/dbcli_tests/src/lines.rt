@@ -6,15 +6,15 @@ use std::alloc::{AllocError, Global};
 use std::process::Abort;
 use std::test::Fail;
 
-const HELP: &str = "Checks the structure of a SQLite 3 database file, which it only reads
+const HELP: &str = "Check the structure of a SQLite 3 database file, which is only read
 
 Usage: dbck <COMMAND>
 
 Commands:
-  check    Writes a line for each fault of the file, or 'ok'
-  explain  Writes the faults as check does, with the tree and the place of each page, and a summary
-  map      Writes a picture of the pages, an SVG: each page in the colour of its tree
-  stat     Writes a row for each page of a tree, and the faults to standard error
+  check    Write a line for each fault of the file, or 'ok'
+  explain  Write each injury once: where it is, what it goes back to, how far it reaches; and a summary
+  map      Write a picture of the pages, an SVG: each page in the colour of its tree
+  stat     Write a row for each page of a tree, and the faults to standard error
   help     Print this message or the help of the given subcommand(s)
 
 Options:
@@ -31,7 +31,7 @@ Exit status:
   6  the output cannot be written (E10)
 ";
 
-const CHECK_HELP: &str = "Writes a line for each fault of the file, or 'ok'
+const CHECK_HELP: &str = "Write a line for each fault of the file, or 'ok'
 
 Usage: dbck check [OPTIONS] <FILE>
 
@@ -52,7 +52,7 @@ Examples:
 ";
 
 const EXPLAIN_HELP: &str =
-    "Writes the faults as check does, with the tree and the place of each page, and a summary
+    "Write each injury once: where it is, what it goes back to, how far it reaches; and a summary
 
 Usage: dbck explain [OPTIONS] <FILE>
 
@@ -60,21 +60,21 @@ Arguments:
   <FILE>  The database file
 
 Options:
-      --limit <N>    How many faults are explained at most, from 1 to 10000 [default: 100]
+      --limit <N>    How many injuries are written at most, from 1 to 10000 [default: 100]
       --no-progress  Show no progress where standard error is a terminal
   -h, --help         Print help
 
-Below each fault: where its pages are, what a lost page looks like, or what the header says.
-After the last: how many faults there are, by code and by tree.
+Below each fault: where its pages are, what it goes back to, and how many faults belong to it.
+After the last: how many faults there are, by code and by tree, and how many trees have none.
 
 Examples:
-  dbck explain notes.db             The first 100 faults of notes.db, explained, or 'ok'
-  dbck explain --limit 1 notes.db   The first fault, and the summary of all
+  dbck explain notes.db             The first 100 injuries of notes.db, or 'ok'
+  dbck explain --limit 1 notes.db   The first injury, and the summary of all
 
 'dbck --help' lists the exit statuses.
 ";
 
-const MAP_HELP: &str = "Writes a picture of the pages, an SVG: each page in the colour of its tree
+const MAP_HELP: &str = "Write a picture of the pages, an SVG: each page in the colour of its tree
 
 Usage: dbck map [OPTIONS] <FILE>
 
@@ -93,7 +93,7 @@ Example:
 'dbck --help' lists the exit statuses.
 ";
 
-const STAT_HELP: &str = "Writes a row for each page of a tree, and the faults to standard error
+const STAT_HELP: &str = "Write a row for each page of a tree, and the faults to standard error
 
 Usage: dbck stat [OPTIONS] <FILE>
 
@@ -365,7 +365,7 @@ fn errors_have_texts(rt: HostRuntime) -> Result<(), Fail> {
         holds!(rt; shown.as_str() == text, text);
     }
     let shown = refusal(rt.alloc(), &LineError::NotText)?;
-    let text = "status 2\nerror: a word of the command line is not UTF-8";
+    let text = "status 2\ndbck: a word of the command line is not UTF-8";
     holds!(rt; shown.as_str() == text, text);
     holds!(rt; line_status(&LineError::Limit) == 2, "limit");
     Ok(())

@@ -13,7 +13,7 @@ const JOURNAL: &str =
     "dbck: note: logs/x.db-journal is not read; let SQLite open a copy of both files to recover it, and check that copy\n";
 
 const TWO_LINES: &str =
-    "dbck: note: logs/two\\x0alines\\x9b.db-wal is not read; let SQLite open a copy of both files to checkpoint it, and check that copy\n";
+    "dbck: note: logs/two\\x0alines\\xc2\\x9b\\xe2\\x80\\xae.db-wal is not read; let SQLite open a copy of both files to checkpoint it, and check that copy\n";
 
 // What the folder has: files of a byte, files of none where a `!` follows, and folders where a slash does. Then the database,
 // the note on its log, and the one on its journal.
@@ -28,8 +28,8 @@ const CASES: [[&str; 4]; 8] = [
     ["x.db x.db-journal", "logs/no-folder/x.db", "", ""],
     // A name with control characters stays on its line.
     [
-        "two\nlines\u{9b}.db two\nlines\u{9b}.db-wal",
-        "logs/two\nlines\u{9b}.db",
+        "two\nlines\u{9b}\u{202e}.db two\nlines\u{9b}\u{202e}.db-wal",
+        "logs/two\nlines\u{9b}\u{202e}.db",
         TWO_LINES,
         "",
     ],

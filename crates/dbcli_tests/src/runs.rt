@@ -10,7 +10,7 @@ use std::process::Abort;
 use std::test::Fail;
 
 // The files: name, pages with what is patched in them, and what is behind these.
-const FILES: [[&str; 3]; 14] = [
+const FILES: [[&str; 3]; 16] = [
     ["whole.db", "Smallest 1", ""],
     ["longer.db", "Smallest 1", "\0"],
     ["faulty.db", "Smallest 1: 1 18 03, 1 107 01", ""],
@@ -25,6 +25,12 @@ const FILES: [[&str; 3]; 14] = [
     ["text.db", "Smallest 1: 1 0 74", ""],
     ["text.db-wal", "Smallest 0", "x"],
     ["short.db", "Smallest 0", ""],
+    ["few.db", "Smallest 0", "few"],
+    [
+        "zeros.db",
+        "Smallest 1: 1 0 00000000000000000000000000000000",
+        "",
+    ],
 ];
 
 const H01: &str = "H01 page 1 item 18 value 3: file version is not 1 or 2\n";
@@ -81,11 +87,22 @@ const E10: &str = "dbck: E10 the output cannot be written\n";
 const TEXT: &str =
     "dbck: note: runs/text.db-wal is not read; let SQLite open a copy of both files to checkpoint it, and check that copy
 dbck: note: runs/text.db is not checked
+dbck: note: runs/text.db begins with 74 51 4c 69 74 65 20 66 6f 72 6d 61 74 20 33 00  tQLite format 3.
 ";
 
-const SHORT: &str = "dbck: note: runs/short.db is not checked\n";
+const SHORT: &str = "dbck: note: runs/short.db is not checked
+dbck: note: runs/short.db has no bytes; to SQLite it is an empty database
+";
 
-const MAGIC: &str = "dbck: note: runs/magic.db is not checked\n";
+const FEW: &str = "dbck: note: runs/few.db is not checked\n";
+
+const MAGIC: &str = "dbck: note: runs/magic.db is not checked
+dbck: note: runs/magic.db begins with 00 51 4c 69 74 65 20 66 6f 72 6d 61 74 20 33 00  .QLite format 3.
+";
+
+const ZEROS: &str = "dbck: note: runs/zeros.db is not checked
+dbck: note: runs/zeros.db begins with zeros
+";
 
 const PAGE_SIZE: &str = "dbck: note: runs/page-size.db is not checked\n";
 
@@ -102,7 +119,7 @@ const DEVICE: &str = "dbck: note: /dev/null: not a regular file\n";
 const ONE_BYTE: &str = "dbck: note: 1 byte after page 1 is not read\n";
 
 // The lines: status, both outs, and the notes. Of a picture the first out shows the title alone.
-const RUNS: [(&str, u8, &str, &str, &str); 36] = [
+const RUNS: [(&str, u8, &str, &str, &str); 38] = [
     ("dbck check runs/whole.db", 0, "ok\n", "", ""),
     ("dbck check runs/longer.db", 0, "ok\n", "", ONE_BYTE),
     ("dbck check runs/faulty.db", 1, BOTH, "", ""),
@@ -117,6 +134,8 @@ const RUNS: [(&str, u8, &str, &str, &str); 36] = [
     ("dbck check runs/no-page.db", 3, "", E5, NO_PAGE),
     ("dbck check runs/text.db", 3, "", E2, TEXT),
     ("dbck check runs/short.db", 3, "", E1, SHORT),
+    ("dbck check runs/few.db", 3, "", E1, FEW),
+    ("dbck check runs/zeros.db", 3, "", E2, ZEROS),
     ("dbck check runs/missing.db", 4, "", E8, MISSING),
     ("dbck check runs", 4, "", E8, FOLDER),
     ("dbck check /dev/null", 4, "", E8, DEVICE),

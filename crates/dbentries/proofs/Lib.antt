@@ -1,4 +1,9 @@
 pub mod Adding
-pub mod Bytes
+pub mod Apart
+pub mod Belonging
+pub mod ByCode
+pub mod Few
+pub mod Noting
 pub mod Numbers
+pub mod Placing
 pub mod Weaving

@@ -109,6 +109,11 @@ take-changed f (suc n) zero (x ∷ xs) = refl
 take-changed f (suc n) (suc i) (x ∷ xs) = ap (λ l. x ∷ l) (take-changed f n i xs)
 
 -- past the end nothing changes
+pub changed-length : {X : Type 0} (f : X → X) (i : ℕ) (xs : List X) → length (changed_at f i xs) ≡ length xs
+changed-length f i [] = refl
+changed-length f zero (x ∷ xs) = refl
+changed-length f (suc i) (x ∷ xs) = ap suc (changed-length f i xs)
+
 pub changed-past : {X : Type 0} (f : X → X) (i : ℕ) (xs : List X) → length xs ≤ i → changed_at f i xs ≡ xs
 changed-past f i [] h = refl
 changed-past f zero (x ∷ xs) h = absurd (let no : ⊥ = omega arith in no)

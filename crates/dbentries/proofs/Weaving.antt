@@ -13,7 +13,7 @@ use Rattle.dbentries.specs.Store.{Keeps, Stored}
 use Rattle.dbentries.specs.Woven.{comes_after, follows, kept_after, kept_in, pending, put_before, put_last, woven_in, KeepsFirst}
 use Rattle.dbentries.specs.declared.entry.Entry.{Entry}
 use Rattle.dbtrace.specs.declared.Reported.{Reported}
-use Rattle.dbentries.proofs.Adding.{first_kept}
+use Rattle.dbentries.proofs.Noting.{first_kept}
 use Rattle.dbentries.proofs.Numbers.{sum-parts}
 
 -- ---- an element before the first that passes a test

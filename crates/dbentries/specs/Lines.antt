@@ -1,11 +1,10 @@
 -- What is written of an entry below its fault line (own), but for the lines that say where a page is: the cause, and the faults
 -- that belong to it.
-use Rattle.std.specs.Prelude.{ℕ, ◌+◌, ◌-◌, Bool, ◌||◌, List, [], ◌∷◌, ◌++◌, length, map, codes, decimal, nat_lt, ◌==◌, if◌then◌else◌}
+use Rattle.std.specs.Prelude.{ℕ, List, [], ◌∷◌, ◌++◌, codes, decimal, ◌==◌, if◌then◌else◌}
 use Rattle.std.specs.Fmt.{signed_decimal}
-use Rattle.std.specs.List.{flat_map}
 use Rattle.std.specs.Option.{option_map_or}
+use Rattle.dbformat.specs.FirstBytes.{begins_with}
 use Rattle.dbformat.specs.Lines.{line_feed}
-use Rattle.dbformat.specs.Text.{hex_text}
 use Rattle.dbformat.specs.declared.Look.{Look}
 use Rattle.dbformat.specs.declared.Look.TheVariants as look
 use Rattle.dbformat.specs.declared.PageKind.{PageKind}
@@ -56,17 +55,9 @@ abbrev pub tree_look_text : TreeLook → List ℕ
 tree_look_text l =
     indented (codes "looks like " ++ page_kind_text l.kind ++ codes " with " ++ cells_text l.cells ++ option_map_or rowids_text l.rowids [])
 
--- a byte in hexadecimal, after a blank
-abbrev pub hex_column : ℕ → List ℕ
-hex_column byte = codes " " ++ hex_text 2 byte
-
--- a byte as ASCII: a full stop where it is not printable
-abbrev pub shown_byte : ℕ → ℕ
-shown_byte byte = if nat_lt byte 32 || nat_lt 126 byte then 46 else byte
-
 -- the first bytes of a page
 abbrev pub first_bytes_text : List ℕ → List ℕ
-first_bytes_text bytes = indented (codes "begins with" ++ flat_map hex_column bytes ++ codes "  " ++ map shown_byte bytes)
+first_bytes_text bytes = indented (begins_with bytes)
 
 -- what a page looks like
 abbrev pub look_text : Look → List ℕ

@@ -4,8 +4,16 @@
 //! them, and of the faults that belong to each how many there are and which pages they are of. It takes memory when it is made,
 //! and none for a fault; and it takes a bounded number of steps a fault.
 //!
-//! specs/Listing has the definition, over the list of all faults.
+//! [`put_cause`] and [`put_others`] put the lines below the fault line of an entry: what it goes back to, and how many faults
+//! belong to it, with the pages that look alike in runs.
+//!
+//! specs/Listing has the definition, over the list of all faults; specs/Lines and specs/Others have the lines. Faults of lost
+//! pages may be listed apart ([`Entries::insert`]): by [`weaving_is_listing`] that comes to the same.
 #![tactic(auto)]
+
+ghost use Rattle.std.specs.Prelude.{List};
+ghost use Rattle.dbtrace.specs.declared.Reported.{Reported};
+ghost use Rattle.dbentries.specs.Apart.{WeavingIsListing};
 
 mod causes;
 mod entries;
@@ -13,6 +21,7 @@ mod entry;
 mod first_bytes;
 mod lines;
 mod note;
+mod others;
 mod part;
 mod runs;
 mod woven;
@@ -21,4 +30,11 @@ pub use dbtrace::{Cause, Part, Reported};
 pub use entries::Entries;
 pub use entry::{Entry, Others};
 pub use lines::put_cause;
+pub use others::put_others;
 pub use runs::{MAX_RUNS, Run, Runs};
+
+/// The entries of all faults, in the order of a report, are those of the faults that are of no lost page, with the entries of
+/// lost pages put into their places. So what a lost page looks like can be found out last.
+pub fn weaving_is_listing()
+    ensures { (xs : List Reported) → WeavingIsListing xs }
+{}

@@ -25,7 +25,7 @@ fn append_signed<const CAP: usize>(line: &mut ArrayVec<u8, CAP>, number: i64)
 }
 
 // Adds a number of cells.
-fn append_cells<const CAP: usize>(line: &mut ArrayVec<u8, CAP>, cells: u64)
+pub(crate) fn append_cells<const CAP: usize>(line: &mut ArrayVec<u8, CAP>, cells: u64)
     requires { array_vec_len line.old + 26 ≤ CAP }
     ensures text { line.new.items ≡ line.old.items ++ cells_text cells }
     ensures short { array_vec_len line.new ≤ array_vec_len line.old + 26 }

@@ -1,39 +1,50 @@
--- Pages that nothing refers to, by the marks.
-use Rattle.std.proofs.Common.{◌≡◌, ℕ, ◌+◌, ◌<◌, ◌≤◌, Bool, true, false, ◌&&◌, inl, inr, List, [], ◌∷◌, ◌++◌, length, drop, get_or, Option, Some, None, Result, add-one, drop-cons, refl, sym, ap, subst, ◌∙◌, arith, append_assoc, append-nil}
-use Rattle.std.specs.Io.KnownBytes.{Appends}
-use Rattle.std.specs.Prelude.{IfOk, nat_lt}
+-- Pages to which nothing refers, by the marks, and their faults.
+use Rattle.std.proofs.Common.{◌≡◌, ℕ, ◌+◌, ◌<◌, ◌≤◌, Bool, true, false, inl, inr, List, [], ◌∷◌, ◌++◌, length, map, take, drop, Option, Some, None, refl, sym, ap, ap₂, ◌∙◌, arith, append-nil}
+use Rattle.std.specs.Prelude.{filter, flat_map, if◌then◌else◌}
+use Rattle.std.specs.List.{range_with_len}
 use Rattle.std.specs.Option.{option_map_or}
-use Rattle.std.proofs.lemmas.Bool.{and_parts}
-use Rattle.std.proofs.lemmas.Bool.Decides.{nat_tests}
-use Rattle.std.proofs.lemmas.List.{drop_all}
-use Rattle.std.proofs.lemmas.Result.{IfOk-weaker}
-use Rattle.dbformat.specs.File.{geometry}
-use Rattle.dbformat.specs.FixedPages.{is_page}
-use Rattle.dbformat.specs.Reference.{Reference}
+use Rattle.std.proofs.lemmas.Grind.{flat_map-append}
+use Rattle.std.proofs.lemmas.List.{take-append-drop}
+use Rattle.std.proofs.lemmas.List.FromFn.{map-range_with_len_more, take-map-range_with_len}
+use Rattle.std.proofs.lemmas.List.Folds.{flat_map-map}
+use Rattle.dbsurvey.specs.Address.{IsIn}
+use Rattle.dbsurvey.specs.Story as story
+use Rattle.dbsurvey.proofs.Lists.{flat_map-flat_map, flat_map-same}
+use Rattle.dbformat.specs.Address.{start_of}
+use Rattle.dbformat.specs.EndFaults.{end_faults, entry_fault, format_fault, freelist_fault, greatest_root_fault, late_root_fault, least_other_page, page_end_faults, page_numbers, sum_faults, use_fault, visit_of}
+use Rattle.dbformat.specs.File.{MapEntry, geometry, map_entry}
+use Rattle.dbformat.specs.FixedPages.{is_fixed}
+use Rattle.dbformat.specs.HeaderFaults.{header_faults}
+use Rattle.dbformat.specs.Looks.{look_at}
+use Rattle.dbformat.specs.Reference.{Reference, Role, root, child, first_overflow, later_overflow, trunk, free_leaf, role_of, from_of}
+use Rattle.dbformat.specs.Report.{event_faults}
+use Rattle.dbformat.specs.Story.{Event, telling}
 use Rattle.dbformat.specs.Survey.{Survey}
-use Rattle.dbformat.specs.declared.ByteRange.{ByteRange}
+use Rattle.dbformat.specs.Tests.{told_if}
 use Rattle.dbformat.specs.declared.Fault.{Fault}
+use Rattle.dbformat.specs.declared.FaultCode.{FaultCode}
+use Rattle.dbformat.specs.declared.FaultCode.TheVariants.{N01}
 use Rattle.dbformat.specs.declared.Geometry.{Geometry}
-use Rattle.dbsource.specs.HeaderBytes.{HeaderBytes}
-use Rattle.dbsource.specs.Headers.{IsHeaderOf}
-use Rattle.dbsource.specs.Outs.{Begins}
-use Rattle.dbsource.proofs.Beginnings.{begins_after, begins_more}
-use Rattle.dbsource.proofs.Puts.{appends_append, appends_nothing}
-use Rattle.dbmarks.specs.Marking.{AreMarksOf, is_none, is_unmarked, mark_of, marks_of, page_mark}
+use Rattle.dbmarks.specs.Marking.{AreMarksOf, is_none, is_unmarked, mark_of}
 use Rattle.dbmarks.specs.declared.marks.Mark.{Mark}
 use Rattle.dbmarks.specs.declared.marks.Mark.TheVariants.{Unmarked, Fixed, Root, Trunk, FreeLeaf, FirstOverflow, LaterOverflow, Child}
-use Rattle.dbmarks.proofs.Markings.{page_mark-in, page_mark-out}
+use Rattle.dbmarks.proofs.Markings.{page_mark-in}
+use Rattle.dbtrace.specs.Causes.{cause_of}
+use Rattle.dbtrace.specs.declared.Cause.TheVariants as cause
+use Rattle.dbtrace.specs.declared.Part.TheVariants as part
+use Rattle.dbtrace.specs.declared.Reported.{Reported}
+use Rattle.dbentries.specs.Apart.{is_lost, is_lost_code}
 use Rattle.dbowner.specs.Climbs.{place_by}
-use Rattle.dbowner.specs.Explained.{explanation, explanations, is_lost, is_nowhere, last_lost, look_line, lost_line}
-use Rattle.dbformat.specs.Looks.{look_at}
-use Rattle.dbowner.specs.Notes.{IsOf}
-use Rattle.dbowner.specs.Roots.{Listed}
-use Rattle.dbowner.specs.declared.explain.owners.Owners.{Owners}
+use Rattle.dbexplain.specs.Keeping.{is_nowhere}
+use Rattle.dbowner.specs.Owners.{place_in, place_of}
 use Rattle.dbowner.proofs.PageMarks.{place_is}
-use Rattle.dbscan.specs.Desks.{Things, shape_of}
-use Rattle.dbscan.specs.Looks.{IsUnmarked, ReadsRising, ReadsRisingBefore}
-use Rattle.dbscan.proofs.MapLogs.{reads_more}
-use Rattle.dbexplain.specs.Lines.{IsDeskOf, IsLook, is_lost_mark}
+use Rattle.dbscan.specs.Placed.{at_start, is_header_code, is_walk_code, of_file, told_faults, walk_told}
+use Rattle.dbscan.proofs.FileCodes.{header_codes}
+use Rattle.dbscan.proofs.WalkCodes.{walk_codes}
+use Rattle.dbexplain.specs.Explained.{IsBeginning, looked_at, lost_faults}
+use Rattle.dbexplain.specs.Keeping.{lost_at, lost_page}
+
+-- ---- by the marks
 
 -- a page is nowhere just where its mark is none
 nowhere_by_mark : (m : Mark) → is_none m ≡ is_nowhere (place_by (Some m))
@@ -46,127 +57,162 @@ nowhere_by_mark (FirstOverflow from) = refl
 nowhere_by_mark (LaterOverflow from) = refl
 nowhere_by_mark (Child from) = refl
 
--- by whether there is such a page
-unmarked_nowhere : (here : Bool) (o : Option Mark) (m : Mark) → (here ≡ true → o ≡ Some m) → (here ≡ false → o ≡ None)
-    → option_map_or is_none o false ≡ (here && is_nowhere (place_by o))
-unmarked_nowhere true o m h k = ap (λ o. option_map_or is_none o false) (h refl) ∙ nowhere_by_mark m ∙ sym (ap (λ o. is_nowhere (place_by o)) (h refl))
-unmarked_nowhere false o m h k = ap (λ o. option_map_or is_none o false) (k refl)
-
-and_swap : (a b c : Bool) → (a && (b && c)) ≡ (b && (a && c))
-and_swap true b c = refl
-and_swap false true c = refl
-and_swap false false c = refl
-
--- where the marks are those of a survey, they say which page is lost
-pub lost_same : (file : List ℕ) (V : List Reference) (marks : List Mark) (last p : ℕ) → Survey file V → AreMarksOf file V marks
-    → is_lost_mark marks last p ≡ is_lost file V last p
-lost_same file V marks last p s m =
+-- where the marks are those of a survey, a page of the file has none just where nothing refers to it
+pub unmarked_nowhere : (file : List ℕ) (V : List Reference) (marks : List Mark) (p : ℕ) → Survey file V → AreMarksOf file V marks → 1 ≤ p → p ≤ (geometry file).pages
+    → is_unmarked marks p ≡ is_nowhere (place_of file V p)
+unmarked_nowhere file V marks p s m low high =
     let g : Geometry = geometry file in
-    ap (λ marks. is_lost_mark marks last p) m
-    ∙ ap (λ b. nat_lt last p && b) (unmarked_nowhere (is_page g p) (page_mark (marks_of g V) p) (mark_of g V p) (here g) (page_mark-out g V p))
-    ∙ and_swap (nat_lt last p) (is_page g p) (is_nowhere (place_by (page_mark (marks_of g V) p)))
-    ∙ ap (λ q. is_page g p && (nat_lt last p && is_nowhere q)) (place_is file V s p)
+    let here = page_mark-in g V p low high in
+    ap (λ marks. is_unmarked marks p) m
+    ∙ ap (λ o. option_map_or is_none o false) here
+    ∙ nowhere_by_mark (mark_of g V p)
+    ∙ sym (ap (λ o. is_nowhere (place_by o)) here)
+    ∙ ap is_nowhere (place_is file V s p)
+
+pub lost_here : (file : List ℕ) (V : List Reference) (p : ℕ) → is_nowhere (place_of file V p) ≡ true → lost_at file V p ≡ lost_page file p ∷ []
+lost_here file V p h = rw h refl
+
+pub not_lost : (file : List ℕ) (V : List Reference) (p : ℕ) → is_nowhere (place_of file V p) ≡ false → lost_at file V p ≡ []
+not_lost file V p h = rw h refl
+
+-- ---- their faults
+
+-- a fault with the look of its page, if it is that of a lost page
+abbrev as_lost : List ℕ → Reported → List Reported
+as_lost file x = if is_lost x then looked_at file x ∷ [] else []
+
+picked : (file : List ℕ) (ts : List Reported) → filter is_lost (map (looked_at file) ts) ≡ flat_map (as_lost file) ts
+picked file [] = refl
+picked file (x ∷ ts) = by_case (is_lost x) refl (picked file ts)
   where
-    here : (g : Geometry) → is_page g p ≡ true → page_mark (marks_of g V) p ≡ Some (mark_of g V p)
-    here g e =
-        let l : 1 ≤ p = grind (arith, nat_tests) in
-        let h : p ≤ g.pages = grind (arith, nat_tests) in
-        page_mark-in g V p l h
+    by_case : (b : Bool) → is_lost x ≡ b → filter is_lost (map (looked_at file) ts) ≡ flat_map (as_lost file) ts
+        → filter is_lost (map (looked_at file) (x ∷ ts)) ≡ flat_map (as_lost file) (x ∷ ts)
+    by_case true e rest = rw e (rw e (ap (λ l. record x { cause = cause.Look (look_at file x.fault.page) } ∷ l) rest))
+    by_case false e rest = rw e (rw e rest)
 
--- the line below a page, and the last that was looked at, where it is lost or not
-pub lost_here : (file : List ℕ) (V : List Reference) (last p : ℕ) → is_lost file V last p ≡ true
-    → (lost_line file V last p ≡ look_line (look_at file p)) × (last_lost file V last p ≡ p)
-lost_here file V last p h = (rw h refl, rw h refl)
+header_not_lost : (code : FaultCode) → is_header_code code ≡ true → is_lost_code code ≡ false
+header_not_lost N01 e = cc
+header_not_lost _ e = refl
 
-pub not_lost : (file : List ℕ) (V : List Reference) (last p : ℕ) → is_lost file V last p ≡ false
-    → (lost_line file V last p ≡ []) × (last_lost file V last p ≡ last)
-not_lost file V last p h = (rw h refl, rw h refl)
+walk_not_lost : (code : FaultCode) → is_walk_code code ≡ true → is_lost_code code ≡ false
+walk_not_lost N01 e = cc
+walk_not_lost _ e = refl
 
--- ---- what is read
+-- faults with other codes are none
+none_of_these : (file : List ℕ) (tell : Fault → Reported) → ((f : Fault) → (tell f).fault ≡ f) → (fs : List Fault) → ((f : Fault) → IsIn f fs → is_lost_code f.code ≡ false)
+    → flat_map (as_lost file) (map tell fs) ≡ []
+none_of_these file tell same [] h = refl
+none_of_these file tell same (f ∷ fs) h =
+    let e : is_lost (tell f) ≡ false = ap (λ (f : Fault). is_lost_code f.code) (same f) ∙ h f (inl refl) in
+    ap₂ (λ a b. a ++ b) (ap (λ b. if b then looked_at file (tell f) ∷ [] else []) e) (none_of_these file tell same fs (λ g i. h g (inr i)))
 
--- pages were read up to the one that is answered
-reads_last : {E : Type 0} (size : ℕ) (marks : List Mark) (last : ℕ) (r : Result ℕ E) (log : List ByteRange)
-    → ReadsRisingBefore size (IsUnmarked marks) (last + 1) log → IfOk r (λ l. l ≡ last)
-    → ReadsRising size (IsUnmarked marks) log × IfOk r (λ l. ReadsRisingBefore size (IsUnmarked marks) (l + 1) log)
-reads_last size marks last r log h k = (h.reads, IfOk-weaker r _ _ (λ l e. subst (λ n. ReadsRisingBefore size (IsUnmarked marks) (n + 1) log) (sym e) h) k)
+none_of_walk : (file : List ℕ) (V : List Reference) (ts : List (story.Told Event))
+    → flat_map (as_lost file) (flat_map (λ t. map (λ f. at_start (start_of t.key) f (cause_of file V t.event f.code)) (event_faults file V t.event)) ts) ≡ []
+none_of_walk file V [] = refl
+none_of_walk file V (t ∷ ts) =
+    let tell : Fault → Reported = λ f. at_start (start_of t.key) f (cause_of file V t.event f.code) in
+    flat_map-append (as_lost file) (map tell (event_faults file V t.event)) _
+    ∙ ap₂ (λ a b. a ++ b) (none_of_these file tell (λ f. refl) (event_faults file V t.event) (λ f i. walk_not_lost f.code (walk_codes file V t.event f i))) (none_of_walk file V ts)
 
--- nothing more was read, or a page behind those that were read
-looks_more : {E : Type 0} (size : ℕ) (marks : List Mark) (last p : ℕ) (r : Result ℕ E) (a b : List ByteRange)
-    → ReadsRisingBefore size (IsUnmarked marks) (last + 1) a → IsLook size marks last p r b
-    → ReadsRising size (IsUnmarked marks) (a ++ b) × IfOk r (λ l. ReadsRisingBefore size (IsUnmarked marks) (l + 1) (a ++ b))
-looks_more size marks last p r a b h (inl (e, k)) =
-    let none : a ++ b ≡ a = ap (λ b. a ++ b) e ∙ append-nil a in
-    reads_last size marks last r (a ++ b) (subst (λ log. ReadsRisingBefore size (IsUnmarked marks) (last + 1) log) (sym none) h) k
-looks_more size marks last p r a b h (inr (e, l, k)) =
-    let parts = and_parts (nat_lt last p) (is_unmarked marks p) l in
-    let behind : last + 1 ≤ p = grind (arith, nat_tests, parts.0) in
-    reads_last size marks p r (a ++ b) (reads_more size (IsUnmarked marks) (last + 1) p a b behind h (inr (e, parts.1))) k
+-- ---- those at the end
 
--- the same by a desk with other buffers
-pub desk_looks : {E : Type 0} (old now : Things) (last p : ℕ) (r : Result ℕ E) (a b : List ByteRange) → now ≡ record old { pages = now.pages }
-    → ReadsRisingBefore (shape_of old).page_size (IsUnmarked old.marks) (last + 1) a → IsLook (shape_of now).page_size now.marks last p r b
-    → ReadsRising (shape_of old).page_size (IsUnmarked old.marks) (a ++ b)
-    × IfOk r (λ l. ReadsRisingBefore (shape_of old).page_size (IsUnmarked old.marks) (l + 1) (a ++ b))
-desk_looks old now last p r a b e h k =
-    looks_more (shape_of old).page_size old.marks last p r a b h (subst (λ (d : Things). IsLook (shape_of d).page_size d.marks last p r b) e k)
+-- that of a fault at the end
+abbrev at_end : List ℕ → Fault → List Reported
+at_end file f = as_lost file (of_file part.End f)
 
--- ---- of what file it is
+not_at_end : (file : List ℕ) (b : Bool) (f : Fault) → is_lost_code f.code ≡ false → flat_map (at_end file) (told_if b f) ≡ []
+not_at_end file true f e = rw e refl
+not_at_end file false f e = refl
 
--- other pages are in the buffers
-pub desk_kept : (old new : Things) (file : List ℕ) (V : List Reference) → new ≡ record old { pages = new.pages } → IsDeskOf old file V → IsDeskOf new file V
-desk_kept old new file V e d =
-    subst (λ (d : Things). IsDeskOf d file V) (sym e) (record { header = d.header; survey = d.survey; marks = d.marks; rows = d.rows })
+sums_at_end : (file : List ℕ) (V : List Reference) → flat_map (at_end file) (sum_faults file V) ≡ []
+unfolding sum_faults
+sums_at_end file V =
+    flat_map-append (at_end file) (format_fault file V ++ greatest_root_fault file V) (freelist_fault file V)
+    ∙ ap₂ (λ a b. a ++ b)
+    (flat_map-append (at_end file) (format_fault file V) (greatest_root_fault file V) ∙ ap₂ (λ a b. a ++ b) (not_at_end file _ _ refl) (not_at_end file _ _ refl))
+    (not_at_end file _ _ refl)
 
--- what is known of the pages, from the desk
-pub of_desk : {A : Type 0} (o : Owners A) (d : Things) (file : List ℕ) (V : List Reference)
-    → o.header.now ≡ d.header → o.marks.now ≡ d.marks → o.roots.now ≡ d.roots → IsDeskOf d file V → IsOf o file V
-of_desk o d file V header marks roots is = record {
-  header = subst (λ (h : HeaderBytes). IsHeaderOf h file) (sym header) is.header;
-  survey = is.survey;
-  marks = marks ∙ is.marks;
-  rows = ap (λ (l : Listed). l.rows) roots ∙ is.rows;
-}
+late_at_end : (file : List ℕ) (V : List Reference) (p : ℕ) → flat_map (at_end file) (late_root_fault file V p) ≡ []
+unfolding late_root_fault
+late_at_end file V p = by_least (least_other_page V) refl
+  where
+    by_least : (o : Option ℕ) → least_other_page V ≡ o → flat_map (at_end file) (late_root_fault file V p) ≡ []
+    by_least None e = rw e refl
+    by_least (Some least) e = rw e (not_at_end file _ _ refl)
 
--- ---- the text, piece by piece
+visited_somewhere : (role : Role) (from : ℕ) → is_nowhere (place_in role from) ≡ false
+visited_somewhere (root kind) from = refl
+visited_somewhere (child kind) from = refl
+visited_somewhere (first_overflow left) from = refl
+visited_somewhere (later_overflow left) from = refl
+visited_somewhere trunk from = refl
+visited_somewhere free_leaf from = refl
 
--- what is left of it, by the next fault
-pub next_explanations : (file : List ℕ) (V : List Reference) (last : ℕ) (fs : List Fault) (i : ℕ) (none : Fault) → i < length fs
-    → explanations file V last (drop i fs) ≡ explanation file V (get_or fs i none) ++ (lost_line file V last (get_or fs i none).page
-    ++ explanations file V (last_lost file V last (get_or fs i none).page) (drop (i + 1) fs))
-unfolding explanations
-next_explanations file V last fs i none h =
-    let f = get_or fs i none in
-    let cut : drop i fs ≡ f ∷ drop (i + 1) fs = rw add-one (drop-cons fs i none h) in
-    ap (explanations file V last) cut
-    ∙ append_assoc (explanation file V f) (lost_line file V last f.page) (explanations file V (last_lost file V last f.page) (drop (i + 1) fs))
+use_at_end : (file : List ℕ) (V : List Reference) (p : ℕ) → flat_map (at_end file) (use_fault file V p) ≡ lost_at file V p
+unfolding use_fault place_of
+use_at_end file V p = by_visit (visit_of V p) refl (is_fixed (geometry file) p) refl
+  where
+    of_entry : (e : Option MapEntry) (r : Reference) → flat_map (at_end file) (entry_fault p e r) ≡ []
+    of_entry None r = refl
+    of_entry (Some e) r = not_at_end file _ _ refl
 
--- in the end nothing
-pub no_explanations : (file : List ℕ) (V : List Reference) (last n : ℕ) (fs : List Fault) → length fs ≤ n → explanations file V last (drop n fs) ≡ []
-unfolding explanations
-no_explanations file V last n fs h = rw (drop_all n fs h) refl
+    by_visit : (o : Option Reference) → visit_of V p ≡ o → (b : Bool) → is_fixed (geometry file) p ≡ b → flat_map (at_end file) (use_fault file V p) ≡ lost_at file V p
+    by_visit None e true f = rw (e, f) refl
+    by_visit None e false f = rw (e, f) refl
+    by_visit (Some r) e true f = rw (e, f) (of_entry (map_entry file p) r)
+    by_visit (Some r) e false f = rw (e, f) (of_entry (map_entry file p) r ∙ sym (ap (λ b. if b then lost_page file p ∷ [] else []) (visited_somewhere (role_of r) (from_of r))))
 
--- So much of a text was written that this rest of it is left.
-abbrev pub Leaves : Option (List ℕ) → Option (List ℕ) → List ℕ → List ℕ → Type 0
-Leaves o m rest whole = (b : Begins o m whole) × (b.rest ≡ rest)
+-- the faults of lost pages are those of the pages to which nothing refers, in their order
+pub lost_are : (file : List ℕ) (V : List Reference) → lost_faults file V ≡ flat_map (lost_at file V) (page_numbers (geometry file))
+lost_are file V =
+    let hs = map (of_file part.Header) (header_faults file (length file)) in
+    let es = map (of_file part.End) (end_faults file V) in
+    let pages = page_numbers (geometry file) in
+    picked file (told_faults file V)
+    ∙ flat_map-append (as_lost file) (hs ++ walk_told file V) es
+    ∙ ap₂ (λ a b. a ++ b)
+    (flat_map-append (as_lost file) hs (walk_told file V) ∙ ap₂ (λ a b. a ++ b) (none_of_these file (of_file part.Header) (λ f. refl) (header_faults file (length file)) (λ f i. header_not_lost f.code (header_codes file (length file) f i))) (none_of_walk file V (telling file V)))
+    (flat_map-map (as_lost file) (of_file part.End) (end_faults file V)
+    ∙ flat_map-append (at_end file) (sum_faults file V) (flat_map (page_end_faults file V) pages)
+    ∙ ap₂ (λ a b. a ++ b) (sums_at_end file V)
+    (flat_map-flat_map (page_end_faults file V) (at_end file) pages
+    ∙ flat_map-same (λ p. flat_map (at_end file) (page_end_faults file V p)) (lost_at file V) pages (λ p i.
+    flat_map-append (at_end file) (use_fault file V p) (late_root_fault file V p)
+    ∙ ap₂ (λ a b. a ++ b) (use_at_end file V p) (late_at_end file V p) ∙ append-nil (lost_at file V p))))
 
-pub leaves_all : (o : Option (List ℕ)) (whole : List ℕ) → Leaves o o whole whole
-leaves_all o whole = (record { part = []; rest = whole; whole = refl; added = appends_nothing o }, refl)
+-- ---- page by page
 
-pub leaves_more : (o m n : Option (List ℕ)) (a more rest whole : List ℕ) → Leaves o m rest whole → rest ≡ a ++ more → Appends m n a → Leaves o n more whole
-leaves_more o m n a more rest whole (b, e) k h = (
-  record {
-    part = b.part ++ a;
-    rest = more;
-    whole = append_assoc b.part a more ∙ ap (λ r. b.part ++ r) (sym (e ∙ k)) ∙ b.whole;
-    added = appends_append o m n b.part a b.added h;
-  },
-  refl,
-)
+map-same : (xs : List ℕ) → map (λ k. k) xs ≡ xs
+map-same [] = refl
+map-same (x ∷ xs) = ap (λ l. x ∷ l) (map-same xs)
 
-pub leaves_cut : (o m n : Option (List ℕ)) (a more rest whole : List ℕ) → Leaves o m rest whole → rest ≡ a ++ more → Begins m n a → Begins o n whole
-leaves_cut o m n a more rest whole (b, e) k h =
-    begins_after o m n b.part rest whole (ap (λ r. b.part ++ r) (sym e) ∙ b.whole) b.added (begins_more m n a more rest (sym k) h)
+-- with those of one page more
+pub lost_more : (file : List ℕ) (V : List Reference) (n : ℕ) → flat_map (lost_at file V) (range_with_len 1 (n + 1)) ≡ flat_map (lost_at file V) (range_with_len 1 n) ++ lost_at file V (n + 1)
+lost_more file V n =
+    let f = lost_at file V in
+    ap (flat_map f) (range_more n) ∙ flat_map-append f (range_with_len 1 n) ((n + 1) ∷ []) ∙ ap (λ l. flat_map f (range_with_len 1 n) ++ l) (append-nil (f (n + 1)))
+  where
+    range_more : (n : ℕ) → range_with_len 1 (n + 1) ≡ range_with_len 1 n ++ (n + 1) ∷ []
+    range_more n = sym (map-same (range_with_len 1 (n + 1))) ∙ map-range_with_len_more (λ k. k) 1 n (n + 1) (omega arith) ∙ ap (λ l. l ++ (n + 1) ∷ []) (map-same (range_with_len 1 n))
 
-pub leaves_none : (o m : Option (List ℕ)) (rest whole : List ℕ) → Leaves o m rest whole → rest ≡ [] → Appends o m whole
-leaves_none o m rest whole (b, e) k =
-    subst (λ text. Appends o m text) (sym (append-nil b.part) ∙ ap (λ r. b.part ++ r) (sym (e ∙ k)) ∙ b.whole) b.added
+-- those of the first pages are a beginning
+pub lost_first : (file : List ℕ) (V : List Reference) (n : ℕ) → n ≤ (geometry file).pages → IsBeginning (flat_map (lost_at file V) (range_with_len 1 n)) (lost_faults file V)
+lost_first file V n h =
+    let pages = (geometry file).pages in
+    let f = lost_at file V in
+    let cut : range_with_len 1 n ++ drop n (range_with_len 1 pages) ≡ range_with_len 1 pages =
+    ap (λ l. l ++ drop n (range_with_len 1 pages)) (sym (taken 1 pages n h)) ∙ take-append-drop n (range_with_len 1 pages) in (
+      flat_map f (drop n (range_with_len 1 pages)),
+      sym (flat_map-append f (range_with_len 1 n) (drop n (range_with_len 1 pages))) ∙ ap (flat_map f) cut ∙ sym (lost_are file V),
+    )
+  where
+    taken : (a m n : ℕ) → n ≤ m → take n (range_with_len a m) ≡ range_with_len a n
+    taken a m n h = sym (ap (take n) (map-same (range_with_len a m))) ∙ take-map-range_with_len (λ k. k) a m n h ∙ map-same (range_with_len a n)
+
+-- ---- where the loop over the pages stands
+
+pub fits : {a b : Geometry} {pages i : ℕ} → a ≡ b → pages ≡ a.pages → i < pages → i + 1 ≤ b.pages
+fits e n h = let k = ap (λ (g : Geometry). g.pages) e in omega (arith, k, n, h)
+
+pub ends : {a b : Geometry} {pages i : ℕ} → a ≡ b → pages ≡ a.pages → i ≤ pages → pages ≤ i → i ≡ b.pages
+ends e n h l = let k = ap (λ (g : Geometry). g.pages) e in omega (arith, k, n, h, l)

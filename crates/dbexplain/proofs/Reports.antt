@@ -1,51 +1,75 @@
--- The report of `explain` on a file that is read, by what was written of it and what was found.
-use Rattle.std.proofs.Common.{◌≡◌, ℕ, List, [], Ok, Result, None, Option, refl, sym, ap, ◌∙◌, subst}
-use Rattle.std.specs.Prelude.{IfErr, IfOk}
-use Rattle.dbformat.specs.File.{refusal}
+-- The report by the pieces that are put, and what is kept for them.
+use Rattle.std.proofs.Common.{◌≡◌, ℕ, ◌≤◌, List, [], ◌∷◌, ◌++◌, length, map, take, drop, refl, sym, ap, subst, ◌∙◌, arith, append-nil}
+use Rattle.std.specs.Prelude.{flat_map, sum_by}
+use Rattle.std.proofs.lemmas.List.{take_all}
+use Rattle.dbformat.specs.File.{geometry}
+use Rattle.dbformat.specs.Lines.{ok_line}
 use Rattle.dbformat.specs.Reference.{Reference}
-use Rattle.dbformat.specs.Report.{Report, faults, verdict}
-use Rattle.dbformat.specs.Survey.{Survey, survey}
-use Rattle.dbformat.specs.declared.Command.TheVariants.{Check}
-use Rattle.dbformat.specs.declared.Verdict.{Verdict}
-use Rattle.dbformat.proofs.Theory.{one_survey}
-use Rattle.dbsound.proofs.Soundness.{sound_by_verdict}
-use Rattle.dbsource.specs.Outs.{Writes}
-use Rattle.dbsource.specs.declared.error.RunError.{RunError}
-use Rattle.dbwalk.specs.Telling.{IsReadWriteOrMemory}
-use Rattle.dbowner.specs.Explained.{explain_report, explain_text}
-use Rattle.dbreport.specs.Runs.{IsRunBy}
-use Rattle.dbreport.proofs.RunAnswers.{IsSoundRep, run_by}
-use Rattle.dbreport.proofs.RunReports.{check_answer, writes_nothing}
+use Rattle.dbformat.specs.Report.{more_text}
+use Rattle.dbformat.specs.Survey.{Survey}
+use Rattle.dbtrace.specs.declared.Reported.{Reported}
+use Rattle.dbmarks.specs.Marking.{AreMarksOf}
+use Rattle.dbmarks.specs.declared.marks.Mark.{Mark}
+use Rattle.dbmarks.proofs.Markings.{marks_of-length}
+use Rattle.dbentries.specs.Kept.{kept_of}
+use Rattle.dbentries.specs.Listing as listing
+use Rattle.dbentries.specs.Listing.{entries, size}
+use Rattle.dbentries.specs.Store.{AreEntriesOf, Stored}
+use Rattle.dbentries.specs.Woven.{KeepsFirst, woven}
+use Rattle.dbentries.proofs.Apart.{weaving_is_listing}
+use Rattle.dbscan.specs.Placed.{told_faults}
+use Rattle.dbreport.proofs.Checks.{more_counted}
+use Rattle.dbexplain.specs.Explained.{IsBeginning, entry_text, explain_text, listed, looked_at, lost_faults, other_faults, reported}
+use Rattle.dbexplain.specs.Summary.{summary}
+use Rattle.dbexplain.proofs.KeptEntries.{some_listed}
+use Rattle.dbexplain.proofs.FewLost.{few_first_lost}
+use Rattle.dbexplain.proofs.ReportOrder.{in_report_order}
 
-module _ (limit : ℕ) (file : List ℕ) (V : List Reference) (read : refusal file ≡ None) where
-  abbrev read_report : Report
-  read_report = record { out = explain_text limit file V (faults file V); err = []; answer = Ok (verdict (faults file V)) }
+-- there is room for what is known of each page that has a mark
+pub marks_fit : (file : List ℕ) (V : List Reference) (marks : List Mark) (room : ℕ) → AreMarksOf file V marks → (geometry file).pages ≤ room → length marks ≤ room
+marks_fit file V marks room marked fits =
+    let all : length marks ≡ (geometry file).pages = ap length marked ∙ marks_of-length (geometry file) V in
+    omega (arith, all, fits)
 
-  explain_is : explain_report limit file V ≡ read_report
-  unfolding explain_report
-  explain_is = rw read refl
+-- six entries are all of those of lost pages
+pub all_lost : (file : List ℕ) (V : List Reference) (ys : List Reported) (s : Stored) → IsBeginning ys (lost_faults file V) → AreEntriesOf ys s → s.limit ≡ 6 → s.listed ≡ map kept_of (entries ys)
+all_lost file V ys s first are six =
+    let few = few_first_lost file V ys first in
+    let fits : length (entries ys) ≤ s.limit = omega (arith, few, six) in
+    are.listed ∙ ap (map kept_of) (take_all s.limit (entries ys) fits)
 
-  pub explain_out : (r : Result Verdict RunError) (old new : Option (List ℕ)) → Writes r old new (explain_text limit file V (faults file V))
-      → Writes r old new (explain_report limit file V).out
-  explain_out r old new w = let P : List ℕ → Type 0 = Writes r old new in subst P (sym (ap (λ (r : Report). r.out) explain_is)) w
+all_begins : (ys : List Reported) → IsBeginning ys ys
+all_begins ys = ([], append-nil ys)
 
-  explain_err : (r : Result Verdict RunError) (held : Option (List ℕ)) → Writes r held held (explain_report limit file V).err
-  explain_err r held = let P : List ℕ → Type 0 = Writes r held held in subst P (sym (ap (λ (r : Report). r.err) explain_is)) (writes_nothing r held)
+pub every_lost : (file : List ℕ) (V : List Reference) (s : Stored) → AreEntriesOf (lost_faults file V) s → s.limit ≡ 6 → s.listed ≡ map kept_of (entries (lost_faults file V))
+every_lost file V s are six = all_lost file V (lost_faults file V) s (all_begins (lost_faults file V)) are six
 
-  pub explain_answer : (v : Verdict) → v ≡ verdict (faults file V) → (explain_report limit file V).answer ≡ Ok v
-  explain_answer v e = ap (λ (r : Report). r.answer) explain_is ∙ ap Ok (sym e)
+-- with them in their places, what is kept is that of all entries
+pub all_woven : (file : List ℕ) (V : List Reference) (s : Stored) → Survey file V → KeepsFirst (woven (entries (other_faults file V)) (entries (lost_faults file V))) s → KeepsFirst (listed file V) s
+all_woven file V s survey = subst (λ es. KeepsFirst es s) (sym (weaving_is_listing (reported file V) (in_report_order file V)))
 
--- its verdict is that of a check
-explain_sound : (limit : ℕ) (file : List ℕ) → refusal file ≡ None → IsSoundRep (explain_report limit) file
-explain_sound limit file read v e =
-    let V = survey file in
-    sound_by_verdict file (Check limit) V (one_survey file).0 v
-    (check_answer limit file V read (verdict (faults file V)) refl ∙ sym (explain_answer limit file V read (verdict (faults file V)) refl) ∙ e)
+-- the line that counts the faults of the other entries
+pub rest_line : (es : List listing.Entry) (s : Stored) (limit : ℕ) → KeepsFirst es s → s.limit ≡ limit → more_text s.rest ≡ more_text (sum_by size (drop limit es))
+rest_line es s limit k e = ap more_text k.rest ∙ more_counted (sum_by size (drop s.limit es)) ∙ ap (λ n. more_text (sum_by size (drop n es))) e
 
--- the file was read, and no other Out was used
-pub explain_run : (limit : ℕ) (file : List ℕ) (r : Result Verdict RunError) (old new err : Option (List ℕ))
-    → IfErr r IsReadWriteOrMemory → refusal file ≡ None
-    → ((V : List Reference) → Survey file V → Writes r old new (explain_report limit file V).out × IfOk r (λ v. (explain_report limit file V).answer ≡ Ok v))
-    → IsRunBy (explain_report limit) file r old new err err
-explain_run limit file r old new err only read told = run_by (explain_report limit) file r old new err err only read (explain_sound limit file read)
-    (λ V s. record { out = (told V s).0; err = explain_err limit file V read r err; verdict = (told V s).1 })
+-- where faults were told, there are entries
+pub none_told : (file : List ℕ) (V : List Reference) → listed file V ≡ [] → told_faults file V ≡ []
+none_told file V h = unmapped (told_faults file V) (some_listed (reported file V) h)
+  where
+    unmapped : (ts : List Reported) → map (looked_at file) ts ≡ [] → ts ≡ []
+    unmapped [] h = refl
+    unmapped (t ∷ ts) h = cc
+
+text_some : (limit : ℕ) (file : List ℕ) (V : List Reference) (es : List listing.Entry) → (es ≡ [] → ⊥)
+    → flat_map (entry_text file V) (take limit es) ++ (more_text (sum_by size (drop limit es)) ++ summary file V (told_faults file V)) ≡ explain_text limit file V es
+text_some limit file V [] h = absurd (h refl)
+text_some limit file V (e ∷ es) h = refl
+
+pub report_text : (limit : ℕ) (file : List ℕ) (V : List Reference) → (told_faults file V ≡ [] → ⊥)
+    → flat_map (entry_text file V) (take limit (listed file V)) ++ (more_text (sum_by size (drop limit (listed file V))) ++ summary file V (told_faults file V))
+    ≡ explain_text limit file V (listed file V)
+report_text limit file V some = text_some limit file V (listed file V) (λ e. some (none_told file V e))
+
+-- and else there is the line of a file without a fault
+pub ok_text : (limit : ℕ) (file : List ℕ) (V : List Reference) → told_faults file V ≡ [] → explain_text limit file V (listed file V) ≡ ok_line
+ok_text limit file V none = ap (λ ts. explain_text limit file V (entries (map (looked_at file) ts))) none

@@ -1,2 +1,10 @@
-pub mod Lines
-pub mod Sink
+pub mod Below
+pub mod Explained
+pub mod Keeping
+pub mod Notes
+pub mod Reporting
+pub mod Runs
+pub mod Summary
+pub mod Sums
+pub mod Tallies
+pub mod TallySteps

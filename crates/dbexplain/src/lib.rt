@@ -1,5 +1,5 @@
-//! What `dbck explain` writes of a database: the faults that a check finds, each with the pages that it is about and the trees that
-//! own them, and how many faults there are of each kind and in each tree.
+//! What `dbck explain` writes of a database: of the faults that a check finds those that lead, each with where it is, what it goes
+//! back to, and how many faults belong to it; and how many faults there are of each kind and in each tree.
 //!
 //! ```
 //! let mut source = MemSource::new(bytes);
@@ -7,12 +7,25 @@
 //! let verdict = explain(alloc, 100, &mut source, &mut out)?;
 //! ```
 //!
-//! The report is a definition of `dbowner` (specs/Explained), and what a run says of it is said by words of `dbreport` (specs/Runs).
+//! specs/Explained defines the report, over the bytes of a file and its survey, and specs/Runs says what a run leaves of it.
 #![tactic(auto)]
 
-mod file;
-mod lines;
+mod entry_lines;
+mod kept;
+mod laws;
+mod lost;
+mod missing;
+mod notes;
+mod owners;
+mod page_lines;
+mod reached;
+mod report;
+mod reporter;
 mod runs;
-mod sink;
+mod starts;
+mod summary;
+mod sums;
+mod tally;
 
+pub use laws::summary_counts_all_faults;
 pub use runs::{explain, explain_in};

@@ -1,2 +1,6 @@
 pub mod Counting
+pub mod Drawing
 pub mod MapAnswers
+pub mod Pictured
+pub mod SquareSteps
+pub mod Steps

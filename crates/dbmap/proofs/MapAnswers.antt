@@ -1,5 +1,5 @@
 -- What the answer of a map says.
-use Rattle.std.proofs.Common.{◌≡◌, ℕ, List, Result, Ok, Err, None}
+use Rattle.std.proofs.Common.{◌≡◌, ℕ, List, Option, Result, Ok, Err, None, inl}
 use Rattle.std.specs.Prelude.{IfErr, IfOk, ◌↔◌}
 use Rattle.dbformat.specs.File.{refusal}
 use Rattle.dbformat.specs.Reference.{Reference}
@@ -11,21 +11,23 @@ use Rattle.dbformat.specs.declared.Verdict.{Verdict}
 use Rattle.dbformat.specs.declared.Verdict.TheVariants.{Clean}
 use Rattle.dbformat.proofs.Theory.{one_survey}
 use Rattle.dbsound.proofs.Soundness.{sound_by_verdict}
+use Rattle.dbsource.proofs.Puts.{keeps_same}
 use Rattle.dbsource.specs.declared.error.RunError.{RunError}
 use Rattle.dbwalk.specs.Telling.{IsReadWriteOrMemory}
 use Rattle.dbreport.specs.Runs.{IsAnswerOf}
 use Rattle.dbreport.proofs.RunAnswers.{read_answer}
 use Rattle.dbreport.proofs.RunReports.{check_answer}
-use Rattle.dbmap.specs.Maps.{IsMapOf}
+use Rattle.dbmap.specs.Maps.{DrawsMap, IsMapOf}
 
 -- the file was read
 pub map_of : (file : List ℕ) (r : Result Verdict RunError) → IfErr r IsReadWriteOrMemory → refusal file ≡ None
-    → ((V : List Reference) → Survey file V → IfOk r (λ v. v ≡ verdict (faults file V))) → IsMapOf file r
-map_of file r only read found = record {
+    → (old new : Option (List ℕ)) → ((V : List Reference) → Survey file V → IfOk r (λ v. v ≡ verdict (faults file V)) × DrawsMap r old new file V) → IsMapOf file r old new
+map_of file r only read old new found = record {
   survey = (one_survey file).0;
-  verdict = found;
+  verdict = λ V s. (found V s).0;
+  picture = λ V s. (found V s).1;
   answer = read_answer file r only read;
-  sound = by_answer r (found (survey file) (one_survey file).0);
+  sound = by_answer r (found (survey file) (one_survey file).0).0;
 }
   where
     by_answer : (r : Result Verdict RunError) → IfOk r (λ v. v ≡ verdict (faults file (survey file))) → IfOk r (λ v. v ≡ Clean ↔ Sound file)
@@ -33,5 +35,11 @@ map_of file r only read found = record {
     by_answer (Err e) h = tt
 
 -- no verdict was found
-pub no_map : (file : List ℕ) (e : RunError) → IsAnswerOf {A = Verdict} (Err e) file → IsMapOf file (Err e)
-no_map file e answer = record { survey = (one_survey file).0; verdict = λ V s. tt; answer = answer; sound = tt }
+pub no_map : (file : List ℕ) (e : RunError) (old : Option (List ℕ)) → IsAnswerOf {A = Verdict} (Err e) file → IsMapOf file (Err e) old old
+no_map file e old answer = record {
+  survey = (one_survey file).0;
+  verdict = λ V s. tt;
+  picture = λ V s. inl (keeps_same old);
+  answer = answer;
+  sound = tt;
+}

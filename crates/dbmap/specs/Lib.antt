@@ -1,2 +1,17 @@
+pub mod Canvas
+pub mod Cells
+pub mod Colours
+pub mod Drawings
+pub mod Faults
+pub mod Grids
+pub mod Legends
 pub mod MapSink
 pub mod Maps
+pub mod Marks
+pub mod Outlines
+pub mod Pages
+pub mod Pens
+pub mod Pictures
+pub mod Runs
+pub mod Sizes
+pub mod Squares

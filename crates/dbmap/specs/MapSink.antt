@@ -9,11 +9,13 @@ use Rattle.dbformat.specs.declared.Verdict.TheVariants.{Clean, Faulty}
 use Rattle.dbsource.specs.Outs.{OutState}
 use Rattle.dbsource.specs.declared.error.RunError.{RunError}
 use Rattle.dbwalk.specs.Telling.{SinkState}
+use Rattle.dbmap.specs.Maps.{DrawsMap}
 use Rattle.dbmap.specs.declared.map_sink.MapSink.{MapSink}
 
--- a fault is counted
-abbrev pub Notes : {A O : Type 0} → MapSink A O → Fault → MapSink A O → Type 0
-Notes s f t = t.faults ≡ counted (s.faults + 1)
+-- a fault is counted, and nothing is put
+pub record Notes {A O : Type 0} (s : MapSink A O) (f : Fault) (t : MapSink A O) : Type 0 where
+  pub count : t.faults ≡ counted (s.faults + 1)
+  pub out : t.out.now ≡ s.out.now
 
 -- what was found, where so many faults were told
 abbrev pub verdict_of : ℕ → Verdict
@@ -23,6 +25,6 @@ verdict_of faults = if faults == 0 then Clean else Faulty faults
 abbrev pub map_held : {A O : Type 0} → (O → OutState) → MapSink A O → SinkState
 map_held held s = record { lent = s.out.ghost_name ∷ []; failures = (held s.out.now).failures ∷ [] }
 
--- What a run leaves that had heard nothing before: the verdict.
-abbrev pub LeavesMap : {A O : Type 0} → List ℕ → List Reference → Result Verdict RunError → MapSink A O → MapSink A O → Type 0
-LeavesMap file V r s t = s.faults ≡ 0 → IfOk r (λ v. v ≡ verdict (faults file V))
+-- What a run leaves that had heard nothing before: the verdict, and a picture.
+abbrev pub LeavesMap : {A O : Type 0} → (O → OutState) → List ℕ → List Reference → Result Verdict RunError → MapSink A O → MapSink A O → Type 0
+LeavesMap held file V r s t = s.faults ≡ 0 → IfOk r (λ v. v ≡ verdict (faults file V)) × DrawsMap r (held s.out.now).bytes (held t.out.now).bytes file V

@@ -1,6 +1,9 @@
--- What an answer of a map says of the file.
-use Rattle.std.specs.Prelude.{◌≡◌, ◌↔◌, List, ℕ, Result, IfOk}
+-- What an answer of a map says of the file, and what it puts.
+use Rattle.std.specs.Prelude.{◌≡◌, ◌⊎◌, ◌↔◌, ℕ, ◌≤◌, List, length, take, Option, Result, Ok, Err, IfOk}
+use Rattle.std.specs.Int.{div_ceil}
+use Rattle.std.specs.Io.KnownBytes.{Appends, Keeps}
 use Rattle.dbformat.specs.File.{geometry}
+use Rattle.dbformat.specs.Lines.{counted}
 use Rattle.dbformat.specs.Log.{IsRunLog, IsSomeRunLog}
 use Rattle.dbformat.specs.Reference.{Reference}
 use Rattle.dbformat.specs.Report.{faults, verdict as verdict_on}
@@ -8,17 +11,56 @@ use Rattle.dbformat.specs.Sound.{Sound}
 use Rattle.dbformat.specs.Survey.{Survey, survey}
 use Rattle.dbformat.specs.declared.Verdict.{Verdict}
 use Rattle.dbformat.specs.declared.Verdict.TheVariants.{Clean}
+use Rattle.dbsource.specs.Outs.{Begins}
 use Rattle.dbsource.specs.Snapshots.{HasRead}
 use Rattle.dbsource.specs.declared.error.RunError.{RunError}
 use Rattle.dbsource.specs.declared.out.Out.{Ghosts as OutWords}
 use Rattle.dbsource.specs.declared.source.Source.{Ghosts as SourceWords}
+use Rattle.dbmarks.specs.Marking.{page_mark}
+use Rattle.dbowner.specs.Climbs.{place_by}
+use Rattle.dbowner.specs.Owners.{place_of}
 use Rattle.dbreport.specs.Runs.{IsAnswerOf}
+use Rattle.dbmap.specs.Drawings.{stated_of}
+use Rattle.dbmap.specs.Grids.{rows}
+use Rattle.dbmap.specs.Pictures.{picture_text}
+use Rattle.dbmap.specs.Squares.{AreRows, Ground, Square}
+use Rattle.dbmap.specs.declared.legend.Line.{Line}
+use Rattle.dbmap.specs.declared.picture.Heading.{Heading}
 
--- What is answered is so of a file: it has a survey, and by any survey of it this is the verdict on its faults; `Clean` is what
--- a sound file is answered, and no other; a refused file is answered its refusal or a failed read, and no other a refusal.
-pub record IsMapOf (file : List ℕ) (r : Result Verdict RunError) : Type 0 where
+-- A picture of a file with survey V: of its size, with the number of its faults; with one square for each page, or for each run of
+-- so many pages, row by row; and what is remembered of a page is what the page is.
+pub record IsPictureOf (file : List ℕ) (V : List Reference) (h : Heading) (g : Ground) (all : List (List Square)) : Type 0 where
+  pub shape : h.geometry ≡ geometry file
+  pub found : h.faults ≡ counted (length (faults file V))
+  pub pages : g.grid.pages ≡ (geometry file).pages
+  pub stated : g.grid.stated ≡ stated_of (take 100 file)
+  pub run : 1 ≤ g.grid.run
+  pub cells : g.grid.cells ≡ div_ceil (geometry file).pages g.grid.run
+  pub many : length all ≡ rows g.grid
+  pub are : AreRows g 0 all
+  pub places : (p : ℕ) → place_by (page_mark g.marks p) ≡ place_of file V p
+
+-- there is such a picture, and of its bytes P holds
+pub record HasPicture (P : List ℕ → Type 0) (file : List ℕ) (V : List Reference) : Type 0 where
+  pub heading : Heading
+  pub ground : Ground
+  pub all : List (List Square)
+  pub lines : List Line
+  pub is : IsPictureOf file V heading ground all
+  pub holds : P (picture_text heading ground all lines)
+
+-- what told bytes become: at Ok a picture was put, and at Err nothing, or a beginning of one
+abbrev pub DrawsMap : {A E : Type 0} → Result A E → Option (List ℕ) → Option (List ℕ) → List ℕ → List Reference → Type 0
+DrawsMap (Ok a) old new file V = HasPicture (Appends old new) file V
+DrawsMap (Err e) old new file V = Keeps old new ⊎ HasPicture (Begins old new) file V
+
+-- What is answered and put is so of a file: it has a survey, and by any survey of it this is the verdict on its faults, and a picture
+-- of it was put; `Clean` is what a sound file is answered, and no other; a refused file is answered its refusal or a failed read, and
+-- no other a refusal.
+pub record IsMapOf (file : List ℕ) (r : Result Verdict RunError) (old new : Option (List ℕ)) : Type 0 where
   pub survey : Survey file (survey file)
   pub verdict : (V : List Reference) → Survey file V → IfOk r (λ v. v ≡ verdict_on (faults file V))
+  pub picture : (V : List Reference) → Survey file V → DrawsMap r old new file V
   pub answer : IsAnswerOf r file
   pub sound : IfOk r (λ v. v ≡ Clean ↔ Sound file)
 
@@ -26,6 +68,7 @@ pub record IsMapOf (file : List ℕ) (r : Result Verdict RunError) : Type 0 wher
 
 module _ {S O : Type 0} (source : SourceWords S) (out : OutWords O) where
   -- Whatever the source answered: there is a file, of the length that it answered, that agrees with every byte that was used;
-  -- and of each such file the answer is so, and what was asked for is what a run over that file asks for.
+  -- and of each such file the answer and what was put are so, and what was asked for is what a run over that file asks for.
   abbrev pub HasMap : Result Verdict RunError → S × O → S × O → Type 0
-  HasMap r old new = HasRead source.step source.lengths IsSomeRunLog (λ file ranges. IsRunLog (geometry file) ranges × IsMapOf file r) (source.held old.0) (source.held new.0)
+  HasMap r old new = HasRead source.step source.lengths IsSomeRunLog (λ file ranges. IsRunLog (geometry file) ranges × IsMapOf file r (out.held old.1).bytes (out.held new.1).bytes)
+      (source.held old.0) (source.held new.0)

@@ -1,5 +1,5 @@
 // How a square of several owners is divided in bands.
-ghost use Rattle.std.specs.Prelude.{◌≤◌, ◌<◌};
+ghost use Rattle.std.specs.Prelude.{◌≡◌, ◌≤◌, ◌<◌, get_or};
 
 use crate::cell::{Cell, OWNERS};
 
@@ -19,6 +19,7 @@ impl Bands {
     /// The bands of the owner with a number.
     pub(crate) fn height(&self, number: usize) -> u32
         requires { number < 16 }
+        ensures { result ≡ get_or self.now.heights number 0 }
     {
         self.heights[number]
     }

@@ -1,5 +1,6 @@
 // Whose the pages of a square are.
-ghost use Rattle.std.specs.Prelude.{◌≤◌, ◌<◌, IfSome};
+ghost use Rattle.std.specs.Prelude.{◌≡◌, ◌≤◌, ◌<◌, IfSome};
+ghost use Rattle.dbmap.specs.Cells.{has_pages, is_shaded, owner_numbered, share_of};
 
 use dbowner::Place;
 
@@ -31,7 +32,9 @@ impl Owner {
     }
 
     /// The owner with a number.
-    pub(crate) fn numbered(number: usize) -> Owner {
+    pub(crate) fn numbered(number: usize) -> Owner
+        ensures { result ≡ owner_numbered number }
+    {
         match number {
             0..=12 => Owner::Tree(number),
             13 => Owner::Freelist,
@@ -62,7 +65,9 @@ impl Share {
     }
 
     /// Whether most of them are overflow pages.
-    pub(crate) fn is_overflow(self) -> bool {
+    pub(crate) fn is_overflow(self) -> bool
+        ensures { result ≡ is_shaded self }
+    {
         self.overflow > self.pages / 2
     }
 }
@@ -95,6 +100,7 @@ impl Cell {
     /// The pages of the owner with a number.
     pub(crate) fn share(&self, number: usize) -> Share
         requires { number < 16 }
+        ensures { result ≡ share_of self.now number }
     {
         self.shares[number]
     }
@@ -102,8 +108,9 @@ impl Cell {
     /// Whether the owner with a number has one of the pages.
     pub(crate) fn has(&self, number: usize) -> bool
         requires { number < 16 }
+        ensures { result ≡ has_pages self.now number }
     {
-        self.shares[number].pages != 0
+        self.share(number).pages != 0
     }
 
     /// The first owner, if all pages are its own.

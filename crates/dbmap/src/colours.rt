@@ -1,9 +1,14 @@
 // The colours of the picture. They were searched for by computation, so that any two differ for normal sight and for that of
 // deuteranopes and protanopes: tests/colours.py says by how much.
+ghost use Rattle.std.specs.Prelude.{◌≡◌};
+ghost use Rattle.dbmap.specs.Colours.{fill, overflow_colour, tree_colour};
+
 use crate::cell::Owner;
 
 // The colour of the trees of a rank; that of all other trees after the last.
-fn tree_colour(rank: usize) -> &'static str {
+fn tree_colour(rank: usize) -> &'static str
+    ensures { result.now ≡ tree_colour rank }
+{
     match rank {
         0 => "#067CFF",
         1 => "#E6B006",
@@ -22,7 +27,9 @@ fn tree_colour(rank: usize) -> &'static str {
 }
 
 // The same of their overflow pages, lighter.
-fn overflow_colour(rank: usize) -> &'static str {
+fn overflow_colour(rank: usize) -> &'static str
+    ensures { result.now ≡ overflow_colour rank }
+{
     match rank {
         0 => "#C6E1FF",
         1 => "#F2D67E",
@@ -41,7 +48,9 @@ fn overflow_colour(rank: usize) -> &'static str {
 }
 
 /// What a square of this owner is filled with, in the shade of overflow pages or not.
-pub(crate) fn fill(owner: Owner, is_overflow: bool) -> &'static str {
+pub(crate) fn fill(owner: Owner, is_overflow: bool) -> &'static str
+    ensures { result.now ≡ fill owner is_overflow }
+{
     match owner {
         Owner::Tree(rank) if is_overflow => overflow_colour(rank),
         Owner::Tree(rank) => tree_colour(rank),

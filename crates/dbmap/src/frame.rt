@@ -1,22 +1,36 @@
 // The markup of squares, by their size and their frame.
-ghost use Rattle.std.specs.Prelude.{◌≤◌};
+ghost use Rattle.std.specs.Prelude.{◌≡◌, ◌≤◌};
+ghost use Rattle.dbmap.specs.Marks.{inset, is_framed, outline_tail, tail};
 
 use crate::grid::Width;
 
-/// The frame of a square, that of pages with a fault.
+/// The frame of a square.
 #[derive(Clone, Copy, PartialEq, Eq)]
 pub(crate) enum Frame {
-    /// No page has a fault.
+    /// No page has a fault, or is the cause of one that is listed.
     None,
-    /// It lies around the square, a pixel wide.
+    /// It lies around the square, a pixel wide: a page has a fault, and none is as below.
     Weak,
-    /// It covers the edge of the square too.
+    /// It covers the edge of the square too: a page has a fault that is listed, or is the cause of one.
     Strong,
+}
+
+impl Frame {
+    /// Whether there is one.
+    pub(crate) fn is_framed(self) -> bool
+        ensures { result ≡ is_framed self }
+    {
+        match self {
+            Frame::None => false,
+            Frame::Weak | Frame::Strong => true,
+        }
+    }
 }
 
 /// How far a square with this frame is moved in, in pixels. Its stroke lies half within.
 pub(crate) fn inset(width: Width, frame: Frame) -> u32
-    ensures { result ≤ 1 }
+    ensures inset { result ≡ inset width frame }
+    ensures most { result ≤ 1 }
 {
     match (width, frame) {
         (Width::Few, Frame::Strong) => 1,
@@ -24,54 +38,39 @@ pub(crate) fn inset(width: Width, frame: Frame) -> u32
     }
 }
 
-/// How a square goes on after its place in the row.
-pub(crate) fn tail(width: Width, frame: Frame) -> &'static str {
-    match frame {
-        Frame::None => plain_tail(width),
-        Frame::Weak => weak_tail(width),
-        Frame::Strong => strong_tail(width),
-    }
-}
-
-fn plain_tail(width: Width) -> &'static str {
-    match width {
-        Width::Few => "\" width=\"27\" height=\"27\"><title>page",
-        Width::Some => "\" width=\"13\" height=\"13\"><title>page",
-        Width::Many => "\" width=\"6\" height=\"6\"><title>page",
-    }
-}
-
-// The square is painted over the inner half of the stroke.
-fn weak_tail(width: Width) -> &'static str {
-    match width {
-        Width::Few => {
+/// How a square goes on after its place in the row. With a weak frame the square is painted over the inner half of the stroke.
+pub(crate) fn tail(width: Width, frame: Frame) -> &'static str
+    ensures { result.now ≡ tail width frame }
+{
+    match (width, frame) {
+        (Width::Few, Frame::None) => "\" width=\"27\" height=\"27\"><title>page",
+        (Width::Some, Frame::None) => "\" width=\"13\" height=\"13\"><title>page",
+        (Width::Many, Frame::None) => "\" width=\"6\" height=\"6\"><title>page",
+        (Width::Few, Frame::Weak) => {
             "\" width=\"27\" height=\"27\" stroke=\"#BE0700\" stroke-width=\"2\" paint-order=\"stroke\"><title>page"
         }
-        Width::Some => {
+        (Width::Some, Frame::Weak) => {
             "\" width=\"13\" height=\"13\" stroke=\"#BE0700\" stroke-width=\"2\" paint-order=\"stroke\"><title>page"
         }
-        Width::Many => {
+        (Width::Many, Frame::Weak) => {
             "\" width=\"6\" height=\"6\" stroke=\"#BE0700\" stroke-width=\"2\" paint-order=\"stroke\"><title>page"
         }
-    }
-}
-
-fn strong_tail(width: Width) -> &'static str {
-    match width {
-        Width::Few => {
+        (Width::Few, Frame::Strong) => {
             "\" y=\"1\" width=\"25\" height=\"25\" stroke=\"#BE0700\" stroke-width=\"4\"><title>page"
         }
-        Width::Some => {
+        (Width::Some, Frame::Strong) => {
             "\" width=\"13\" height=\"13\" stroke=\"#BE0700\" stroke-width=\"2\"><title>page"
         }
-        Width::Many => {
+        (Width::Many, Frame::Strong) => {
             "\" width=\"6\" height=\"6\" stroke=\"#BE0700\" stroke-width=\"2\"><title>page"
         }
     }
 }
 
 /// How an outline goes on after its place in the row.
-pub(crate) fn outline_tail(width: Width) -> &'static str {
+pub(crate) fn outline_tail(width: Width) -> &'static str
+    ensures { result.now ≡ outline_tail width }
+{
     match width {
         Width::Few => "\" width=\"26\" height=\"26\"><title>page",
         Width::Some => "\" width=\"12\" height=\"12\"><title>page",

@@ -1,5 +1,7 @@
 // How the squares of the picture are laid out.
-ghost use Rattle.std.specs.Prelude.{◌≤◌, ◌^◌};
+ghost use Rattle.std.specs.Prelude.{◌≡◌, ◌+◌, ◌*◌, ◌-◌, ◌%◌, ◌≤◌, ◌^◌, min};
+ghost use Rattle.std.specs.Int.{div_ceil};
+ghost use Rattle.dbmap.specs.Grids as grids;
 
 // Where the first row of squares begins.
 const TOP: u64 = 64;
@@ -37,7 +39,12 @@ fn width_of(cells: u32) -> Width {
 impl Grid {
     /// That of a file of this number of pages, whose header states as many or another number. Each square covers the smallest power
     /// of two of pages that keeps the squares of the file within [`MOST_CELLS`].
-    pub(crate) fn new(pages: u32, stated: u32) -> Grid {
+    pub(crate) fn new(pages: u32, stated: u32) -> Grid
+        ensures pages { result.pages ≡ pages }
+        ensures stated { result.stated ≡ stated }
+        ensures run { 1 ≤ result.run }
+        ensures cells { result.cells ≡ div_ceil pages result.run }
+    {
         let run = pages.div_ceil(MOST_CELLS).next_power_of_two();
         let cells = pages.div_ceil(run.max(1));
         Grid {
@@ -51,7 +58,8 @@ impl Grid {
 
     // How many squares are in a row.
     fn columns(&self) -> u32
-        ensures { (1 ≤ result) × (result ≤ 128) }
+        ensures columns { result ≡ grids.columns self.now }
+        ensures range { (1 ≤ result) × (result ≤ 128) }
     {
         match self.width {
             Width::Few => 32,
@@ -62,7 +70,8 @@ impl Grid {
 
     /// How many pixels a square takes with the room after it.
     pub(crate) fn side(&self) -> u32
-        ensures { (7 ≤ result) × (result ≤ 28) }
+        ensures side { result ≡ grids.side self.now }
+        ensures range { (7 ≤ result) × (result ≤ 28) }
     {
         match self.width {
             Width::Few => 28,
@@ -72,57 +81,75 @@ impl Grid {
     }
 
     /// How many pages the header states that the file does not have.
-    pub(crate) fn missing(&self) -> u32 {
+    pub(crate) fn missing(&self) -> u32
+        ensures { result ≡ self.now.stated - self.now.pages }
+    {
         self.stated.saturating_sub(self.pages)
     }
 
     /// How many squares and outlines there are. There are no more rows of outlines alone than the file has rows.
-    fn places(&self) -> u32 {
-        let most = self
-            .file_rows()
-            .saturating_mul(2)
-            .saturating_mul(self.columns());
+    fn places(&self) -> u32
+        ensures { result ≡ grids.places self.now }
+    {
+        let most = u64::from(self.file_rows()) * 2 * u64::from(self.columns());
         let stated = self.stated.div_ceil(self.run.max(1));
-        stated.min(most).max(self.cells)
+        (u64::from(stated).min(most) as u32).max(self.cells)
     }
 
     // How many rows the pages of the file take.
-    fn file_rows(&self) -> u32 {
+    fn file_rows(&self) -> u32
+        ensures { result ≡ div_ceil self.now.cells (grids.columns self.now) }
+    {
         self.cells.div_ceil(self.columns())
     }
 
     /// How many rows there are.
-    pub(crate) fn rows(&self) -> u32 {
+    pub(crate) fn rows(&self) -> u32
+        ensures { result ≡ grids.rows self.now }
+    {
         self.places().div_ceil(self.columns())
     }
 
     /// Where a square begins in its row, in pixels.
     pub(crate) fn x_of(&self, cell: u32) -> u32
-        ensures { result ≤ 3556 }
+        ensures x { result ≡ grids.x_of self.now cell }
+        ensures most { result ≤ 3556 }
     {
         cell % self.columns() * self.side()
     }
 
-    // The first place of a row, and the first of the next.
-    fn places_of(&self, row: u32) -> (u32, u32) {
-        let first = row.saturating_mul(self.columns());
-        (first, first.saturating_add(self.columns()))
+    // The first place of a row, and the first of the next, among so many.
+    fn places_of(&self, row: u32, places: u32) -> (u32, u32)
+        ensures first { result.0 ≡ min (row * grids.columns self.now) places }
+        ensures end { result.1 ≡ min ((row + 1) * grids.columns self.now) places }
+    {
+        let first = u64::from(row) * u64::from(self.columns());
+        let end = first + u64::from(self.columns());
+        (
+            first.min(u64::from(places)) as u32,
+            end.min(u64::from(places)) as u32,
+        )
     }
 
     /// The squares of a row, the first and the one after the last.
-    pub(crate) fn cells_of_row(&self, row: u32) -> (u32, u32) {
-        let (first, end) = self.places_of(row);
-        (first, end.min(self.cells))
+    pub(crate) fn cells_of_row(&self, row: u32) -> (u32, u32)
+        ensures { result ≡ grids.cells_of_row self.now row }
+    {
+        self.places_of(row, self.cells)
     }
 
     /// The outlines of a row, the first and the one after the last.
-    pub(crate) fn outlines_of_row(&self, row: u32) -> (u32, u32) {
-        let (first, end) = self.places_of(row);
-        (first.max(self.cells), end.min(self.places()))
+    pub(crate) fn outlines_of_row(&self, row: u32) -> (u32, u32)
+        ensures { result ≡ grids.outlines_of_row self.now row }
+    {
+        let (first, end) = self.places_of(row, self.places());
+        (first.max(self.cells), end)
     }
 
     // The first and the last page of a place, of this number of pages at most.
-    fn run_of(&self, place: u32, pages: u32) -> (u32, u32) {
+    fn run_of(&self, place: u32, pages: u32) -> (u32, u32)
+        ensures { result ≡ grids.run_of self.now place pages }
+    {
         let most = u64::from(pages);
         let before = u64::from(place) * u64::from(self.run);
         let first = (before + 1).min(most);
@@ -131,24 +158,31 @@ impl Grid {
     }
 
     /// The pages of a square, the first and the last.
-    pub(crate) fn pages_of(&self, cell: u32) -> (u32, u32) {
+    pub(crate) fn pages_of(&self, cell: u32) -> (u32, u32)
+        ensures { result ≡ grids.run_of self.now cell self.now.pages }
+    {
         self.run_of(cell, self.pages)
     }
 
     /// The pages of an outline, the first and the last.
-    pub(crate) fn missing_of(&self, place: u32) -> (u32, u32) {
+    pub(crate) fn missing_of(&self, place: u32) -> (u32, u32)
+        ensures { result ≡ grids.run_of self.now place self.now.stated }
+    {
         self.run_of(place, self.stated)
     }
 
     /// Where a row begins, in pixels from the top.
     pub(crate) fn top_of(&self, row: u32) -> u64
-        ensures { result ≤ 2 ^ 40 }
+        ensures top { result ≡ grids.top_of self.now row }
+        ensures most { result ≤ 2 ^ 40 }
     {
         TOP + u64::from(row) * u64::from(self.side())
     }
 
     /// The first page of a row.
-    pub(crate) fn page_of_row(&self, row: u32) -> u64 {
+    pub(crate) fn page_of_row(&self, row: u32) -> u64
+        ensures { result ≡ grids.page_of_row self.now row }
+    {
         let before = u64::from(row) * u64::from(self.columns());
         before.saturating_mul(u64::from(self.run)).saturating_add(1)
     }

@@ -1,26 +1,32 @@
 // What a map keeps of a file beside what a check keeps.
 ghost use Rattle.dbformat.specs.FixedPages.{IsInRange};
 
+use crate::listed::note_listed;
 use crate::page_set::PageSet;
 use crate::tally::Tally;
+use crate::walk::Walk;
+use dbentries::{Entries, Reported};
+use dbformat::FaultCode;
 use dbowner::PageTrees;
 use dbsource::Geometry;
 use std::alloc::{AllocError, Allocator, Global};
 
-/// Whose the pages are: the tree of each page, and the pages of each tree.
-#[derive(Drop)]
-pub(crate) struct Owners<A: Allocator = Global> {
-    pub(crate) trees: PageTrees<A>,
-    pub(crate) tally: Tally<A>,
-}
+// How many entries are kept: as many as `explain` lists where no other number is given.
+const LIMIT: u32 = 100;
 
 /// What a map keeps of a file beside what a check keeps.
 #[derive(Drop)]
 pub(crate) struct Kept<A: Allocator = Global> {
-    /// Nothing once the picture has been put.
-    pub(crate) owners: Option<Owners<A>>,
+    /// The tree of each page, and what else changes from square to square.
+    pub(crate) walk: Walk<A>,
+    /// The pages of each tree.
+    pub(crate) tally: Tally<A>,
     /// The pages that faults are found at.
     pub(crate) faulty: PageSet<A>,
+    /// The pages of the entries that are listed, and of their causes.
+    pub(crate) strong: PageSet<A>,
+    // The entries of all faults but those of lost pages.
+    entries: Entries<A>,
 }
 
 impl<A: Allocator + Copy> Kept<A> {
@@ -35,9 +41,29 @@ impl<A: Allocator + Copy> Kept<A> {
         let trees = PageTrees::new_in(alloc, geometry)?;
         let tally = Tally::new_in(alloc)?;
         let faulty = PageSet::new_in(alloc, geometry.pages)?;
+        let strong = PageSet::new_in(alloc, geometry.pages)?;
+        let entries = Entries::new_in(alloc, LIMIT)?;
         Ok(Kept {
-            owners: Some(Owners { trees, tally }),
+            walk: Walk::new(trees),
+            tally,
             faulty,
+            strong,
+            entries,
         })
+    }
+}
+
+impl<A: Allocator> Kept<A> {
+    /// Notes the page of a fault, and lists the fault, but for that of a lost page.
+    pub(crate) fn note(&mut self, told: &Reported) {
+        self.faulty.note(told.fault.page, told.fault.code);
+        if told.fault.code != FaultCode::N01 {
+            self.entries.add(told);
+        }
+    }
+
+    /// Notes the pages of the entries that are listed, and of their causes.
+    pub(crate) fn note_listed(&mut self) {
+        note_listed(&mut self.strong, self.entries.listed());
     }
 }

@@ -1,8 +1,12 @@
 // The names of the largest trees.
+ghost use Rattle.std.specs.Prelude.{◌≡◌, slice_get, option_map};
+ghost use Rattle.dbxml.specs.Pieces.{piece_text};
+ghost use Rattle.dbmap.specs.Runs.{name_text};
+
 use crate::tally::{COLOURED, Tree};
 use arrayvec::ArrayVec;
 use dbowner::TreeNames;
-use dbxml::{Shown, shown_tree};
+use dbxml::{Piece, Shown, shown_tree};
 use std::alloc::Allocator;
 
 /// The names of the largest trees, by their ranks.
@@ -24,8 +28,20 @@ impl Labels {
     }
 
     /// The name of the tree of a rank, if there is such a tree.
-    pub(crate) fn get(&self, rank: usize) -> Option<&Shown> {
+    pub(crate) fn get(&self, rank: usize) -> Option<&Shown>
+        ensures { option_map (λ name. name.now) result ≡ slice_get self.now.names.items rank }
+    {
         self.names.as_slice().get(rank)
+    }
+
+    /// The name of the tree of a rank in so many columns, or nothing.
+    pub(crate) fn piece(&self, rank: usize, width: u32) -> Piece<'_>
+        ensures { piece_text result ≡ name_text self.now.names.items rank width }
+    {
+        match self.get(rank) {
+            Some(name) => Piece::Shown(name, width),
+            None => Piece::Markup(""),
+        }
     }
 
     /// Whether another of the trees has the same name as far as it is shown in a number of columns.

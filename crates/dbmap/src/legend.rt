@@ -1,18 +1,22 @@
 // The legend of the picture.
-ghost use Rattle.dbxml.specs.Puts.{PutsSome};
+ghost use Rattle.std.specs.Prelude.{◌≡◌, ◌≤◌, [], length};
+ghost use Rattle.dbxml.specs.Pieces.{piece_text};
+ghost use Rattle.dbmap.specs.Canvas.{Draws};
+ghost use Rattle.dbmap.specs.Legends as legends;
+ghost use Rattle.dbmap.specs.Sizes.{tenths_of_percent};
 
+use crate::canvas::Canvas;
 use crate::cell::{Owner, Share};
 use crate::colours::{LEGEND_FRAME, fill};
-use crate::grid::Grid;
 use crate::labels::Labels;
-use crate::size::size;
-use crate::squares::{Layout, Squares};
+use crate::layout::Layout;
+use crate::size::{size_tenths, size_unit};
 use crate::tally::{COLOURED, Tally, Tree};
 use arrayvec::ArrayVec;
 use dbformat::FREELIST_START;
 use dbowner::TreeNames;
-use dbsource::{Geometry, Out, WriteFailed};
-use dbxml::{Piece, put_all};
+use dbsource::{Geometry, Out};
+use dbxml::Piece;
 use std::alloc::Allocator;
 
 // How many columns of a tree's name are shown.
@@ -21,12 +25,12 @@ const NAME_WIDTH: u32 = 56;
 // How far a line is below another.
 const LINE: u32 = 20;
 
-// What a line is of.
+/// What a line is of.
 #[derive(Clone, Copy, Default)]
-enum Label {
-    // The tree of a start, by its rank.
-    Tree(usize, u32),
-    // This number of trees.
+pub(crate) enum Label {
+    /// A tree, by its rank; and its root page, where another one has the same name.
+    Tree(usize, Option<u32>),
+    /// This number of trees.
     Others(u32),
     Freelist,
     Fixed,
@@ -35,9 +39,9 @@ enum Label {
     Faulty,
 }
 
-// A line, with how many pages it is of.
+/// A line, with how many pages it is of.
 #[derive(Clone, Copy, Default)]
-struct Line {
+pub(crate) struct Line {
     label: Label,
     share: Share,
 }
@@ -49,18 +53,27 @@ pub(crate) struct Legend {
 }
 
 // Those of no tree.
-fn no_overflow(pages: u32) -> Share {
+fn no_overflow(pages: u32) -> Share
+    ensures { result ≡ legends.no_overflow pages }
+{
     Share { pages, overflow: 0 }
 }
 
 impl Legend {
-    /// That of a file whose pages were counted, of its largest trees, and of the number of pages with a fault.
-    pub(crate) fn new<A: Allocator>(tally: &Tally<A>, largest: &[Tree], faulty: u32) -> Legend {
+    /// That of a file whose pages were counted, of its largest trees with their names, and of the number of pages with a fault.
+    pub(crate) fn new<A: Allocator, B: Allocator>(
+        tally: &Tally<A>,
+        largest: &[Tree],
+        names: &TreeNames<'_, B>,
+        labels: &Labels,
+        faulty: u32,
+    ) -> Legend {
         let mut legend = Legend {
             lines: ArrayVec::new(),
         };
         for (rank, tree) in largest.iter().enumerate() {
-            legend.add(Label::Tree(rank, tree.start), tree.share);
+            let root = root_if_twice(names, labels, rank, tree.start);
+            legend.add(Label::Tree(rank, root), tree.share);
         }
         let (count, others) = tally.others(largest);
         legend.add(Label::Others(count), others);
@@ -78,109 +91,141 @@ impl Legend {
         }
     }
 
-    /// How many pixels it takes, with the room around it.
-    pub(crate) fn height(&self, grid: &Grid) -> u32 {
-        let missing = u32::from(grid.missing() != 0);
-        (self.lines.len() as u32 + missing) * LINE + 40
+    /// How many pixels it takes, with the room around it, where the header states pages that the file does not have or not.
+    pub(crate) fn height(&self, missing: u32) -> u32
+        ensures { result ≡ legends.height self.now.lines.items missing }
+    {
+        let lines = self.lines.as_slice();
+        let last = u32::from(missing != 0);
+        (lines.len() as u32 + last) * LINE + 40
     }
 
-    /// Puts the legend, below the squares, which end at `bottom`.
-    ///
-    /// # Errors
-    ///
-    /// [`WriteFailed`] where the Out failed.
-    pub(crate) fn put<A: Allocator, O: Out>(
+    /// Draws the legend, below the squares, which end at `bottom`.
+    pub(crate) fn draw<O: Out>(
         &self,
-        out: &mut O,
-        squares: &Squares<'_, A>,
+        canvas: &mut Canvas<'_, O>,
+        geometry: Geometry,
         layout: &Layout,
         bottom: u64,
-    ) -> Result<(), WriteFailed>
-        ensures { PutsSome result (O.held out.old) (O.held out.new) }
+    )
+        ensures { Draws O.held canvas.old (legends.legend_text self.now.lines.items layout.now.labels.names.items geometry layout.now.grid bottom) canvas.new }
     {
-        let geometry = squares.header.geometry();
-        put_columns(out, bottom)?;
-        let mut y = LINE;
-        for line in self.lines.iter() {
-            y = y.saturating_add(LINE);
-            put_swatch(out, line.label, line.share, y)?;
-            put_label(out, &squares.names, &layout.labels, line.label, y)?;
-            put_share(out, line.share, geometry, y)?;
-            put_percent(out, line.share.pages, geometry.pages, y)?;
-        }
-        put_missing(out, layout.grid.missing(), geometry, y.saturating_add(LINE))?;
-        out.put(b"</g>\n")
+        let lines = self.lines.as_slice();
+        draw_columns(canvas, bottom);
+        draw_lines(canvas, &layout.labels, geometry, lines);
+        let y = (lines.len() as u32 + 2) * LINE;
+        draw_missing(canvas, layout.grid.missing(), geometry, y);
+        canvas.draw(&[Piece::Markup("</g>\n")]);
     }
 }
 
-// Puts the line of the pages that the header states and the file does not have, if there are any.
-fn put_missing<O: Out>(
-    out: &mut O,
-    missing: u32,
+// Draws the lines.
+fn draw_lines<O: Out>(
+    canvas: &mut Canvas<'_, O>,
+    labels: &Labels,
     geometry: Geometry,
-    y: u32,
-) -> Result<(), WriteFailed>
-    ensures { PutsSome result (O.held out.old) (O.held out.new) }
+    lines: &[Line],
+)
+    requires { length lines.now ≤ 17 }
+    ensures { Draws O.held canvas.old (legends.lines_from labels.now.names.items geometry 2 lines.now) canvas.new }
 {
-    if missing == 0 {
-        return Ok(());
+    for (index, line) in lines.iter().enumerate() {
+        draw_line(canvas, labels, geometry, line, (index as u32 + 2) * LINE);
     }
-    put_box(out, 72, y.saturating_sub(10), "#FFFFFF")?;
-    put_label_front(out, y)?;
-    out.put(b"stated in the header, not in the file</text>")?;
-    put_share(out, no_overflow(missing), geometry, y)?;
-    out.put(b"\n")
 }
 
-// Puts a text of a column, which ends at x.
-fn put_cell<O: Out>(out: &mut O, x: u32, y: u32, text: Piece<'_>) -> Result<(), WriteFailed>
-    ensures { PutsSome result (O.held out.old) (O.held out.new) }
+// Draws a line.
+fn draw_line<O: Out>(
+    canvas: &mut Canvas<'_, O>,
+    labels: &Labels,
+    geometry: Geometry,
+    line: &Line,
+    y: u32,
+)
+    ensures { Draws O.held canvas.old (legends.line_text labels.now.names.items geometry line.now y) canvas.new }
 {
-    put_cells(out, x, y, text, Piece::Markup(""))
+    draw_swatch(canvas, line.label, line.share, y);
+    draw_label(canvas, labels, line.label, y);
+    draw_share(canvas, line.share, geometry, y);
+    draw_percent(canvas, line.share.pages, geometry.pages, y);
 }
 
-// Puts two texts as one of a column.
-fn put_cells<'p, O: Out>(
-    out: &mut O,
+// Draws the line of the pages that the header states and the file does not have, if there are any.
+fn draw_missing<O: Out>(canvas: &mut Canvas<'_, O>, missing: u32, geometry: Geometry, y: u32)
+    ensures { Draws O.held canvas.old (legends.missing_text missing geometry y) canvas.new }
+{
+    if missing != 0 {
+        draw_some_missing(canvas, missing, geometry, y);
+    }
+}
+
+// Draws the line of so many such pages.
+fn draw_some_missing<O: Out>(canvas: &mut Canvas<'_, O>, missing: u32, geometry: Geometry, y: u32)
+    ensures { Draws O.held canvas.old (legends.missing_line missing geometry y) canvas.new }
+{
+    draw_box(canvas, 72, y.saturating_sub(10), "#FFFFFF");
+    draw_label_front(canvas, y);
+    canvas.draw(&[Piece::Markup("stated in the header, not in the file</text>")]);
+    draw_share(canvas, no_overflow(missing), geometry, y);
+    canvas.draw(&[Piece::Markup("\n")]);
+}
+
+// Draws two texts as one of a column, which ends at x.
+fn draw_cell<'p, O: Out>(
+    canvas: &mut Canvas<'_, O>,
     x: u32,
     y: u32,
     text: Piece<'p>,
     end: Piece<'p>,
-) -> Result<(), WriteFailed>
-    ensures { PutsSome result (O.held out.old) (O.held out.new) }
+)
+    ensures { Draws O.held canvas.old (legends.cell_text x y (piece_text text.entry) (piece_text end.entry)) canvas.new }
 {
-    put_all(
-        out,
-        &[
-            Piece::Markup("<text x=\""),
-            Piece::Number(u64::from(x)),
-            Piece::Markup("\" y=\""),
-            Piece::Number(u64::from(y)),
-            Piece::Markup("\" text-anchor=\"end\">"),
-            text,
-            end,
-            Piece::Markup("</text>"),
-        ],
-    )
+    canvas.draw(&[
+        Piece::Markup("<text x=\""),
+        Piece::Number(u64::from(x)),
+        Piece::Markup("\" y=\""),
+        Piece::Number(u64::from(y)),
+        Piece::Markup("\" text-anchor=\"end\">"),
+        text,
+        end,
+        Piece::Markup("</text>"),
+    ]);
 }
 
-// Begins the legend, and puts what the columns are.
-fn put_columns<O: Out>(out: &mut O, bottom: u64) -> Result<(), WriteFailed>
-    ensures { PutsSome result (O.held out.old) (O.held out.new) }
+// Draws a number in a column.
+fn draw_number<O: Out>(canvas: &mut Canvas<'_, O>, x: u32, y: u32, number: u32)
+    ensures { Draws O.held canvas.old (legends.number_text x y number) canvas.new }
 {
-    put_all(
-        out,
-        &[
-            Piece::Markup("<g transform=\"translate(0 "),
-            Piece::Number(bottom),
-            Piece::Markup(")\">\n<g fill=\"#666666\">"),
-        ],
-    )?;
-    put_cell(out, PAGES, LINE, Piece::Markup("pages"))?;
-    put_cell(out, OVERFLOW, LINE, Piece::Markup("of them overflow"))?;
-    put_cell(out, SIZE, LINE, Piece::Markup("size"))?;
-    put_cell(out, SHARE, LINE, Piece::Markup("%"))?;
-    out.put(b"</g>\n")
+    draw_cell(
+        canvas,
+        x,
+        y,
+        Piece::Number(u64::from(number)),
+        Piece::Markup(""),
+    );
+}
+
+// Draws what a column is.
+fn draw_column<O: Out>(canvas: &mut Canvas<'_, O>, x: u32, name: &'static str)
+    ensures { Draws O.held canvas.old (legends.cell_text x 20 name.now []) canvas.new }
+{
+    draw_cell(canvas, x, LINE, Piece::Markup(name), Piece::Markup(""));
+}
+
+// Begins the legend, and draws what the columns are.
+fn draw_columns<O: Out>(canvas: &mut Canvas<'_, O>, bottom: u64)
+    ensures { Draws O.held canvas.old (legends.columns_text bottom) canvas.new }
+{
+    canvas.draw(&[
+        Piece::Markup("<g transform=\"translate(0 "),
+        Piece::Number(bottom),
+        Piece::Markup(")\">\n<g fill=\"#666666\">"),
+    ]);
+    draw_column(canvas, PAGES, "pages");
+    draw_column(canvas, OVERFLOW, "of them overflow");
+    draw_column(canvas, SIZE, "size");
+    draw_column(canvas, SHARE, "%");
+    canvas.draw(&[Piece::Markup("</g>\n")]);
 }
 
 // Where the columns of numbers end.
@@ -192,155 +237,173 @@ const SIZE: u32 = 790;
 
 const SHARE: u32 = 860;
 
-// Puts how many pages a line is of, and their size.
-fn put_share<O: Out>(
-    out: &mut O,
-    share: Share,
-    geometry: Geometry,
-    y: u32,
-) -> Result<(), WriteFailed>
-    ensures { PutsSome result (O.held out.old) (O.held out.new) }
+// Draws how many pages a line is of, and their size.
+fn draw_share<O: Out>(canvas: &mut Canvas<'_, O>, share: Share, geometry: Geometry, y: u32)
+    ensures { Draws O.held canvas.old (legends.share_text share geometry.page_size y) canvas.new }
 {
-    put_cell(out, PAGES, y, Piece::Number(u64::from(share.pages)))?;
-    if share.overflow != 0 {
-        put_cell(out, OVERFLOW, y, Piece::Number(u64::from(share.overflow)))?;
-    }
-    let [number, unit] = size(share.pages, geometry.page_size);
-    put_cells(out, SIZE, y, number, unit)
+    draw_number(canvas, PAGES, y, share.pages);
+    draw_overflow(canvas, share.overflow, y);
+    let number = Piece::Tenths(size_tenths(share.pages, geometry.page_size));
+    let unit = Piece::Markup(size_unit(share.pages, geometry.page_size));
+    draw_cell(canvas, SIZE, y, number, unit);
 }
 
-// Puts how many of all pages a line is of.
-fn put_percent<O: Out>(out: &mut O, pages: u32, all: u32, y: u32) -> Result<(), WriteFailed>
-    ensures { PutsSome result (O.held out.old) (O.held out.new) }
+// Draws how many overflow pages a line is of, if any.
+fn draw_overflow<O: Out>(canvas: &mut Canvas<'_, O>, pages: u32, y: u32)
+    ensures { Draws O.held canvas.old (legends.overflow_text pages y) canvas.new }
 {
-    put_cell(out, SHARE, y, Piece::Tenths(tenths_of_percent(pages, all)))?;
-    out.put(b"\n")
+    if pages != 0 {
+        draw_number(canvas, OVERFLOW, y, pages);
+    }
+}
+
+// Draws how many of all pages a line is of.
+fn draw_percent<O: Out>(canvas: &mut Canvas<'_, O>, pages: u32, all: u32, y: u32)
+    ensures { Draws O.held canvas.old (legends.percent_text pages all y) canvas.new }
+{
+    let tenths = Piece::Tenths(tenths_of_percent(pages, all));
+    draw_cell(canvas, SHARE, y, tenths, Piece::Markup(""));
+    canvas.draw(&[Piece::Markup("\n")]);
 }
 
 // Some of all pages, in tenths of a per cent.
-fn tenths_of_percent(pages: u32, all: u32) -> u64 {
+fn tenths_of_percent(pages: u32, all: u32) -> u64
+    ensures { result ≡ tenths_of_percent pages all }
+{
     let all = u64::from(all).max(1);
     (u64::from(pages) * 2000 + all) / (2 * all)
 }
 
-// Puts a square of the legend.
-fn put_box<O: Out>(out: &mut O, x: u32, y: u32, fill: &'static str) -> Result<(), WriteFailed>
-    ensures { PutsSome result (O.held out.old) (O.held out.new) }
+// Draws a square of the legend.
+fn draw_box<O: Out>(canvas: &mut Canvas<'_, O>, x: u32, y: u32, fill: &'static str)
+    ensures { Draws O.held canvas.old (legends.box_text x y fill.now) canvas.new }
 {
-    put_all(
-        out,
-        &[
-            Piece::Markup("<rect x=\""),
-            Piece::Number(u64::from(x)),
-            Piece::Markup("\" y=\""),
-            Piece::Number(u64::from(y)),
-            Piece::Markup("\" width=\"12\" height=\"12\" fill=\""),
-            Piece::Markup(fill),
-            Piece::Markup("\" stroke=\"#888888\" stroke-width=\".5\"/>"),
-        ],
-    )
+    canvas.draw(&[
+        Piece::Markup("<rect x=\""),
+        Piece::Number(u64::from(x)),
+        Piece::Markup("\" y=\""),
+        Piece::Number(u64::from(y)),
+        Piece::Markup("\" width=\"12\" height=\"12\" fill=\""),
+        Piece::Markup(fill),
+        Piece::Markup("\" stroke=\"#888888\" stroke-width=\".5\"/>"),
+    ]);
 }
 
-// Puts the colour of a line; where there are overflow pages, their shade beside it.
-fn put_swatch<O: Out>(out: &mut O, label: Label, share: Share, y: u32) -> Result<(), WriteFailed>
-    ensures { PutsSome result (O.held out.old) (O.held out.new) }
+// The owner of the pages of a line, if it is of one.
+fn owner_of(label: Label) -> Option<Owner>
+    ensures { result ≡ legends.owner_of label }
 {
-    let owner = match label {
-        Label::Tree(rank, _) => Owner::Tree(rank),
-        Label::Others(_) => Owner::Tree(COLOURED),
-        Label::Freelist => Owner::Freelist,
-        Label::Fixed => Owner::Fixed,
-        Label::Nobody => Owner::Nobody,
-        Label::Faulty => return put_frame(out, y),
-    };
-    let y = y.saturating_sub(10);
-    if share.overflow != 0 {
-        put_box(out, 88, y, fill(owner, true))?;
+    match label {
+        Label::Tree(rank, _) => Some(Owner::Tree(rank)),
+        Label::Others(_) => Some(Owner::Tree(COLOURED)),
+        Label::Freelist => Some(Owner::Freelist),
+        Label::Fixed => Some(Owner::Fixed),
+        Label::Nobody => Some(Owner::Nobody),
+        Label::Faulty => None,
     }
-    put_box(out, 72, y, fill(owner, false))
 }
 
-// Puts the frame of squares with a fault.
-fn put_frame<O: Out>(out: &mut O, y: u32) -> Result<(), WriteFailed>
-    ensures { PutsSome result (O.held out.old) (O.held out.new) }
+// Draws the colour of a line, or the frame of squares with a fault.
+fn draw_swatch<O: Out>(canvas: &mut Canvas<'_, O>, label: Label, share: Share, y: u32)
+    ensures { Draws O.held canvas.old (legends.swatch_text label share y) canvas.new }
 {
-    put_all(
-        out,
-        &[
-            Piece::Markup("<rect x=\"73\" y=\""),
-            Piece::Number(u64::from(y.saturating_sub(9))),
-            Piece::Markup(LEGEND_FRAME),
-        ],
-    )
+    match owner_of(label) {
+        Some(owner) => {
+            draw_shade(canvas, owner, share.overflow, y);
+            draw_box(canvas, 72, y.saturating_sub(10), fill(owner, false));
+        }
+        None => draw_frame(canvas, y),
+    }
+}
+
+// Draws the shade of an owner's overflow pages, if there are any.
+fn draw_shade<O: Out>(canvas: &mut Canvas<'_, O>, owner: Owner, overflow: u32, y: u32)
+    ensures { Draws O.held canvas.old (legends.shade_text owner overflow y) canvas.new }
+{
+    if overflow != 0 {
+        draw_box(canvas, 88, y.saturating_sub(10), fill(owner, true));
+    }
+}
+
+// Draws the frame of squares with a fault.
+fn draw_frame<O: Out>(canvas: &mut Canvas<'_, O>, y: u32)
+    ensures { Draws O.held canvas.old (legends.frame_text y) canvas.new }
+{
+    canvas.draw(&[
+        Piece::Markup("<rect x=\"73\" y=\""),
+        Piece::Number(u64::from(y.saturating_sub(9))),
+        Piece::Markup(LEGEND_FRAME),
+    ]);
 }
 
 // Begins the text of a line.
-fn put_label_front<O: Out>(out: &mut O, y: u32) -> Result<(), WriteFailed>
-    ensures { PutsSome result (O.held out.old) (O.held out.new) }
+fn draw_label_front<O: Out>(canvas: &mut Canvas<'_, O>, y: u32)
+    ensures { Draws O.held canvas.old (legends.label_front y) canvas.new }
 {
-    put_all(
-        out,
-        &[
-            Piece::Markup("<text x=\"108\" y=\""),
-            Piece::Number(u64::from(y)),
-            Piece::Markup("\">"),
-        ],
-    )
+    canvas.draw(&[
+        Piece::Markup("<text x=\"108\" y=\""),
+        Piece::Number(u64::from(y)),
+        Piece::Markup("\">"),
+    ]);
 }
 
-// Puts what a line is of.
-fn put_label<A: Allocator, O: Out>(
-    out: &mut O,
-    names: &TreeNames<'_, A>,
-    labels: &Labels,
-    label: Label,
-    y: u32,
-) -> Result<(), WriteFailed>
-    ensures { PutsSome result (O.held out.old) (O.held out.new) }
+// Draws what a line is of.
+fn draw_label<O: Out>(canvas: &mut Canvas<'_, O>, labels: &Labels, label: Label, y: u32)
+    ensures { Draws O.held canvas.old (legends.label_text labels.now.names.items label y) canvas.new }
 {
-    put_label_front(out, y)?;
+    draw_label_front(canvas, y);
     match label {
-        Label::Tree(rank, start) => put_tree(out, names, labels, rank, start)?,
-        Label::Others(1) => out.put(b"1 other tree")?,
-        Label::Others(count) => put_all(
-            out,
-            &[
-                Piece::Number(u64::from(count)),
-                Piece::Markup(" other trees"),
-            ],
-        )?,
-        Label::Freelist => out.put(b"freelist")?,
-        Label::Fixed => out.put(b"pointer map and lock-byte page")?,
-        Label::Nobody => out.put(b"in no tree, overflow chain or freelist")?,
-        Label::Faulty => out.put(b"pages with a fault")?,
+        Label::Tree(rank, root) => draw_tree(canvas, labels, rank, root),
+        Label::Others(count) => draw_others(canvas, count),
+        Label::Freelist => canvas.draw(&[Piece::Markup("freelist</text>")]),
+        Label::Fixed => canvas.draw(&[Piece::Markup("pointer map and lock-byte page</text>")]),
+        Label::Nobody => canvas.draw(&[Piece::Markup(
+            "in no tree, overflow chain or freelist</text>",
+        )]),
+        Label::Faulty => canvas.draw(&[Piece::Markup("pages with a fault</text>")]),
     }
-    out.put(b"</text>")
 }
 
-// Puts the name of a tree, with its root page where another one has the same name.
-fn put_tree<A: Allocator, O: Out>(
-    out: &mut O,
+// Draws how many other trees there are.
+fn draw_others<O: Out>(canvas: &mut Canvas<'_, O>, count: u32)
+    ensures { Draws O.held canvas.old (legends.others_text count) canvas.new }
+{
+    let trees = if count == 1 {
+        " other tree</text>"
+    } else {
+        " other trees</text>"
+    };
+    canvas.draw(&[Piece::Number(u64::from(count)), Piece::Markup(trees)]);
+}
+
+// Draws the name of a tree, with its root page where another one has the same name.
+fn draw_tree<O: Out>(canvas: &mut Canvas<'_, O>, labels: &Labels, rank: usize, root: Option<u32>)
+    ensures { Draws O.held canvas.old (legends.tree_text labels.now.names.items rank root) canvas.new }
+{
+    let name = labels.piece(rank, NAME_WIDTH);
+    match root {
+        Some(root) => canvas.draw(&[
+            name,
+            Piece::Markup(", root page "),
+            Piece::Number(u64::from(root)),
+            Piece::Markup("</text>"),
+        ]),
+        None => canvas.draw(&[name, Piece::Markup("</text>")]),
+    }
+}
+
+// The root page of a tree, where another one of the largest has the same name.
+fn root_if_twice<A: Allocator>(
     names: &TreeNames<'_, A>,
     labels: &Labels,
     rank: usize,
     start: u32,
-) -> Result<(), WriteFailed>
-    ensures { PutsSome result (O.held out.old) (O.held out.new) }
-{
-    let Some(name) = labels.get(rank) else {
-        return Ok(());
-    };
-    put_all(out, &[Piece::Shown(name, NAME_WIDTH)])?;
-    if !labels.is_twice(rank, NAME_WIDTH) {
-        return Ok(());
+) -> Option<u32> {
+    if labels.is_twice(rank, NAME_WIDTH) {
+        Some(root_page(names, start))
+    } else {
+        None
     }
-    put_all(
-        out,
-        &[
-            Piece::Markup(", root page "),
-            Piece::Number(u64::from(root_page(names, start))),
-        ],
-    )
 }
 
 // The root page of the tree of a start.

@@ -9,13 +9,18 @@
 //!
 //! [`map`] reads the file as a check does, and writes no line of a fault: its reporter counts the faults, and notes the pages that
 //! they are found at. When the walks and the end are done, the marks and the list of roots say which tree each page belongs to
-//! (`dbowner`); a first pass over the pages counts those of each tree, and a second one writes the squares.
+//! (`dbowner`); a first pass over the pages counts those of each tree, and a second one writes the squares. The faults that lead are
+//! kept as `explain` keeps them (`dbentries`): their pages, and those of their causes, have a stronger frame than other pages with a
+//! fault.
 //!
-//! What is proved is that the file is read as a check reads it, and that the verdict is the check's. Of the picture it is proved
-//! that no text of the file or of the command line comes into it but escaped (`dbxml`); its bytes are tested.
+//! What is proved is that the file is read as a check reads it, that the verdict is the check's, and that a picture of the file is put
+//! (specs/Maps): its bytes are those of specs/Pictures, in which each page, or run of pages, has one square, in their order, and the
+//! square of a page says what the page is. No text of the file or of the command line comes into it but escaped (`dbxml`). Colours,
+//! frames and the legend's numbers are tested.
 #![tactic(auto)]
 
 mod bands;
+mod canvas;
 mod cell;
 mod colours;
 mod faulty;
@@ -23,10 +28,13 @@ mod frame;
 mod grid;
 mod kept;
 mod labels;
+mod layout;
 mod legend;
+mod listed;
 mod map_sink;
 mod maps;
 mod outlines;
+mod page;
 mod page_set;
 mod pen;
 mod picture;
@@ -34,5 +42,6 @@ mod run;
 mod size;
 mod squares;
 mod tally;
+mod walk;
 
 pub use maps::{map, map_in};

@@ -4,19 +4,45 @@ ghost use Rattle.dbmap.specs.MapSink.{Notes, map_held, verdict_of};
 
 use crate::kept::Kept;
 use crate::maps::put_map;
-use dbformat::Verdict;
+use dbentries::{Cause, Part, Reported};
+use dbformat::{FaultCode, Verdict};
 use dbscan::{Desk, Finish, Notice, Reporter};
 use dbsource::{Geometry, Out, RunError, Source, WriteFailed};
 use dbwalk::{Fault, Marks};
 use std::alloc::Allocator;
 
-// Counts faults, and notes the pages that they are found at. When the file has been heard it puts the picture.
+// Counts faults, notes the pages that they are found at, and lists those that lead. When the file has been heard it puts the picture.
 #[derive(Drop)]
 pub(crate) struct MapSink<'a, A: Allocator, O> {
     name: &'a str,
     kept: &'a mut Kept<A>,
     out: &'a mut O,
     faults: u64,
+}
+
+// A fault of the whole file.
+fn of_file(fault: &Fault) -> Reported
+    ensures { result.fault ≡ fault.now }
+{
+    Reported {
+        part: part_of(fault.code),
+        fault: *fault,
+        cause: Cause::Itself,
+    }
+}
+
+// The part that a fault of the whole file is of.
+fn part_of(code: FaultCode) -> Part {
+    match code {
+        FaultCode::H01
+        | FaultCode::H02
+        | FaultCode::H03
+        | FaultCode::H04
+        | FaultCode::H05
+        | FaultCode::H06
+        | FaultCode::H07 => Part::Header,
+        _ => Part::End,
+    }
 }
 
 impl<'a, A: Allocator, O: Out> MapSink<'a, A, O> {
@@ -34,13 +60,13 @@ impl<'a, A: Allocator, O: Out> MapSink<'a, A, O> {
         }
     }
 
-    // Counts a fault, and notes its page.
-    fn note(&mut self, fault: &Fault)
-        ensures counted { Notes self.old fault.now self.new }
+    // Counts a fault, notes its page, and lists it.
+    fn note(&mut self, told: &Reported)
+        ensures counted { Notes self.old told.now.fault self.new }
         ensures held { map_held O.held self.new ≡ map_held O.held self.old }
     {
         self.faults = self.faults.saturating_add(1);
-        self.kept.faulty.note(fault.page, fault.code);
+        self.kept.note(told);
     }
 
     // What was found.
@@ -54,7 +80,6 @@ impl<'a, A: Allocator, O: Out> MapSink<'a, A, O> {
     }
 }
 
-// Where a fault is found is nothing to a map.
 impl<A: Allocator, O: Out> Reporter for MapSink<'_, A, O> {
     ghost use Rattle.dbscan.specs.Notices.{CutsFaults, HearsFaults};
     ghost use Rattle.dbmap.specs.MapSink.{Notes, map_held};
@@ -67,7 +92,12 @@ impl<A: Allocator, O: Out> Reporter for MapSink<'_, A, O> {
 
     fn hear(&mut self, notice: &Notice<'_>) -> Result<(), WriteFailed> {
         match notice {
-            Notice::Whole(fault) | Notice::Fault(_, fault, _) => self.note(fault),
+            Notice::Whole(fault) => self.note(&of_file(fault)),
+            Notice::Fault(start, fault, cause) => self.note(&Reported {
+                part: Part::Start(start.number()),
+                fault: **fault,
+                cause: **cause,
+            }),
             Notice::Row(_, _) | Notice::Ended(_) => {}
         }
         Ok(())
@@ -85,7 +115,7 @@ impl<A: Allocator, O: Out> Reporter for MapSink<'_, A, O> {
 impl<A: Allocator, O: Out> Finish<Desk<A>> for MapSink<'_, A, O> {
     ghost use Rattle.dbmap.specs.MapSink.{LeavesMap};
 
-    ghost leaves = { LeavesMap };
+    ghost leaves = { LeavesMap O.held };
 
     fn finish<S: Source>(
         &mut self,

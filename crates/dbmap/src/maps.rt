@@ -11,27 +11,42 @@ ghost use Rattle.dbwalk.specs.Telling.{IsReadWriteOrMemory};
 ghost use Rattle.dbscan.specs.DeskSizes.{DeskFitsInMemory};
 ghost use Rattle.dbscan.specs.Desks.{shape_of};
 ghost use Rattle.dbreport.specs.Runs.{FailsOnce, IsUntouched};
-ghost use Rattle.dbmap.specs.Maps.{HasMap};
-ghost use Rattle.dbxml.specs.Puts.{PutsSome};
+ghost use Rattle.dbmap.specs.Maps.{DrawsMap, HasMap};
+ghost use Rattle.dbmap.specs.Drawings.{PutsPicture, stated_of};
 
-use crate::kept::{Kept, Owners};
+use crate::canvas::Canvas;
+use crate::grid::Grid;
+use crate::kept::Kept;
+use crate::labels::Labels;
+use crate::layout::Layout;
 use crate::legend::Legend;
 use crate::map_sink::MapSink;
-use crate::picture::{Heading, put_picture};
+use crate::picture::{Heading, draw_picture};
 use crate::squares::Squares;
 use dbformat::Verdict;
 use dbowner::TreeNames;
 use dbreport::open_in;
 use dbscan::{Desk, run_over};
-use dbsource::{Out, RunError, Source, WriteFailed};
-use dbxml::Shown;
+use dbsource::{Header, Out, RunError, Source, WriteFailed};
+use dbxml::shown_file;
 use std::alloc::{Allocator, Global};
 
-/// Puts the picture of a file whose pages have been visited, and in which so many faults were found; once.
+// The number of pages that the header states, where it counts.
+fn stated_pages(header: &Header) -> u32
+    ensures { result ≡ stated_of header.now.bytes }
+{
+    if header.is_size_valid() {
+        header.stated_pages()
+    } else {
+        0
+    }
+}
+
+/// Puts the picture of a file whose pages have been visited, and in which so many faults were found.
 ///
 /// # Errors
 ///
-/// [`WriteFailed`] where the Out failed.
+/// [`WriteFailed`] where the Out failed: it took a beginning of the picture.
 pub(crate) fn put_map<A: Allocator, O: Out>(
     name: &str,
     desk: &Desk<A>,
@@ -39,41 +54,51 @@ pub(crate) fn put_map<A: Allocator, O: Out>(
     faults: u64,
     out: &mut O,
 ) -> Result<(), WriteFailed>
-    ensures { PutsSome result (O.held out.old) (O.held out.new) }
+    ensures { PutsPicture result (O.held out.old) (O.held out.new) desk.now faults }
 {
-    let Some(
-        Owners {
-            mut trees,
-            mut tally,
-        },
-    ) = kept.owners.take()
-    else {
-        return Ok(());
-    };
-    trees.enter_roots(desk.marks(), desk.roots());
-    tally.count(desk.marks(), &mut trees);
-    let largest = tally.largest();
-    let legend = Legend::new(&tally, largest.as_slice(), kept.faulty.count());
-    let heading = Heading {
-        name,
-        geometry: desk.geometry(),
-        faults,
-    };
+    kept.note_listed();
+    kept.walk.begin(desk.marks(), desk.roots());
+    kept.tally.count(desk.marks(), &mut kept.walk.trees);
+    let largest = kept.tally.largest();
     let names = TreeNames {
         encoding: desk.header().encoding(),
         roots: desk.roots(),
     };
-    let mut squares = Squares {
+    let geometry = desk.geometry();
+    let layout = Layout {
+        grid: Grid::new(geometry.pages, stated_pages(desk.header())),
+        labels: Labels::new(&names, largest.as_slice()),
+    };
+    let legend = Legend::new(
+        &kept.tally,
+        largest.as_slice(),
+        &names,
+        &layout.labels,
+        kept.faulty.count(),
+    );
+    let heading = Heading {
+        file: shown_file(name),
+        geometry,
+        faults,
+    };
+    let squares = Squares {
         header: desk.header(),
         marks: desk.marks(),
         names,
-        trees,
         faulty: &kept.faulty,
+        strong: &kept.strong,
         largest,
-        name: Shown::new(),
-        named: None,
     };
-    put_picture(out, &heading, &mut squares, &legend)
+    let mut canvas = Canvas::new(out);
+    draw_picture(
+        &mut canvas,
+        &heading,
+        &squares,
+        &layout,
+        &mut kept.walk,
+        &legend,
+    );
+    canvas.end()
 }
 
 // A map of the file whose header is on the desk.
@@ -85,7 +110,8 @@ fn map_on<A: Allocator, S: Source, O: Out>(
     out: &mut O,
 ) -> Result<Verdict, RunError>
     ensures read { HasReadBehind S.step (IsPageLog (shape_of desk.old)) desk.old.header
-        (λ file. (V : List Reference) → Survey file V → IfOk result (λ v. v ≡ verdict (faults file V)))
+        (λ file. (V : List Reference) → Survey file V → IfOk result (λ v. v ≡ verdict (faults file V))
+        × DrawsMap result (O.held out.old).bytes (O.held out.new).bytes file V)
         (S.held source.old) (S.held source.new) }
     ensures reads { (S.held source.new).failures ≡ failures_after is_read_failed result (S.held source.old).failures }
     ensures writes { (O.held out.new).failures ≡ failures_after is_write_failed result (O.held out.old).failures }
@@ -120,8 +146,8 @@ pub fn map_in<A: Allocator + Copy, S: Source, O: Out>(
 /// Reads the database that `source` gives, and puts a picture of its pages to `out`, an SVG with `name` as the file's name. It
 /// answers what was found, as a check does; no line of a fault is put.
 ///
-/// It keeps, beside what a check does, a number of four bytes and a note of one byte for each page, and the counts of 65538
-/// starts. Each of these is one growth, before the first page is read.
+/// It keeps, beside what a check does, a number of four bytes and two notes of one byte for each page, the counts of 65538 starts,
+/// and 100 entries of faults. Each of these is one growth, before the first page is read.
 ///
 /// # Errors
 ///
@@ -135,7 +161,7 @@ pub fn map<S: Source, O: Out>(
     out: &mut O,
 ) -> Result<Verdict, RunError>
     // Whatever the source answers: there is a file, of the length that it answered, that agrees with every byte that was used,
-    // and of each such file the verdict is that on its faults.
+    // and of each such file the verdict is that on its faults, and a picture of it was put.
     ensures read { HasMap S.Source O.Out result (source.old, out.old) (source.new, out.new) }
     ensures failed { FailsOnce S.Source O.Out result (source.old, out.old) (source.new, out.new) }
     ensures refused { IsUntouched S.Source O.Out result (source.old, out.old) (source.new, out.new) }

@@ -1,5 +1,7 @@
 // Pages with a fault, and the codes of their faults.
-ghost use Rattle.std.specs.Prelude.{◌≤◌};
+ghost use Rattle.std.specs.Prelude.{◌≡◌, ◌≤◌, ◌^◌, ◌==◌};
+ghost use Rattle.dbformat.specs.Codes.{code_index};
+ghost use Rattle.dbmap.specs.Faults.{has_code};
 
 use arrayvec::ArrayVec;
 use dbformat::FaultCode;
@@ -18,14 +20,25 @@ pub(crate) struct Codes {
 }
 
 // The bit of a code.
-fn bit(code: FaultCode) -> u64 {
-    1u64.wrapping_shl(code as u32)
+fn bit(code: FaultCode) -> u64
+    ensures { result ≡ 2 ^ code_index code }
+{
+    1u64.wrapping_shl(code.index() as u32)
 }
 
 impl Codes {
     /// Whether a code is one of them.
-    pub(crate) fn has(self, code: FaultCode) -> bool {
+    pub(crate) fn has(self, code: FaultCode) -> bool
+        ensures { result ≡ has_code self code }
+    {
         self.bits & bit(code) != 0
+    }
+
+    /// Whether there is none.
+    pub(crate) fn is_empty(self) -> bool
+        ensures { result ≡ (self.bits == 0) }
+    {
+        self.bits == 0
     }
 
     /// These and a code more.

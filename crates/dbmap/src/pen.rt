@@ -1,11 +1,14 @@
 // What goes over from one square to the next.
-ghost use Rattle.dbxml.specs.Puts.{PutsSome};
+ghost use Rattle.std.specs.Prelude.{◌≡◌, None, Some};
+ghost use Rattle.dbmap.specs.Canvas.{Draws};
+ghost use Rattle.dbmap.specs.Pens.{change_text, end_text};
 
 use crate::bands::Credits;
+use crate::canvas::Canvas;
 use crate::cell::Owner;
 use crate::colours::fill;
-use dbsource::{Out, WriteFailed};
-use dbxml::{Piece, put_all};
+use dbsource::Out;
+use dbxml::Piece;
 
 /// What a square is filled for: its owner, and whether in the shade of overflow pages.
 pub(crate) type Shade = (Owner, bool);
@@ -17,9 +20,18 @@ pub(crate) struct Pen {
     pub(crate) credits: Credits,
 }
 
+// How a group ends, if there is one.
+fn group_end(group: Option<Shade>) -> &'static str
+    ensures { result.now ≡ end_text group }
+{
+    if group.is_none() { "" } else { "</g>\n" }
+}
+
 impl Pen {
-    /// One that has put nothing.
-    pub(crate) fn new() -> Pen {
+    /// One that has drawn nothing.
+    pub(crate) fn new() -> Pen
+        ensures { result.group ≡ None }
+    {
         Pen {
             group: None,
             credits: Credits::new(),
@@ -27,40 +39,31 @@ impl Pen {
     }
 
     /// Ends the group of another fill, if there is one, and begins one of this.
-    ///
-    /// # Errors
-    ///
-    /// [`WriteFailed`] where the Out failed.
-    pub(crate) fn change<O: Out>(&mut self, out: &mut O, shade: Shade) -> Result<(), WriteFailed>
-        ensures { PutsSome result (O.held out.old) (O.held out.new) }
+    pub(crate) fn change<O: Out>(&mut self, canvas: &mut Canvas<'_, O>, shade: Shade)
+        ensures draws { Draws O.held canvas.old (change_text self.old.group shade) canvas.new }
+        ensures group { self.new.group ≡ Some shade }
     {
         if self.group == Some(shade) {
-            return Ok(());
+            return;
         }
-        let end = if self.group.is_none() { "" } else { "</g>\n" };
+        let end = group_end(self.group);
         let (owner, is_overflow) = shade;
         self.group = Some(shade);
-        put_all(
-            out,
-            &[
-                Piece::Markup(end),
-                Piece::Markup("<g fill=\""),
-                Piece::Markup(fill(owner, is_overflow)),
-                Piece::Markup("\">\n"),
-            ],
-        )
+        canvas.draw(&[
+            Piece::Markup(end),
+            Piece::Markup("<g fill=\""),
+            Piece::Markup(fill(owner, is_overflow)),
+            Piece::Markup("\">\n"),
+        ]);
     }
 
     /// Ends the group, if there is one.
-    ///
-    /// # Errors
-    ///
-    /// [`WriteFailed`] where the Out failed.
-    pub(crate) fn end<O: Out>(&mut self, out: &mut O) -> Result<(), WriteFailed>
-        ensures { PutsSome result (O.held out.old) (O.held out.new) }
+    pub(crate) fn end<O: Out>(&mut self, canvas: &mut Canvas<'_, O>)
+        ensures draws { Draws O.held canvas.old (end_text self.old.group) canvas.new }
+        ensures group { self.new.group ≡ None }
     {
-        let end = if self.group.is_none() { "" } else { "</g>\n" };
+        let end = group_end(self.group);
         self.group = None;
-        put_all(out, &[Piece::Markup(end)])
+        canvas.draw(&[Piece::Markup(end)]);
     }
 }

@@ -1,13 +1,19 @@
 // The picture as a whole.
-ghost use Rattle.dbxml.specs.Puts.{PutsSome};
+ghost use Rattle.std.specs.Prelude.{◌≡◌, None};
+ghost use Rattle.dbmap.specs.Canvas.{Draws};
+ghost use Rattle.dbmap.specs.Drawings.{DrawsPicture};
+ghost use Rattle.dbmap.specs.Pictures as pictures;
+ghost use Rattle.dbmap.specs.Squares.{ground_of};
 
+use crate::canvas::Canvas;
 use crate::grid::Grid;
-use crate::labels::Labels;
+use crate::layout::Layout;
 use crate::legend::Legend;
-use crate::size::size;
-use crate::squares::{Layout, NAME_WIDTH, Squares};
-use dbsource::{Geometry, Header, Out, WriteFailed};
-use dbxml::{Piece, Shown, put_all, shown_file};
+use crate::size::{size_tenths, size_unit};
+use crate::squares::{NAME_WIDTH, Squares};
+use crate::walk::Walk;
+use dbsource::{Geometry, Out};
+use dbxml::{Piece, Shown};
 use std::alloc::Allocator;
 
 /// Where each row begins; its first page is written before it.
@@ -16,178 +22,166 @@ pub(crate) const LEFT: u64 = 72;
 const WIDTH: u64 = 988;
 
 /// What is said above the squares.
-#[derive(Clone, Copy)]
-pub(crate) struct Heading<'a> {
-    pub(crate) name: &'a str,
+#[derive(Drop)]
+pub(crate) struct Heading {
+    /// The file's name.
+    pub(crate) file: Shown,
     pub(crate) geometry: Geometry,
     pub(crate) faults: u64,
 }
 
-// What begins the picture: its size, its name for who does not see it, the hatching, and a white ground.
-fn put_head<O: Out>(out: &mut O, file: &Shown, height: u64) -> Result<(), WriteFailed>
-    ensures { PutsSome result (O.held out.old) (O.held out.new) }
+// Draws what begins the picture: its size, its name for who does not see it, the hatching, and a white ground.
+#[tactic(auto, unfolding(crate::specs::Pictures::head_text))]
+fn draw_head<O: Out>(canvas: &mut Canvas<'_, O>, file: &Shown, height: u64)
+    ensures { Draws O.held canvas.old (pictures.head_text file.now height) canvas.new }
 {
-    put_all(
-        out,
-        &[
-            Piece::Markup("<svg xmlns=\"http://www.w3.org/2000/svg\" width=\""),
-            Piece::Number(WIDTH),
-            Piece::Markup("\" height=\""),
-            Piece::Number(height),
-            Piece::Markup("\" viewBox=\"0 0 "),
-            Piece::Number(WIDTH),
-            Piece::Markup(" "),
-            Piece::Number(height),
-            Piece::Markup(
-                "\" font-family=\"sans-serif\" font-size=\"12\" role=\"img\" aria-label=\"Pages of ",
-            ),
-            Piece::Shown(file, NAME_WIDTH),
-            Piece::Markup("\">\n<title>Pages of "),
-            Piece::Shown(file, NAME_WIDTH),
-            Piece::Markup(
-                "</title>\n<defs><pattern id=\"unowned\" width=\"4\" height=\"4\" patternUnits=\"userSpaceOnUse\" patternTransform=\"rotate(45)\"><rect width=\"4\" height=\"4\" fill=\"#FFFFFF\"/><rect width=\"2\" height=\"4\" fill=\"#444444\"/></pattern></defs>\n",
-            ),
-            Piece::Markup("<rect width=\"100%\" height=\"100%\" fill=\"#FFFFFF\"/>\n"),
-        ],
-    )
+    canvas.draw(&[
+        Piece::Markup("<svg xmlns=\"http://www.w3.org/2000/svg\" width=\""),
+        Piece::Number(WIDTH),
+        Piece::Markup("\" height=\""),
+        Piece::Number(height),
+        Piece::Markup("\" viewBox=\"0 0 "),
+        Piece::Number(WIDTH),
+        Piece::Markup(" "),
+        Piece::Number(height),
+        Piece::Markup(
+            "\" font-family=\"sans-serif\" font-size=\"12\" role=\"img\" aria-label=\"Pages of ",
+        ),
+        Piece::Shown(file, NAME_WIDTH),
+        Piece::Markup("\">\n<title>Pages of "),
+        Piece::Shown(file, NAME_WIDTH),
+        Piece::Markup(
+            "</title>\n<defs><pattern id=\"unowned\" width=\"4\" height=\"4\" patternUnits=\"userSpaceOnUse\" patternTransform=\"rotate(45)\"><rect width=\"4\" height=\"4\" fill=\"#FFFFFF\"/><rect width=\"2\" height=\"4\" fill=\"#444444\"/></pattern></defs>\n",
+        ),
+        Piece::Markup("<rect width=\"100%\" height=\"100%\" fill=\"#FFFFFF\"/>\n"),
+    ]);
 }
 
-// How many faults there are.
-fn put_faults<O: Out>(out: &mut O, faults: u64) -> Result<(), WriteFailed>
-    ensures { PutsSome result (O.held out.old) (O.held out.new) }
+// Draws how many faults there are.
+fn draw_faults<O: Out>(canvas: &mut Canvas<'_, O>, faults: u64)
+    ensures { Draws O.held canvas.old (pictures.faults_text faults) canvas.new }
 {
     match faults {
-        0 => out.put(b"no fault"),
-        1 => out.put(b"1 fault"),
-        _ => put_all(out, &[Piece::Number(faults), Piece::Markup(" faults")]),
+        0 => canvas.draw(&[Piece::Markup("no fault")]),
+        1 => canvas.draw(&[Piece::Markup("1 fault")]),
+        _ => canvas.draw(&[Piece::Number(faults), Piece::Markup(" faults")]),
     }
 }
 
-// How many pages there are, and of which size.
-fn put_size<O: Out>(out: &mut O, geometry: Geometry) -> Result<(), WriteFailed>
-    ensures { PutsSome result (O.held out.old) (O.held out.new) }
+// What stands after the number of pages.
+fn pages_word(pages: u32) -> &'static str
+    ensures { result.now ≡ pictures.pages_word pages }
 {
-    let pages = if geometry.pages == 1 {
+    if pages == 1 {
         " page of "
     } else {
         " pages of "
-    };
-    let [number, unit] = size(geometry.pages, geometry.page_size);
-    put_all(
-        out,
-        &[
-            Piece::Number(u64::from(geometry.pages)),
-            Piece::Markup(pages),
-            Piece::Number(u64::from(geometry.page_size)),
-            Piece::Markup(" bytes ("),
-            number,
-            unit,
-            Piece::Markup("), "),
-        ],
-    )
-}
-
-// What a square stands for.
-fn put_unit<O: Out>(out: &mut O, grid: &Grid) -> Result<(), WriteFailed>
-    ensures { PutsSome result (O.held out.old) (O.held out.new) }
-{
-    if grid.run == 1 {
-        return out.put(b"; a square is a page, in the order of the file</text>\n");
     }
-    put_all(
-        out,
-        &[
-            Piece::Markup("; a square is "),
-            Piece::Number(u64::from(grid.run)),
-            Piece::Markup(" pages, in the order of the file</text>\n"),
-        ],
-    )
 }
 
-// The two lines above the squares.
-fn put_heading<O: Out>(
-    out: &mut O,
-    heading: &Heading<'_>,
-    file: &Shown,
-    grid: &Grid,
-) -> Result<(), WriteFailed>
-    ensures { PutsSome result (O.held out.old) (O.held out.new) }
+// Draws how many pages there are, and of which size.
+fn draw_size<O: Out>(canvas: &mut Canvas<'_, O>, geometry: Geometry)
+    ensures { Draws O.held canvas.old (pictures.size_text geometry) canvas.new }
 {
-    put_all(
-        out,
-        &[
-            Piece::Markup("<text x=\"20\" y=\"26\" font-size=\"16\" font-weight=\"bold\">"),
-            Piece::Shown(file, NAME_WIDTH),
-            Piece::Markup("</text>\n<text x=\"20\" y=\"46\" fill=\"#444444\">"),
-        ],
-    )?;
-    put_size(out, heading.geometry)?;
-    put_faults(out, heading.faults)?;
-    put_unit(out, grid)
+    canvas.draw(&[
+        Piece::Number(u64::from(geometry.pages)),
+        Piece::Markup(pages_word(geometry.pages)),
+        Piece::Number(u64::from(geometry.page_size)),
+        Piece::Markup(" bytes ("),
+        Piece::Tenths(size_tenths(geometry.pages, geometry.page_size)),
+        Piece::Markup(size_unit(geometry.pages, geometry.page_size)),
+        Piece::Markup("), "),
+    ]);
 }
 
-// Puts the first page of a row.
-fn put_row_name<O: Out>(out: &mut O, grid: &Grid, row: u32) -> Result<(), WriteFailed>
-    ensures { PutsSome result (O.held out.old) (O.held out.new) }
+// Draws what a square stands for.
+fn draw_unit<O: Out>(canvas: &mut Canvas<'_, O>, run: u32)
+    ensures { Draws O.held canvas.old (pictures.unit_text run) canvas.new }
 {
-    put_all(
-        out,
-        &[
-            Piece::Markup("<text x=\"64\" y=\""),
-            Piece::Number(grid.top_of(row) + u64::from(grid.side() / 2 + 3)),
-            Piece::Markup("\">"),
-            Piece::Number(grid.page_of_row(row)),
-            Piece::Markup("</text>\n"),
-        ],
-    )
-}
-
-// Puts the first page of each row before it, or of each second one where rows are narrow.
-fn put_row_names<O: Out>(out: &mut O, grid: &Grid) -> Result<(), WriteFailed>
-    ensures { PutsSome result (O.held out.old) (O.held out.new) }
-{
-    out.put(b"<g font-size=\"10\" fill=\"#666666\" text-anchor=\"end\">\n")?;
-    for row in 0..grid.rows() {
-        if grid.side() > 10 || row % 2 == 0 {
-            put_row_name(out, grid, row)?;
-        }
-    }
-    out.put(b"</g>\n")
-}
-
-// The number of pages that the header states, where it counts.
-fn stated_pages(header: &Header) -> u32 {
-    if header.is_size_valid() {
-        header.stated_pages()
+    if run == 1 {
+        canvas.draw(&[Piece::Markup("; a square is a page, in the order of the file</text>\n")]);
     } else {
-        0
+        canvas.draw(&[
+            Piece::Markup("; a square is "),
+            Piece::Number(u64::from(run)),
+            Piece::Markup(" pages, in the order of the file</text>\n"),
+        ]);
     }
 }
 
-/// Puts the picture.
-///
-/// # Errors
-///
-/// [`WriteFailed`] where the Out failed: it took a beginning of the picture.
-pub(crate) fn put_picture<A: Allocator, O: Out>(
-    out: &mut O,
-    heading: &Heading<'_>,
-    squares: &mut Squares<'_, A>,
-    legend: &Legend,
-) -> Result<(), WriteFailed>
-    ensures { PutsSome result (O.held out.old) (O.held out.new) }
+// Draws the two lines above the squares.
+fn draw_heading<O: Out>(canvas: &mut Canvas<'_, O>, heading: &Heading, run: u32)
+    ensures { Draws O.held canvas.old (pictures.heading_text heading.now run) canvas.new }
 {
-    let file = shown_file(heading.name);
-    let grid = Grid::new(heading.geometry.pages, stated_pages(squares.header));
-    let layout = Layout {
-        grid,
-        labels: Labels::new(&squares.names, squares.largest.as_slice()),
-    };
+    canvas.draw(&[
+        Piece::Markup("<text x=\"20\" y=\"26\" font-size=\"16\" font-weight=\"bold\">"),
+        Piece::Shown(&heading.file, NAME_WIDTH),
+        Piece::Markup("</text>\n<text x=\"20\" y=\"46\" fill=\"#444444\">"),
+    ]);
+    draw_size(canvas, heading.geometry);
+    draw_faults(canvas, heading.faults);
+    draw_unit(canvas, run);
+}
+
+// Draws the first page of a row before it; where rows are narrow, of each second one.
+fn draw_row_name<O: Out>(canvas: &mut Canvas<'_, O>, grid: &Grid, row: u32)
+    ensures { Draws O.held canvas.old (pictures.row_name grid.now row) canvas.new }
+{
+    if grid.side() > 10 || row % 2 == 0 {
+        draw_page_of_row(canvas, grid, row);
+    }
+}
+
+// Draws the first page of a row.
+fn draw_page_of_row<O: Out>(canvas: &mut Canvas<'_, O>, grid: &Grid, row: u32)
+    ensures { Draws O.held canvas.old (pictures.page_of_row_text grid.now row) canvas.new }
+{
+    canvas.draw(&[
+        Piece::Markup("<text x=\"64\" y=\""),
+        Piece::Number(grid.top_of(row) + u64::from(grid.side() / 2 + 3)),
+        Piece::Markup("\">"),
+        Piece::Number(grid.page_of_row(row)),
+        Piece::Markup("</text>\n"),
+    ]);
+}
+
+// Draws the first pages of so many rows.
+fn draw_names<O: Out>(canvas: &mut Canvas<'_, O>, grid: &Grid, rows: u32)
+    ensures { Draws O.held canvas.old (pictures.names_from grid.now 0 rows) canvas.new }
+{
+    for row in 0..rows {
+        draw_row_name(canvas, grid, row);
+    }
+}
+
+// Draws the first pages of all rows.
+fn draw_row_names<O: Out>(canvas: &mut Canvas<'_, O>, grid: &Grid)
+    ensures { Draws O.held canvas.old (pictures.row_names grid.now) canvas.new }
+{
+    canvas.draw(&[Piece::Markup("<g font-size=\"10\" fill=\"#666666\" text-anchor=\"end\">\n")]);
+    draw_names(canvas, grid, grid.rows());
+    canvas.draw(&[Piece::Markup("</g>\n")]);
+}
+
+/// Draws the picture.
+pub(crate) fn draw_picture<A: Allocator, O: Out>(
+    canvas: &mut Canvas<'_, O>,
+    heading: &Heading,
+    squares: &Squares<'_, A>,
+    layout: &Layout,
+    walk: &mut Walk<A>,
+    legend: &Legend,
+)
+    requires { walk.old.pen.group ≡ None }
+    ensures { DrawsPicture O.held heading.now (ground_of squares.now layout.now) legend.now.lines.items canvas.old canvas.new }
+{
+    let grid = &layout.grid;
     let bottom = grid.top_of(grid.rows());
-    put_head(out, &file, bottom + u64::from(legend.height(&grid)))?;
-    put_heading(out, heading, &file, &grid)?;
-    put_row_names(out, &grid)?;
-    squares.put_squares(out, &layout)?;
-    legend.put(out, squares, &layout, bottom)?;
-    out.put(b"</svg>\n")
+    let height = u64::from(legend.height(grid.missing()));
+    draw_head(canvas, &heading.file, bottom + height);
+    draw_heading(canvas, heading, grid.run);
+    draw_row_names(canvas, grid);
+    squares.draw(canvas, layout, walk);
+    legend.draw(canvas, heading.geometry, layout, bottom);
+    canvas.draw(&[Piece::Markup("</svg>\n")]);
 }

@@ -1,18 +1,20 @@
 // The square of a run of pages.
-ghost use Rattle.std.specs.Prelude.{◌≤◌, ◌<◌};
-ghost use Rattle.dbxml.specs.Puts.{PutsSome};
+ghost use Rattle.std.specs.Prelude.{◌≡◌, ◌<◌, ◌&&◌, not, true};
+ghost use Rattle.dbmap.specs.Canvas.{Draws};
+ghost use Rattle.dbmap.specs.Runs.{band_text, bands_from, frame_text, mixed_text, owner_mark, owner_text, owners_from, plain_text, title_text, words};
 
 use crate::bands::Bands;
+use crate::canvas::Canvas;
 use crate::cell::{Cell, OWNERS, Owner};
 use crate::colours::fill;
 use crate::faulty::Faulty;
-use crate::frame::{BAND_FRAME, Frame, tail};
-use crate::grid::Grid;
+use crate::frame::{BAND_FRAME, tail};
+use crate::grid::Width;
 use crate::labels::Labels;
 use crate::squares::NAME_WIDTH;
 use crate::tally::COLOURED;
-use dbsource::{Out, WriteFailed};
-use dbxml::{Piece, put_all};
+use dbsource::Out;
+use dbxml::Piece;
 
 /// The square of a run of pages, the first to the last.
 #[derive(Clone, Copy)]
@@ -26,166 +28,154 @@ pub(crate) struct Run {
 }
 
 impl Run {
-    /// Puts the square of pages that all have one owner.
-    ///
-    /// # Errors
-    ///
-    /// [`WriteFailed`] where the Out failed.
-    pub(crate) fn put_plain<O: Out>(
+    /// Draws the square of pages that all have one owner.
+    pub(crate) fn draw_plain<O: Out>(
         &self,
-        out: &mut O,
-        grid: &Grid,
+        canvas: &mut Canvas<'_, O>,
+        width: Width,
         labels: &Labels,
-    ) -> Result<(), WriteFailed>
-        ensures { PutsSome result (O.held out.old) (O.held out.new) }
+    )
+        ensures { Draws O.held canvas.old (plain_text self.now width labels.now.names.items) canvas.new }
     {
-        put_all(
-            out,
-            &[
-                Piece::Markup("<rect x=\""),
-                Piece::Number(u64::from(self.x)),
-                Piece::Markup(tail(grid.width, self.faulty.frame)),
-            ],
-        )?;
-        self.put_title(out, labels)?;
-        out.put(b"</title></rect>\n")
+        canvas.draw(&[
+            Piece::Markup("<rect x=\""),
+            Piece::Number(u64::from(self.x)),
+            Piece::Markup(tail(width, self.faulty.frame)),
+        ]);
+        self.draw_title(canvas, labels);
+        canvas.draw(&[Piece::Markup("</title></rect>\n")]);
     }
 
-    /// Puts the square of pages of several owners, divided in bands.
-    ///
-    /// # Errors
-    ///
-    /// [`WriteFailed`] where the Out failed.
-    pub(crate) fn put_mixed<O: Out>(
+    /// Draws the square of pages of several owners, divided in bands.
+    pub(crate) fn draw_mixed<O: Out>(
         &self,
-        out: &mut O,
+        canvas: &mut Canvas<'_, O>,
         labels: &Labels,
         bands: &Bands,
-    ) -> Result<(), WriteFailed>
-        ensures { PutsSome result (O.held out.old) (O.held out.new) }
+    )
+        ensures { Draws O.held canvas.old (mixed_text self.now labels.now.names.items bands.now) canvas.new }
     {
-        out.put(b"<g><title>page")?;
-        self.put_title(out, labels)?;
-        out.put(b"</title>")?;
-        if self.faulty.frame == Frame::Weak {
-            self.put_frame(out, "\"/>")?;
-        }
-        self.put_bands(out, bands)?;
-        if self.faulty.frame == Frame::Strong {
-            self.put_frame(out, "\" fill=\"none\"/>")?;
-        }
-        out.put(b"</g>\n")
+        canvas.draw(&[Piece::Markup("<g><title>page")]);
+        self.draw_title(canvas, labels);
+        canvas.draw(&[Piece::Markup("</title>")]);
+        self.draw_bands(canvas, bands);
+        self.draw_frame(canvas);
+        canvas.draw(&[Piece::Markup("</g>\n")]);
     }
 
-    // Puts its frame.
-    fn put_frame<O: Out>(&self, out: &mut O, end: &'static str) -> Result<(), WriteFailed>
-        ensures { PutsSome result (O.held out.old) (O.held out.new) }
+    // Draws its frame, if it is framed.
+    fn draw_frame<O: Out>(&self, canvas: &mut Canvas<'_, O>)
+        ensures { Draws O.held canvas.old (frame_text self.now) canvas.new }
     {
-        put_all(
-            out,
-            &[
+        if self.faulty.frame.is_framed() {
+            canvas.draw(&[
                 Piece::Markup(BAND_FRAME),
                 Piece::Number(u64::from(self.x)),
-                Piece::Markup(end),
-            ],
-        )
+                Piece::Markup("\" fill=\"none\"/>"),
+            ]);
+        }
     }
 
-    // Puts its bands, each owner's below those before it.
-    fn put_bands<O: Out>(&self, out: &mut O, bands: &Bands) -> Result<(), WriteFailed>
-        ensures { PutsSome result (O.held out.old) (O.held out.new) }
+    // Draws its bands, each owner's below those before it.
+    fn draw_bands<O: Out>(&self, canvas: &mut Canvas<'_, O>, bands: &Bands)
+        ensures { Draws O.held canvas.old (bands_from self.now bands.now 0 16 0) canvas.new }
     {
         let mut top = 0u32;
         for number in 0..OWNERS {
             let height = bands.height(number);
-            if height != 0 {
-                self.put_band(out, number, top, height)?;
-                top = top.saturating_add(height);
-            }
+            self.draw_band(canvas, number, top, height);
+            top = top.saturating_add(height);
         }
-        Ok(())
     }
 
-    // Puts the band of an owner.
-    fn put_band<O: Out>(
-        &self,
-        out: &mut O,
-        number: usize,
-        top: u32,
-        height: u32,
-    ) -> Result<(), WriteFailed>
+    // Draws the band of an owner, if it has one.
+    fn draw_band<O: Out>(&self, canvas: &mut Canvas<'_, O>, number: usize, top: u32, height: u32)
         requires { number < 16 }
-        ensures { PutsSome result (O.held out.old) (O.held out.new) }
+        ensures { Draws O.held canvas.old (band_text self.now number top height) canvas.new }
     {
+        if height == 0 {
+            return;
+        }
         let is_overflow = self.cell.share(number).is_overflow();
-        put_all(
-            out,
-            &[
-                Piece::Markup("<rect x=\""),
-                Piece::Number(u64::from(self.x)),
-                Piece::Markup("\" y=\""),
-                Piece::Number(u64::from(top)),
-                Piece::Markup("\" width=\"6\" height=\""),
-                Piece::Number(u64::from(height)),
-                Piece::Markup("\" fill=\""),
-                Piece::Markup(fill(Owner::numbered(number), is_overflow)),
-                Piece::Markup("\"/>"),
-            ],
-        )
+        canvas.draw(&[
+            Piece::Markup("<rect x=\""),
+            Piece::Number(u64::from(self.x)),
+            Piece::Markup("\" y=\""),
+            Piece::Number(u64::from(top)),
+            Piece::Markup("\" width=\"6\" height=\""),
+            Piece::Number(u64::from(height)),
+            Piece::Markup("\" fill=\""),
+            Piece::Markup(fill(Owner::numbered(number), is_overflow)),
+            Piece::Markup("\"/>"),
+        ]);
     }
 
-    // Puts the title after its first word: its pages, the number of each owner's, and the codes of their faults.
-    fn put_title<O: Out>(&self, out: &mut O, labels: &Labels) -> Result<(), WriteFailed>
-        ensures { PutsSome result (O.held out.old) (O.held out.new) }
+    // Draws the title after its first word: its pages, the number of each owner's, and the codes of their faults.
+    fn draw_title<O: Out>(&self, canvas: &mut Canvas<'_, O>, labels: &Labels)
+        ensures { Draws O.held canvas.old (title_text self.now labels.now.names.items) canvas.new }
     {
-        put_all(
-            out,
-            &[
-                Piece::Markup("s "),
-                Piece::Number(u64::from(self.first)),
-                Piece::Markup(" to "),
-                Piece::Number(u64::from(self.last)),
-            ],
-        )?;
+        canvas.draw(&[
+            Piece::Markup("s "),
+            Piece::Number(u64::from(self.first)),
+            Piece::Markup(" to "),
+            Piece::Number(u64::from(self.last)),
+        ]);
+        self.draw_owners(canvas, labels);
+        self.faulty.draw(canvas);
+    }
+
+    // Draws the number of each owner's pages.
+    fn draw_owners<O: Out>(&self, canvas: &mut Canvas<'_, O>, labels: &Labels)
+        ensures { Draws O.held canvas.old (owners_from self.now.cell labels.now.names.items true 0 16) canvas.new }
+    {
         let mut is_first = true;
         for number in 0..OWNERS {
-            if self.cell.has(number) {
-                self.put_owner(out, labels, if is_first { ": " } else { ", " }, number)?;
-                is_first = false;
-            }
+            self.draw_owner(canvas, labels, is_first, number);
+            is_first = is_still_first(is_first, self.cell.has(number));
         }
-        self.faulty.put(out)
     }
 
-    // Puts the number of an owner's pages, and who it is.
-    fn put_owner<O: Out>(
+    // Draws the number of an owner's pages, and who it is, if it has any.
+    fn draw_owner<O: Out>(
         &self,
-        out: &mut O,
+        canvas: &mut Canvas<'_, O>,
         labels: &Labels,
-        mark: &'static str,
+        is_first: bool,
         number: usize,
-    ) -> Result<(), WriteFailed>
+    )
         requires { number < 16 }
-        ensures { PutsSome result (O.held out.old) (O.held out.new) }
+        ensures { Draws O.held canvas.old (owner_text self.now.cell labels.now.names.items is_first number) canvas.new }
     {
-        let name = match labels.get(number) {
-            Some(name) => Piece::Shown(name, NAME_WIDTH),
-            None => Piece::Markup(""),
-        };
-        put_all(
-            out,
-            &[
-                Piece::Markup(mark),
-                Piece::Number(u64::from(self.cell.share(number).pages)),
-                Piece::Markup(words(Owner::numbered(number))),
-                name,
-            ],
-        )
+        if !self.cell.has(number) {
+            return;
+        }
+        canvas.draw(&[
+            Piece::Markup(owner_mark(is_first)),
+            Piece::Number(u64::from(self.cell.share(number).pages)),
+            Piece::Markup(words(Owner::numbered(number))),
+            labels.piece(number, NAME_WIDTH),
+        ]);
     }
 }
 
+// Whether no owner has had a page, where none had before one that has or not.
+fn is_still_first(is_first: bool, has: bool) -> bool
+    ensures { result ≡ (is_first && not has) }
+{
+    is_first && !has
+}
+
+// What stands before the number of an owner's pages.
+fn owner_mark(is_first: bool) -> &'static str
+    ensures { result.now ≡ owner_mark is_first }
+{
+    if is_first { ": " } else { ", " }
+}
+
 // What stands after a number of pages of an owner: for one of the largest trees, all but its name.
-fn words(owner: Owner) -> &'static str {
+fn words(owner: Owner) -> &'static str
+    ensures { result.now ≡ words owner }
+{
     match owner {
         Owner::Tree(rank) if rank < COLOURED => " in ",
         Owner::Tree(_) => " in other trees",

@@ -52,8 +52,17 @@ impl<A: Allocator> Tally<A> {
         })
     }
 
-    /// Counts all pages.
+    // Forgets all.
+    fn clear(&mut self) {
+        self.starts.as_mut_slice().fill(Share::default());
+        self.trees = 0;
+        self.fixed = 0;
+        self.nobody = 0;
+    }
+
+    /// Counts all pages, and none that was counted before.
     pub(crate) fn count<B: Allocator>(&mut self, marks: &Marks<B>, trees: &mut PageTrees<B>) {
+        self.clear();
         for index in 0..marks.pages() {
             let page = index + 1;
             self.add(place_of(marks, page), trees.start_of(marks, page));

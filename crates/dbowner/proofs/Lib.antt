@@ -7,11 +7,3 @@ pub mod PageMarks
 pub mod RootLists
 pub mod RootPages
 pub mod Trees
-pub mod AllFaults
-pub mod Below
-pub mod Pieces
-pub mod SumPieces
-pub mod Summaries
-pub mod Worked
-pub mod Tallies
-pub mod FreelistFaults

@@ -2,7 +2,4 @@ pub mod Roots
 pub mod Owners
 pub mod Climbs
 pub mod Steps
-pub mod Explained
-pub mod Notes
-pub mod Sums
-pub mod Tallies
+pub mod Texts

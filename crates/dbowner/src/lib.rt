@@ -11,23 +11,23 @@
 //! pages, in one pass over the list; each later question climbs by the marks to the first page of which the start is known, and
 //! notes it of those that it passes. So all questions together pass no more pages than there are.
 //!
-//! specs/Explained says with these words what `dbck explain` is to write. [`Owners`] puts the lines below each fault, and the
-//! summary by its counts ([`Counts`]).
+//! specs/Texts has the texts of trees and pages: [`TreeNames`] puts that of a tree, and [`place_front`], [`place_words`] and
+//! [`place_from`] give what a page is in its tree, piece by piece.
 #![tactic(auto)]
 
-mod explain;
-mod explained;
 mod owner;
 mod page_trees;
 mod place;
+mod place_texts;
 mod roots;
+mod tree_names;
 
-pub use explain::{
-    CodeCount, Counts, Owners, Tally, TreeNames, place_from, place_front, place_tree, place_words,
-    put_look,
-};
-pub use explained::summary_counts_all_faults;
+pub use dbformat::{Encoding, Fixed, Geometry};
+pub use dbsource::{Out, WriteFailed};
+pub use dbwalk::{Marks, SchemaRow};
 pub use owner::visited_pages_are_owned;
 pub use page_trees::PageTrees;
-pub use place::{Place, place_of};
+pub use place::{Place, mark_of, place_of};
+pub use place_texts::{place_from, place_front, place_tree, place_words};
 pub use roots::RootList;
+pub use tree_names::TreeNames;

@@ -55,8 +55,8 @@ fn by_mark(mark: Option<Mark>) -> Place
     }
 }
 
-// The mark of a page, if there is such a page.
-pub(crate) fn mark_of<A: Allocator>(marks: &Marks<A>, page: u32) -> Option<Mark>
+/// The mark of a page, if there is such a page.
+pub fn mark_of<A: Allocator>(marks: &Marks<A>, page: u32) -> Option<Mark>
     ensures { result ≡ page_mark marks.now page }
 {
     if page == 0 || page > marks.pages() {

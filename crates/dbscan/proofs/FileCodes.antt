@@ -17,17 +17,17 @@ use Rattle.dbformat.specs.declared.FaultCode.TheVariants.{H01, H02, H03, H04, H0
 use Rattle.dbscan.specs.Placed.{is_header_code, is_end_code}
 
 -- all codes pass the test
-record AreOf (p : FaultCode → Bool) (fs : List Fault) : Type 0 where
+pub record AreOf (p : FaultCode → Bool) (fs : List Fault) : Type 0 where
   pub each : (f : Fault) → IsIn f fs → p f.code ≡ true
 
 module _ (p : FaultCode → Bool) where
-  of_none : AreOf p []
+  pub of_none : AreOf p []
   of_none = record { each = λ f i. absurd i }
 
-  of_both : (xs ys : List Fault) → AreOf p xs → AreOf p ys → AreOf p (xs ++ ys)
+  pub of_both : (xs ys : List Fault) → AreOf p xs → AreOf p ys → AreOf p (xs ++ ys)
   of_both xs ys h k = record { each = λ f i. elim (IsIn-cases f xs ys i) [ inl j ↦ h.each f j | inr j ↦ k.each f j ] }
 
-  of_test : (b : Bool) (x : Fault) → p x.code ≡ true → AreOf p (told_if b x)
+  pub of_test : (b : Bool) (x : Fault) → p x.code ≡ true → AreOf p (told_if b x)
   of_test true x e = record { each = λ f i. elim i [ inl g ↦ ap (λ f. p f.code) g ∙ e | inr n ↦ absurd n ] }
   of_test false x e = of_none
 

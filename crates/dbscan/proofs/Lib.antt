@@ -3,12 +3,15 @@ pub mod BehindHeader
 pub mod CountedMarks
 pub mod DeskWalks
 pub mod EndItems
+pub mod FaultPages
 pub mod FaultsHeard
 pub mod FileCodes
 pub mod Finished
+pub mod HeardFaults
 pub mod MapLogs
 pub mod MapPlaces
 pub mod PlacedFaults
+pub mod Reached
 pub mod Refusals
 pub mod RootsTaken
 pub mod RunItems
@@ -24,3 +27,4 @@ pub mod Tellers
 pub mod ToldFaults
 pub mod ToldStarts
 pub mod TreeWalks
+pub mod WalkCodes

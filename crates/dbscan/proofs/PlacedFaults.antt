@@ -1,14 +1,12 @@
--- A sink is told each fault of the walk at the start of its address, and with its cause.
-use Rattle.std.proofs.Common.{◌≡◌, ℕ, Bool, true, false, cond, inl, inr, List, [], ◌∷◌, ◌++◌, length, map, take, Option, None, Some, refl, sym, ap, ap₂, subst, ◌∙◌, append_assoc, append-nil}
+-- A reporter hears each fault of the walk at the start of its address, and with its cause.
+use Rattle.std.proofs.Common.{◌≡◌, ℕ, Bool, true, false, cond, inl, inr, List, [], ◌∷◌, ◌++◌, map, take, Option, None, Some, refl, sym, ap, ap₂, subst, ◌∙◌, append-nil}
 use Rattle.std.specs.Prelude.{filter_map, flat_map, ◌==◌}
 use Rattle.std.specs.List.{cons_option, enumerate_from}
 use Rattle.std.proofs.lemmas.List.Elements.{filter_map-append}
 use Rattle.dbsurvey.specs.Address.{IsIn}
 use Rattle.dbsurvey.specs.Story.{Errand, Go, Follow, errand_key, errands_at}
 use Rattle.dbformat.specs.Address.{start_of, freelist_start, last_root_start}
-use Rattle.dbformat.specs.EndFaults.{end_faults}
 use Rattle.dbformat.specs.Header.{first_trunk}
-use Rattle.dbformat.specs.HeaderFaults.{header_faults}
 use Rattle.dbformat.specs.Reference.{Way, Reference, trunk}
 use Rattle.dbformat.specs.Report.{event_faults}
 use Rattle.dbformat.specs.Rows.{StatRow}
@@ -21,9 +19,8 @@ use Rattle.dbtrace.specs.Causes.{cause_of}
 use Rattle.dbtrace.specs.Finding.{Finding, told_row, told_fault, told_below, visited_below}
 use Rattle.dbtrace.specs.declared.Cause.{Cause}
 use Rattle.dbtrace.proofs.ByStarts.{BeginsWith, made_at, made_below, below_start, root_then, all_made}
-use Rattle.dbowner.specs.Explained.{told_at, walk_placed, placed_faults}
-use Rattle.dbscan.specs.Notices.{Notice, whole, found, ended, errands_left, root_reference, tree_notices, later_notices, start_notices, end_notices, run_notices}
-use Rattle.dbscan.specs.Placed.{fault_at, faults_placed, at_start, walk_told, told_of, told_in}
+use Rattle.dbscan.specs.Notices.{Notice, found, ended, errands_left, root_reference, tree_notices, later_notices, start_notices}
+use Rattle.dbscan.specs.Placed.{at_start, walk_told, told_of, told_in}
 use Rattle.dbscan.specs.Starts.{At, at_freelist, at_row, at_schema, schema_reference}
 use Rattle.dbscan.proofs.StartByStart.{of_later}
 use Rattle.dbscan.proofs.ToldStarts.{start_errands_listed}
@@ -39,7 +36,7 @@ freelist_begins file e i = by_case (first_trunk file == 0) i
 -- ---- whatever is read off the faults that are told at starts
 
 -- so it is read off a notice
-record IsRead {X : Type 0} (make : ℕ → Fault → Cause → X) (read : Notice → Option X) : Type 0 where
+pub record IsRead {X : Type 0} (make : ℕ → Fault → Cause → X) (read : Notice → Option X) : Type 0 where
   pub of_row : (at : At) (row : StatRow) → read (found at (told_row row)) ≡ None
   pub of_fault : (at : At) (f : Fault) (why : Cause) → read (found at (told_fault f why)) ≡ Some (make at.number f why)
   pub of_ended : (at : At) → read (ended at) ≡ None
@@ -70,7 +67,7 @@ module _ {X : Type 0} (make : ℕ → Fault → Cause → X) (read : Notice → 
       (λ k row rows W ns es h. tree_then (at_row k row) W (root_reference file k row) es ns refl h) 1 rows W
 
   -- it is that of the telling
-  starts_read : (V : List Reference) → Survey file V
+  pub starts_read : (V : List Reference) → Survey file V
       → filter_map read (start_notices file V) ≡ flat_map (λ t. map (λ f. make (start_of t.key) f (cause_of file V t.event f.code)) (event_faults file V t.event)) (telling file V)
   starts_read V s =
       let c = schema_reference in
@@ -84,21 +81,3 @@ module _ {X : Type 0} (make : ℕ → Fault → Cause → X) (read : Notice → 
 -- the faults with their causes
 pub starts_told : (file : List ℕ) (V : List Reference) → Survey file V → told_in (start_notices file V) ≡ walk_told file V
 starts_told file V s = starts_read at_start told_of (record { of_row = λ at row. refl; of_fault = λ at f why. refl; of_ended = λ at. refl }) file V s
-
--- without
-starts_placed : (file : List ℕ) (V : List Reference) → Survey file V → faults_placed (start_notices file V) ≡ walk_placed file V
-starts_placed file V s = starts_read (λ k f why. (Some k, f)) fault_at (record { of_row = λ at row. refl; of_fault = λ at f why. refl; of_ended = λ at. refl }) file V s
-
-whole_placed : (fs : List Fault) → faults_placed (map whole fs) ≡ told_at None fs
-whole_placed [] = refl
-whole_placed (f ∷ fs) = ap (λ l. (None, f) ∷ l) (whole_placed fs)
-
--- and of the whole file are those of the header and those at the end
-pub run_placed : (file : List ℕ) (V : List Reference) → Survey file V → faults_placed (run_notices file V) ≡ placed_faults file V
-run_placed file V s =
-    let first = map whole (header_faults file (length file)) in
-    let last = end_notices file V in
-    filter_map-append fault_at first (start_notices file V ++ last)
-    ∙ ap₂ (λ a b. a ++ b) (whole_placed (header_faults file (length file)))
-    (filter_map-append fault_at (start_notices file V) last ∙ ap₂ (λ a b. a ++ b) (starts_placed file V s) (whole_placed (end_faults file V)))
-    ∙ sym (append_assoc (told_at None (header_faults file (length file))) (walk_placed file V) (told_at None (end_faults file V)))

@@ -13,7 +13,7 @@ use Rattle.dbformat.specs.Schema.{schema, rooted_rows}
 use Rattle.dbformat.specs.SchemaRow.{SchemaRow}
 use Rattle.dbtrace.specs.Finding.{Finding, told_below, visited_below}
 use Rattle.dbscan.specs.Notices.{Notice, found, ended, errands_left, root_reference, tree_notices, later_notices, start_notices}
-use Rattle.dbscan.specs.Placed.{number_of, StartsRise}
+use Rattle.dbscan.specs.Placed.{number_of, AreStarts, StartsRise}
 use Rattle.dbscan.specs.Starts.{At, at_freelist, at_row, at_schema, schema_reference}
 
 abbrev numbers : List Notice → List ℕ
@@ -76,3 +76,26 @@ starts_rise file V =
   where
     few : (rows : List SchemaRow) → 1 + length (take last_root_start rows) ≤ freelist_start
     few rows = let l = length-take last_root_start rows in omega (arith, l)
+
+-- ---- and each is a start
+
+tree_starts : (at : At) (file : List ℕ) (W : List Reference) (c : Reference) (ns : List Notice) → at.number ≤ freelist_start → AreStarts ns → AreStarts (tree_notices at file W c ++ ns)
+tree_starts at file W c ns most rest k i =
+    elim (IsIn-cases k (numbers (tree_notices at file W c)) (numbers ns) (subst (λ l. IsIn k l) (filter_map-append number_of (tree_notices at file W c) ns) i)) [
+      | inl j ↦ (let e = of_tree at file W c k j in omega (arith, e, most))
+      | inr j ↦ rest k j
+    ]
+
+later_starts : (file : List ℕ) (rows : List SchemaRow) (k : ℕ) (W : List Reference) → k + length rows ≤ freelist_start → AreStarts (later_notices file W (enumerate_from k rows))
+later_starts file [] k W few = λ j i. (let e = of_found at_freelist (told_below file W (errands_left file [])) j i in omega (arith, e))
+later_starts file (row ∷ rows) k W few =
+    let c = root_reference file k row in
+    let U = W ++ visited_below file W (Go c ∷ []) in
+    tree_starts (at_row k row) file W c (later_notices file U (enumerate_from (k + 1) rows)) (omega (arith, few)) (later_starts file rows (k + 1) U (omega (arith, few)))
+
+pub are_starts : (file : List ℕ) (V : List Reference) → AreStarts (start_notices file V)
+are_starts file V =
+    let rows = take last_root_start (rooted_rows (schema file V)) in
+    let U = [] ++ visited_below file [] (Go schema_reference ∷ []) in
+    let l = length-take last_root_start (rooted_rows (schema file V)) in
+    tree_starts at_schema file [] schema_reference (later_notices file U (enumerate_from 1 rows)) (omega arith) (later_starts file rows 1 U (omega (arith, l)))

@@ -28,14 +28,15 @@ mod tell;
 mod teller;
 mod walks;
 
+pub use dbformat::{Fault, Geometry, Look, Verdict};
 pub use dbowner::RootList;
-pub use dbsource::{Bench, Header, RunError, Source};
-pub use dbwalk::Marks;
+pub use dbsource::{Bench, Header, ReadFailed, RunError, Source, WriteFailed};
+pub use dbwalk::{Cause, Marks, Row};
 pub use desk::Desk;
 pub use end_pass::tell_end;
 pub use finish::{Finish, Viewed, run_over};
 pub use notice::Notice;
-pub use placed::{faults_are_told_at_their_starts, faults_are_told_with_their_causes};
+pub use placed::{faults_are_of_reached_pages, faults_are_told_with_their_causes};
 pub use reporter::Reporter;
 pub use scans::scan;
 pub use start::Start;

@@ -1,2 +1,4 @@
+pub mod Pieces
 pub mod Puts
+pub mod Widths
 pub mod Xml

@@ -1,6 +1,5 @@
 -- A text as XML has it: what would be markup is escaped.
-use Rattle.std.specs.Prelude.{ℕ, List, [], ◌∷◌, flat_map, codes, ◌==◌, if◌then◌else◌, Result}
-use Rattle.dbsource.specs.Outs.{OutState, Puts}
+use Rattle.std.specs.Prelude.{ℕ, List, [], ◌∷◌, flat_map, codes, ◌==◌, if◌then◌else◌}
 
 -- a byte of a text: the characters & < > " ' are references
 abbrev pub byte_text : ℕ → List ℕ
@@ -14,8 +13,3 @@ byte_text c =
 -- a text
 abbrev pub escaped : List ℕ → List ℕ
 escaped text = flat_map byte_text text
-
--- some escaped text was put
-pub record PutsEscaped {A E : Type 0} (r : Result A E) (old new : OutState) : Type 0 where
-  pub text : List ℕ
-  pub put : Puts r old new (escaped text)

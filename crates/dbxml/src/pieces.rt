@@ -1,5 +1,8 @@
 // What the picture's text is put together of.
-ghost use Rattle.dbxml.specs.Puts.{PutsSome};
+ghost use Rattle.std.specs.Prelude.{◌≡◌, [], decimal, OnOk};
+ghost use Rattle.dbsource.specs.Outs.{Puts};
+ghost use Rattle.dbxml.specs.Pieces.{piece_text, pieces_text, tenths_text};
+ghost use Rattle.dbxml.specs.Puts.{Takes};
 
 use crate::shown::{Shown, put_shown};
 use arrayvec::ArrayVec;
@@ -27,7 +30,8 @@ type Waiting = ArrayVec<u8, ROOM>;
 
 // Puts what waits.
 fn hand_on<O: Out>(out: &mut O, waiting: &mut Waiting) -> Result<(), WriteFailed>
-    ensures { PutsSome result (O.held out.old) (O.held out.new) }
+    ensures puts { Puts result (O.held out.old) (O.held out.new) waiting.old.items }
+    ensures empty { OnOk result (waiting.new.items ≡ []) }
 {
     out.put(waiting.as_slice())?;
     waiting.clear();
@@ -36,18 +40,20 @@ fn hand_on<O: Out>(out: &mut O, waiting: &mut Waiting) -> Result<(), WriteFailed
 
 // Adds bytes to those that wait, which are put where there is no room for more.
 fn add<O: Out>(out: &mut O, waiting: &mut Waiting, bytes: &[u8]) -> Result<(), WriteFailed>
-    ensures { PutsSome result (O.held out.old) (O.held out.new) }
+    ensures { Takes result (O.held out.old) (O.held out.new) waiting.old.items waiting.new.items bytes.now }
 {
-    if waiting.try_extend_from_slice(bytes).is_ok() {
-        return Ok(());
+    match waiting.try_extend_from_slice(bytes) {
+        Ok(()) => Ok(()),
+        Err(_) => {
+            hand_on(out, waiting)?;
+            out.put(bytes)
+        }
     }
-    hand_on(out, waiting)?;
-    out.put(bytes)
 }
 
 // Adds a number in decimal.
 fn add_number<O: Out>(out: &mut O, waiting: &mut Waiting, number: u64) -> Result<(), WriteFailed>
-    ensures { PutsSome result (O.held out.old) (O.held out.new) }
+    ensures { Takes result (O.held out.old) (O.held out.new) waiting.old.items waiting.new.items (decimal number) }
 {
     let mut buffer = Buffer::new();
     add(out, waiting, buffer.format(number).as_bytes())
@@ -55,7 +61,7 @@ fn add_number<O: Out>(out: &mut O, waiting: &mut Waiting, number: u64) -> Result
 
 // Adds a number of tenths.
 fn add_tenths<O: Out>(out: &mut O, waiting: &mut Waiting, tenths: u64) -> Result<(), WriteFailed>
-    ensures { PutsSome result (O.held out.old) (O.held out.new) }
+    ensures { Takes result (O.held out.old) (O.held out.new) waiting.old.items waiting.new.items (tenths_text tenths) }
 {
     add_number(out, waiting, tenths / 10)?;
     add(out, waiting, b".")?;
@@ -68,7 +74,7 @@ fn add_piece<O: Out>(
     waiting: &mut Waiting,
     piece: &Piece<'_>,
 ) -> Result<(), WriteFailed>
-    ensures { PutsSome result (O.held out.old) (O.held out.new) }
+    ensures { Takes result (O.held out.old) (O.held out.new) waiting.old.items waiting.new.items (piece_text piece.now) }
 {
     match piece {
         Piece::Markup(text) => add(out, waiting, text.as_bytes()),
@@ -88,9 +94,9 @@ fn add_piece<O: Out>(
 ///
 /// # Errors
 ///
-/// [`WriteFailed`] where the Out failed: nothing is put after that.
+/// [`WriteFailed`] where the Out failed: it took a beginning of their texts.
 pub fn put_all<O: Out>(out: &mut O, pieces: &[Piece<'_>]) -> Result<(), WriteFailed>
-    ensures { PutsSome result (O.held out.old) (O.held out.new) }
+    ensures { Puts result (O.held out.old) (O.held out.new) (pieces_text pieces.now) }
 {
     let mut waiting = ArrayVec::new();
     for piece in pieces {

@@ -1,7 +1,8 @@
 // Texts of the file and of the command line as the picture shows them.
 ghost use Rattle.std.specs.Prelude.{◌≡◌, ◌≤◌, length, IfSome};
 ghost use Rattle.dbsource.specs.Outs.{Puts};
-ghost use Rattle.dbxml.specs.Xml.{escaped, PutsEscaped};
+ghost use Rattle.dbxml.specs.Pieces.{shown_text};
+ghost use Rattle.dbxml.specs.Widths as widths;
 
 use crate::hidden::{code, is_hidden};
 use crate::xml::{is_plain, put_escaped};
@@ -11,6 +12,7 @@ use dbformat::Encoding;
 use dbowner::TreeNames;
 use dbsource::{Out, WriteFailed};
 use std::alloc::Allocator;
+use std::marker::Model;
 
 // How many bytes of a text are kept: more than the widest that is shown.
 const KEPT: usize = 320;
@@ -20,6 +22,14 @@ const KEPT: usize = 320;
 #[derive(Drop)]
 pub struct Shown {
     bytes: ArrayVec<u8, KEPT>,
+}
+
+impl Model for Shown {
+    ghost use Rattle.std.specs.Prelude.{ℕ, List};
+
+    ghost Value = { List ℕ };
+
+    ghost view = { λ s. s.bytes.items };
 }
 
 impl Default for Shown {
@@ -38,7 +48,7 @@ impl Shown {
 
     /// The text as it is, where it fits in so many columns and nothing of it is markup.
     pub(crate) fn plain(&self, width: u32) -> Option<&[u8]>
-        ensures { IfSome result (λ text. escaped text.now ≡ text.now) }
+        ensures { IfSome result (λ text. text.now ≡ shown_text self.now width) }
     {
         let text = self.bytes.as_slice();
         if fitting(text, width) == text.len() && is_plain(text) {
@@ -105,7 +115,8 @@ pub fn shown_tree<A: Allocator>(names: &TreeNames<'_, A>, start: u32) -> Shown {
 
 // How many columns a character takes, by its first byte: those that are written in three or four bytes are mostly wide.
 fn columns(byte: u8) -> u32
-    ensures { result ≤ 2 }
+    ensures columns { result ≡ widths.columns byte }
+    ensures most { result ≤ 2 }
 {
     match byte {
         0x80..=0xBF => 0,
@@ -116,14 +127,16 @@ fn columns(byte: u8) -> u32
 
 // How many bytes of a text fit in so many columns.
 fn fitting(text: &[u8], width: u32) -> usize
-    ensures { result ≤ length text.now }
+    ensures fit { result ≡ widths.fitting width text.now }
+    ensures bound { result ≤ length text.now }
 {
     let mut taken = 0u32;
     for (at, byte) in text.iter().enumerate() {
-        taken = taken.saturating_add(columns(*byte));
-        if taken > width {
+        let more = columns(*byte);
+        if more > width - taken {
             return at;
         }
+        taken += more;
     }
     text.len()
 }
@@ -132,10 +145,9 @@ fn fitting(text: &[u8], width: u32) -> usize
 ///
 /// # Errors
 ///
-/// [`WriteFailed`] where the Out failed.
+/// [`WriteFailed`] where the Out failed: it took a beginning of the text.
 pub(crate) fn put_shown<O: Out>(out: &mut O, shown: &Shown, width: u32) -> Result<(), WriteFailed>
-    // Whatever the text is.
-    ensures { PutsEscaped result (O.held out.old) (O.held out.new) }
+    ensures { Puts result (O.held out.old) (O.held out.new) (shown_text shown.now width) }
 {
     let text = shown.bytes.as_slice();
     let fitting = fitting(text, width);

@@ -1,5 +1,6 @@
 // Reads, writes and memory that are refused in turn, and the reads of a run.
 use crate::explain::explained::{SHARED, shared};
+use crate::explain::made::made;
 use crate::support::fakes::SmallOut;
 use dbexplain::{explain, explain_in};
 use dbfiles::StatedSource;
@@ -24,16 +25,93 @@ fn fails_at_read(rt: &impl Abort, alloc: Global, file: &[u8], fails_at: u64, wri
     holds!(*rt; out.bytes() == beginning(written), fails_at);
 }
 
-// Each call of the source fails in turn: its length, its header, and the six pages of both trees. Nothing is written by then. Last
-// the page that nothing refers to is read, behind the lines that say where it is.
+// Each call of the source fails in turn: its length, its header, and the six pages of both trees. No fault was found by then.
+// Last the page that nothing refers to is read: then the line of the fault found before is written.
 #[test]
 fn each_read_fails_in_turn(rt: HostRuntime) -> Result<(), Fail> {
     let file = shared(rt.alloc())?;
-    let placed = SHARED.find("    looks like").unwrap_or(0);
-    holds!(rt; placed > 0);
+    let line = SHARED.find("    page 5").unwrap_or(0);
+    holds!(rt; line > 0);
     for fails_at in 0..9u64 {
-        let written = if fails_at == 8 { placed } else { 0 };
+        let written = if fails_at == 8 { line } else { 0 };
         fails_at_read(&rt, rt.alloc(), file.as_slice(), fails_at, written);
+    }
+    Ok(())
+}
+
+// The lines of a file whose header is wrong, and two of whose map entries are; pages 5 to 7 are in no use.
+const VERSION: &str = "H01 page 1 item 18 value 3: file version is not 1 or 2\n";
+
+const BEFORE_LOST: &str = "H01 page 1 item 18 value 3: file version is not 1 or 2
+M01 page 4 item 5 value 9: pointer map entry differs
+M01 page 8 item 5 value 9: pointer map entry differs
+";
+
+const ONE_LOST: &str = "H01 page 1 item 18 value 3: file version is not 1 or 2
+M01 page 4 item 5 value 9: pointer map entry differs
+N01 page 5 item 0 value 0: page is not in use
+M01 page 8 item 5 value 9: pointer map entry differs
+";
+
+const TWO_LOST: &str = "H01 page 1 item 18 value 3: file version is not 1 or 2
+M01 page 4 item 5 value 9: pointer map entry differs
+N01 page 5 item 0 value 0: page is not in use
+N01 page 6 item 0 value 0: page is not in use
+M01 page 8 item 5 value 9: pointer map entry differs
+";
+
+const THREE_LINES: &str = "H01 page 1 item 18 value 3: file version is not 1 or 2
+M01 page 4 item 5 value 9: pointer map entry differs
+N01 page 5 item 0 value 0: page is not in use
+";
+
+const TWO_LINES: &str = "H01 page 1 item 18 value 3: file version is not 1 or 2
+M01 page 4 item 5 value 9: pointer map entry differs
+";
+
+// The call of the source that fails, how many entries are listed at most, and what is written: after the length and the header come
+// the pages 1, 3, 4 and 8, the map, and the pages 5, 6 and 7.
+const FOUND: [(u64, u32, &str); 14] = [
+    (0, 100, ""),
+    (1, 100, ""),
+    (2, 100, VERSION),
+    (3, 100, VERSION),
+    (4, 100, VERSION),
+    (5, 100, VERSION),
+    (6, 100, VERSION),
+    (7, 100, BEFORE_LOST),
+    (8, 100, ONE_LOST),
+    (9, 100, TWO_LOST),
+    // The entries of lost pages take the place of later ones.
+    (7, 3, BEFORE_LOST),
+    (9, 3, THREE_LINES),
+    (9, 2, TWO_LINES),
+    (9, 1, VERSION),
+];
+
+#[test]
+fn what_was_found_is_written(rt: HostRuntime) -> Result<(), Fail> {
+    let file = made(rt.alloc(), "woven: 1 18 03")?;
+    for (fails_at, limit, text) in FOUND {
+        let mut source = StatedSource::new(file.as_slice(), file.len() as u64, fails_at);
+        let mut out = SmallOut::new(2048);
+        let answer = explain(rt.alloc(), limit, &mut source, &mut out);
+        holds!(rt; answer == Err(RunError::ReadFailed), (fails_at, limit));
+        holds!(rt; out.bytes() == text.as_bytes(), (fails_at, limit));
+    }
+    Ok(())
+}
+
+// A read fails, and then the out: the answer is that the read failed, and the out took as much of the lines as it has room for.
+#[test]
+fn a_failed_read_is_answered(rt: HostRuntime) -> Result<(), Fail> {
+    let file = made(rt.alloc(), "woven: 1 18 03")?;
+    for room in 0..TWO_LOST.len() {
+        let mut source = StatedSource::new(file.as_slice(), file.len() as u64, 9);
+        let mut out = SmallOut::new(room);
+        let answer = explain(rt.alloc(), 100, &mut source, &mut out);
+        holds!(rt; answer == Err(RunError::ReadFailed), room);
+        holds!(rt; out.bytes() == TWO_LOST.as_bytes().get(..room).unwrap_or(&[]), room);
     }
     Ok(())
 }
@@ -78,41 +156,49 @@ fn in_room(
     Ok(())
 }
 
-// A buffer of a page for each of 22 levels, and the marks.
-const DESK: usize = 22 * 512 + 28;
+// A buffer of a page for each of 22 levels, and four bytes a page of marks. The heap gives units of 16 bytes.
+const DESK: usize = 22 * 512 + 32;
 
-// 100 faults of 24 bytes, and a count of 8 bytes for each of 65537 starts.
-const TALLY: usize = 100 * 24 + 65537 * 8;
+// 100 entries of 200 bytes, and six of lost pages.
+const ENTRIES: usize = DESK + 100 * 200;
 
-// Behind the desk and the tally come four bytes a page, and the list of roots, whose growths come as rows are read. Each is refused
-// where there is room for those before it.
+const LOST_ENTRIES: usize = ENTRIES + 6 * 200;
+
+// 16 bytes for each of 65538 starts, and a bit a page.
+const STARTS: usize = LOST_ENTRIES + 65538 * 16;
+
+const FAULTY: usize = STARTS + 16;
+
+// Four bytes a page for the trees.
+const TREES: usize = FAULTY + 32;
+
+// As rows are read, the list of roots takes four rows of 20 bytes, and then 8 bytes of names, and 16 in their place.
+const ROOTS: usize = TREES + 80;
+
+const NAMES: usize = ROOTS + 16;
+
+// Each is refused where there is room for those before it alone.
 #[test]
 fn each_growth_is_refused(rt: HostRuntime) -> Result<(), Fail> {
     let file = shared(rt.alloc())?;
-    for room in [
+    let rooms = [
         512usize,
-        DESK - 64,
-        DESK + 64,
-        DESK + 64 + 100 * 24,
-        DESK + TALLY,
-        DESK + TALLY + 28,
-    ] {
-        in_room(
-            &rt,
-            rt.alloc(),
-            file.as_slice(),
-            room,
-            Err(RunError::OutOfMemory),
-        )?;
+        DESK - 16,
+        DESK,
+        ENTRIES,
+        LOST_ENTRIES,
+        STARTS,
+        FAULTY,
+        TREES,
+        ROOTS,
+        NAMES,
+    ];
+    let wanted = Err(RunError::OutOfMemory);
+    for room in rooms {
+        in_room(&rt, rt.alloc(), file.as_slice(), room, wanted)?;
     }
-    let room = DESK + TALLY + 2048;
-    in_room(
-        &rt,
-        rt.alloc(),
-        file.as_slice(),
-        room,
-        Ok(Verdict::Faulty(2)),
-    )?;
+    let wanted = Ok(Verdict::Faulty(2));
+    in_room(&rt, rt.alloc(), file.as_slice(), NAMES + 16, wanted)?;
     Ok(())
 }
 

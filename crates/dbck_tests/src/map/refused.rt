@@ -87,14 +87,30 @@ const TALLY: usize = TREES + 65538 * 8;
 // A byte a page for the faulty ones. The heap gives units of 16 bytes.
 const FAULTY: usize = TALLY + 16;
 
+// And one for those of entries.
+const STRONG: usize = FAULTY + 16;
+
+// 200 bytes for each of 100 entries.
+const ENTRIES: usize = STRONG + 100 * 200;
+
 // As rows are read, the list of roots takes four rows of 20 bytes, and then 8 bytes of names.
-const ROOTS: usize = FAULTY + 80;
+const ROOTS: usize = ENTRIES + 80;
 
 // Each is refused where there is room for those before it alone.
 #[test]
 fn each_growth_is_refused(rt: HostRuntime) -> Result<(), Fail> {
     let file = small(rt.alloc())?;
-    for room in [512usize, DESK - 16, DESK, TREES, TALLY, FAULTY, ROOTS] {
+    for room in [
+        512usize,
+        DESK - 16,
+        DESK,
+        TREES,
+        TALLY,
+        FAULTY,
+        STRONG,
+        ENTRIES,
+        ROOTS,
+    ] {
         in_room(
             &rt,
             rt.alloc(),

@@ -2,9 +2,10 @@
 use crate::runs::{Found, check_of, found_of, is_found, is_same, stat_of};
 use crate::support::cases::file_of;
 use dbfiles::{DrawnSource, StatedSource, TestFile};
-use dbreport::{Command, Desk, Verdict, run_on, told_files_are_read};
-use dbsource::{Header, MemOut, MemSource, OpenError, RunError};
+use dbreport::{Command, Desk, Verdict, run_on, told_files_are_run};
+use dbsource::{Header, MemOut, MemSource, OpenError, RunError, told_files_are_read};
 use std::alloc::Global;
+use std::marker::Brand;
 use std::process::Abort;
 use std::test::Fail;
 
@@ -142,11 +143,12 @@ fn reads_no_page_twice(rt: HostRuntime) -> Result<(), Fail> {
 
 // What it says is proved; here it is called for a source over memory.
 #[test]
-fn told_files_are_read_from_memory(rt: HostRuntime) -> Result<(), Fail> {
+fn told_files_are_run_from_memory(rt: HostRuntime) -> Result<(), Fail> {
     let file = file_of(rt.alloc(), "LongRow 3")?;
     let mut source = MemSource::new(file.as_slice());
     let found = found_of(rt.alloc(), check_of(100), &mut source);
     holds!(rt; found.answer == Ok(Verdict::Clean));
-    told_files_are_read::<MemSource<'_>>();
+    told_files_are_read::<MemSource<'_>, Brand>();
+    told_files_are_run::<MemSource<'_>>();
     Ok(())
 }

@@ -1,5 +1,4 @@
 // The start that each page belongs to, what it is, and how many pages are passed to know it.
-use crate::owners::lines;
 use crate::owners::walked::{Walked, two_trees, walk_all};
 use crate::support::{Text, expect_text};
 use dbfiles::TestFile;
@@ -100,7 +99,6 @@ fn each_page_is_passed_once(rt: HostRuntime) -> Result<(), Fail> {
     holds!(rt; trees.start_of(&desk.marks, 9).is_none(), "not yet entered");
     check_passed(&rt, &desk, &mut trees, false);
     check_passed(&rt, &desk, &mut trees, true);
-    lines::check(&rt, rt.alloc(), &desk, &mut trees);
     desk.marks.clear();
     desk.roots.clear();
     trees.enter_roots(&desk.marks, &desk.roots);

@@ -1,4 +1,4 @@
-use Rattle.std.proofs.Common.{rules, ◌≡◌, ◌∙◌, ◌⊎◌, List, ℕ, inl, inr, true, false}
+use Rattle.std.proofs.Common.{rules, ◌≡◌, ◌⊎◌, inl, inr, true}
 use Rattle.std.specs.Prelude.{is_ok}
 use Rattle.dbcli.specs.ErrorLines.{error_line}
 use Rattle.dbcli.proofs.Handing.{line_tried, line_untried}

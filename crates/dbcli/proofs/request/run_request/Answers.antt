@@ -1,17 +1,22 @@
 use Rattle.dbreport.proofs.RunAnswers.{first_failures, refused_unwritten}
 use Rattle.dbsource.proofs.Runs.{read_weaker}
+use Rattle.dbcli.proofs.Explaining.{explain_fails, fail_as_answered}
 use Rattle.dbcli.proofs.request.run_request.Goals as goal
 
 pub returns-in-Report-clause-read : goal.returns-in-Report-clause-read
 returns-in-Report-clause-read g c = rw c.in-Report.is (read_weaker _ _ c.run.ensures.read (λ ranges p. p) (λ file ranges p t. (t.0, t.1.run)))
 
+pub returns-in-Report-clause-writes : goal.returns-in-Report-clause-writes
+returns-in-Report-clause-writes g c =
+    fail_as_answered c.run.result c.args.request (g.O.Out.held c.args.out.now) (g.O.Out.held c.run.new.out) (g.E.Out.held c.args.err.now) (g.E.Out.held c.run.new.err) c.run.ensures.failed.writes
+
 pub returns-in-Explain-clause-read : goal.returns-in-Explain-clause-read
-returns-in-Explain-clause-read g c =
-    rw c.in-Explain.is (read_weaker _ _ c.explain.ensures.read (λ ranges p. p) (λ file ranges p t. (t.0, t.1 (g.E.Out.held c.args.err.now).bytes)))
+returns-in-Explain-clause-read g c = rw c.in-Explain.is (read_weaker _ _ c.explain.ensures.read (λ ranges p. p) (λ file ranges p t. t))
 
 pub returns-in-Explain-clause-writes : goal.returns-in-Explain-clause-writes
 returns-in-Explain-clause-writes g c =
-    first_failures c.explain.result (g.O.Out.held c.args.out.now).failures (g.O.Out.held c.explain.new.out).failures (g.E.Out.held c.args.err.now).failures c.explain.ensures.failed.writes
+    rw c.in-Explain.is (explain_fails c.explain.result c.in-Explain.limit (g.O.Out.held c.args.out.now) (g.O.Out.held c.explain.new.out)
+    (g.E.Out.held c.args.err.now) c.explain.ensures.failed.writes)
 
 pub returns-in-Explain-clause-refused : goal.returns-in-Explain-clause-refused
 returns-in-Explain-clause-refused g c = record {
@@ -25,8 +30,8 @@ returns-in-Map-clause-read g c = rw c.in-Map.is (read_weaker _ _ c.map.ensures.r
 
 pub returns-in-Map-clause-writes : goal.returns-in-Map-clause-writes
 returns-in-Map-clause-writes g c =
-    first_failures c.map.result (g.O.Out.held c.args.out.now).failures (g.O.Out.held c.map.new.out).failures
-    (g.E.Out.held c.args.err.now).failures c.map.ensures.failed.writes
+    fail_as_answered c.map.result c.args.request (g.O.Out.held c.args.out.now) (g.O.Out.held c.map.new.out) (g.E.Out.held c.args.err.now) (g.E.Out.held c.args.err.now)
+    (first_failures c.map.result (g.O.Out.held c.args.out.now).failures (g.O.Out.held c.map.new.out).failures (g.E.Out.held c.args.err.now).failures c.map.ensures.failed.writes)
 
 pub returns-in-Map-clause-refused : goal.returns-in-Map-clause-refused
 returns-in-Map-clause-refused g c = record {

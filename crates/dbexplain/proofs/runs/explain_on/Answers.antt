@@ -1,48 +1,36 @@
-use Rattle.std.proofs.Common.{rules, ◌≡◌, ℕ, List, Ok, ap, subst, ◌∙◌}
-use Rattle.std.specs.Prelude.{IfOk}
-use Rattle.dbformat.specs.FixedPages.{geometry_of}
-use Rattle.dbformat.specs.Log.{IsPageLog}
-use Rattle.dbformat.specs.Reference.{Reference}
-use Rattle.dbformat.specs.Survey.{Survey}
-use Rattle.dbsource.specs.Errors.{is_read_failed}
+use Rattle.std.proofs.Common.{rules, ◌≡◌, ap, sym, subst, ◌∙◌}
+use Rattle.dbformat.specs.File.{geometry}
+use Rattle.dbformat.specs.declared.Geometry.{Geometry}
+use Rattle.dbsource.specs.Errors.{is_write_failed}
 use Rattle.dbsource.specs.Failures.{failures_after}
-use Rattle.dbsource.specs.HeaderBytes.{HeaderBytes}
-use Rattle.dbsource.specs.Outs.{Writes}
-use Rattle.dbsource.specs.Snapshots.{HasReadBehind}
-use Rattle.dbsource.proofs.Logs.{has_weaker}
-use Rattle.dbsource.proofs.Runs.{same_front}
-use Rattle.dbowner.specs.Explained.{explain_report}
-use Rattle.dbexplain.proofs.Reports.{explain_out, explain_answer}
-use Rattle.dbreport.proofs.RunAnswers.{if_ok}
-use Rattle.dbscan.proofs.BehindHeader.{behind_headed}
+use Rattle.dbscan.proofs.BehindHeader.{behind_weaker}
+use Rattle.dbscan.proofs.Tellers.{first}
+use Rattle.dbreport.proofs.SinkStates.{lent_same, one_failed}
+use Rattle.dbexplain.specs.Keeping.{IsEmpty}
+use Rattle.dbexplain.specs.Runs.{OutFailures}
+use Rattle.dbexplain.specs.declared.kept.Kept.{Kept}
+use Rattle.dbexplain.proofs.Explained.{explained, out_failures}
 use Rattle.dbexplain.proofs.runs.explain_on.Goals as goal
 
 pub returns-clause-read : goal.returns-clause-read
 returns-clause-read g c =
-    let h = c.renew.new.self.header in
-    let r = c.explain_file.result in
-    let limit = c.args.tally.limit in
-    let old = (g.O.Out.held c.args.out.now).bytes in
-    let new = (g.O.Out.held c.explain_file.new.out).bytes in
-    let same = (same_front g.S.Source.step _ _ _ _ _ _ _ _ c.explain_file.ensures.asks.log).0 in
-    let k : c.source-1.given.0 ≡ c.explain_file.new.source.source.now = search (rules, same) in
-    let T = λ (file : List ℕ). (V : List Reference) → Survey file V
-    → Writes r old new (explain_report limit file V).out × IfOk r (λ v. (explain_report limit file V).answer ≡ Ok v) in
-    let Q = λ (x : HeaderBytes). HasReadBehind g.S.Source.step (IsPageLog (geometry_of x.bytes x.file_len)) x T
-    (g.S.Source.held c.args.source.now) (g.S.Source.held c.source-1.given.0) in
-    let own = c.new-headed.ensures.header ∙ c.header.ensures.value in
-    subst Q c.renew.ensures.header
-    (behind_headed g.S.Source.held h c.new-headed.result.header.now own c.new-headed.ensures.source k c.header.ensures.accepted
-    (has_weaker _ _ c.explain_file.ensures.asks.log (λ log p. p)
-    (λ file text is V s.
-    let t = text is V s in (
-      explain_out limit file V is.is_read r old new t.0,
-      if_ok r (λ v e. explain_answer limit file V is.is_read v e) t.1,
-    ))))
+    let r = c.run_over-answer.result in
+    let new = c.new-reporter.ensures in
+    let same = c.end.ensures.same_out ∙ ap first (lent_same r _ _ c.run_over-answer.ensures.writes) in
+    let k : c.out-1.given.0 ≡ c.end.new.self.out.now = search (rules, same) in
+    behind_weaker _ _ c.run_over-answer.ensures.read (λ file is told V s.
+    let empty = subst (λ (g : Geometry). IsEmpty c.args.kept.now.entries.limit g c.args.kept.now) is.shape c.requires in
+    let here = subst (λ (k : Kept _). IsEmpty k.entries.limit (geometry file) k) (sym new.kept) empty in
+    explained g.O.Out.held file V is.is_read c.new-reporter.result c.run_over-answer.new.sink c.end.new.self r c.args.out.now c.out-1.given.0 c.args.kept.now.entries.limit
+    s here (ap (λ (k : Kept _). k.entries.limit) new.kept) new.out k (told V s) c.end.ensures.lines)
 
-pub returns-clause-count : goal.returns-clause-count
-returns-clause-count g c =
-    let same = (same_front g.S.Source.step _ _ _ _ _ _ _ _ c.explain_file.ensures.asks.log).0 in
-    let k : c.source-1.given.0 ≡ c.explain_file.new.source.source.now = search (rules, same) in
-    let r = c.explain_file.result in
-    rw k (c.explain_file.ensures.asks.count ∙ ap (λ s. failures_after is_read_failed r (g.S.Source.held s).failures) c.new-headed.ensures.source)
+pub returns-clause-writes : goal.returns-clause-writes
+returns-clause-writes g c =
+    let r = c.run_over-answer.result in
+    let held = g.O.Out.held in
+    let new = c.new-reporter.ensures in
+    let same = c.end.ensures.same_out ∙ ap first (lent_same r _ _ c.run_over-answer.ensures.writes) in
+    let k : c.out-1.given.0 ≡ c.end.new.self.out.now = search (rules, same) in
+    let failed = one_failed r _ _ _ _ c.run_over-answer.ensures.writes ∙ ap (λ o. failures_after is_write_failed r (held o).failures) new.out in
+    subst (λ o. OutFailures r (held c.args.out.now).failures (held o).failures) (sym k)
+    (out_failures held c.run_over-answer.new.sink c.end.new.self r (held c.args.out.now).failures failed c.end.ensures.lines)

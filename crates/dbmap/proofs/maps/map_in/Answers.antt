@@ -12,7 +12,7 @@ pub returns-in_err-desk-clause-read : goal.returns-in_err-desk-clause-read
 returns-in_err-desk-clause-read g c =
     let q = err_from_is_err_and c.from_residual.result c.from_residual.ensures.1 in
     let e = c.in_err-desk.field-0.0 in
-    rw q.1 (rw q.2 (nothing_read g.S.Source c.args.source.now e c.open_in.new.source c.in_err-desk.ensures (λ file answer. no_map file e answer)))
+    rw q.1 (rw q.2 (nothing_read g.S.Source c.args.source.now e c.open_in.new.source c.in_err-desk.ensures (λ file answer. no_map file e (g.O.Out.held c.args.out.now).bytes answer)))
 
 pub returns-in_err-desk-clause-failed : goal.returns-in_err-desk-clause-failed
 returns-in_err-desk-clause-failed g c =
@@ -30,7 +30,7 @@ pub returns-in_err-kept-clause-read : goal.returns-in_err-kept-clause-read
 returns-in_err-kept-clause-read g c =
     let q = err_from_is_err_and c.from_residual-in_err-kept.result c.from_residual-in_err-kept.ensures.1 in
     let k = memory_refused g.S.Source c.args.source.now c.in_ok-desk.desk.header c.open_in.new.source c.in_ok-desk.ensures in
-    rw q.1 (rw q.2 (nothing_read g.S.Source c.args.source.now OutOfMemory c.open_in.new.source k (λ file answer. no_map file OutOfMemory answer)))
+    rw q.1 (rw q.2 (nothing_read g.S.Source c.args.source.now OutOfMemory c.open_in.new.source k (λ file answer. no_map file OutOfMemory (g.O.Out.held c.args.out.now).bytes answer)))
 
 pub returns-in_err-kept-clause-failed : goal.returns-in_err-kept-clause-failed
 returns-in_err-kept-clause-failed g c =
@@ -49,7 +49,7 @@ returns-in_err-kept-clause-refused g c =
 pub returns-clause-read : goal.returns-clause-read
 returns-clause-read g c =
     run_read g.S.Source c.args.source.now c.in_ok-desk.desk.header c.open_in.new.source c.map_on.new.source c.in_ok-desk.ensures
-    (behind_weaker _ _ c.map_on.ensures.read (λ file is found. map_of file c.map_on.result c.map_on.ensures.only is.is_read found))
+    (behind_weaker _ _ c.map_on.ensures.read (λ file is found. map_of file c.map_on.result c.map_on.ensures.only is.is_read (g.O.Out.held c.args.out.now).bytes (g.O.Out.held c.map_on.new.out).bytes found))
 
 pub returns-clause-failed : goal.returns-clause-failed
 returns-clause-failed g c = record {

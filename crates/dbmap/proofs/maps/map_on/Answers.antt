@@ -1,15 +1,25 @@
-use Rattle.std.proofs.Common.{rules, ◌≡◌, ap, ◌∙◌}
+use Rattle.std.proofs.Common.{rules, ◌≡◌, ap, sym, subst, ◌∙◌}
 use Rattle.dbsource.specs.Errors.{is_write_failed}
 use Rattle.dbsource.specs.Failures.{failures_after}
 use Rattle.dbscan.proofs.BehindHeader.{behind_weaker}
 use Rattle.dbscan.proofs.Tellers.{first}
 use Rattle.dbreport.proofs.SinkStates.{lent_same, one_failed}
+use Rattle.dbmap.specs.Maps.{DrawsMap}
 use Rattle.dbmap.proofs.Counting.{map_left}
 use Rattle.dbmap.proofs.maps.map_on.Goals as goal
 
 pub returns-clause-read : goal.returns-clause-read
 returns-clause-read g c =
-    behind_weaker _ _ c.run_over.ensures.read (λ file is left V s. map_left file V c.run_over.result c.new-sink.result c.run_over.new.sink c.new-sink.ensures.faults (left V s))
+    let r = c.run_over.result in
+    let held = g.O.Out.held in
+    let same = ap first (lent_same r _ _ c.run_over.ensures.writes) in
+    let k : c.out-1.given.0 ≡ c.run_over.new.sink.out.now = search (rules, same) in
+    behind_weaker _ _ c.run_over.ensures.read (λ file is left V s.
+    let h = map_left held file V s r c.new-sink.result c.run_over.new.sink c.new-sink.ensures.faults (left V s) in (
+      h.0,
+      subst (λ (o : g.row.O.Denot). DrawsMap r (held o).bytes (held c.out-1.given.0).bytes file V) c.new-sink.ensures.out
+          (subst (λ (o : g.row.O.Denot). DrawsMap r (held c.new-sink.result.out.now).bytes (held o).bytes file V) (sym k) h.1),
+    ))
 
 pub returns-clause-writes : goal.returns-clause-writes
 returns-clause-writes g c =

@@ -1,15 +1,14 @@
-use Rattle.std.proofs.Common.{◌++◌, take}
-use Rattle.std.proofs.lemmas.Grind.{flat_map-append}
+use Rattle.std.proofs.Common.{rules, ◌≡◌, take, sym}
 use Rattle.dbsource.proofs.Puts.{puts_then}
-use Rattle.dbxml.specs.Xml.{byte_text, escaped}
+use Rattle.dbxml.specs.Pieces.{ellipsis}
+use Rattle.dbxml.specs.Xml.{escaped}
+use Rattle.dbxml.proofs.Texts.{cut_text}
 use Rattle.dbxml.proofs.shown.put_shown.Goals as goal
 
 pub returns : goal.returns
 returns g c =
-    let text = take c.fitting-fitting.result c.as_slice-text.result.now in
-    let end = c.as_bytes.result.now in
-    record {
-      text = text ++ end;
-      put = rw (flat_map-append byte_text text end)
-          (puts_then c.put_escaped-3.result (escaped text) (escaped end) c.in_ok-put_escaped.was c.put_escaped-2.ensures c.put_escaped-3.ensures);
-    }
+    let n = c.fitting-fitting.result in
+    let cut = cut_text c.as_slice-text.result.now c.args.width n c.fitting-fitting.ensures.fit (search rules) in
+    let same : c.as_slice-text.result.now ≡ c.args.shown.now = search rules in
+    let dots = rw c.as_bytes.ensures.value at c.put_escaped-3.ensures in
+    rw (sym same) (rw cut (puts_then c.put_escaped-3.result (escaped (take n c.as_slice-text.result.now)) (escaped ellipsis) c.in_ok-put_escaped.was c.put_escaped-2.ensures dots))

@@ -1,0 +1,332 @@
+-- The line of the faults that belong to an entry, by what is kept of them.
+use Rattle.std.proofs.Common.{◌≡◌, ℕ, zero, suc, ◌+◌, ◌-◌, ◌<◌, ◌≤◌, Bool, true, false, cond, ◌&&◌, List, [], ◌∷◌, ◌++◌, length, map, take, get_or, set, Option, Some, None, refl, sym, ap, ap₂, subst, ◌∙◌, arith, append_assoc, append-nil, take-suc}
+use Rattle.std.specs.Prelude.{codes, fold, nat_le, nat_lt, ◌==◌, if◌then◌else◌}
+use Rattle.std.specs.List.{join_by, last_or, flat_map, sum_by}
+use Rattle.std.specs.Option.{option_map_or}
+use Rattle.std.proofs.lemmas.Bool.Decides.{nat_tests}
+use Rattle.std.proofs.lemmas.Grind.{flat_map-append}
+use Rattle.std.proofs.lemmas.List.{length-append, length-set, length-take, map-append, take-append-le, take_all, take_more_set}
+use Rattle.std.proofs.lemmas.List.Sums.{sum_by-append}
+use Rattle.dbformat.specs.Lines.{counted}
+use Rattle.dbtrace.specs.declared.Cause.{Cause}
+use Rattle.dbtrace.specs.declared.Cause.TheVariants as cause
+use Rattle.dbtrace.specs.declared.Reported.{Reported}
+use Rattle.dbentries.specs.Kept.{cells_of, entry_added, entry_of, is_next, kept_of, no_run, no_runs, others_added, run_added, run_begun, run_grown}
+use Rattle.dbentries.specs.Lines.{indented}
+use Rattle.dbentries.specs.Listing as listing
+use Rattle.dbentries.specs.Listing.{changed_at}
+use Rattle.dbentries.specs.Others.{alike_text, belonging_text, last_text, kept_line, kept_text, next_run_text, others_text, run_before, run_text, runs, shown_runs_text}
+use Rattle.dbentries.specs.declared.entry.Entry.{Entry}
+use Rattle.dbentries.specs.declared.entry.Others.{Others}
+use Rattle.dbentries.specs.declared.runs.Run.{Run}
+use Rattle.dbentries.specs.declared.runs.Runs.{Runs}
+use Rattle.dbentries.proofs.Noting.{first_kept}
+use Rattle.dbentries.proofs.Numbers.{changed-length, changed-past, changed-set, take-changed}
+
+nothing : (rs : List Run) → take 0 rs ≡ []
+nothing [] = refl
+nothing (r ∷ rs) = refl
+
+-- ---- a run more of a list
+
+-- run number i after those before it
+pub run_more : (rs : List Run) (line now : List ℕ) (i : ℕ) → i < length rs
+    → now ≡ (line ++ join_by run_text (codes ", ") (take i rs)) ++ next_run_text i (get_or rs i no_run) → now ≡ line ++ join_by run_text (codes ", ") (take (i + 1) rs)
+run_more rs line now i h e =
+    e
+    ∙ append_assoc line (join_by run_text (codes ", ") (take i rs)) (next_run_text i (get_or rs i no_run))
+    ∙ ap (λ w. line ++ w) (by_case rs i h ∙ ap (λ n. text (take n rs)) (let q : suc i ≡ i + 1 = omega arith in q))
+  where
+    text : List Run → List ℕ
+    text = join_by run_text (codes ", ")
+
+    sep : Run → List ℕ
+    sep r = codes ", " ++ run_text r
+
+    by_case : (rs : List Run) (i : ℕ) → i < length rs → text (take i rs) ++ next_run_text i (get_or rs i no_run) ≡ text (take (suc i) rs)
+    by_case [] i h = absurd (let no : ⊥ = omega arith in no)
+    by_case (r ∷ rs) zero h =
+        ap (λ ys. text ys ++ run_text r) (nothing (r ∷ rs))
+        ∙ sym (append-nil (run_text r))
+        ∙ ap (λ ys. run_text r ++ flat_map sep ys) (sym (nothing rs))
+    by_case (r ∷ rs) (suc i) h =
+        let some : (suc i == 0) ≡ false = grind (arith, nat_tests) in
+        ap (λ b. text (r ∷ take i rs) ++ cond b (run_text (get_or rs i no_run)) (sep (get_or rs i no_run))) some
+        ∙ append_assoc (run_text r) (flat_map sep (take i rs)) (sep (get_or rs i no_run))
+        ∙ ap (λ w. run_text r ++ (flat_map sep (take i rs) ++ w)) (sym (append-nil (sep (get_or rs i no_run))))
+        ∙ ap (λ w. run_text r ++ w) (sym (flat_map-append sep (take i rs) (get_or rs i no_run ∷ [])))
+        ∙ ap (λ ys. run_text r ++ flat_map sep ys) (sym (take-suc rs i no_run (omega arith)))
+
+-- ---- a page more
+
+-- a run of one page
+abbrev alone : ℕ → Run
+alone page = record { first = page; last = page }
+
+-- a run that ends with this page
+abbrev to : ℕ → Run → Run
+to page r = record r { last = page }
+
+-- a page after some runs: part of the last, where it comes next, and else a run of its own
+abbrev run_after : ℕ → List Run → List Run
+run_after page [] = alone page ∷ []
+run_after page (r ∷ []) = if page == r.last + 1 then to page r ∷ [] else r ∷ alone page ∷ []
+run_after page (r ∷ s ∷ rs) = r ∷ run_after page (s ∷ rs)
+
+-- a page before and a page after, in either order
+before-after : (q p : ℕ) (rs : List Run) → run_before q (run_after p rs) ≡ run_after p (run_before q rs)
+before-after q p [] = refl
+before-after q p (r ∷ []) = by_case (p == r.last + 1) (r.first == q + 1) refl refl
+  where
+    by_case : (b c : Bool) → (p == r.last + 1) ≡ b → (r.first == q + 1) ≡ c
+        → run_before q (cond b (to p r ∷ []) (r ∷ alone p ∷ [])) ≡ run_after p (cond c (record { first = q; last = r.last } ∷ []) (alone q ∷ r ∷ []))
+    by_case true true e f = rw (e, f) refl
+    by_case true false e f = rw (e, f) refl
+    by_case false true e f = rw (e, f) refl
+    by_case false false e f = rw (e, f) refl
+before-after q p (r ∷ s ∷ rs) = by_case (r.first == q + 1) refl
+  where
+    by_case : (c : Bool) → (r.first == q + 1) ≡ c
+        → cond c (record { first = q; last = r.last } ∷ run_after p (s ∷ rs)) (alone q ∷ r ∷ run_after p (s ∷ rs))
+        ≡ run_after p (cond c (record { first = q; last = r.last } ∷ s ∷ rs) (alone q ∷ r ∷ s ∷ rs))
+    by_case true f = refl
+    by_case false f = refl
+
+runs_more : (pages : List ℕ) (p : ℕ) → runs (pages ++ p ∷ []) ≡ run_after p (runs pages)
+runs_more [] p = refl
+runs_more (q ∷ pages) p = ap (run_before q) (runs_more pages p) ∙ before-after q p (runs pages)
+
+-- the last page of some runs, and page d where there is none
+abbrev last_page : ℕ → List Run → ℕ
+last_page d [] = d
+last_page d (r ∷ rs) = last_page r.last rs
+
+last-after : (d p : ℕ) (rs : List Run) → last_page d (run_after p rs) ≡ p
+last-after d p [] = refl
+last-after d p (r ∷ []) = by_case (p == r.last + 1)
+  where
+    by_case : (b : Bool) → last_page d (cond b (to p r ∷ []) (r ∷ alone p ∷ [])) ≡ p
+    by_case true = refl
+    by_case false = refl
+last-after d p (r ∷ s ∷ rs) = last-after r.last p (s ∷ rs)
+
+-- where it comes next, the last run changes
+after-next : (d p : ℕ) (r : Run) (rs : List Run) → (p == last_page d (r ∷ rs) + 1) ≡ true → run_after p (r ∷ rs) ≡ changed_at (to p) (length rs) (r ∷ rs)
+after-next d p r [] e = ap (λ b. cond b (to p r ∷ []) (r ∷ alone p ∷ [])) e
+after-next d p r (s ∷ rs) e = ap (λ l. r ∷ l) (after-next r.last p s rs e)
+
+-- else there is one more
+after-other : (d p : ℕ) (r : Run) (rs : List Run) → (p == last_page d (r ∷ rs) + 1) ≡ false → run_after p (r ∷ rs) ≡ (r ∷ rs) ++ alone p ∷ []
+after-other d p r [] e = ap (λ b. cond b (to p r ∷ []) (r ∷ alone p ∷ [])) e
+after-other d p r (s ∷ rs) e = ap (λ l. r ∷ l) (after-other r.last p s rs e)
+
+-- ---- runs that are kept
+
+-- the last run with a page more, and a run more
+abbrev with_grown : Runs → ℕ → Runs
+with_grown r p = record { kept = run_grown r p; count = r.count; last = p }
+
+abbrev with_begun : Runs → ℕ → Runs
+with_begun r p = record { kept = run_begun r p; count = counted (r.count + 1); last = p }
+
+-- of these runs the first ten are kept
+record AreKept (rs : List Run) (r : Runs) : Type 0 where
+  kept : take r.count r.kept ≡ take 10 rs
+  room : length r.kept ≡ 10
+  count : r.count ≡ counted (length rs)
+  last : r.last ≡ last_page 0 rs
+
+none_kept : AreKept [] no_runs
+none_kept = record { kept = refl; room = refl; count = refl; last = refl }
+
+module _ (rs : List Run) (r : Runs) (p : ℕ) (is : AreKept rs r) where
+  -- a run more
+  begun : run_after p rs ≡ rs ++ alone p ∷ [] → AreKept (run_after p rs) (with_begun r p)
+  begun e = record {
+    kept = by_case (nat_lt r.count 10) refl ∙ ap (take 10) (sym e);
+    room = by_room (nat_lt r.count 10);
+    count = let l = length-append rs (alone p ∷ []) in let c = is.count in let m = ap length e in omega (arith, l, c, m);
+    last = sym (last-after 0 p rs);
+  }
+    where
+      by_room : (b : Bool) → length (cond b (set r.kept r.count (alone p)) r.kept) ≡ 10
+      by_room true = length-set r.kept r.count (alone p) ∙ is.room
+      by_room false = is.room
+
+      by_case : (b : Bool) → nat_lt r.count 10 ≡ b → take (counted (r.count + 1)) (cond b (set r.kept r.count (alone p)) r.kept) ≡ take 10 (rs ++ alone p ∷ [])
+      by_case true t =
+          let few : r.count < 10 = grind (arith, nat_tests, t) in
+          let c = is.count in
+          let m = is.room in
+          let same : length rs ≡ r.count = omega (arith, few, c) in
+          let next : counted (r.count + 1) ≡ r.count + 1 = omega (arith, few) in
+          let l = length-append rs (alone p ∷ []) in
+          ap (λ n. take n (set r.kept r.count (alone p))) next
+          ∙ take_more_set r.kept r.count (alone p) (omega (arith, few, m))
+          ∙ ap (λ ys. ys ++ alone p ∷ []) (is.kept ∙ take_all 10 rs (omega (arith, few, same)))
+          ∙ sym (take_all 10 (rs ++ alone p ∷ []) (omega (arith, few, same, l)))
+      by_case false t =
+          let many : 10 ≤ r.count = grind (arith, nat_tests, t) in
+          let c = is.count in
+          let m = is.room in
+          take_all (counted (r.count + 1)) r.kept (omega (arith, many, m))
+          ∙ sym (take_all r.count r.kept (omega (arith, many, m)))
+          ∙ is.kept
+          ∙ sym (take-append-le 10 rs (alone p ∷ []) (omega (arith, many, c)))
+
+  -- the last run with a page more
+  grown : (n : ℕ) → length rs ≡ suc n → run_after p rs ≡ changed_at (to p) n rs → AreKept (run_after p rs) (with_grown r p)
+  grown n s e = record {
+    kept = by_case (nat_le r.count 10) refl ∙ ap (take 10) (sym e);
+    room = by_room (nat_le r.count 10);
+    count = is.count ∙ ap counted (sym (changed-length (to p) n rs) ∙ ap length (sym e));
+    last = sym (last-after 0 p rs);
+  }
+    where
+      by_room : (b : Bool) → length (cond b (set r.kept (r.count - 1) (to p (get_or r.kept (r.count - 1) no_run))) r.kept) ≡ 10
+      by_room true = length-set r.kept (r.count - 1) (to p (get_or r.kept (r.count - 1) no_run)) ∙ is.room
+      by_room false = is.room
+
+      by_case : (b : Bool) → nat_le r.count 10 ≡ b
+          → take r.count (cond b (set r.kept (r.count - 1) (to p (get_or r.kept (r.count - 1) no_run))) r.kept) ≡ take 10 (changed_at (to p) n rs)
+      by_case true t =
+          let few : r.count ≤ 10 = grind (arith, nat_tests, t) in
+          let c = is.count in
+          let m = is.room in
+          let same : r.count - 1 ≡ n = omega (arith, few, c, s) in
+          ap (take r.count) (sym (changed-set (to p) (r.count - 1) r.kept no_run (omega (arith, few, m, c, s))))
+          ∙ take-changed (to p) r.count (r.count - 1) r.kept
+          ∙ ap₂ (changed_at (to p)) same is.kept
+          ∙ sym (take-changed (to p) 10 n rs)
+      by_case false t =
+          let many : 10 < r.count = grind (arith, nat_tests, t) in
+          let c = is.count in
+          let l = length-take 10 rs in
+          is.kept
+          ∙ sym (changed-past (to p) n (take 10 rs) (omega (arith, many, c, s, l)))
+          ∙ sym (take-changed (to p) 10 n rs)
+
+kept_more : (rs : List Run) (r : Runs) (p : ℕ) → AreKept rs r → AreKept (run_after p rs) (run_added r p)
+kept_more [] r p is = by_case (is_next r p) first
+  where
+    first : is_next r p ≡ false
+    first = ap (λ n. nat_lt 0 n && (p == r.last + 1)) is.count
+
+    by_case : (b : Bool) → b ≡ false
+        → AreKept (run_after p []) (cond b (with_grown r p) (with_begun r p))
+    by_case true e = absurd (let no : ⊥ = cc in no)
+    by_case false e = begun [] r p is refl
+kept_more (s ∷ rs) r p is = by_case (p == last_page 0 (s ∷ rs) + 1) refl
+  where
+    some : nat_lt 0 r.count ≡ true
+    some = let c = is.count in grind (arith, nat_tests, c)
+
+    next : (b : Bool) → (p == last_page 0 (s ∷ rs) + 1) ≡ b → is_next r p ≡ b
+    next b e = ap₂ (λ c l. c && (p == l + 1)) some is.last ∙ e
+
+    by_next : (b c : Bool) → c ≡ b
+        → AreKept (run_after p (s ∷ rs)) (cond b (with_grown r p) (with_begun r p))
+        → AreKept (run_after p (s ∷ rs)) (cond c (with_grown r p) (with_begun r p))
+    by_next b c e k =
+        subst (λ c. AreKept (run_after p (s ∷ rs)) (cond c (with_grown r p) (with_begun r p))) (sym e) k
+
+    by_case : (b : Bool) → (p == last_page 0 (s ∷ rs) + 1) ≡ b → AreKept (run_after p (s ∷ rs)) (run_added r p)
+    by_case true e = by_next true (is_next r p) (next true e) (grown (s ∷ rs) r p is (length rs) refl (after-next 0 p s rs e))
+    by_case false e = by_next false (is_next r p) (next false e) (begun (s ∷ rs) r p is (after-other 0 p s rs e))
+
+-- ---- the faults that belong to one
+
+abbrev pages_of : List Reported → List ℕ
+pages_of = map (λ x. x.fault.page)
+
+abbrev cells_in : List Reported → ℕ
+cells_in = sum_by (λ x. cells_of x.cause)
+
+-- This is kept of these faults.
+record AreOf (xs : List Reported) (o : Others) : Type 0 where
+  count : o.count ≡ counted (length xs)
+  place : (x : Reported) → last_or None xs ≡ Some x → (o.page ≡ x.fault.page) × (o.item ≡ x.fault.item)
+  runs : AreKept (runs (pages_of xs)) o.runs
+  cells : o.cells ≡ counted (cells_in xs)
+
+last-push : (o : Option Reported) (xs : List Reported) (x : Reported) → last_or o (xs ++ x ∷ []) ≡ Some x
+last-push o [] x = refl
+last-push o (y ∷ ys) x = last-push (Some y) ys x
+
+last-exists : (y : Reported) (ys : List Reported) → (x : Reported) × (last_or (Some y) ys ≡ Some x)
+last-exists y [] = (y, refl)
+last-exists y (z ∷ zs) = last-exists z zs
+
+-- one more
+others_more : (xs : List Reported) (o : Others) (x : Reported) → AreOf xs o → AreOf (xs ++ x ∷ []) (others_added o x)
+others_more xs o x is = record {
+  count = let l = length-append xs (x ∷ []) in let c = is.count in omega (arith, l, c);
+  place = λ y e.
+      let q : x ≡ y = let f : Some x ≡ Some y = sym (last-push None xs x) ∙ e in cc in
+      (ap (λ (z : Reported). z.fault.page) q, ap (λ (z : Reported). z.fault.item) q);
+  runs = subst (λ rs. AreKept rs (run_added o.runs x.fault.page))
+      (sym (ap runs (map-append (λ (z : Reported). z.fault.page) xs (x ∷ [])) ∙ runs_more (pages_of xs) x.fault.page))
+      (kept_more (runs (pages_of xs)) o.runs x.fault.page is.runs);
+  cells =
+      let l = sum_by-append (λ (z : Reported). cells_of z.cause) xs (x ∷ []) in
+      let c = is.cells in omega (arith, l, c);
+}
+
+others_all : (xs ys : List Reported) (o : Others) → AreOf xs o → AreOf (xs ++ ys) (fold others_added o ys)
+others_all xs [] o is = subst (λ zs. AreOf zs o) (sym (append-nil xs)) is
+others_all xs (y ∷ ys) o is =
+    subst (λ zs. AreOf zs (fold others_added (others_added o y) ys)) (append_assoc xs (y ∷ []) ys)
+    (others_all (xs ++ y ∷ []) ys (others_added o y) (others_more xs o y is))
+
+others_kept : (ys : List Reported) (k : Entry) → (fold entry_added k ys).others ≡ fold others_added k.others ys
+others_kept [] k = refl
+others_kept (y ∷ ys) k = others_kept ys (entry_added k y)
+
+-- what is kept of those of an entry
+others_are : (e : listing.Entry) → AreOf e.others (kept_of e).others
+others_are e =
+    subst (AreOf e.others) (sym (others_kept e.others (entry_of e.first)))
+    (others_all [] e.others (entry_of e.first).others (record {
+      count = refl;
+      place = λ x q. absurd (let no : ⊥ = cc in no);
+      runs = none_kept;
+      cells = refl;
+    }))
+
+-- ---- their line
+
+text_is : (c : Cause) (xs : List Reported) (x : Reported) (o : Others) → AreOf xs o → last_or None xs ≡ Some x → kept_text c o ≡ belonging_text c xs x
+text_is c xs x o is e = by_cause c
+  where
+    by_place : last_text o.count o.page o.item ≡ last_text (counted (length xs)) x.fault.page x.fault.item
+    by_place =
+        let p = is.place x e in
+        ap (λ n. last_text n o.page o.item) is.count
+        ∙ ap₂ (last_text (counted (length xs))) p.0 p.1
+
+    by_cause : (c : Cause) → kept_text c o ≡ belonging_text c xs x
+    by_cause (cause.Look l) =
+        ap₂ (λ n m. alike_text l n m ++ shown_runs_text (take o.runs.count o.runs.kept) (o.runs.count - 10)) is.count is.cells
+        ∙ ap₂ (λ rs n. alike_text l (counted (length xs)) (counted (cells_in xs)) ++ shown_runs_text rs (n - 10)) is.runs.kept is.runs.count
+    by_cause _ = by_place
+
+pub line_is : (e : listing.Entry) → kept_line (kept_of e).first.cause (kept_of e).others ≡ others_text e
+line_is e = by_case e.others (others_are e) ∙ same
+  where
+    line : List Reported → List ℕ
+    line xs = option_map_or (λ x. indented (belonging_text (kept_of e).first.cause xs x)) (last_or None xs) []
+
+    same : line e.others ≡ others_text e
+    same =
+        ap (λ (f : Reported). option_map_or (λ x. indented (belonging_text f.cause e.others x)) (last_or None e.others) [])
+        (first_kept e.others (entry_of e.first))
+
+    by_case : (xs : List Reported) → AreOf xs (kept_of e).others → kept_line (kept_of e).first.cause (kept_of e).others ≡ line xs
+    by_case [] is = ap (λ n. cond (n == 0) [] (indented (kept_text (kept_of e).first.cause (kept_of e).others))) is.count
+    by_case (y ∷ ys) is =
+        let last = last-exists y ys in
+        let c = is.count in
+        let some : ((kept_of e).others.count == 0) ≡ false = grind (arith, nat_tests, c) in
+        ap (λ b. cond b [] (indented (kept_text (kept_of e).first.cause (kept_of e).others))) some
+        ∙ ap indented (text_is (kept_of e).first.cause (y ∷ ys) last.0 (kept_of e).others is last.1)
+        ∙ sym (ap (λ o. option_map_or (λ x. indented (belonging_text (kept_of e).first.cause (y ∷ ys) x)) o []) last.1)

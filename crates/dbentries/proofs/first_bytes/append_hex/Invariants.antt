@@ -1,8 +1,0 @@
-use Rattle.std.proofs.Common.{◌≡◌, ◌+◌, ◌*◌, ◌++◌, length, take}
-use Rattle.std.specs.List.{flat_map}
-use Rattle.dbentries.specs.Lines.{hex_column}
-use Rattle.dbentries.proofs.first_bytes.append_hex.Given as goal
-
-abbrev pub invariant-loop-byte : goal.invariant-loop-byte
-invariant-loop-byte g l =
-    (l.line.items ≡ l.initial.line.items ++ flat_map hex_column (take l.byte-index l.bytes)) × (length l.line.items ≡ length l.initial.line.items + 3 * l.byte-index)

@@ -1,0 +1,26 @@
+-- The lines of an entry, by the pieces that are put.
+use Rattle.std.proofs.Common.{◌≡◌, ℕ, List, [], ◌++◌, Result, refl, append-nil}
+use Rattle.dbformat.specs.Reference.{Reference}
+use Rattle.dbtrace.specs.declared.Cause.{Cause}
+use Rattle.dbtrace.specs.declared.Cause.TheVariants as cause
+use Rattle.dbsource.specs.Failures.{failures_after, is_any}
+use Rattle.dbsource.specs.Outs.{OutState, Puts, Writes}
+use Rattle.dbentries.specs.Lines.{cause_text}
+use Rattle.dbexplain.specs.Below.{place_line}
+use Rattle.dbexplain.specs.Explained.{cause_lines}
+
+-- what comes after the line of the cause
+abbrev pub after_cause : List ℕ → List Reference → Cause → List ℕ
+after_cause file V (cause.Key k) = place_line file V k.page
+after_cause file V _ = []
+
+pub cause_parts : (file : List ℕ) (V : List Reference) (c : Cause) → cause_text c ++ after_cause file V c ≡ cause_lines file V c
+cause_parts file V (cause.Key k) = refl
+cause_parts file V cause.Itself = refl
+cause_parts file V (cause.Leaf page) = append-nil (cause_text (cause.Leaf page))
+cause_parts file V (cause.Chain c) = append-nil (cause_text (cause.Chain c))
+cause_parts file V (cause.Look l) = append-nil (cause_text (cause.Look l))
+
+-- a put, by what was written and how often the Out failed
+pub put_by : {A E : Type 0} (r : Result A E) (o n : OutState) (text : List ℕ) → Writes r o.bytes n.bytes text → n.failures ≡ failures_after is_any r o.failures → Puts r o n text
+put_by r o n text held count = record { held = held; count = count }

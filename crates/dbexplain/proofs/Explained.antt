@@ -1,0 +1,178 @@
+-- What a run of `explain` leaves of a file that is read.
+use Rattle.std.proofs.Common.{◌≡◌, ◌⊎◌, ℕ, zero, suc, List, [], Ok, Err, None, Result, inl, inr, refl, sym, ap, subst, ◌∙◌}
+use Rattle.std.specs.Prelude.{◌↔◌, IfErr, IfOk}
+use Rattle.dbformat.specs.File.{geometry, refusal}
+use Rattle.dbformat.specs.Reference.{Reference}
+use Rattle.dbformat.specs.Report.{Report, faults, verdict}
+use Rattle.dbformat.specs.Sound.{Sound}
+use Rattle.dbformat.specs.Survey.{Survey, survey}
+use Rattle.dbformat.specs.declared.Command.TheVariants.{Check}
+use Rattle.dbformat.specs.declared.Verdict.{Verdict}
+use Rattle.dbformat.specs.declared.Verdict.TheVariants.{Clean}
+use Rattle.dbformat.proofs.Theory.{one_survey}
+use Rattle.dbsound.proofs.Soundness.{sound_by_verdict}
+use Rattle.dbsource.specs.Errors.{is_write_failed}
+use Rattle.dbsource.specs.Failures.{failures_after, is_any, one_more}
+use Rattle.dbsource.specs.Outs.{OutState, Writes}
+use Rattle.dbsource.specs.declared.error.RunError.{RunError}
+use Rattle.dbsource.specs.declared.error.RunError.TheVariants.{Refused, ReadFailed, OutOfMemory, WriteFailed}
+use Rattle.dbsource.specs.declared.out.Out.{Ghosts as OutWords}
+use Rattle.dbsource.specs.declared.source.Source.{Ghosts as SourceWords}
+use Rattle.dbsource.proofs.Beginnings.{begins_nothing}
+use Rattle.dbsource.proofs.Puts.{appends_nothing}
+use Rattle.dbentries.specs.Listing.{entries}
+use Rattle.dbentries.specs.Woven.{woven}
+use Rattle.dbentries.proofs.Weaving.{keeps_first}
+use Rattle.dbwalk.specs.Telling.{IsReadWriteOrMemory}
+use Rattle.dbscan.specs.Finishes.{Leaves}
+use Rattle.dbreport.specs.Runs.{FailsOnce, IsAnswerOf}
+use Rattle.dbreport.proofs.RunAnswers.{if_ok, read_answer}
+use Rattle.dbreport.proofs.RunReports.{check_answer}
+use Rattle.dbexplain.specs.Explained.{explain_report, explain_text, found_text, listed, lost_faults, other_faults}
+use Rattle.dbexplain.specs.Keeping.{HasFound, IsEmpty}
+use Rattle.dbexplain.specs.Reporting.{Ends, Hears, IsLeft, LeavesExplained, Never, PutsLines}
+use Rattle.dbexplain.specs.Runs.{ExplainFails, IsExplained, OutFailures, PutsFound, WritesReport}
+use Rattle.dbexplain.specs.declared.reporter.ExplainReporter.{ExplainReporter}
+use Rattle.dbexplain.proofs.Left.{is_left}
+use Rattle.dbexplain.proofs.Reports.{all_lost}
+
+-- ---- the report of a file that is read
+
+module _ (limit : ℕ) (file : List ℕ) (V : List Reference) (read : refusal file ≡ None) where
+  abbrev read_report : Report
+  read_report = record { out = explain_text limit file V (listed file V); err = []; answer = Ok (verdict (faults file V)) }
+
+  explain_is : explain_report limit file V ≡ read_report
+  unfolding explain_report
+  explain_is = rw read refl
+
+  out_is : explain_text limit file V (listed file V) ≡ (explain_report limit file V).out
+  out_is = sym (ap (λ (r : Report). r.out) explain_is)
+
+  answer_is : (v : Verdict) → v ≡ verdict (faults file V) → (explain_report limit file V).answer ≡ Ok v
+  answer_is v e = ap (λ (r : Report). r.answer) explain_is ∙ ap Ok (sym e)
+
+-- its verdict is that of a check
+explain_sound : (limit : ℕ) (file : List ℕ) → refusal file ≡ None → (v : Verdict) → (explain_report limit file (survey file)).answer ≡ Ok v → v ≡ Clean ↔ Sound file
+explain_sound limit file read v e =
+    let V = survey file in
+    sound_by_verdict file (Check limit) V (one_survey file).0 v
+    (check_answer limit file V read (verdict (faults file V)) refl ∙ sym (answer_is limit file V read (verdict (faults file V)) refl) ∙ e)
+
+-- ---- by what a run leaves of the reporter, and then the lines after a failed read
+
+module _ {A O : Type 0} (held : O → OutState) (file : List ℕ) (V : List Reference) (read : refusal file ≡ None) (first now after : ExplainReporter A O) where
+  abbrev limit : ℕ
+  limit = first.kept.now.entries.limit
+
+  found_put : IsLeft held file V (Err ReadFailed) first now → PutsLines held now after → PutsFound limit file V (held first.out.now) (held after.out.now)
+  found_put k lines =
+      let found : HasFound file V now.kept.now = k.1 in
+      let text = λ (n : ℕ). found_text n (woven (entries found.told) (entries found.lost)) in
+      let put = lines.lines (entries found.told) (entries found.lost) (keeps_first (entries found.told) now.kept.now.entries found.told_listed)
+      (all_lost file V found.lost now.kept.now.lost found.lost_first found.lost_listed found.most_lost) in record {
+        text = text limit;
+        found = record { told = found.told; lost = found.lost; told_first = found.told_first; lost_first = found.lost_first; lines = refl };
+        answer = lines.put;
+        put = record {
+          held = subst (λ o. Writes lines.put (held o).bytes (held after.out.now).bytes (text limit)) k.0
+              (subst (λ n. Writes lines.put (held now.out.now).bytes (held after.out.now).bytes (text n)) k.2 put);
+          count = lines.count ∙ ap (λ o. failures_after is_any lines.put (held o).failures) k.0;
+        };
+      }
+
+  -- at any other answer nothing is put after the run
+  as_left : (r : Result Verdict RunError) → Writes r (held first.out.now).bytes (held now.out.now).bytes (explain_text limit file V (listed file V)) → after.out.now ≡ now.out.now
+      → Writes r (held first.out.now).bytes (held after.out.now).bytes (explain_report limit file V).out
+  as_left r w e =
+      subst (λ o. Writes r (held first.out.now).bytes (held o).bytes (explain_report limit file V).out) (sym e)
+      (subst (Writes r (held first.out.now).bytes (held now.out.now).bytes) (out_is limit file V read) w)
+
+  written : (r : Result Verdict RunError) → IsLeft held file V r first now → Ends held r now after → WritesReport limit file V r (held first.out.now) (held after.out.now)
+  written (Ok v) k e = as_left (Ok v) k.0 e
+  written (Err ReadFailed) k e = found_put k e
+  written (Err WriteFailed) k e = as_left (Err WriteFailed) k e
+  written (Err OutOfMemory) k e = as_left (Err OutOfMemory) k e
+  written (Err (Refused x)) k e = as_left (Err (Refused x)) k e
+
+  found : (r : Result Verdict RunError) → IsLeft held file V r first now → IfOk r (λ v. (explain_report limit file V).answer ≡ Ok v)
+  found (Ok v) k = answer_is limit file V read v k.1
+  found (Err e) k = tt
+
+  pub explained : (r : Result Verdict RunError) (old new : O) (n : ℕ) → Survey file V → IsEmpty limit (geometry file) first.kept.now → limit ≡ n → first.out.now ≡ old → new ≡ after.out.now
+      → Leaves Hears Never (LeavesExplained held) file V r first now → Ends held r now after
+      → WritesReport n file V r (held old) (held new) × IfOk r (λ v. (explain_report n file V).answer ≡ Ok v)
+  explained r old new n survey empty most begun ended left ends =
+      let k = is_left held file V survey first now empty r left in
+      let P : ℕ → Type 0 = λ n. WritesReport n file V r (held old) (held new) × IfOk r (λ v. (explain_report n file V).answer ≡ Ok v) in
+      subst P most (
+        subst (λ o. WritesReport limit file V r (held old) (held o)) (sym ended) (subst (λ o. WritesReport limit file V r (held o) (held after.out.now)) begun (written r k ends)),
+        found r k,
+      )
+
+-- ---- how often the Out failed
+
+after_lines : {E : Type 0} (r : Result (Unit {0}) E) (a b : ℕ) → b ≡ failures_after is_any r a → (b ≡ a) ⊎ (b ≡ one_more a)
+after_lines (Ok u) a b e = inl e
+after_lines (Err x) a b e = inr e
+
+module _ {A O : Type 0} (held : O → OutState) (now after : ExplainReporter A O) where
+  pub out_failures : (r : Result Verdict RunError) (a : ℕ) → (held now.out.now).failures ≡ failures_after is_write_failed r a → Ends held r now after
+      → OutFailures r a (held after.out.now).failures
+  out_failures (Ok v) a e k = ap (λ o. (held o).failures) k ∙ e
+  out_failures (Err ReadFailed) a e k = let l = after_lines k.put (held now.out.now).failures (held after.out.now).failures k.count in
+      let P : ℕ → Type 0 = λ m. ((held after.out.now).failures ≡ m) ⊎ ((held after.out.now).failures ≡ one_more m) in subst P e l
+  out_failures (Err WriteFailed) a e k = ap (λ o. (held o).failures) k ∙ e
+  out_failures (Err OutOfMemory) a e k = ap (λ o. (held o).failures) k ∙ e
+  out_failures (Err (Refused x)) a e k = ap (λ o. (held o).failures) k ∙ e
+
+-- ---- what a run leaves of a file
+
+-- the file was read
+pub is_explained : (limit : ℕ) (file : List ℕ) (r : Result Verdict RunError) (old new : OutState) → IfErr r IsReadWriteOrMemory → refusal file ≡ None
+    → ((V : List Reference) → Survey file V → WritesReport limit file V r old new × IfOk r (λ v. (explain_report limit file V).answer ≡ Ok v)) → IsExplained limit file r old new
+is_explained limit file r old new only read told = record {
+  survey = (one_survey file).0;
+  written = λ V s. (told V s).0;
+  verdict = λ V s. (told V s).1;
+  answer = read_answer file r only read;
+  sound = if_ok r (explain_sound limit file read) (told (survey file) (one_survey file).0).1;
+}
+
+-- there was no run
+pub not_explained : (limit : ℕ) (file : List ℕ) (e : RunError) (out : OutState) → IsAnswerOf {A = Verdict} (Err e) file → IsExplained limit file (Err e) out out
+not_explained limit file e out answer = record {
+  survey = (one_survey file).0;
+  written = λ V s. unwritten V e;
+  verdict = λ V s. tt;
+  answer = answer;
+  sound = tt;
+}
+  where
+    none : (n : ℕ) → [] ≡ found_text n []
+    none zero = refl
+    none (suc n) = refl
+
+    unwritten : (V : List Reference) (e : RunError) → WritesReport limit file V (Err e) out out
+    unwritten V ReadFailed = record {
+      text = [];
+      found = record {
+        told = [];
+        lost = [];
+        told_first = (other_faults file V, refl);
+        lost_first = (lost_faults file V, refl);
+        lines = none limit;
+      };
+      answer = Ok tt;
+      put = record { held = appends_nothing out.bytes; count = refl };
+    }
+    unwritten V WriteFailed = begins_nothing out.bytes (explain_report limit file V).out
+    unwritten V OutOfMemory = begins_nothing out.bytes (explain_report limit file V).out
+    unwritten V (Refused x) = begins_nothing out.bytes (explain_report limit file V).out
+
+-- before a run the Out does not fail once more than is answered
+pub failed_before : {S O : Type 0} (source : SourceWords S) (out : OutWords O) (e : RunError) {old new : S × O} → FailsOnce source out (Err e) old new → ExplainFails source out (Err e) old new
+failed_before source out ReadFailed k = record { reads = k.reads; writes = inl k.writes }
+failed_before source out WriteFailed k = record { reads = k.reads; writes = k.writes }
+failed_before source out OutOfMemory k = record { reads = k.reads; writes = k.writes }
+failed_before source out (Refused x) k = record { reads = k.reads; writes = k.writes }

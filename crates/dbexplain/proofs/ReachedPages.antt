@@ -1,0 +1,135 @@
+-- A tally with one page more.
+use Rattle.std.proofs.Common.{◌≡◌, ℕ, zero, suc, ◌+◌, ◌-◌, ◌^◌, ◌<◌, ◌≤◌, Bool, true, false, cond, ◌&&◌, List, [], min, Option, Some, None, refl, sym, ap, ap₂, ◌∙◌, arith}
+use Rattle.std.specs.Prelude.{count_by, slice_get, slice_set, slice_index_or, ◌==◌}
+use Rattle.std.specs.List.{range_with_len}
+use Rattle.std.specs.Option.{option_map_or}
+use Rattle.std.proofs.lemmas.Bool.{eqb-true}
+use Rattle.std.proofs.lemmas.Bool.Decides.{nat_tests}
+use Rattle.std.proofs.lemmas.List.FromFn.{length-range_with_len}
+use Rattle.std.proofs.lemmas.List.Sums.{count_by-le-length}
+use Rattle.std.proofs.lemmas.Option.{get_or_from_slice_get, slice_get_within}
+use Rattle.dbsurvey.proofs.Lists.{count_more}
+use Rattle.dbformat.specs.Address.{freelist_start}
+use Rattle.dbformat.specs.FixedPages.{most_pages}
+use Rattle.dbformat.specs.Lines.{counted}
+use Rattle.dbformat.specs.Reference.{Reference}
+use Rattle.dbtrace.specs.declared.Reported.{Reported}
+use Rattle.dbowner.specs.Owners.{start_at}
+use Rattle.dbowner.proofs.Slots.{get_set, get_set_other}
+use Rattle.dbexplain.specs.Summary.{start_count, is_reached}
+use Rattle.dbexplain.specs.Tallies.{Tallied, IsTallyOf, IsTallyTo, HasRoom, counted_start, has_bit, is_told, no_count, one_page}
+use Rattle.dbexplain.specs.TallySteps.{reached_counted}
+use Rattle.dbexplain.specs.declared.tally.StartCount.{StartCount}
+
+-- ---- counts along a range
+
+range_more : (p : ℕ → Bool) (a n j : ℕ) → a + n ≡ j → count_by p (range_with_len a (suc n)) ≡ count_by p (range_with_len a n) + cond (p j) 1 0
+range_more p a zero j e =
+    let same : a ≡ j = omega arith in
+    let c = count_more p a [] in c ∙ ap (λ i. cond (p i) 1 0 + 0) same ∙ (let f : cond (p j) 1 0 + 0 ≡ 0 + cond (p j) 1 0 = omega arith in f)
+range_more p a (suc n) j e =
+    let deeper = range_more p (a + 1) n j (omega arith) in
+    let c = count_more p a (range_with_len (a + 1) (suc n)) in
+    let d = count_more p a (range_with_len (a + 1) n) in
+    omega (arith, deeper, c, d)
+
+pub at_most : (p : ℕ → Bool) (a n : ℕ) → count_by p (range_with_len a n) ≤ n
+at_most p a n = let b = count_by-le-length p (range_with_len a n) in let l = length-range_with_len a n in omega (arith, b, l)
+
+capped : (n m : ℕ) → n < most_pages → m ≡ n + 1 → min (n + 1) (2 ^ 32 - 1) ≡ m
+capped n m l e = omega arith
+
+module _ (V : List Reference) (ts : List Reported) (n : ℕ) (few : n < most_pages) where
+  abbrev p : ℕ
+  p = n + 1
+
+  abbrev both : ℕ → ℕ → Bool
+  both k q = is_reached V k q && is_told ts q
+
+  more : (f : ℕ → Bool) → count_by f (range_with_len 1 (n + 1)) ≡ count_by f (range_with_len 1 n) + cond (f p) 1 0
+  more f = ap (λ m. count_by f (range_with_len 1 m)) (let e : n + 1 ≡ suc n = omega arith in e) ∙ range_more f 1 n p (omega arith)
+
+  -- where the page was not reached from start k
+  same_start : (k : ℕ) → is_reached V k p ≡ false → counted_start V ts n k ≡ counted_start V ts (n + 1) k
+  same_start k off =
+      let a : count_by (is_reached V k) (range_with_len 1 n) ≡ count_by (is_reached V k) (range_with_len 1 (n + 1)) =
+      sym (more (is_reached V k) ∙ ap (λ b. count_by (is_reached V k) (range_with_len 1 n) + cond b 1 0) off ∙ none (count_by (is_reached V k) (range_with_len 1 n))) in
+      let b : count_by (both k) (range_with_len 1 n) ≡ count_by (both k) (range_with_len 1 (n + 1)) =
+      sym (more (both k) ∙ ap (λ b. count_by (both k) (range_with_len 1 n) + cond (b && is_told ts p) 1 0) off ∙ none (count_by (both k) (range_with_len 1 n))) in
+      ap₂ (λ x y. record { faults = counted (start_count ts k); reached = x; faulty = y }) a b
+    where
+      none : (m : ℕ) → m + 0 ≡ m
+      none m = omega arith
+
+  -- where it was
+  next_start : (k : ℕ) → is_reached V k p ≡ true → one_page (is_told ts p) (counted_start V ts n k) ≡ counted_start V ts (n + 1) k
+  next_start k on = ap₂ (λ x y. record { faults = counted (start_count ts k); reached = x; faulty = y }) reached (faulty (is_told ts p) refl)
+    where
+      reached : min (count_by (is_reached V k) (range_with_len 1 n) + 1) (2 ^ 32 - 1) ≡ count_by (is_reached V k) (range_with_len 1 (n + 1))
+      reached =
+          let l = at_most (is_reached V k) 1 n in
+          capped (count_by (is_reached V k) (range_with_len 1 n)) (count_by (is_reached V k) (range_with_len 1 (n + 1))) (omega (arith, l, few))
+          (more (is_reached V k) ∙ ap (λ b. count_by (is_reached V k) (range_with_len 1 n) + cond b 1 0) on)
+
+      faulty : (b : Bool) → is_told ts p ≡ b
+          → cond b (min (count_by (both k) (range_with_len 1 n) + 1) (2 ^ 32 - 1)) (count_by (both k) (range_with_len 1 n)) ≡ count_by (both k) (range_with_len 1 (n + 1))
+      faulty true e =
+          let l = at_most (both k) 1 n in
+          capped (count_by (both k) (range_with_len 1 n)) (count_by (both k) (range_with_len 1 (n + 1))) (omega (arith, l, few))
+          (more (both k) ∙ ap₂ (λ a b. count_by (both k) (range_with_len 1 n) + cond (a && b) 1 0) on e)
+      faulty false e =
+          sym (more (both k) ∙ ap₂ (λ a b. count_by (both k) (range_with_len 1 n) + cond (a && b) 1 0) on e ∙ (let f : count_by (both k) (range_with_len 1 n) + 0 ≡ count_by (both k) (range_with_len 1 n) = omega arith in f))
+
+  pub page_more : (t : Tallied) → IsTallyTo V ts n t → HasRoom t.pages p → IsTallyTo V ts (n + 1) (reached_counted (start_at V p) p t)
+  page_more t is room = by_start (start_at V p) refl
+    where
+      by_start : (o : Option ℕ) → start_at V p ≡ o → IsTallyTo V ts (n + 1) (reached_counted o p t)
+      by_start None e = record {
+        all = is.all;
+        codes = is.codes;
+        starts = λ k l. is.starts k l ∙ ap Some (same_start k (ap (λ o. option_map_or (λ j. j == k) o false) e));
+        whole = is.whole;
+        pages = is.pages;
+      }
+      by_start (Some j) e = record {
+        all = is.all;
+        codes = is.codes;
+        starts = λ k l. at_each k l (j == k) refl;
+        whole = is.whole;
+        pages = is.pages;
+      }
+        where
+          reached_is : (k : ℕ) → is_reached V k p ≡ (j == k)
+          reached_is k = ap (λ o. option_map_or (λ j. j == k) o false) e
+
+          new : StartCount
+          new = one_page (has_bit t.pages p) (slice_index_or t.starts j no_count)
+
+          at_each : (k : ℕ) → k ≤ freelist_start → (b : Bool) → (j == k) ≡ b → slice_get (slice_set t.starts j new) k ≡ Some (counted_start V ts (n + 1) k)
+          at_each k l true h =
+              let same : j ≡ k = eqb-true j k h in
+              let here : slice_get t.starts j ≡ Some (counted_start V ts n j) = is.starts j (omega arith) in
+              let v : slice_index_or t.starts j no_count ≡ counted_start V ts n j = get_or_from_slice_get t.starts j (counted_start V ts n j) no_count here in
+              let on : is_reached V j p ≡ true = reached_is j ∙ ap (λ i. j == i) same ∙ h in
+              ap (slice_get (slice_set t.starts j new)) (sym same)
+              ∙ get_set t.starts j new (slice_get_within t.starts j (counted_start V ts n j) here)
+              ∙ ap₂ (λ b c. Some (one_page b c)) (is.pages p room) v
+              ∙ ap Some (next_start j on)
+              ∙ ap (λ i. Some (counted_start V ts (n + 1) i)) same
+          at_each k l false h =
+              get_set_other t.starts j k new (λ e. let d : (j == k) ≡ true = grind (arith, nat_tests) in cc)
+              ∙ is.starts k l
+              ∙ ap Some (same_start k (reached_is k ∙ h))
+
+-- no page is counted yet
+pub no_page : (V : List Reference) (ts : List Reported) (t : Tallied) → IsTallyOf ts t → IsTallyTo V ts 0 t
+no_page V ts t is = record { all = is.all; codes = is.codes; starts = is.starts; whole = is.whole; pages = is.pages }
+
+-- there is room for the pages before the last
+pub room_before : (words : List ℕ) (p q : ℕ) → HasRoom words q → p ≤ q → HasRoom words p
+room_before words p q h l = omega (arith, h, l)
+
+-- words are as many
+pub same_words : (o : Option ℕ) (p : ℕ) (t : Tallied) → (reached_counted o p t).pages ≡ t.pages
+same_words None p t = refl
+same_words (Some k) p t = refl

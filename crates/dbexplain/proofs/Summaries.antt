@@ -1,0 +1,264 @@
+-- The summary by the counts of a tally is that of a file.
+use Rattle.std.proofs.Common.{◌≡◌, ℕ, zero, suc, ◌+◌, ◌<◌, ◌≤◌, inl, inr, Bool, true, false, cond, not, ◌&&◌, List, [], ◌∷◌, ◌++◌, length, map, take, Option, Some, None, refl, sym, ap, ap₂, subst, ◌∙◌, arith, append-nil, append_assoc}
+use Rattle.std.specs.Prelude.{codes, decimal, count_by, slice_get, ◌==◌}
+use Rattle.std.specs.List.{enumerate_from, flat_map, range_with_len}
+use Rattle.std.specs.Option.{option_map_or}
+use Rattle.std.proofs.lemmas.Bool.{and_parts, and_from, eqb-true, eq-eqb}
+use Rattle.std.proofs.lemmas.Bool.Decides.{nat_tests}
+use Rattle.std.proofs.lemmas.Grind.{flat_map-append}
+use Rattle.std.proofs.lemmas.List.FromFn.{length-map-range_with_len}
+use Rattle.std.proofs.lemmas.Option.{get_or_from_slice_get}
+use Rattle.dbsurvey.specs.Address.{IsIn}
+use Rattle.dbsurvey.specs.Survey.{Link}
+use Rattle.dbsurvey.proofs.Elements.{IsIn-from_range}
+use Rattle.dbsurvey.proofs.Lists.{any_one, any_true, count_more, count_none}
+use Rattle.dbsurvey.proofs.Order.{IsIn-cases}
+use Rattle.dbsurvey.proofs.Ordering.{IsIn-from_map}
+use Rattle.dbformat.specs.Address.{freelist_start, last_root_start}
+use Rattle.dbformat.specs.Codes.{all_codes}
+use Rattle.dbformat.specs.EndFaults.{page_numbers}
+use Rattle.dbformat.specs.File.{geometry}
+use Rattle.dbformat.specs.Header.{encoding, first_trunk}
+use Rattle.dbformat.specs.Lines.{code_text, code_words, counted, line_feed}
+use Rattle.dbformat.specs.Reference.{Way, Reference, trunk}
+use Rattle.dbformat.specs.Schema.{schema, schema_link, start, root_start, rooted_rows, freelist_starts, starts}
+use Rattle.dbformat.specs.SchemaRow.{SchemaRow}
+use Rattle.dbformat.specs.Survey.{Survey}
+use Rattle.dbformat.specs.declared.FaultCode.{FaultCode}
+use Rattle.dbformat.specs.declared.Encoding.{Encoding}
+use Rattle.dbformat.proofs.HeaderPrefix.{encoding_within}
+use Rattle.dbsource.specs.HeaderBytes.{HeaderBytes}
+use Rattle.dbsource.specs.Headers.{IsHeaderOf}
+use Rattle.dbowner.specs.Roots.{AreListed}
+use Rattle.dbtrace.specs.declared.Part.{Part}
+use Rattle.dbtrace.specs.declared.Part.TheVariants as part
+use Rattle.dbtrace.specs.declared.Reported.{Reported}
+use Rattle.dbowner.specs.Owners.{start_at}
+use Rattle.dbowner.proofs.RootPages.{starts_are}
+use Rattle.dbowner.proofs.Starts.{length_taken, rows_start}
+use Rattle.dbscan.specs.Placed.{told_faults}
+use Rattle.dbscan.proofs.Reached.{of_starts}
+use Rattle.dbexplain.specs.Summary.{aligned, code_count, code_line, count_text, faulty_pages, indented, is_faulty, is_reached, is_start, is_whole, listed_rows, pages_text, reached_pages, start_count, start_line, start_name, sum_line, summary, tree_count, trees_text, whole_count, whole_line, whole_trees}
+use Rattle.dbexplain.specs.Sums.{code_sum, freelist_count, numbered_sum, start_sum, summary_by, tree_counts, without_fault}
+use Rattle.dbexplain.specs.Tallies.{Tallied, IsTallyTo, counted_code, counted_start, is_told, no_count}
+use Rattle.dbexplain.specs.declared.tally.StartCount.{StartCount}
+
+-- ---- counts that stop
+
+twice : (n : ℕ) → counted (counted n) ≡ counted n
+twice n = omega arith
+
+is_zero : (n : ℕ) → (counted n == 0) ≡ (n == 0)
+is_zero n = grind (arith, nat_tests)
+
+is_one : (n : ℕ) → (counted n == 1) ≡ (n == 1)
+is_one n = grind (arith, nat_tests)
+
+sum_same : (a n : ℕ) (t : List ℕ) → sum_line (counted a) (counted n) t ≡ sum_line a n t
+sum_same a n t =
+    ap (λ b. cond b [] (indented (aligned (counted (counted a)) (counted (counted n)) ++ codes " " ++ t))) (is_zero n)
+    ∙ ap₂ (λ x y. cond (n == 0) [] (indented (aligned x y ++ codes " " ++ t))) (twice a) (twice n)
+
+count_same : (n : ℕ) → count_text (counted n) ≡ count_text n
+count_same n =
+    ap (λ b. decimal (counted (counted n)) ++ cond b (codes " fault") (codes " faults") ++ line_feed ∷ []) (is_one n)
+    ∙ ap (λ x. decimal x ++ cond (n == 1) (codes " fault") (codes " faults") ++ line_feed ∷ []) (twice n)
+
+codes_same : (ts : List Reported) (cs : List FaultCode) → flat_map (code_sum (counted (length ts))) (map (counted_code ts) cs) ≡ flat_map (code_line ts) cs
+codes_same ts [] = refl
+codes_same ts (c ∷ cs) = ap₂ (λ a b. a ++ b) (sum_same (length ts) (code_count ts c) (code_text c ++ codes " " ++ code_words c)) (codes_same ts cs)
+
+-- ---- counts of a list
+
+same_counts : {X : Type 0} (f g : X → Bool) (xs : List X) → ((x : X) → IsIn x xs → f x ≡ g x) → count_by f xs ≡ count_by g xs
+same_counts f g [] h = refl
+same_counts f g (x ∷ xs) h =
+    count_more f x xs ∙ ap₂ (λ b n. cond b 1 0 + n) (h x (inl refl)) (same_counts f g xs (λ y i. h y (inr i))) ∙ sym (count_more g x xs)
+
+count_mapped : {X Y : Type 0} (q : Y → Bool) (f : X → Y) (xs : List X) → count_by q (map f xs) ≡ count_by (λ x. q (f x)) xs
+count_mapped q f [] = refl
+count_mapped q f (x ∷ xs) = count_more q (f x) (map f xs) ∙ ap (λ n. cond (q (f x)) 1 0 + n) (count_mapped q f xs) ∙ sym (count_more (λ x. q (f x)) x xs)
+
+-- the first of a list, by what each is
+points : {X : Type 0} (f : ℕ → X) (a n : ℕ) (xs : List X) → ((k : ℕ) → k < n → slice_get xs k ≡ Some (f (a + k))) → take n xs ≡ map f (range_with_len a n)
+points f a zero xs h = refl
+points f a (suc n) [] h = absurd (let e : None ≡ Some (f (a + 0)) = h 0 (omega arith) in cc)
+points f a (suc n) (x ∷ xs) h =
+    let first : x ≡ f (a + 0) = (let e : Some x ≡ Some (f (a + 0)) = h 0 (omega arith) in cc) in
+    let same : a + 0 ≡ a = omega arith in
+    ap₂ (λ y ys. y ∷ ys) (first ∙ ap f same) (points f (a + 1) n xs (λ k l. h (suc k) (omega arith) ∙ ap (λ i. Some (f i)) (let e : a + suc k ≡ a + 1 + k = omega arith in e)))
+
+-- ---- tests
+
+same_tests : (a b : Bool) → (a ≡ true → b ≡ true) → (b ≡ true → a ≡ true) → a ≡ b
+same_tests true b f g = sym (f refl)
+same_tests false true f g = g refl
+same_tests false false f g = refl
+
+start_is : (k : ℕ) (p : Part) → is_start k p ≡ true → p ≡ part.Start k
+start_is k part.Header e = cc
+start_is k (part.Start j) e = ap part.Start (eqb-true j k e)
+start_is k part.End e = cc
+
+some_start : (p : Part) → not (is_whole p) ≡ true → (j : ℕ) × (p ≡ part.Start j)
+some_start part.Header e = cc
+some_start (part.Start j) e = (j, refl)
+some_start part.End e = cc
+
+reached_is : (k : ℕ) (o : Option ℕ) → option_map_or (λ j. j == k) o false ≡ true → o ≡ Some k
+reached_is k None e = cc
+reached_is k (Some j) e = ap Some (eqb-true j k e)
+
+module _ (file : List ℕ) (V : List Reference) (s : Survey file V) where
+  abbrev ts : List Reported
+  ts = told_faults file V
+
+  abbrev n : ℕ
+  n = (geometry file).pages
+
+  -- a page has a fault of start k where it was reached from there and has a fault of some start
+  page_same : (k p : ℕ) → 1 ≤ p → (is_reached V k p && is_told ts p) ≡ is_faulty ts k p
+  page_same k p above = same_tests (is_reached V k p && is_told ts p) (is_faulty ts k p) one other
+    where
+      at_page : (t : Reported) → IsIn t ts → (j : ℕ) → t.part ≡ part.Start j → t.fault.page ≡ p → start_at V p ≡ Some j
+      at_page t i j e f = ap (start_at V) (sym f) ∙ (of_starts file V s t i j e).reached (λ z. let x : ⊥ = omega (arith, f, z, above) in x)
+
+      one : (is_reached V k p && is_told ts p) ≡ true → is_faulty ts k p ≡ true
+      one e =
+          let parts = and_parts (is_reached V k p) (is_told ts p) e in
+          let t = any_one (λ (t : Reported). not (is_whole t.part) && (t.fault.page == p)) ts parts.1 in
+          let both = and_parts (not (is_whole t.0.part)) (t.0.fault.page == p) t.2 in
+          let j = some_start t.0.part both.0 in
+          let page : t.0.fault.page ≡ p = eqb-true t.0.fault.page p both.1 in
+          let here : start_at V p ≡ Some j.0 = at_page t.0 t.1 j.0 j.1 page in
+          let there : start_at V p ≡ Some k = reached_is k (start_at V p) parts.0 in
+          let same : j.0 ≡ k = cc in
+          any_true (λ (t : Reported). is_start k t.part && (t.fault.page == p)) ts t.0 t.1
+          (and_from (is_start k t.0.part) (t.0.fault.page == p) (ap (is_start k) j.1 ∙ eq-eqb j.0 k same) both.1)
+
+      other : is_faulty ts k p ≡ true → (is_reached V k p && is_told ts p) ≡ true
+      other e =
+          let t = any_one (λ (t : Reported). is_start k t.part && (t.fault.page == p)) ts e in
+          let both = and_parts (is_start k t.0.part) (t.0.fault.page == p) t.2 in
+          let at = start_is k t.0.part both.0 in
+          let page : t.0.fault.page ≡ p = eqb-true t.0.fault.page p both.1 in
+          let here : start_at V p ≡ Some k = at_page t.0 t.1 k at page in
+          and_from (is_reached V k p) (is_told ts p) (ap (λ o. option_map_or (λ j. j == k) o false) here ∙ eq-eqb k k refl)
+          (any_true (λ (t : Reported). not (is_whole t.part) && (t.fault.page == p)) ts t.0 t.1
+          (and_from (not (is_whole t.0.part)) (t.0.fault.page == p) (ap (λ p. not (is_whole p)) at) both.1))
+
+  pages_same : (k : ℕ) → count_by (λ p. is_reached V k p && is_told ts p) (range_with_len 1 n) ≡ faulty_pages file ts k
+  pages_same k = same_counts (λ p. is_reached V k p && is_told ts p) (is_faulty ts k) (page_numbers (geometry file))
+      (λ p i. page_same k p (IsIn-from_range 1 n p i).0)
+
+  abbrev name : ℕ → List ℕ
+  name = start_name (encoding file) (listed_rows file V)
+
+  line_same : (k : ℕ) → start_sum (counted (length ts)) (name k) (counted_start V ts n k) ≡ start_line file V ts k
+  line_same k =
+      sum_same (length ts) (start_count ts k) (codes "in " ++ name k ++ pages_text (count_by (λ p. is_reached V k p && is_told ts p) (range_with_len 1 n)) (reached_pages file V k))
+      ∙ ap (λ m. sum_line (length ts) (start_count ts k) (codes "in " ++ name k ++ pages_text m (reached_pages file V k))) (pages_same k)
+
+  lines_same : (m k : ℕ) → flat_map (numbered_sum (counted (length ts)) name) (enumerate_from k (map (counted_start V ts n) (range_with_len k m)))
+      ≡ flat_map (start_line file V ts) (range_with_len k m)
+  lines_same zero k = refl
+  lines_same (suc m) k = ap₂ (λ a b. a ++ b) (line_same k) (lines_same m (k + 1))
+
+  rows_lines : (k : ℕ) (rows : List SchemaRow)
+      → flat_map (λ (l : Link Way). start_line file V ts l.step) (map (root_start file) (enumerate_from k rows)) ≡ flat_map (start_line file V ts) (range_with_len k (length rows))
+  rows_lines k [] = refl
+  rows_lines k (row ∷ rows) = ap (λ w. start_line file V ts k ++ w) (rows_lines (k + 1) rows)
+
+  few : length (listed_rows file V) ≤ 65536
+  few = length_taken last_root_start (rooted_rows (schema file V))
+
+  abbrev rows : List SchemaRow
+  rows = listed_rows file V
+
+  are : starts file V ≡ schema_link ∷ (map (root_start file) (enumerate_from 1 rows) ++ freelist_starts file)
+  are = starts_are file V s rows refl
+
+  -- no fault was reported at the freelist's start where there is no first trunk
+  none_free : freelist_starts file ≡ [] → start_count ts freelist_start ≡ 0
+  none_free none = count_none (λ (t : Reported). is_start freelist_start t.part) ts (λ t i. by_case t i (is_start freelist_start t.part) refl)
+    where
+      no_step : (l : Link Way) → IsIn l (schema_link ∷ (map (root_start file) (enumerate_from 1 rows) ++ freelist_starts file)) → freelist_start ≡ l.step → ⊥
+      no_step l (inl e) f = let d : l.step ≡ 0 = ap (λ (l : Link Way). l.step) e in let x : ⊥ = omega (arith, d, f) in x
+      no_step l (inr i) f = elim (IsIn-cases l (map (root_start file) (enumerate_from 1 rows)) (freelist_starts file) i) [
+        | inl j ↦ (let h = (rows_start file 1 rows l j).1 in let w = few in let x : ⊥ = omega (arith, h, w, f) in x)
+        | inr j ↦ subst (IsIn l) none j
+      ]
+
+      by_case : (t : Reported) → IsIn t ts → (b : Bool) → is_start freelist_start t.part ≡ b → is_start freelist_start t.part ≡ false
+      by_case t i false e = e
+      by_case t i true e =
+          let at = (of_starts file V s t i freelist_start (start_is freelist_start t.part e)).start in
+          let m = IsIn-from_map (λ (l : Link Way). l.step) (starts file V) freelist_start at in
+          absurd (no_step m.0 (subst (IsIn m.0) are m.1) m.2)
+
+  free_line : start_line file V ts freelist_start ≡ flat_map (λ (l : Link Way). start_line file V ts l.step) (freelist_starts file)
+  free_line = by_case (first_trunk file == 0) none_free
+    where
+      by_case : (b : Bool) → (cond b [] (start freelist_start trunk (first_trunk file) ∷ []) ≡ [] → start_count ts freelist_start ≡ 0)
+          → start_line file V ts freelist_start ≡ flat_map (λ (l : Link Way). start_line file V ts l.step) (cond b [] (start freelist_start trunk (first_trunk file) ∷ []))
+      by_case true h = ap (λ m. sum_line (length ts) m (codes "in " ++ name freelist_start ++ pages_text (faulty_pages file ts freelist_start) (reached_pages file V freelist_start))) (h refl)
+      by_case false h = sym (append-nil (start_line file V ts freelist_start))
+
+  start_lines : start_line file V ts 0 ++ (flat_map (start_line file V ts) (range_with_len 1 (length rows)) ++ start_line file V ts freelist_start)
+      ≡ flat_map (λ (l : Link Way). start_line file V ts l.step) (starts file V)
+  start_lines =
+      let f : Link Way → List ℕ = λ l. start_line file V ts l.step in
+      let M = map (root_start file) (enumerate_from 1 rows) in
+      ap₂ (λ a b. start_line file V ts 0 ++ (a ++ b)) (sym (rows_lines 1 rows)) free_line
+      ∙ ap (λ w. start_line file V ts 0 ++ w) (sym (flat_map-append f M (freelist_starts file)))
+      ∙ ap (flat_map f) (sym are)
+
+  module _ (t : Tallied) (is : IsTallyTo V ts n t) where
+    trees_are : tree_counts rows t ≡ map (counted_start V ts n) (range_with_len 0 (tree_count rows))
+    trees_are = points (counted_start V ts n) 0 (tree_count rows) t.starts
+        (λ k l. is.starts k (let w = few in omega (arith, l, w)) ∙ ap (λ i. Some (counted_start V ts n i)) (let e : k ≡ 0 + k = omega arith in e))
+
+    free_is : freelist_count t ≡ counted_start V ts n freelist_start
+    free_is = get_or_from_slice_get t.starts freelist_start (counted_start V ts n freelist_start) no_count (is.starts freelist_start (omega arith))
+
+    whole_is : without_fault (tree_counts rows t) ≡ whole_trees rows ts
+    whole_is =
+        ap without_fault trees_are
+        ∙ count_mapped (λ (c : StartCount). c.faults == 0) (counted_start V ts n) (range_with_len 0 (tree_count rows))
+        ∙ same_counts (λ k. counted (start_count ts k) == 0) (λ k. start_count ts k == 0) (range_with_len 0 (tree_count rows)) (λ k i. is_zero (start_count ts k))
+
+    all_are : length (tree_counts rows t) ≡ tree_count rows
+    all_are = ap length trees_are ∙ length-map-range_with_len (counted_start V ts n) 0 (tree_count rows)
+
+    first_part : flat_map (numbered_sum t.all name) (enumerate_from 0 (tree_counts rows t)) ≡ start_line file V ts 0 ++ flat_map (start_line file V ts) (range_with_len 1 (length rows))
+    first_part = ap₂ (λ n cs. flat_map (numbered_sum n name) (enumerate_from 0 cs)) is.all trees_are ∙ lines_same (tree_count rows) 0
+
+    free_part : start_sum t.all (name freelist_start) (freelist_count t) ≡ start_line file V ts freelist_start
+    free_part = ap₂ (λ n c. start_sum n (name freelist_start) c) is.all free_is ∙ line_same freelist_start
+
+    whole_part : sum_line t.all t.whole (codes "in the whole file") ≡ whole_line ts
+    whole_part = ap₂ (λ n k. sum_line n k (codes "in the whole file")) is.all is.whole ∙ sum_same (length ts) (whole_count ts) (codes "in the whole file")
+
+    summary_same : summary_by (encoding file) rows t ≡ summary file V ts
+    summary_same =
+        joined
+        (ap count_text is.all ∙ count_same (length ts))
+        (ap₂ (λ n cs. flat_map (code_sum n) cs) is.all is.codes ∙ codes_same ts all_codes)
+        first_part free_part whole_part (ap₂ trees_text whole_is all_are)
+        ∙ parts (count_text (length ts)) (flat_map (code_line ts) all_codes) (start_line file V ts 0) (flat_map (start_line file V ts) (range_with_len 1 (length rows)))
+        (start_line file V ts freelist_start) (whole_line ts) (trees_text (whole_trees rows ts) (tree_count rows))
+        ∙ ap (λ w. count_text (length ts) ++ flat_map (code_line ts) all_codes ++ w ++ whole_line ts ++ trees_text (whole_trees rows ts) (tree_count rows)) start_lines
+      where
+        joined : {a b c d e f a' b' c' d' e' f' : List ℕ} → a ≡ a' → b ≡ b' → c ≡ c' → d ≡ d' → e ≡ e' → f ≡ f'
+            → a ++ (b ++ (c ++ (d ++ (e ++ f)))) ≡ a' ++ (b' ++ (c' ++ (d' ++ (e' ++ f'))))
+        joined p q r s t u = ap₂ (λ x y. x ++ y) p (ap₂ (λ x y. x ++ y) q (ap₂ (λ x y. x ++ y) r (ap₂ (λ x y. x ++ y) s (ap₂ (λ x y. x ++ y) t u))))
+
+        parts : (a b c m d e f : List ℕ) → a ++ (b ++ ((c ++ m) ++ (d ++ (e ++ f)))) ≡ a ++ b ++ (c ++ (m ++ d)) ++ e ++ f
+        parts a b c m d e f = simp append_assoc
+
+-- so it is of what is put by the list of roots
+pub known_summary : (file : List ℕ) (V : List Reference) → Survey file V → (h : HeaderBytes) (rows : List SchemaRow) (e : Encoding) (t : Tallied)
+    → IsHeaderOf h file → AreListed file V rows → e ≡ encoding h.bytes → IsTallyTo V (told_faults file V) (geometry file).pages t
+    → summary_by e rows t ≡ summary file V (told_faults file V)
+known_summary file V s h given e t header listed texts is =
+    ap₂ (λ e rows. summary_by e rows t) (texts ∙ ap encoding header.begins ∙ encoding_within file) listed ∙ summary_same file V s t is

@@ -1,0 +1,83 @@
+use Rattle.std.proofs.Common.{◌≡◌, ◌+◌, ◌≤◌, Ok, Err, flat_map, refl, sym, ap, subst, arith, ◌∙◌}
+use Rattle.std.proofs.lemmas.Result.{err_from_is_err_and}
+use Rattle.std.specs.List.{range_with_len}
+use Rattle.dbformat.specs.File.{geometry}
+use Rattle.dbformat.specs.declared.Geometry.{Geometry}
+use Rattle.dbtrace.specs.declared.Part.TheVariants as part
+use Rattle.dbsource.proofs.Logs.{asks_then, asks_weaker, has_none}
+use Rattle.dbentries.specs.Listing.{rank}
+use Rattle.dbentries.specs.Store.{AreEntriesOf}
+use Rattle.dbscan.specs.Desks.{Things, shape_of}
+use Rattle.dbscan.specs.Looks.{IsUnmarked, ReadsOrNot, ReadsRisingBefore}
+use Rattle.dbscan.proofs.MapLogs.{reads_more, reads_none}
+use Rattle.dbexplain.specs.Keeping.{lost_at}
+use Rattle.dbexplain.proofs.LostPages.{ends, fits, lost_are, lost_first, lost_more}
+use Rattle.dbexplain.proofs.Desks.{desk_kept}
+use Rattle.dbexplain.proofs.lost.look_at_lost.Goals as goal
+
+pub loop-index-init : goal.loop-index-init
+loop-index-init g c = record {
+  desk = refl;
+  asks = record {
+    log = has_none _ _ refl refl (reads_none (shape_of c.args.desk.now).page_size (IsUnmarked c.args.desk.now.marks) 1)
+        (λ file V d unused. (unused.none, subst (λ n. n ≤ rank part.End) (sym unused.part) (omega arith)));
+    count = refl;
+  };
+  limit = refl;
+}
+
+pub returns-in_err-look_at_page-clause-desk : goal.returns-in_err-look_at_page-clause-desk
+returns-in_err-look_at_page-clause-desk g c = c.look_at_page.ensures.desk ∙ ap (λ (d : Things). record d { pages = c.look_at_page.new.desk.pages }) c.loop-index.invariant.desk
+
+pub returns-in_err-look_at_page-clause-asks : goal.returns-in_err-look_at_page-clause-asks
+returns-in_err-look_at_page-clause-asks g c =
+    let q = err_from_is_err_and c.from_residual.result c.from_residual.ensures.1 in
+    let old = c.args.desk.now in
+    let here = c.loop-index.desk in
+    let i = c.loop-index.index in
+    let same = c.loop-index.invariant.desk in
+    rw q.1 (rw q.2 (asks_then (ReadsRisingBefore (shape_of old).page_size (IsUnmarked old.marks) (i + 1))
+    (ReadsOrNot (shape_of here).page_size (IsUnmarked here.marks) (i + 1)) _ _ (Err _) (λ n. refl) (λ n. refl)
+    c.loop-index.invariant.asks c.in_err-look_at_page.ensures.asks
+    (λ a b h k. (reads_more (shape_of old).page_size (IsUnmarked old.marks) (i + 1) (i + 1) a b (omega arith) h
+    (subst (λ (d : Things). ReadsOrNot (shape_of d).page_size (IsUnmarked d.marks) (i + 1) b) same k)).reads)
+    (λ file way turn V d unused.
+    let k = way V d unused in
+    let high : i + 1 ≤ (geometry file).pages = fits d.header.shape (ap (λ (g : Geometry). g.pages) c.geometry-pages.ensures.shape) c.loop-index-test.true in
+    let t = turn V (desk_kept old here file V same d) (omega arith) high in (
+      flat_map (lost_at file V) (range_with_len 1 i),
+      lost_first file V i (omega (arith, high)),
+      subst (λ s. AreEntriesOf (flat_map (lost_at file V) (range_with_len 1 i)) s) (sym t.listed) k.0,
+    ))))
+
+pub loop-index-preserved : goal.loop-index-preserved
+loop-index-preserved g c =
+    let old = c.args.desk.now in
+    let here = c.loop-index.desk in
+    let i = c.loop-index.index in
+    let same = c.loop-index.invariant.desk in record {
+      desk = c.look_at_page.ensures.desk ∙ ap (λ (d : Things). record d { pages = c.look_at_page.new.desk.pages }) same;
+      asks = asks_then (ReadsRisingBefore (shape_of old).page_size (IsUnmarked old.marks) (i + 1))
+          (ReadsOrNot (shape_of here).page_size (IsUnmarked here.marks) (i + 1)) _ _ (Ok tt) (λ n. refl) (λ n. refl)
+          c.loop-index.invariant.asks c.in_ok-look_at_page.ensures.asks
+          (λ a b h k. reads_more (shape_of old).page_size (IsUnmarked old.marks) (i + 1) (i + 1) a b (omega arith) h
+          (subst (λ (d : Things). ReadsOrNot (shape_of d).page_size (IsUnmarked d.marks) (i + 1) b) same k))
+          (λ file way turn V d unused.
+          let k = way V d unused in
+          let high : i + 1 ≤ (geometry file).pages = fits d.header.shape (ap (λ (g : Geometry). g.pages) c.geometry-pages.ensures.shape) c.loop-index-test.true in
+          let t = turn V (desk_kept old here file V same d) (omega arith) high in (
+            subst (λ l. AreEntriesOf l c.look_at_page.new.lost) (sym (lost_more file V i)) (t.listed (flat_map (lost_at file V) (range_with_len 1 i)) k.0 k.1),
+            t.part k.1,
+          ));
+      limit = c.look_at_page.ensures.limit ∙ c.loop-index.invariant.limit;
+    }
+
+pub returns-clause-asks : goal.returns-clause-asks
+returns-clause-asks g c =
+    let old = c.args.desk.now in
+    let i = c.loop-index.index in
+    asks_weaker (ReadsRisingBefore (shape_of old).page_size (IsUnmarked old.marks) (i + 1)) _ (Ok tt) (λ n. refl)
+    c.loop-index.invariant.asks (λ log h. h.reads) (λ file way V d unused.
+    let k = way V d unused in
+    let all : i ≡ (geometry file).pages = ends d.header.shape (ap (λ (g : Geometry). g.pages) c.geometry-pages.ensures.shape) c.loop-index.auto.index-end c.loop-index-test.false in
+    subst (λ l. AreEntriesOf l c.loop-index.lost) (ap (λ n. flat_map (lost_at file V) (range_with_len 1 n)) all ∙ sym (lost_are file V)) k.0)

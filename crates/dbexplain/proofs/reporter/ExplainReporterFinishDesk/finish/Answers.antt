@@ -1,0 +1,97 @@
+use Rattle.std.proofs.Common.{◌≢◌, ℕ, [], ◌∷◌, Ok, Err, Result, inl, inr, refl, sym, ap, ◌∙◌}
+use Rattle.std.proofs.lemmas.Result.{err_from_is_err_and}
+use Rattle.dbformat.specs.declared.Verdict.TheVariants.{Faulty}
+use Rattle.dbsource.specs.declared.error.RunError.TheVariants as error
+use Rattle.dbsource.specs.declared.error.RunError.TheVariants.{ReadFailed}
+use Rattle.dbsource.specs.declared.out.WriteFailed.{WriteFailed}
+use Rattle.dbsource.proofs.Logs.{asks_weaker}
+use Rattle.dbwalk.specs.Telling.{SinkState}
+use Rattle.dbscan.specs.Desks.{Things}
+use Rattle.dbscan.proofs.Finished.{finished}
+use Rattle.dbexplain.specs.Reporting.{Hears, LeavesExplained, explain_held}
+use Rattle.dbexplain.proofs.Desks.{desk_kept}
+use Rattle.dbexplain.proofs.Left.{all_kept, clean_found, clean_put, faulty_found, faulty_put, found_kept, found_limit, found_out, told_some, unused}
+use Rattle.dbexplain.proofs.reporter.ExplainReporterFinishDesk.finish.Goals as goal
+
+-- the answer of a put
+abbrev cut : WriteFailed → Result (Unit {0}) WriteFailed
+cut e = Err e
+
+abbrev done : Result (Unit {0}) WriteFailed
+done = Ok tt
+
+pub returns-in_err-put_ok : goal.returns-in_err-put_ok
+returns-in_err-put_ok g c =
+    let q = err_from_is_err_and c.from_residual.result c.from_residual.ensures.1 in
+    let held = g.O.Out.held in
+    let none = sym c.all-faults.ensures ∙ c.if-faults-eq0.true in
+    rw q.1 (rw q.2 (finished g.S.Source Hears (explain_held held) (LeavesExplained held) (Err error.WriteFailed) c.args.desk.now c.args.source.now c.args.self.now _ refl
+    (record { lent = refl; failures = inl (c.in_err-put_ok.ensures.count, refl) })
+    (λ file V first heard empty. clean_put held file V heard.desk.survey first c.args.self.now empty heard.heard none (cut c.in_err-put_ok.field-0.0) c.put_ok.new.out c.in_err-put_ok.ensures.held)))
+
+pub returns-then-faults-eq0 : goal.returns-then-faults-eq0
+returns-then-faults-eq0 g c =
+    let held = g.O.Out.held in
+    let none = sym c.all-faults.ensures ∙ c.if-faults-eq0.true in
+    finished g.S.Source Hears (explain_held held) (LeavesExplained held) (Ok _) c.args.desk.now c.args.source.now c.args.self.now _ tt
+    (ap (λ (n : ℕ). let x : SinkState = record { lent = c.args.self.now.out.ghost_name ∷ []; failures = n ∷ [] } in x) c.in_ok-put_ok.ensures.count)
+    (λ file V first heard empty. (
+      clean_put held file V heard.desk.survey first c.args.self.now empty heard.heard none done c.put_ok.new.out c.in_ok-put_ok.ensures.held,
+      clean_found held file V heard.desk.survey first c.args.self.now empty heard.heard none,
+    ))
+
+pub returns-in_err-look_at_lost : goal.returns-in_err-look_at_lost
+returns-in_err-look_at_lost g c =
+    let q = err_from_is_err_and c.from_residual-in_err-look_at_lost.result c.from_residual-in_err-look_at_lost.ensures.1 in
+    let held = g.O.Out.held in
+    let some : c.args.self.now.kept.now.tally.all ≢ 0 = λ e. c.if-faults-eq0.false (c.all-faults.ensures ∙ e) in
+    let look = c.in_err-look_at_lost.ensures in
+    rw q.1 (rw q.2 (record {
+      kept = (ap (λ (d : Things). d.header) look.desk, ap (λ (d : Things). d.roots) look.desk);
+      asks = asks_weaker _ _ (Err ReadFailed) (λ n. refl) look.asks (λ log l. l) (λ file way V first heard empty.
+          let k = way V heard.desk (unused held file V heard.desk.survey first c.args.self.now empty heard.heard some) in (
+            found_out held file V heard.desk.survey first c.args.self.now empty heard.heard some,
+            found_kept held file V heard.desk.survey first c.args.self.now empty heard.heard some c.look_at_lost.new.lost look.limit k.0 k.1 k.2,
+            found_limit held file V heard.desk.survey first c.args.self.now empty heard.heard some,
+          ));
+      writes = refl;
+      only = inl refl;
+    }))
+
+pub returns-in_err-put_report : goal.returns-in_err-put_report
+returns-in_err-put_report g c =
+    let q = err_from_is_err_and c.from_residual-in_err-put_report.result c.from_residual-in_err-put_report.ensures.1 in
+    let held = g.O.Out.held in
+    let some : c.args.self.now.kept.now.tally.all ≢ 0 = λ e. c.if-faults-eq0.false (c.all-faults.ensures ∙ e) in
+    let look = c.in_ok-look_at_lost.ensures in
+    let put = c.in_err-put_report.ensures in
+    rw q.1 (rw q.2 (record {
+      kept = (ap (λ (d : Things). d.header) look.desk, ap (λ (d : Things). d.roots) look.desk);
+      asks = asks_weaker _ _ (Err error.WriteFailed) (λ n. refl) look.asks (λ log l. l) (λ file way V first heard empty.
+          let k = way V heard.desk (unused held file V heard.desk.survey first c.args.self.now empty heard.heard some) in
+          let kept = all_kept held file V heard.desk.survey first c.args.self.now empty heard.heard some c.look_at_lost.new.lost look.limit k in
+          let here = desk_kept c.args.desk.now c.look_at_lost.new.desk file V look.desk heard.desk in
+          faulty_put held file V heard.desk.survey first c.args.self.now empty heard.heard some (cut c.in_err-put_report.field-0.0) c.put_report.new.out
+          (put.report file V here kept (told_some held file V heard.desk.survey first c.args.self.now empty heard.heard some)));
+      writes = record { lent = refl; failures = inl (put.count, refl) };
+      only = inr refl;
+    }))
+
+pub returns : goal.returns
+returns g c =
+    let held = g.O.Out.held in
+    let some : c.args.self.now.kept.now.tally.all ≢ 0 = λ e. c.if-faults-eq0.false (c.all-faults.ensures ∙ e) in
+    let look = c.in_ok-look_at_lost.ensures in
+    let put = c.in_ok-put_report.ensures in record {
+      kept = (ap (λ (d : Things). d.header) look.desk, ap (λ (d : Things). d.roots) look.desk);
+      asks = asks_weaker _ _ (Ok _) (λ n. refl) look.asks (λ log l. l) (λ file way V first heard empty.
+          let k = way V heard.desk (unused held file V heard.desk.survey first c.args.self.now empty heard.heard some) in
+          let kept = all_kept held file V heard.desk.survey first c.args.self.now empty heard.heard some c.look_at_lost.new.lost look.limit k in
+          let here = desk_kept c.args.desk.now c.look_at_lost.new.desk file V look.desk heard.desk in (
+            faulty_put held file V heard.desk.survey first c.args.self.now empty heard.heard some done c.put_report.new.out
+                (put.report file V here kept (told_some held file V heard.desk.survey first c.args.self.now empty heard.heard some)),
+            ap Faulty c.all-faults.ensures ∙ faulty_found held file V heard.desk.survey first c.args.self.now empty heard.heard some,
+          ));
+      writes = ap (λ (n : ℕ). let x : SinkState = record { lent = c.args.self.now.out.ghost_name ∷ []; failures = n ∷ [] } in x) put.count;
+      only = tt;
+    }

@@ -1,0 +1,85 @@
+-- The lines below a fault of a file with survey V (own): the number of the header that is wrong, or where its pages are.
+use Rattle.std.specs.Prelude.{ℕ, ◌-◌, ◌*◌, ℤ, pos, List, [], ◌++◌, Option, codes, decimal, ◌==◌, if◌then◌else◌}
+use Rattle.std.specs.Option.{option_map_or}
+use Rattle.dbformat.specs.Address.{freelist_start}
+use Rattle.dbformat.specs.EndFaults.{visit_of}
+use Rattle.dbformat.specs.File.{MapEntry, geometry}
+use Rattle.dbformat.specs.FixedPages.{is_page, fixed_use}
+use Rattle.dbformat.specs.Header.{stated_pages, greatest_root, freelist_count}
+use Rattle.dbformat.specs.Reference.{Reference, role_of, from_of, entry_of}
+use Rattle.dbformat.specs.declared.Fault.{Fault}
+use Rattle.dbformat.specs.declared.FaultCode.{FaultCode}
+use Rattle.dbformat.specs.declared.FaultCode.TheVariants.{H01, H02, H03, H04, H05, H06, H07, H08, H09, H10, R02, R03, T04, O01, M01, M02}
+use Rattle.dbformat.specs.declared.Geometry.{Geometry}
+use Rattle.dbentries.specs.Lines.{indented}
+use Rattle.dbowner.specs.Owners.{start_at, place_of}
+use Rattle.dbowner.specs.Texts.{place_text, tree_text}
+use Rattle.dbowner.specs.declared.place.Place.{Place}
+
+-- Where page p begins and what it is, by the shape of the file, the texts of its trees, and the page's place and start. A
+-- number that no page has gets no line.
+abbrev pub page_line : Geometry → (ℕ → List ℕ) → ℕ → Place → Option ℕ → List ℕ
+page_line g tree p place start =
+    if is_page g p
+    then indented (codes "page " ++ decimal p ++ codes " at byte " ++ decimal ((p - 1) * g.page_size) ++ codes ": "
+    ++ place_text (fixed_use g p) (option_map_or tree start []) place)
+    else []
+
+-- the line of page p of a file
+abbrev pub place_line : List ℕ → List Reference → ℕ → List ℕ
+place_line file V p = page_line (geometry file) (tree_text file V) p (place_of file V p) (start_at V p)
+
+-- what start k is
+abbrev pub line_of_start : (ℕ → List ℕ) → ℕ → List ℕ
+line_of_start tree k =
+    indented (codes "start " ++ decimal k ++ codes ": " ++ (if k == freelist_start then codes "first trunk of the freelist" else codes "root of " ++ tree k))
+
+-- the line of start k of a file
+abbrev pub start_line : List ℕ → List Reference → ℕ → List ℕ
+start_line file V k = line_of_start (tree_text file V) k
+
+-- where a fault is: on its page, or at a start
+abbrev pub own_line : List ℕ → List Reference → Fault → List ℕ
+own_line file V f = if f.page == 0 then start_line file V f.item else place_line file V f.page
+
+-- the page that is the value of a fault
+abbrev pub value_page : ℤ → ℕ
+value_page (pos p) = p
+value_page _ = 0
+
+-- the same with the page that its value is
+abbrev pub both_lines : List ℕ → List Reference → Fault → List ℕ
+both_lines file V f = own_line file V f ++ place_line file V (value_page f.value)
+
+-- a number of the header
+abbrev pub header_line : ℕ → List ℕ
+header_line n = indented (codes "header: " ++ decimal n)
+
+-- a pointer-map entry
+abbrev pub line_of_entry : MapEntry → List ℕ
+line_of_entry e = indented (codes "entry wanted: type " ++ decimal e.type ++ codes ", number " ++ decimal e.number)
+
+-- the one that the visit of a page asks for
+abbrev pub entry_line : Option Reference → List ℕ
+entry_line v = option_map_or (λ r. line_of_entry (entry_of (role_of r) (from_of r))) v []
+
+-- The lines below a fault: the number of the header that is wrong, or its page, and with it the page that it names, or the
+-- entry that was wanted. The other faults of the header have none.
+abbrev pub lines_below : List ℕ → List Reference → Fault → FaultCode → List ℕ
+lines_below file V f H01 = []
+lines_below file V f H02 = []
+lines_below file V f H03 = []
+lines_below file V f H04 = []
+lines_below file V f H05 = []
+lines_below file V f H06 = header_line (stated_pages file)
+lines_below file V f H07 = []
+lines_below file V f H08 = []
+lines_below file V f H09 = header_line (greatest_root file)
+lines_below file V f H10 = header_line (freelist_count file)
+lines_below file V f R02 = both_lines file V f
+lines_below file V f R03 = both_lines file V f
+lines_below file V f T04 = both_lines file V f
+lines_below file V f O01 = both_lines file V f
+lines_below file V f M02 = both_lines file V f
+lines_below file V f M01 = own_line file V f ++ entry_line (visit_of V f.page)
+lines_below file V f _ = own_line file V f

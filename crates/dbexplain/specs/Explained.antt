@@ -1,0 +1,103 @@
+-- What `dbck explain` writes of a file with survey V (own): the faults that lead, each with where it is, what it goes back to and
+-- what belongs to it; and then how many faults there are, by code and by tree.
+use Rattle.std.specs.Prelude.{◌≡◌, ℕ, ◌+◌, not, List, [], ◌∷◌, ◌++◌, take, drop, map, flat_map, filter, Ok, codes, decimal, ◌==◌, if◌then◌else◌}
+use Rattle.std.specs.List.{sum_by}
+use Rattle.std.specs.Option.{option_map_or}
+use Rattle.dbformat.specs.File.{geometry, refusal}
+use Rattle.dbformat.specs.Header.{stated_pages}
+use Rattle.dbformat.specs.Lines.{fault_line, ok_line}
+use Rattle.dbformat.specs.Looks.{look_at}
+use Rattle.dbformat.specs.Reference.{Reference}
+use Rattle.dbformat.specs.Report.{Report, faults, more_text, refused_report, verdict}
+use Rattle.dbformat.specs.declared.Fault.{Fault}
+use Rattle.dbformat.specs.declared.FaultCode.{FaultCode}
+use Rattle.dbformat.specs.declared.FaultCode.TheVariants.{H06}
+use Rattle.dbtrace.specs.declared.Cause.{Cause}
+use Rattle.dbtrace.specs.declared.Cause.TheVariants as cause
+use Rattle.dbtrace.specs.declared.Reported.{Reported}
+use Rattle.dbentries.specs.Apart.{is_lost}
+use Rattle.dbentries.specs.Lines.{cause_text, indented, key_text}
+use Rattle.dbentries.specs.Listing.{Entry, entries, size}
+use Rattle.dbentries.specs.Others.{others_text}
+use Rattle.dbentries.specs.Woven.{woven}
+use Rattle.dbexplain.specs.Below.{lines_below, place_line}
+use Rattle.dbscan.specs.Placed.{told_faults}
+use Rattle.dbexplain.specs.Summary.{summary}
+
+-- ---- all faults, each with what it goes back to
+
+-- the fault of a page to which nothing refers goes back to what the page looks like
+abbrev pub looked_at : List ℕ → Reported → Reported
+looked_at file x = if is_lost x then record x { cause = cause.Look (look_at file x.fault.page) } else x
+
+-- all faults of a file in the order of its report
+abbrev pub reported : List ℕ → List Reference → List Reported
+reported file V = map (looked_at file) (told_faults file V)
+
+-- what is listed of them
+abbrev pub listed : List ℕ → List Reference → List Entry
+listed file V = entries (reported file V)
+
+-- ---- what is written of an entry
+
+-- the pages from one number to another
+abbrev pub missing_text : ℕ → ℕ → List ℕ
+missing_text first last =
+    if first == last then codes "page " ++ decimal first ++ codes " is missing" else codes "pages " ++ decimal first ++ codes " to " ++ decimal last ++ codes " are missing"
+
+-- where a file is shorter than the header states: the pages after its last one, up to the stated number
+abbrev pub missing_line : List ℕ → FaultCode → List ℕ
+missing_line file H06 = indented (missing_text ((geometry file).pages + 1) (stated_pages file))
+missing_line file _ = []
+
+-- what a fault goes back to; of a key also where its page is
+abbrev pub cause_lines : List ℕ → List Reference → Cause → List ℕ
+cause_lines file V (cause.Key k) = key_text k ++ place_line file V k.page
+cause_lines file V c = cause_text c
+
+-- the fault line, where the fault is, and the missing pages
+abbrev pub front_text : List ℕ → List Reference → Fault → List ℕ
+front_text file V f = fault_line f ++ (lines_below file V f f.code ++ missing_line file f.code)
+
+-- and what the fault goes back to, and the faults that belong to it
+abbrev pub entry_text : List ℕ → List Reference → Entry → List ℕ
+entry_text file V e = front_text file V e.first.fault ++ (cause_lines file V e.first.cause ++ others_text e)
+
+-- ---- the report
+
+-- the first entries, how many faults belong to none of them, and the summary; or that there is no fault
+abbrev pub explain_text : ℕ → List ℕ → List Reference → List Entry → List ℕ
+explain_text limit file V [] = ok_line
+explain_text limit file V (e ∷ es) =
+    flat_map (entry_text file V) (take limit (e ∷ es)) ++ (more_text (sum_by size (drop limit (e ∷ es))) ++ summary file V (told_faults file V))
+
+-- the report of `explain` with at most `limit` entries: its verdict is that of `check`
+unfoldable pub explain_report : ℕ → List ℕ → List Reference → Report
+explain_report limit file V = option_map_or refused_report (refusal file)
+    (record { out = explain_text limit file V (listed file V); err = []; answer = Ok (verdict (faults file V)) })
+
+-- ---- what is written after a failed read
+
+-- the faults of lost pages, in their order, and all others
+abbrev pub lost_faults : List ℕ → List Reference → List Reported
+lost_faults file V = filter is_lost (reported file V)
+
+abbrev pub other_faults : List ℕ → List Reference → List Reported
+other_faults file V = filter (λ x. not (is_lost x)) (reported file V)
+
+-- the first of some faults
+abbrev pub IsBeginning : List Reported → List Reported → Type 0
+IsBeginning xs ys = (rest : List Reported) × (xs ++ rest ≡ ys)
+
+-- the fault lines of the first entries
+abbrev pub found_text : ℕ → List Entry → List ℕ
+found_text limit es = flat_map (λ (e : Entry). fault_line e.first.fault) (take limit es)
+
+-- The fault lines of the first entries of the faults found so far: of a beginning of those that the walks and the marks tell, and
+-- of the first lost pages.
+pub record IsFoundText (limit : ℕ) (file : List ℕ) (V : List Reference) (text : List ℕ) : Type 0 where
+  pub told : List Reported
+  pub lost : List Reported
+  pub told_first : IsBeginning told (other_faults file V)
+  pub lost_first : IsBeginning lost (lost_faults file V)
+  pub lines : text ≡ found_text limit (woven (entries told) (entries lost))

@@ -1,0 +1,144 @@
+-- The summary of `explain` (own): how many faults a file has, with each code and reported at each start, on how many of the pages that were
+-- reached from there, and how many of the trees have no fault.
+use Rattle.std.specs.Prelude.{◌≡◌, ℕ, suc, ◌+◌, ◌-◌, Bool, true, false, ◌&&◌, List, [], ◌∷◌, ◌++◌, length, replicate, take, flat_map, count_by, sum_by, codes, decimal, slice_get, ◌==◌, if◌then◌else◌}
+use Rattle.std.specs.List.{list_any, range_with_len}
+use Rattle.std.specs.Option.{option_map_or}
+use Rattle.dbformat.specs.Address.{freelist_start, last_root_start}
+use Rattle.dbformat.specs.Codes.{all_codes, is_code}
+use Rattle.dbformat.specs.EndFaults.{page_numbers}
+use Rattle.dbformat.specs.File.{geometry}
+use Rattle.dbformat.specs.Header.{encoding}
+use Rattle.dbformat.specs.Lines.{line_feed, code_text, code_words, counted}
+use Rattle.dbformat.specs.Reference.{Reference}
+use Rattle.dbformat.specs.Schema.{schema, rooted_rows, starts}
+use Rattle.dbformat.specs.SchemaRow.{SchemaRow}
+use Rattle.dbformat.specs.declared.Encoding.{Encoding}
+use Rattle.dbformat.specs.declared.FaultCode.{FaultCode}
+use Rattle.dbtrace.specs.declared.Part.{Part}
+use Rattle.dbtrace.specs.declared.Part.TheVariants as part
+use Rattle.dbtrace.specs.declared.Reported.{Reported}
+use Rattle.dbowner.specs.Texts.{tree_of_row}
+use Rattle.dbowner.specs.Owners.{start_at}
+use Rattle.dbscan.specs.Placed.{told_faults}
+
+-- Faults.
+
+-- whether a part of a report is that of start k
+abbrev pub is_start : ℕ → Part → Bool
+is_start k (part.Start j) = j == k
+is_start k _ = false
+
+-- whether it is of the whole file: its header, or its end
+abbrev pub is_whole : Part → Bool
+is_whole (part.Start j) = false
+is_whole _ = true
+
+-- how many faults have a code
+abbrev pub code_count : List Reported → FaultCode → ℕ
+code_count ts code = count_by (λ t. is_code t.fault.code code) ts
+
+-- how many were reported at start k
+abbrev pub start_count : List Reported → ℕ → ℕ
+start_count ts k = count_by (λ t. is_start k t.part) ts
+
+-- and how many of the whole file
+abbrev pub whole_count : List Reported → ℕ
+whole_count ts = count_by (λ t. is_whole t.part) ts
+
+-- Pages.
+
+-- whether page p was reached from start k
+abbrev pub is_reached : List Reference → ℕ → ℕ → Bool
+is_reached V k p = option_map_or (λ j. j == k) (start_at V p) false
+
+-- how many pages of a file were
+abbrev pub reached_pages : List ℕ → List Reference → ℕ → ℕ
+reached_pages file V k = count_by (is_reached V k) (page_numbers (geometry file))
+
+-- whether page p has a fault that was reported at start k
+abbrev pub is_faulty : List Reported → ℕ → ℕ → Bool
+is_faulty ts k p = list_any (λ t. is_start k t.part && (t.fault.page == p)) ts
+
+-- how many pages of a file have one
+abbrev pub faulty_pages : List ℕ → List Reported → ℕ → ℕ
+faulty_pages file ts k = count_by (is_faulty ts k) (page_numbers (geometry file))
+
+-- Trees.
+
+-- the rows of the schema that have a start
+abbrev pub listed_rows : List ℕ → List Reference → List SchemaRow
+listed_rows file V = take last_root_start (rooted_rows (schema file V))
+
+-- the root page of a start, by these rows: the schema's is page 1
+abbrev pub root_page : List SchemaRow → ℕ → ℕ
+root_page rows k = if k == 0 then 1 else option_map_or (λ row. row.root) (slice_get rows (k - 1)) 0
+
+-- a start by its name: the freelist, or a tree and its root page
+abbrev pub start_name : Encoding → List SchemaRow → ℕ → List ℕ
+start_name e rows k =
+    if k == freelist_start then codes "the freelist" else tree_of_row e rows k ++ codes " (root page " ++ decimal (root_page rows k) ++ codes ")"
+
+-- how many trees a file has: the schema, and those of the rows
+abbrev pub tree_count : List SchemaRow → ℕ
+tree_count rows = suc (length rows)
+
+-- how many of them have no fault
+abbrev pub whole_trees : List SchemaRow → List Reported → ℕ
+whole_trees rows ts = count_by (λ k. start_count ts k == 0) (range_with_len 0 (tree_count rows))
+
+-- Lines.
+
+-- a line below that of the number of faults
+abbrev pub indented : List ℕ → List ℕ
+indented text = codes "    " ++ text ++ line_feed ∷ []
+
+-- a number with blanks before it, to the width of another
+abbrev pub aligned : ℕ → ℕ → List ℕ
+aligned most n = replicate (length (decimal most) - length (decimal n)) 32 ++ decimal n
+
+-- n of all faults, if there are any
+abbrev pub sum_line : ℕ → ℕ → List ℕ → List ℕ
+sum_line all n text = if n == 0 then [] else indented (aligned (counted all) (counted n) ++ codes " " ++ text)
+
+-- how many faults there are
+abbrev pub count_text : ℕ → List ℕ
+count_text n = decimal (counted n) ++ (if n == 1 then codes " fault" else codes " faults") ++ line_feed ∷ []
+
+-- how many have a code
+abbrev pub code_line : List Reported → FaultCode → List ℕ
+code_line ts code = sum_line (length ts) (code_count ts code) (code_text code ++ codes " " ++ code_words code)
+
+-- on how many of the pages that were reached from a start
+abbrev pub pages_text : ℕ → ℕ → List ℕ
+pages_text faulty n =
+    if n == 0 then codes ", of which no page was reached"
+    else codes ", on " ++ decimal faulty ++ codes " of its " ++ decimal n ++ (if n == 1 then codes " page" else codes " pages")
+
+-- how many were reported at start k
+abbrev pub start_line : List ℕ → List Reference → List Reported → ℕ → List ℕ
+start_line file V ts k = sum_line (length ts) (start_count ts k)
+    (codes "in " ++ start_name (encoding file) (listed_rows file V) k ++ pages_text (faulty_pages file ts k) (reached_pages file V k))
+
+-- how many of the whole file
+abbrev pub whole_line : List Reported → List ℕ
+whole_line ts = sum_line (length ts) (whole_count ts) (codes "in the whole file")
+
+-- how many of the trees have none
+abbrev pub trees_text : ℕ → ℕ → List ℕ
+trees_text whole all = indented (decimal whole ++ codes " of " ++ decimal all ++ (if all == 1 then codes " tree" else codes " trees") ++ codes " without a fault")
+
+-- the summary of these faults of a file with survey V: their number, by code, by start in the order of the starts, and the trees
+abbrev pub summary : List ℕ → List Reference → List Reported → List ℕ
+summary file V ts =
+    count_text (length ts) ++ flat_map (code_line ts) all_codes ++ flat_map (λ l. start_line file V ts l.step) (starts file V) ++ whole_line ts
+    ++ trees_text (whole_trees (listed_rows file V) ts) (tree_count (listed_rows file V))
+
+-- Laws.
+
+-- the numbers of the codes add up to that of all faults
+abbrev pub CodesAddUp : List Reported → Type 0
+CodesAddUp ts = sum_by (code_count ts) all_codes ≡ length ts
+
+-- and so do those of the starts and of the whole file
+abbrev pub StartsAddUp : List ℕ → List Reference → Type 0
+StartsAddUp file V = sum_by (λ l. start_count (told_faults file V) l.step) (starts file V) + whole_count (told_faults file V) ≡ length (told_faults file V)

@@ -1,0 +1,198 @@
+// The lines below a fault, by what is known of a file at the end of a run.
+ghost use Rattle.std.specs.Prelude.{◌≡◌, ℕ, List, []};
+ghost use Rattle.std.specs.Option.{option_map_or};
+ghost use Rattle.dbformat.specs.EndFaults.{visit_of};
+ghost use Rattle.dbformat.specs.File.{geometry};
+ghost use Rattle.dbformat.specs.FixedPages.{geometry_of};
+ghost use Rattle.dbformat.specs.Header.{encoding};
+ghost use Rattle.dbformat.specs.Reference.{Reference};
+ghost use Rattle.dbsource.specs.Failures.{failures_after, is_any};
+ghost use Rattle.dbsource.specs.Outs.{Writes};
+ghost use Rattle.dbowner.specs.Climbs.{AreTrees};
+ghost use Rattle.dbowner.specs.Texts.{tree_text};
+ghost use Rattle.dbexplain.specs.Below.{entry_line, lines_below, own_line, place_line};
+ghost use Rattle.dbexplain.specs.Notes.{IsOf, below_of, note_text, notes_text, page_or_none};
+
+use crate::notes::{Note, put_notes, wanted_entry};
+use crate::page_lines::Spot;
+use dbformat::{Fault, FaultCode};
+use dbowner::{PageTrees, RootList, TreeNames, mark_of, place_of};
+use dbsource::{Header, Out, WriteFailed};
+use dbwalk::Marks;
+use std::alloc::{Allocator, Global};
+
+/// What is known of a file at the end of a run: its header, the marks of its pages, and the rows of its schema that have a
+/// root page.
+#[derive(Drop)]
+pub(crate) struct Owners<'a, A: Allocator = Global> {
+    pub header: &'a Header,
+    pub marks: &'a Marks<A>,
+    pub roots: &'a RootList<A>,
+}
+
+// What is written below a fault.
+#[derive(Clone, Copy)]
+pub(crate) enum Below {
+    Nothing,
+    StatedPages,
+    GreatestRoot,
+    FreelistCount,
+    Own,
+    Both,
+    Entry,
+}
+
+// What is written below a fault with this code.
+fn below_of(code: FaultCode) -> Below
+    ensures { result ≡ below_of code }
+{
+    match code {
+        FaultCode::H06 => Below::StatedPages,
+        FaultCode::H09 => Below::GreatestRoot,
+        FaultCode::H10 => Below::FreelistCount,
+        FaultCode::H01
+        | FaultCode::H02
+        | FaultCode::H03
+        | FaultCode::H04
+        | FaultCode::H05
+        | FaultCode::H07
+        | FaultCode::H08 => Below::Nothing,
+        FaultCode::R02 | FaultCode::R03 | FaultCode::T04 | FaultCode::O01 | FaultCode::M02 => {
+            Below::Both
+        }
+        FaultCode::M01 => Below::Entry,
+        _ => Below::Own,
+    }
+}
+
+impl<A: Allocator> Owners<'_, A> {
+    // The texts of the trees.
+    fn names(&self) -> TreeNames<'_, A>
+        ensures encoding { result.encoding ≡ encoding self.now.header.now.bytes }
+        ensures roots { result.roots.now ≡ self.now.roots.now }
+    {
+        TreeNames {
+            encoding: self.header.encoding(),
+            roots: self.roots,
+        }
+    }
+
+    // The page that a value is, or 0 where there is none.
+    fn value_page(&self, value: i64) -> u32
+        ensures { result ≡ page_or_none (geometry_of self.now.header.now.bytes self.now.header.now.file_len) value }
+    {
+        let pages = self.header.geometry().pages;
+        if value >= 1 && value <= i64::from(pages) {
+            value as u32
+        } else {
+            0
+        }
+    }
+
+    // Where a page is.
+    fn spot(&self, trees: &mut PageTrees<A>, page: u32) -> Note
+        ensures line { (file : List ℕ) (V : List Reference) → IsOf self.now file V → AreTrees file V trees.old.known
+            → note_text (geometry file) (tree_text file V) result ≡ place_line file V page }
+        ensures trees { (file : List ℕ) (V : List Reference) → IsOf self.now file V → AreTrees file V trees.old.known → AreTrees file V trees.new.known }
+    {
+        Note::Page(Spot {
+            page,
+            place: place_of(self.marks, page),
+            start: trees.start_of(self.marks, page),
+        })
+    }
+
+    // Where a fault is.
+    fn own_note(&self, trees: &mut PageTrees<A>, fault: &Fault) -> Note
+        ensures line { (file : List ℕ) (V : List Reference) → IsOf self.now file V → AreTrees file V trees.old.known
+            → note_text (geometry file) (tree_text file V) result ≡ own_line file V fault.now }
+        ensures trees { (file : List ℕ) (V : List Reference) → IsOf self.now file V → AreTrees file V trees.old.known → AreTrees file V trees.new.known }
+    {
+        if fault.page == 0 {
+            Note::Start(fault.item)
+        } else {
+            self.spot(trees, fault.page)
+        }
+    }
+
+    // The entry of the pointer map that a page has, if it is in use.
+    fn entry_note(&self, page: u32) -> Option<Note>
+        ensures { (file : List ℕ) (V : List Reference) → IsOf self.now file V
+            → option_map_or (note_text (geometry file) (tree_text file V)) result [] ≡ entry_line (visit_of V page) }
+    {
+        match wanted_entry(mark_of(self.marks, page)) {
+            Some(entry) => Some(Note::Entry(entry)),
+            None => None,
+        }
+    }
+
+    // What the lines below a fault say.
+    fn notes(&self, trees: &mut PageTrees<A>, fault: &Fault) -> (Option<Note>, Option<Note>)
+        ensures lines { (file : List ℕ) (V : List Reference) → IsOf self.now file V → AreTrees file V trees.old.known
+            → notes_text (geometry file) (tree_text file V) result ≡ lines_below file V fault.now fault.now.code }
+        ensures trees { (file : List ℕ) (V : List Reference) → IsOf self.now file V → AreTrees file V trees.old.known → AreTrees file V trees.new.known }
+    {
+        match below_of(fault.code) {
+            Below::Nothing => (None, None),
+            Below::StatedPages => (Some(Note::Header(self.header.stated_pages())), None),
+            Below::GreatestRoot => (Some(Note::Header(self.header.greatest_root())), None),
+            Below::FreelistCount => (Some(Note::Header(self.header.freelist_count())), None),
+            Below::Own => (Some(self.own_note(trees, fault)), None),
+            Below::Both => {
+                let own = self.own_note(trees, fault);
+                let other = self.spot(trees, self.value_page(fault.value));
+                (Some(own), Some(other))
+            }
+            Below::Entry => {
+                let own = self.own_note(trees, fault);
+                (Some(own), self.entry_note(fault.page))
+            }
+        }
+    }
+
+    /// Puts the lines below a fault: the number of the header that is wrong, or where its page is, and with it the page that
+    /// it names, or the entry that was wanted.
+    ///
+    /// # Errors
+    ///
+    /// [`WriteFailed`] where a put failed. A beginning of the lines was put then.
+    pub(crate) fn put_below<O: Out>(
+        &self,
+        trees: &mut PageTrees<A>,
+        out: &mut O,
+        fault: &Fault,
+    ) -> Result<(), WriteFailed>
+        ensures lines { (file : List ℕ) (V : List Reference) → IsOf self.now file V → AreTrees file V trees.old.known
+            → Writes result (O.held out.old).bytes (O.held out.new).bytes (lines_below file V fault.now fault.now.code) }
+        ensures trees { (file : List ℕ) (V : List Reference) → IsOf self.now file V → AreTrees file V trees.old.known → AreTrees file V trees.new.known }
+        ensures count { (O.held out.new).failures ≡ failures_after is_any result (O.held out.old).failures }
+    {
+        let notes = self.notes(trees, fault);
+        put_notes(&self.names(), out, self.header.geometry(), notes)
+    }
+
+    /// Puts the line of a page: where it is, and in which tree. A number that no page has gets no line.
+    ///
+    /// # Errors
+    ///
+    /// [`WriteFailed`] where a put failed. A beginning of the line was put then.
+    pub(crate) fn put_page<O: Out>(
+        &self,
+        trees: &mut PageTrees<A>,
+        out: &mut O,
+        page: u32,
+    ) -> Result<(), WriteFailed>
+        ensures line { (file : List ℕ) (V : List Reference) → IsOf self.now file V → AreTrees file V trees.old.known
+            → Writes result (O.held out.old).bytes (O.held out.new).bytes (place_line file V page) }
+        ensures trees { (file : List ℕ) (V : List Reference) → IsOf self.now file V → AreTrees file V trees.old.known → AreTrees file V trees.new.known }
+        ensures count { (O.held out.new).failures ≡ failures_after is_any result (O.held out.old).failures }
+    {
+        let note = self.spot(trees, page);
+        put_notes(
+            &self.names(),
+            out,
+            self.header.geometry(),
+            (Some(note), None),
+        )
+    }
+}

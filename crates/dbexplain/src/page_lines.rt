@@ -1,0 +1,143 @@
+// The lines that say where a page is, and what a start is.
+ghost use Rattle.arrayvec.specs.ArrayVec.{array_vec_len};
+ghost use Rattle.std.specs.Prelude.{◌≡◌, ◌++◌, ◌+◌, ◌≤◌, [], ◌∷◌, length};
+ghost use Rattle.std.specs.Option.{option_map_or};
+ghost use Rattle.dbformat.specs.Lines.{line_feed};
+ghost use Rattle.dbformat.specs.FixedPages.{IsInRange, fixed_use};
+ghost use Rattle.dbsource.specs.Outs.{Puts};
+ghost use Rattle.dbowner.specs.Texts.{place_from, place_front, place_words, tree_of_row};
+ghost use Rattle.dbexplain.specs.Below.{line_of_start, page_line};
+ghost use Rattle.dbexplain.specs.Notes.{page_front, place_end, start_front, start_tree};
+
+use arrayvec::ArrayVec;
+use dbformat::{FREELIST_START, Geometry};
+use dblines::{append, append_number};
+use dbowner::{Place, TreeNames, place_from, place_front, place_tree, place_words};
+use dbsource::{Out, WriteFailed};
+use std::alloc::Allocator;
+
+/// Where a page is: what it is there, and the start that it belongs to.
+#[derive(Clone, Copy, Debug, PartialEq, Eq)]
+pub(crate) struct Spot {
+    pub page: u32,
+    pub place: Place,
+    pub start: Option<u32>,
+}
+
+// What comes after the tree of a page, to the end of the line.
+fn place_end(place: Place) -> ArrayVec<u8, 64>
+    ensures { result.items ≡ place_end place }
+{
+    let mut end = ArrayVec::new();
+    append(&mut end, place_words(place));
+    if let Some(from) = place_from(place) {
+        append_number(&mut end, u64::from(from));
+    }
+    append(&mut end, "\n");
+    end
+}
+
+// Where a page begins in the file, and what comes before its tree.
+fn page_front(shape: Geometry, page: u32, place: Place) -> ArrayVec<u8, 128>
+    requires range { IsInRange shape }
+    requires page { 1 ≤ page }
+    ensures { result.items ≡ page_front shape page place }
+{
+    let mut front = ArrayVec::new();
+    append(&mut front, "    page ");
+    append_number(&mut front, u64::from(page));
+    append(&mut front, " at byte ");
+    append_number(&mut front, u64::from(page - 1) * u64::from(shape.page_size));
+    append(&mut front, ": ");
+    append(&mut front, place_front(shape.fixed(page), place));
+    front
+}
+
+// What a start is, before its tree.
+fn start_front(start: u32) -> ArrayVec<u8, 64>
+    ensures { result.items ≡ start_front start }
+{
+    let mut front = ArrayVec::new();
+    append(&mut front, "    start ");
+    append_number(&mut front, u64::from(start));
+    append(&mut front, ": ");
+    if start == FREELIST_START {
+        append(&mut front, "first trunk of the freelist");
+    } else {
+        append(&mut front, "root of ");
+    }
+    front
+}
+
+// The start whose tree it is.
+fn start_tree(start: u32) -> Option<u32>
+    ensures { result ≡ start_tree start }
+{
+    if start == FREELIST_START {
+        None
+    } else {
+        Some(start)
+    }
+}
+
+// Puts the text of the tree of a start, if there is one.
+fn put_tree_of<A: Allocator, O: Out>(
+    names: &TreeNames<'_, A>,
+    out: &mut O,
+    start: Option<u32>,
+) -> Result<(), WriteFailed>
+    ensures { Puts result (O.held out.old) (O.held out.new) (option_map_or (tree_of_row names.now.encoding names.now.roots.now.rows) start []) }
+{
+    match start {
+        Some(start) => names.put_tree(out, start),
+        None => Ok(()),
+    }
+}
+
+// Puts a line with the text of a tree in it, or of none.
+fn put_line<A: Allocator, O: Out>(
+    names: &TreeNames<'_, A>,
+    out: &mut O,
+    front: &[u8],
+    start: Option<u32>,
+    end: &[u8],
+) -> Result<(), WriteFailed>
+    ensures { Puts result (O.held out.old) (O.held out.new)
+        (front.now ++ (option_map_or (tree_of_row names.now.encoding names.now.roots.now.rows) start [] ++ end.now)) }
+{
+    out.put(front)?;
+    put_tree_of(names, out, start)?;
+    out.put(end)
+}
+
+// Puts where a page is. A number that no page has gets no line.
+pub(crate) fn put_page_line<A: Allocator, O: Out>(
+    names: &TreeNames<'_, A>,
+    out: &mut O,
+    shape: Geometry,
+    spot: Spot,
+) -> Result<(), WriteFailed>
+    requires { IsInRange shape }
+    ensures { Puts result (O.held out.old) (O.held out.new)
+        (page_line shape (tree_of_row names.now.encoding names.now.roots.now.rows) spot.page spot.place spot.start) }
+{
+    if spot.page == 0 || spot.page > shape.pages {
+        return Ok(());
+    }
+    let front = page_front(shape, spot.page, spot.place);
+    let end = place_end(spot.place);
+    let tree = place_tree(spot.place, spot.start);
+    put_line(names, out, front.as_slice(), tree, end.as_slice())
+}
+
+// Puts what a start is.
+pub(crate) fn put_start_line<A: Allocator, O: Out>(
+    names: &TreeNames<'_, A>,
+    out: &mut O,
+    start: u32,
+) -> Result<(), WriteFailed>
+    ensures { Puts result (O.held out.old) (O.held out.new) (line_of_start (tree_of_row names.now.encoding names.now.roots.now.rows) start) }
+{
+    let front = start_front(start);
+    put_line(names, out, front.as_slice(), start_tree(start), b"\n")
+}

@@ -1,0 +1,98 @@
+// The report, when all of a file is known, and what is put of it after a failed read.
+ghost use Rattle.std.specs.Prelude.{◌≡◌, ℕ, List, [], map};
+ghost use Rattle.dbformat.specs.Reference.{Reference};
+ghost use Rattle.dbsource.specs.Failures.{failures_after, is_any};
+ghost use Rattle.dbsource.specs.Outs.{Writes};
+ghost use Rattle.dbentries.specs.Kept.{kept_of};
+ghost use Rattle.dbentries.specs.Listing as listing;
+ghost use Rattle.dbentries.specs.Woven.{KeepsFirst, woven};
+ghost use Rattle.dbowner.specs.Climbs.{AreTrees};
+ghost use Rattle.dbscan.specs.Finishes.{IsDeskOf};
+ghost use Rattle.dbscan.specs.Placed.{told_faults};
+ghost use Rattle.dbexplain.specs.Explained.{explain_text, found_text, listed};
+ghost use Rattle.dbexplain.specs.Keeping.{HasAll};
+
+use crate::entry_lines::{put_entries, put_fault_lines};
+use crate::kept::Kept;
+use crate::owners::Owners;
+use crate::summary::put_summary;
+use dbentries::{Entries, Entry};
+use dblines::put_rest;
+use dbscan::Desk;
+use dbsource::{Out, WriteFailed};
+use std::alloc::Allocator;
+
+// What is known of the pages of a file at the end of a run.
+fn owners_of<A: Allocator>(desk: &Desk<A>) -> Owners<'_, A>
+    ensures header { result.header.now ≡ desk.now.header }
+    ensures marks { result.marks.now ≡ desk.now.marks }
+    ensures roots { result.roots.now ≡ desk.now.roots }
+{
+    Owners {
+        header: desk.header(),
+        marks: desk.marks(),
+        roots: desk.roots(),
+    }
+}
+
+// Puts the entries of lost pages in their places among the others.
+fn weave<A: Allocator>(entries: &mut Entries<A>, lost: &[Entry])
+    ensures entries { (es ls : List listing.Entry) → KeepsFirst es entries.old → lost.now ≡ map kept_of ls
+        → KeepsFirst (woven es ls) entries.new }
+    ensures limit { entries.new.limit ≡ entries.old.limit }
+{
+    for entry in lost {
+        entries.insert(entry);
+    }
+}
+
+// Makes ready what is kept when all of a file is known: whose each page is, and the entries of lost pages in their places.
+fn make_ready<A: Allocator>(desk: &Desk<A>, kept: &mut Kept<A>)
+    ensures trees { (file : List ℕ) (V : List Reference) → IsDeskOf desk.now file V → HasAll file V kept.old → AreTrees file V kept.new.trees.known }
+    ensures entries { (file : List ℕ) (V : List Reference) → IsDeskOf desk.now file V → HasAll file V kept.old
+        → KeepsFirst (listed file V) kept.new.entries }
+    ensures limit { kept.new.entries.limit ≡ kept.old.entries.limit }
+    ensures tally { kept.new.tally ≡ kept.old.tally }
+{
+    kept.trees.enter_roots(desk.marks(), desk.roots());
+    weave(&mut kept.entries, kept.lost.listed());
+}
+
+/// Puts the report of a file in which faults were found: the first entries, how many faults belong to none of them, and the
+/// summary.
+///
+/// # Errors
+///
+/// [`WriteFailed`] where the Out failed: it took a beginning of the report.
+pub(crate) fn put_report<A: Allocator, O: Out>(
+    desk: &Desk<A>,
+    kept: &mut Kept<A>,
+    out: &mut O,
+) -> Result<(), WriteFailed>
+    ensures report { (file : List ℕ) (V : List Reference) → IsDeskOf desk.now file V → HasAll file V kept.old → (told_faults file V ≡ [] → ⊥)
+        → Writes result (O.held out.old).bytes (O.held out.new).bytes (explain_text kept.old.entries.limit file V (listed file V)) }
+    ensures count { (O.held out.new).failures ≡ failures_after is_any result (O.held out.old).failures }
+{
+    make_ready(desk, kept);
+    let owners = owners_of(desk);
+    put_entries(&owners, &mut kept.trees, out, kept.entries.listed())?;
+    put_rest(out, kept.entries.rest())?;
+    put_summary(out, &owners, &mut kept.trees, &mut kept.tally)
+}
+
+/// Puts the fault lines of the entries found so far.
+///
+/// # Errors
+///
+/// [`WriteFailed`] where the Out failed: it took a beginning of the lines.
+pub(crate) fn put_found<A: Allocator, O: Out>(
+    kept: &mut Kept<A>,
+    out: &mut O,
+) -> Result<(), WriteFailed>
+    ensures lines { (es ls : List listing.Entry) → KeepsFirst es kept.old.entries → kept.old.lost.listed ≡ map kept_of ls
+        → Writes result (O.held out.old).bytes (O.held out.new).bytes (found_text kept.old.entries.limit (woven es ls)) }
+    ensures count { (O.held out.new).failures ≡ failures_after is_any result (O.held out.old).failures }
+{
+    weave(&mut kept.entries, kept.lost.listed());
+    put_fault_lines(out, kept.entries.listed())
+}

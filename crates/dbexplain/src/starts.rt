@@ -1,0 +1,131 @@
+// The lines of the starts in the summary.
+ghost use Rattle.arrayvec.specs.ArrayVec.{array_vec_len};
+ghost use Rattle.std.specs.Prelude.{◌≡◌, ◌+◌, ◌≤◌, ◌∷◌, [], ◌++◌, length, codes, decimal};
+ghost use Rattle.std.specs.List.{enumerate_from, flat_map};
+ghost use Rattle.dbformat.specs.Lines.{line_feed};
+ghost use Rattle.dbsource.specs.Outs.{Puts};
+ghost use Rattle.dbexplain.specs.Summary.{pages_text, root_page, start_name};
+ghost use Rattle.dbexplain.specs.Sums.{numbered_sum, start_sum, sum_front, without_fault};
+
+use crate::sums::sum_front;
+use crate::tally::StartCount;
+use arrayvec::ArrayVec;
+use dbformat::{FREELIST_START, SCHEMA_START};
+use dblines::{append, append_number};
+use dbowner::{RootList, TreeNames};
+use dbsource::{Out, WriteFailed};
+use std::alloc::Allocator;
+
+// The root page of a start: the schema's is page 1.
+fn root_page<A: Allocator>(roots: &RootList<A>, start: u32) -> u32
+    ensures { result ≡ root_page roots.now.rows start }
+{
+    if start == SCHEMA_START {
+        return 1;
+    }
+    match roots.get(start) {
+        Some(row) => row.root,
+        None => 0,
+    }
+}
+
+// A root page, after its tree.
+fn root_text(page: u32) -> ArrayVec<u8, 64>
+    ensures { result.items ≡ codes " (root page " ++ decimal page ++ codes ")" }
+{
+    let mut text = ArrayVec::new();
+    append(&mut text, " (root page ");
+    append_number(&mut text, u64::from(page));
+    append(&mut text, ")");
+    text
+}
+
+// Puts the name of a start: the freelist, or a tree and its root page.
+fn put_name<A: Allocator, O: Out>(
+    out: &mut O,
+    names: &TreeNames<'_, A>,
+    start: u32,
+) -> Result<(), WriteFailed>
+    ensures { Puts result (O.held out.old) (O.held out.new) (start_name names.now.encoding names.now.roots.now.rows start) }
+{
+    if start == FREELIST_START {
+        return out.put(b"the freelist");
+    }
+    names.put_tree(out, start)?;
+    out.put(root_text(root_page(names.roots, start)).as_slice())
+}
+
+// What is before the name of a start in the line of its count.
+fn start_front(all: u64, count: u64) -> ArrayVec<u8, 160>
+    ensures { result.items ≡ sum_front all count ++ codes "in " }
+{
+    let mut front = sum_front(all, count);
+    append(&mut front, "in ");
+    front
+}
+
+// On how many of its pages the faults of a start are, and the end of the line.
+fn pages_text(faulty: u32, reached: u32) -> ArrayVec<u8, 160>
+    ensures { result.items ≡ pages_text faulty reached ++ line_feed ∷ [] }
+{
+    let mut text = ArrayVec::new();
+    if reached == 0 {
+        append(&mut text, ", of which no page was reached\n");
+        return text;
+    }
+    append(&mut text, ", on ");
+    append_number(&mut text, u64::from(faulty));
+    append(&mut text, " of its ");
+    append_number(&mut text, u64::from(reached));
+    append(&mut text, if reached == 1 { " page\n" } else { " pages\n" });
+    text
+}
+
+// Puts how many of all faults were reported at a start, and on how many of its pages, if there are any.
+pub(crate) fn put_start_sum<A: Allocator, O: Out>(
+    out: &mut O,
+    names: &TreeNames<'_, A>,
+    all: u64,
+    start: u32,
+    count: &StartCount,
+) -> Result<(), WriteFailed>
+    ensures { Puts result (O.held out.old) (O.held out.new) (start_sum all (start_name names.now.encoding names.now.roots.now.rows start) count.now) }
+{
+    if count.faults == 0 {
+        return Ok(());
+    }
+    out.put(start_front(all, count.faults).as_slice())?;
+    put_name(out, names, start)?;
+    out.put(pages_text(count.faulty, count.reached).as_slice())
+}
+
+// Puts that of each tree, from the schema's on.
+pub(crate) fn put_start_sums<A: Allocator, O: Out>(
+    out: &mut O,
+    names: &TreeNames<'_, A>,
+    all: u64,
+    counts: &[StartCount],
+) -> Result<(), WriteFailed>
+    requires { length counts.now ≤ 65537 }
+    ensures { Puts result (O.held out.old) (O.held out.new)
+        (flat_map (numbered_sum all (start_name names.now.encoding names.now.roots.now.rows)) (enumerate_from 0 counts.now)) }
+{
+    for index in 0..counts.len() {
+        put_start_sum(out, names, all, index as u32, &counts[index])?;
+    }
+    Ok(())
+}
+
+// How many trees have no fault.
+pub(crate) fn without_fault(counts: &[StartCount]) -> u32
+    requires { length counts.now ≤ 65537 }
+    ensures { result ≡ without_fault counts.now }
+{
+    let mut count = 0u32;
+    for index in 0..counts.len() {
+        if counts[index].faults == 0 {
+            count += 1;
+        }
+    }
+    count
+}

@@ -1,0 +1,67 @@
+// The summary after the last fault.
+ghost use Rattle.std.specs.Prelude.{◌≡◌, ℕ, List};
+ghost use Rattle.dbformat.specs.File.{geometry};
+ghost use Rattle.dbformat.specs.Reference.{Reference};
+ghost use Rattle.dbsource.specs.Failures.{failures_after, is_any};
+ghost use Rattle.dbsource.specs.Outs.{Puts, Writes};
+ghost use Rattle.dbowner.specs.Climbs.{AreTrees};
+ghost use Rattle.dbexplain.specs.Notes.{IsOf};
+ghost use Rattle.dbscan.specs.Placed.{told_faults};
+ghost use Rattle.dbexplain.specs.Summary.{summary};
+ghost use Rattle.dbexplain.specs.Sums.{summary_by};
+ghost use Rattle.dbexplain.specs.Tallies.{HasRoom, IsTallyOf};
+
+use crate::owners::Owners;
+use crate::reached::count_pages;
+use crate::starts::{put_start_sum, put_start_sums, without_fault};
+use crate::sums::{put_code_sums, put_count, put_sum, put_trees};
+use crate::tally::Tally;
+use dbformat::FREELIST_START;
+use dbowner::{PageTrees, TreeNames};
+use dbsource::{Out, WriteFailed};
+use std::alloc::Allocator;
+
+// Puts the summary by a tally in which all pages are counted.
+fn put_counts<A: Allocator, O: Out>(
+    out: &mut O,
+    names: &TreeNames<'_, A>,
+    tally: &Tally<A>,
+) -> Result<(), WriteFailed>
+    ensures { Puts result (O.held out.old) (O.held out.new) (summary_by names.now.encoding names.now.roots.now.rows tally.now) }
+{
+    let all = tally.all();
+    let trees = tally.trees(names.roots.len());
+    put_count(out, all)?;
+    put_code_sums(out, all, tally.codes())?;
+    put_start_sums(out, names, all, trees)?;
+    put_start_sum(out, names, all, FREELIST_START, tally.freelist())?;
+    put_sum(out, all, tally.whole(), "in the whole file")?;
+    put_trees(out, without_fault(trees), trees.len() as u32)
+}
+
+/// Puts the summary of all faults of a file: how many there are, with each code, at each start and of the whole file, on how many of
+/// the pages that were reached from a start, and how many trees have none. Each page is counted here, in one pass over the marks.
+///
+/// # Errors
+///
+/// [`WriteFailed`] where a put failed. A beginning of the summary was put then.
+pub(crate) fn put_summary<A: Allocator, O: Out>(
+    out: &mut O,
+    owners: &Owners<'_, A>,
+    trees: &mut PageTrees<A>,
+    tally: &mut Tally<A>,
+) -> Result<(), WriteFailed>
+    // Where all faults of the file were added.
+    ensures lines { (file : List ℕ) (V : List Reference) → IsOf owners.now file V → AreTrees file V trees.old.known
+        → HasRoom tally.old.pages (geometry file).pages → IsTallyOf (told_faults file V) tally.old
+        → Writes result (O.held out.old).bytes (O.held out.new).bytes (summary file V (told_faults file V)) }
+    ensures trees { (file : List ℕ) (V : List Reference) → IsOf owners.now file V → AreTrees file V trees.old.known → AreTrees file V trees.new.known }
+    ensures count { (O.held out.new).failures ≡ failures_after is_any result (O.held out.old).failures }
+{
+    count_pages(tally, owners.marks, trees);
+    let names = TreeNames {
+        encoding: owners.header.encoding(),
+        roots: owners.roots,
+    };
+    put_counts(out, &names, tally)
+}

@@ -1,0 +1,164 @@
+// The lines of the summary.
+ghost use Rattle.arrayvec.specs.ArrayVec.{array_vec_len};
+ghost use Rattle.std.specs.Prelude.{◌≡◌, ◌+◌, ◌≤◌, [], ◌∷◌, ◌++◌, length, replicate, codes, decimal};
+ghost use Rattle.std.specs.List.{flat_map};
+ghost use Rattle.dbformat.specs.Lines.{code_text, code_words, line_feed};
+ghost use Rattle.dbsource.specs.Outs.{Puts};
+ghost use Rattle.dbexplain.specs.Summary.{aligned, count_text, sum_line, trees_text};
+ghost use Rattle.dbexplain.specs.Sums.{code_sum, sum_front};
+
+use crate::tally::CodeCount;
+use arrayvec::ArrayVec;
+use dbformat::FaultCode;
+use dblines::{append, append_number, code_text, code_words};
+use dbsource::{Out, WriteFailed};
+use itoa::Buffer;
+
+// How many digits a number of 64 bits has at most.
+const MAX_DIGITS: usize = 20;
+
+// How many digits a number has.
+fn width(number: u64) -> usize
+    ensures digits { result ≡ length (decimal number) }
+    ensures most { result ≤ 20 }
+{
+    let mut buffer = Buffer::new();
+    buffer.format(number).len()
+}
+
+// Adds blanks.
+fn append_blanks<const CAP: usize>(line: &mut ArrayVec<u8, CAP>, count: usize)
+    requires room { array_vec_len line.old + count ≤ CAP }
+    requires most { count ≤ 20 }
+    ensures { line.new.items ≡ line.old.items ++ replicate count 32 }
+{
+    let blanks = [b' '; MAX_DIGITS];
+    let _ = line.try_extend_from_slice(&blanks[..count]);
+}
+
+// Adds a number with blanks in front, to the width of another.
+fn append_aligned<const CAP: usize>(line: &mut ArrayVec<u8, CAP>, most: u64, number: u64)
+    requires { array_vec_len line.old + 40 ≤ CAP }
+    ensures text { line.new.items ≡ line.old.items ++ aligned most number }
+    ensures short { array_vec_len line.new ≤ array_vec_len line.old + 40 }
+{
+    append_blanks(line, width(most).saturating_sub(width(number)));
+    append_number(line, number);
+}
+
+// The beginning of the line of a count.
+pub(crate) fn sum_front(all: u64, count: u64) -> ArrayVec<u8, 160>
+    ensures text { result.items ≡ sum_front all count }
+    ensures short { array_vec_len result ≤ 45 }
+{
+    let mut line = ArrayVec::new();
+    append(&mut line, "    ");
+    append_aligned(&mut line, all, count);
+    append(&mut line, " ");
+    line
+}
+
+// The line of a count of some text.
+fn sum_text(all: u64, count: u64, text: &str) -> ArrayVec<u8, 160>
+    requires { length text.now ≤ 64 }
+    ensures { result.items ≡ sum_front all count ++ (text.now ++ line_feed ∷ []) }
+{
+    let mut line = sum_front(all, count);
+    append(&mut line, text);
+    append(&mut line, "\n");
+    line
+}
+
+// The line of the count of a code.
+fn code_sum(all: u64, count: u64, code: FaultCode) -> ArrayVec<u8, 160>
+    ensures { result.items ≡ sum_front all count ++ (code_text code ++ codes " " ++ code_words code ++ line_feed ∷ []) }
+{
+    let mut line = sum_front(all, count);
+    append(&mut line, code_text(code));
+    append(&mut line, " ");
+    append(&mut line, code_words(code));
+    append(&mut line, "\n");
+    line
+}
+
+// Puts how many of all faults have a code, if there are any.
+fn put_code_sum<O: Out>(out: &mut O, all: u64, count: CodeCount) -> Result<(), WriteFailed>
+    ensures { Puts result (O.held out.old) (O.held out.new) (code_sum all count) }
+{
+    if count.count == 0 {
+        return Ok(());
+    }
+    let line = code_sum(all, count.count, count.code);
+    out.put(line.as_slice())
+}
+
+// Puts how many of all faults have each of these codes.
+pub(crate) fn put_code_sums<O: Out>(
+    out: &mut O,
+    all: u64,
+    counts: &[CodeCount],
+) -> Result<(), WriteFailed>
+    ensures { Puts result (O.held out.old) (O.held out.new) (flat_map (code_sum all) counts.now) }
+{
+    for count in counts {
+        put_code_sum(out, all, *count)?;
+    }
+    Ok(())
+}
+
+// Puts how many of all faults there are of this, if there are any.
+pub(crate) fn put_sum<O: Out>(
+    out: &mut O,
+    all: u64,
+    count: u64,
+    text: &str,
+) -> Result<(), WriteFailed>
+    requires { length text.now ≤ 64 }
+    ensures { Puts result (O.held out.old) (O.held out.new) (sum_line all count text.now) }
+{
+    if count == 0 {
+        return Ok(());
+    }
+    let line = sum_text(all, count, text);
+    out.put(line.as_slice())
+}
+
+// The line of how many faults there are.
+fn count_text(all: u64) -> ArrayVec<u8, 32>
+    ensures { result.items ≡ count_text all }
+{
+    let mut line = ArrayVec::new();
+    append_number(&mut line, all);
+    append(&mut line, if all == 1 { " fault\n" } else { " faults\n" });
+    line
+}
+
+// Puts how many faults there are.
+pub(crate) fn put_count<O: Out>(out: &mut O, all: u64) -> Result<(), WriteFailed>
+    ensures { Puts result (O.held out.old) (O.held out.new) (count_text all) }
+{
+    let line = count_text(all);
+    out.put(line.as_slice())
+}
+
+// The line of how many of the trees have no fault.
+fn trees_text(whole: u32, all: u32) -> ArrayVec<u8, 160>
+    ensures { result.items ≡ trees_text whole all }
+{
+    let mut line = ArrayVec::new();
+    append(&mut line, "    ");
+    append_number(&mut line, u64::from(whole));
+    append(&mut line, " of ");
+    append_number(&mut line, u64::from(all));
+    append(&mut line, if all == 1 { " tree" } else { " trees" });
+    append(&mut line, " without a fault\n");
+    line
+}
+
+// Puts how many of the trees have no fault.
+pub(crate) fn put_trees<O: Out>(out: &mut O, whole: u32, all: u32) -> Result<(), WriteFailed>
+    ensures { Puts result (O.held out.old) (O.held out.new) (trees_text whole all) }
+{
+    let line = trees_text(whole, all);
+    out.put(line.as_slice())
+}

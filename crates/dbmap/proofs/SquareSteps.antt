@@ -1,0 +1,92 @@
+-- Squares and rows, one after another.
+use Rattle.std.proofs.Common.{◌≡◌, ℕ, suc, ◌+◌, Bool, List, [], ◌∷◌, ◌++◌, length, Option, refl, sym, ap, ◌∙◌, subst, arith, append_assoc, append-nil, length-append}
+use Rattle.dbsource.specs.Outs.{OutState}
+use Rattle.dbmap.specs.Canvas.{Draws}
+use Rattle.dbmap.specs.Drawings.{DrawsRow, DrawsSquare, DrawsSquares}
+use Rattle.dbmap.specs.Squares.{AreRows, AreSquares, Ground, IsRow, IsSquare, Square, before_text, group_after, last_group, row_text, rows_text, square_text, squares_text}
+use Rattle.dbmap.specs.declared.canvas.Canvas.{Canvas}
+use Rattle.dbmap.specs.declared.cell.Owner.{Owner}
+use Rattle.dbmap.proofs.Drawing.{draws_nothing, draws_then}
+
+-- ---- squares
+
+are_more : (g : Ground) (cell : ℕ) (ss : List Square) (s : Square) → AreSquares g cell ss → IsSquare g (cell + length ss) s → AreSquares g cell (ss ++ s ∷ [])
+are_more g cell [] s h k =
+    let e : cell + 0 ≡ cell = omega arith in
+    (subst (λ (n : ℕ). IsSquare g n s) e k, tt)
+are_more g cell (q ∷ ss) s h k =
+    let e : cell + suc (length ss) ≡ cell + 1 + length ss = omega arith in
+    (h.0, are_more g (cell + 1) ss s h.1 (subst (λ (n : ℕ). IsSquare g n s) e k))
+
+last_more : (group : Option (Owner × Bool)) (ss : List Square) (s : Square) → last_group group (ss ++ s ∷ []) ≡ group_after (last_group group ss) s
+last_more group [] s = refl
+last_more group (q ∷ ss) s = last_more (group_after group q) ss s
+
+text_more : (g : Ground) (group : Option (Owner × Bool)) (ss : List Square) (s : Square)
+    → squares_text g group (ss ++ s ∷ []) ≡ squares_text g group ss ++ (before_text (last_group group ss) s ++ square_text g s)
+text_more g group [] s = append-nil (before_text group s ++ square_text g s)
+text_more g group (q ∷ ss) s =
+    ap (λ l. (before_text group q ++ square_text g q) ++ l) (text_more g (group_after group q) ss s)
+    ∙ sym (append_assoc (before_text group q ++ square_text g q) (squares_text g (group_after group q) ss) (before_text (last_group (group_after group q) ss) s ++ square_text g s))
+
+count_more : {X : Type 0} (xs : List X) (x : X) (n : ℕ) → length xs ≡ n → length (xs ++ x ∷ []) ≡ n + 1
+count_more xs x n e = length-append xs (x ∷ []) ∙ ap (λ m. m + 1) e
+
+module _ {O : Type 0} {held : O → OutState} {g : Ground} where
+  pub no_squares : (cell : ℕ) (group : Option (Owner × Bool)) (s : Canvas O) → DrawsSquares held g cell 0 group group s s
+  no_squares cell group s = record { squares = []; many = refl; are = tt; group = refl; draws = draws_nothing s }
+
+  pub squares_more : {cell count : ℕ} {before mid after : Option (Owner × Bool)} {s m t : Canvas O}
+      → DrawsSquares held g cell count before mid s m → DrawsSquare held g (cell + count) mid after m t → DrawsSquares held g cell (count + 1) before after s t
+  squares_more {cell = cell} {count = count} {before = before} {mid = mid} {after = after} {s = s} {m = m} {t = t} h k =
+      let at : cell + count ≡ cell + length h.squares = ap (λ n. cell + n) (sym h.many) in
+      let more : Draws held m (before_text (last_group before h.squares) k.square ++ square_text g k.square) t =
+      subst (λ (o : Option (Owner × Bool)). Draws held m (before_text o k.square ++ square_text g k.square) t) h.group k.draws in
+      record {
+        squares = h.squares ++ k.square ∷ [];
+        many = count_more h.squares k.square count h.many;
+        are = are_more g cell h.squares k.square h.are (subst (λ (n : ℕ). IsSquare g n k.square) at k.is);
+        group = k.group ∙ ap (λ o. group_after o k.square) h.group ∙ sym (last_more before h.squares k.square);
+        draws = subst (λ (l : List ℕ). Draws held s l t) (sym (text_more g before h.squares k.square)) (draws_then h.draws more);
+      }
+
+-- ---- rows
+
+rows_are_more : (g : Ground) (row : ℕ) (rs : List (List Square)) (r : List Square) → AreRows g row rs → IsRow g (row + length rs) r → AreRows g row (rs ++ r ∷ [])
+rows_are_more g row [] r h k =
+    let e : row + 0 ≡ row = omega arith in
+    (subst (λ (n : ℕ). IsRow g n r) e k, tt)
+rows_are_more g row (q ∷ rs) r h k =
+    let e : row + suc (length rs) ≡ row + 1 + length rs = omega arith in
+    (h.0, rows_are_more g (row + 1) rs r h.1 (subst (λ (n : ℕ). IsRow g n r) e k))
+
+rows_text_more : (g : Ground) (row : ℕ) (rs : List (List Square)) (r : List Square) → rows_text g row (rs ++ r ∷ []) ≡ rows_text g row rs ++ row_text g (row + length rs) r
+rows_text_more g row [] r =
+    let e : row ≡ row + 0 = omega arith in
+    append-nil (row_text g row r) ∙ ap (λ n. row_text g n r) e
+rows_text_more g row (q ∷ rs) r =
+    let e : row + 1 + length rs ≡ row + suc (length rs) = omega arith in
+    ap (λ l. row_text g row q ++ l) (rows_text_more g (row + 1) rs r ∙ ap (λ n. rows_text g (row + 1) rs ++ row_text g n r) e)
+    ∙ sym (append_assoc (row_text g row q) (rows_text g (row + 1) rs) (row_text g (row + suc (length rs)) r))
+
+-- so many rows have been drawn
+pub record HasRows {O : Type 0} (held : O → OutState) (g : Ground) (count : ℕ) (s t : Canvas O) : Type 0 where
+  pub all : List (List Square)
+  pub many : length all ≡ count
+  pub are : AreRows g 0 all
+  pub draws : Draws held s (rows_text g 0 all) t
+
+module _ {O : Type 0} {held : O → OutState} {g : Ground} where
+  pub no_rows : (s : Canvas O) → HasRows held g 0 s s
+  no_rows s = record { all = []; many = refl; are = tt; draws = draws_nothing s }
+
+  pub rows_more : {count : ℕ} {s m t : Canvas O} → HasRows held g count s m → DrawsRow held g count m t → HasRows held g (count + 1) s t
+  rows_more {count = count} {s = s} {m = m} {t = t} h k =
+      let at : count ≡ 0 + length h.all = omega (arith, h.many) in
+      record {
+        all = h.all ++ k.squares ∷ [];
+        many = count_more h.all k.squares count h.many;
+        are = rows_are_more g 0 h.all k.squares h.are (subst (λ (n : ℕ). IsRow g n k.squares) at k.is);
+        draws = subst (λ (l : List ℕ). Draws held s l t) (sym (rows_text_more g 0 h.all k.squares))
+            (draws_then h.draws (subst (λ (n : ℕ). Draws held m (row_text g n k.squares) t) at k.draws));
+      }

@@ -1,0 +1,10 @@
+use Rattle.std.proofs.Common.{◌≡◌, None}
+use Rattle.dbmap.specs.Squares.{ground_of}
+use Rattle.dbmap.proofs.SquareSteps.{HasRows}
+use Rattle.dbmap.proofs.squares.Squares.draw.Given as goal
+
+abbrev pub invariant-loop-row : goal.invariant-loop-row
+invariant-loop-row g l = record {
+  rows : HasRows g.O.Out.held (ground_of l.self l.layout) l.row l.initial.canvas l.canvas;
+  group : l.walk.pen.group ≡ None;
+}

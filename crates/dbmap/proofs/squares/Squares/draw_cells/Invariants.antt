@@ -1,0 +1,7 @@
+use Rattle.std.proofs.Common.{◌-◌}
+use Rattle.dbmap.specs.Drawings.{DrawsSquares}
+use Rattle.dbmap.specs.Squares.{ground_of}
+use Rattle.dbmap.proofs.squares.Squares.draw_cells.Given as goal
+
+abbrev pub invariant-loop-cell : goal.invariant-loop-cell
+invariant-loop-cell g l = DrawsSquares g.O.Out.held (ground_of l.self l.layout) l.fn.first (l.cell - l.fn.first) l.initial.walk.pen.group l.walk.pen.group l.initial.canvas l.canvas

@@ -1,0 +1,75 @@
+-- What is drawn of squares: for each place of the grid there is one.
+use Rattle.std.specs.Prelude.{◌≡◌, ℕ, ◌≤◌, Bool, List, ◌++◌, length, Option, Result, if◌then◌else◌}
+use Rattle.std.specs.Int.{div_ceil}
+use Rattle.dbformat.specs.Header.{is_size_valid, stated_pages}
+use Rattle.dbscan.specs.Desks.{Things, shape_of}
+use Rattle.dbsource.specs.Outs.{OutState, Puts}
+use Rattle.dbmap.specs.Canvas.{Draws}
+use Rattle.dbmap.specs.Grids.{rows}
+use Rattle.dbmap.specs.Squares.{AreRows, AreSquares, Ground, IsRow, IsSquare, Square, before_text, group_after, last_group, row_text, rows_text, square_text, squares_text}
+use Rattle.dbmap.specs.Pictures.{picture_text}
+use Rattle.dbmap.specs.declared.canvas.Canvas.{Canvas}
+use Rattle.dbmap.specs.declared.cell.Owner.{Owner}
+use Rattle.dbmap.specs.declared.legend.Line.{Line}
+use Rattle.dbmap.specs.declared.picture.Heading.{Heading}
+
+module _ {O : Type 0} (held : O → OutState) (g : Ground) where
+  -- the square of a place was drawn, after one group and before another
+  pub record DrawsSquare (cell : ℕ) (before after : Option (Owner × Bool)) (s t : Canvas O) : Type 0 where
+    pub square : Square
+    pub is : IsSquare g cell square
+    pub group : after ≡ group_after before square
+    pub draws : Draws held s (before_text before square ++ square_text g square) t
+
+  -- the squares of so many places from one on were
+  pub record DrawsSquares (cell count : ℕ) (before after : Option (Owner × Bool)) (s t : Canvas O) : Type 0 where
+    pub squares : List Square
+    pub many : length squares ≡ count
+    pub are : AreSquares g cell squares
+    pub group : after ≡ last_group before squares
+    pub draws : Draws held s (squares_text g before squares) t
+
+  -- a row was
+  pub record DrawsRow (row : ℕ) (s t : Canvas O) : Type 0 where
+    pub squares : List Square
+    pub is : IsRow g row squares
+    pub draws : Draws held s (row_text g row squares) t
+
+  -- all rows were
+  pub record DrawsRows (s t : Canvas O) : Type 0 where
+    pub all : List (List Square)
+    pub many : length all ≡ rows g.grid
+    pub are : AreRows g 0 all
+    pub draws : Draws held s (rows_text g 0 all) t
+
+-- all of the picture was, by what is said above the squares and the lines of the legend
+pub record DrawsPicture {O : Type 0} (held : O → OutState) (h : Heading) (g : Ground) (lines : List Line) (s t : Canvas O) : Type 0 where
+  pub all : List (List Square)
+  pub many : length all ≡ rows g.grid
+  pub are : AreRows g 0 all
+  pub draws : Draws held s (picture_text h g all lines) t
+
+-- the number of pages that a header states, where it counts
+abbrev pub stated_of : List ℕ → ℕ
+stated_of header = if is_size_valid header then stated_pages header else 0
+
+-- A picture of the file of a desk: how large it is, how many faults were found, and the squares of all its pages, row by row.
+pub record IsPicture (d : Things) (faults : ℕ) (h : Heading) (g : Ground) (all : List (List Square)) : Type 0 where
+  pub geometry : h.geometry ≡ shape_of d
+  pub found : h.faults ≡ faults
+  pub pages : g.grid.pages ≡ (shape_of d).pages
+  pub stated : g.grid.stated ≡ stated_of d.header.bytes
+  pub run : 1 ≤ g.grid.run
+  pub cells : g.grid.cells ≡ div_ceil (shape_of d).pages g.grid.run
+  pub marks : g.marks ≡ d.marks
+  pub many : length all ≡ rows g.grid
+  pub are : AreRows g 0 all
+
+-- such a picture was put
+pub record PutsPicture {A E : Type 0} (r : Result A E) (old new : OutState) (d : Things) (faults : ℕ) : Type 0 where
+  pub heading : Heading
+  pub ground : Ground
+  pub all : List (List Square)
+  pub lines : List Line
+  pub is : IsPicture d faults heading ground all
+  pub puts : Puts r old new (picture_text heading ground all lines)

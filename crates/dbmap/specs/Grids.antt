@@ -1,0 +1,56 @@
+-- How the squares of a picture are laid out.
+use Rattle.std.specs.Prelude.{ℕ, ◌+◌, ◌*◌, ◌%◌, min, max}
+use Rattle.std.specs.Int.{div_ceil}
+use Rattle.dbformat.specs.Lines.{counted}
+use Rattle.dbmap.specs.declared.grid.Grid.{Grid}
+use Rattle.dbmap.specs.declared.grid.Width.{Width}
+use Rattle.dbmap.specs.declared.grid.Width.TheVariants.{Few, Some, Many}
+
+-- how many squares are in a row
+abbrev pub columns_of : Width → ℕ
+columns_of Few = 32
+columns_of Some = 64
+columns_of Many = 128
+
+abbrev pub columns : Grid → ℕ
+columns g = columns_of g.width
+
+-- how many pixels a square takes with the room after it
+abbrev pub side_of : Width → ℕ
+side_of Few = 28
+side_of Some = 14
+side_of Many = 7
+
+abbrev pub side : Grid → ℕ
+side g = side_of g.width
+
+-- how many squares and outlines there are: no more rows of outlines alone than the file has rows
+abbrev pub places : Grid → ℕ
+places g = max (min (div_ceil g.stated (max g.run 1)) (div_ceil g.cells (columns g) * 2 * columns g)) g.cells
+
+-- how many rows there are
+abbrev pub rows : Grid → ℕ
+rows g = div_ceil (places g) (columns g)
+
+-- the squares of a row, the first and the one after the last
+abbrev pub cells_of_row : Grid → ℕ → ℕ × ℕ
+cells_of_row g row = (min (row * columns g) g.cells, min ((row + 1) * columns g) g.cells)
+
+-- the outlines of a row, the first and the one after the last
+abbrev pub outlines_of_row : Grid → ℕ → ℕ × ℕ
+outlines_of_row g row = (max (min (row * columns g) (places g)) g.cells, min ((row + 1) * columns g) (places g))
+
+-- the first and the last page of a place, of so many pages
+abbrev pub run_of : Grid → ℕ → ℕ → ℕ × ℕ
+run_of g place pages = (min (place * g.run + 1) pages, min (place * g.run + g.run) pages)
+
+-- where a square begins in its row, and where a row begins, in pixels
+abbrev pub x_of : Grid → ℕ → ℕ
+x_of g place = (place % columns g) * side g
+
+abbrev pub top_of : Grid → ℕ → ℕ
+top_of g row = 64 + row * side g
+
+-- the first page of a row
+abbrev pub page_of_row : Grid → ℕ → ℕ
+page_of_row g row = counted (counted (row * columns g * g.run) + 1)

@@ -1,0 +1,137 @@
+-- The legend of a picture, line by line: what it is of, how many pages that are, and how they are drawn.
+use Rattle.std.specs.Prelude.{ℕ, ◌+◌, ◌-◌, ◌*◌, true, false, List, [], ◌∷◌, ◌++◌, length, Option, Some, None, codes, decimal, ◌==◌, if◌then◌else◌}
+use Rattle.std.specs.List.{concat}
+use Rattle.dbformat.specs.declared.Geometry.{Geometry}
+use Rattle.dbxml.specs.Pieces.{tenths_text}
+use Rattle.dbmap.specs.Colours.{fill}
+use Rattle.dbmap.specs.Runs.{name_text}
+use Rattle.dbmap.specs.Sizes.{size_tenths, size_unit, tenths_of_percent}
+use Rattle.dbmap.specs.declared.cell.Owner.{Owner}
+use Rattle.dbmap.specs.declared.cell.Owner.TheVariants as owner
+use Rattle.dbmap.specs.declared.cell.Share.{Share}
+use Rattle.dbmap.specs.declared.grid.Grid.{Grid}
+use Rattle.dbmap.specs.declared.legend.Label.{Label}
+use Rattle.dbmap.specs.declared.legend.Label.TheVariants.{Faulty, Fixed, Freelist, Nobody, Others, Tree}
+use Rattle.dbmap.specs.declared.legend.Line.{Line}
+
+-- some pages, none of which is an overflow page
+abbrev pub no_overflow : ℕ → Share
+no_overflow pages = record { pages = pages; overflow = 0 }
+
+-- how many pixels the legend takes, with the room around it
+abbrev pub height : List Line → ℕ → ℕ
+height lines missing = (length lines + (if missing == 0 then 0 else 1)) * 20 + 40
+
+-- a text in two parts in a column, which ends at x
+abbrev pub cell_text : ℕ → ℕ → List ℕ → List ℕ → List ℕ
+cell_text x y text end =
+    concat (codes "<text x=\"" ∷ decimal x ∷ codes "\" y=\"" ∷ decimal y ∷ codes "\" text-anchor=\"end\">" ∷ text ∷ end ∷ codes "</text>" ∷ [])
+
+-- a number in a column
+abbrev pub number_text : ℕ → ℕ → ℕ → List ℕ
+number_text x y number = cell_text x y (decimal number) []
+
+-- what begins the legend, and what the columns are
+unfoldable pub columns_text : ℕ → List ℕ
+columns_text bottom =
+    concat (codes "<g transform=\"translate(0 " ∷ decimal bottom ∷ codes ")\">\n<g fill=\"#666666\">" ∷ [])
+    ++ (cell_text 580 20 (codes "pages") [] ++ (cell_text 710 20 (codes "of them overflow") [] ++ (cell_text 790 20 (codes "size") []
+    ++ (cell_text 860 20 (codes "%") [] ++ codes "</g>\n"))))
+
+-- how many overflow pages a line is of, if any
+abbrev pub overflow_text : ℕ → ℕ → List ℕ
+overflow_text pages y = if pages == 0 then [] else number_text 710 y pages
+
+-- how many pages a line is of, and their size
+unfoldable pub share_text : Share → ℕ → ℕ → List ℕ
+share_text share page_size y =
+    number_text 580 y share.pages
+    ++ (overflow_text share.overflow y ++ cell_text 790 y (tenths_text (size_tenths share.pages page_size)) (size_unit share.pages page_size))
+
+-- how many of all pages a line is of
+unfoldable pub percent_text : ℕ → ℕ → ℕ → List ℕ
+percent_text pages all y = cell_text 860 y (tenths_text (tenths_of_percent pages all)) [] ++ codes "\n"
+
+-- a square of the legend
+abbrev pub box_text : ℕ → ℕ → List ℕ → List ℕ
+box_text x y colour =
+    concat (codes "<rect x=\"" ∷ decimal x ∷ codes "\" y=\"" ∷ decimal y ∷ codes "\" width=\"12\" height=\"12\" fill=\"" ∷ colour
+    ∷ codes "\" stroke=\"#888888\" stroke-width=\".5\"/>" ∷ [])
+
+-- the owner of the pages of a line, if it is of one
+abbrev pub owner_of : Label → Option Owner
+owner_of (Tree rank root) = Some (owner.Tree rank)
+owner_of (Others count) = Some (owner.Tree 12)
+owner_of Freelist = Some owner.Freelist
+owner_of Fixed = Some owner.Fixed
+owner_of Nobody = Some owner.Nobody
+owner_of Faulty = None
+
+-- the shade of an owner's overflow pages, if there are any
+abbrev pub shade_text : Owner → ℕ → ℕ → List ℕ
+shade_text owner overflow y = if overflow == 0 then [] else box_text 88 (y - 10) (fill owner true)
+
+-- the frame of squares with a fault
+abbrev pub frame_text : ℕ → List ℕ
+frame_text y =
+    concat (codes "<rect x=\"73\" y=\"" ∷ decimal (y - 9)
+    ∷ codes "\" width=\"10\" height=\"10\" fill=\"#FFFFFF\" stroke=\"#BE0700\" stroke-width=\"2\"/>" ∷ [])
+
+-- the colours of an owner, or that frame
+abbrev pub swatch_by : Option Owner → Share → ℕ → List ℕ
+swatch_by (Some owner) share y = shade_text owner share.overflow y ++ box_text 72 (y - 10) (fill owner false)
+swatch_by None share y = frame_text y
+
+abbrev pub swatch_text : Label → Share → ℕ → List ℕ
+swatch_text label share y = swatch_by (owner_of label) share y
+
+-- what begins the text of a line
+abbrev pub label_front : ℕ → List ℕ
+label_front y = concat (codes "<text x=\"108\" y=\"" ∷ decimal y ∷ codes "\">" ∷ [])
+
+-- how many other trees there are
+abbrev pub others_text : ℕ → List ℕ
+others_text count = decimal count ++ (if count == 1 then codes " other tree</text>" else codes " other trees</text>")
+
+-- the name of a tree, with its root page where another one has the same name
+abbrev pub tree_text : List (List ℕ) → ℕ → Option ℕ → List ℕ
+tree_text names rank (Some root) = concat (name_text names rank 56 ∷ codes ", root page " ∷ decimal root ∷ codes "</text>" ∷ [])
+tree_text names rank None = concat (name_text names rank 56 ∷ codes "</text>" ∷ [])
+
+-- what a line is of
+abbrev pub label_words : List (List ℕ) → Label → List ℕ
+label_words names (Tree rank root) = tree_text names rank root
+label_words names (Others count) = others_text count
+label_words names Freelist = codes "freelist</text>"
+label_words names Fixed = codes "pointer map and lock-byte page</text>"
+label_words names Nobody = codes "in no tree, overflow chain or freelist</text>"
+label_words names Faulty = codes "pages with a fault</text>"
+
+unfoldable pub label_text : List (List ℕ) → Label → ℕ → List ℕ
+label_text names label y = label_front y ++ label_words names label
+
+-- a line, so far down
+unfoldable pub line_text : List (List ℕ) → Geometry → Line → ℕ → List ℕ
+line_text names g line y =
+    swatch_text line.label line.share y
+    ++ (label_text names line.label y ++ (share_text line.share g.page_size y ++ percent_text line.share.pages g.pages y))
+
+-- lines, each below the one before it
+abbrev pub lines_from : List (List ℕ) → Geometry → ℕ → List Line → List ℕ
+lines_from names g at [] = []
+lines_from names g at (line ∷ lines) = line_text names g line (at * 20) ++ lines_from names g (at + 1) lines
+
+-- the line of pages that the header states and the file does not have, if there are any
+unfoldable pub missing_line : ℕ → Geometry → ℕ → List ℕ
+missing_line missing g y =
+    box_text 72 (y - 10) (codes "#FFFFFF")
+    ++ (label_front y ++ (codes "stated in the header, not in the file</text>" ++ (share_text (no_overflow missing) g.page_size y ++ codes "\n")))
+
+abbrev pub missing_text : ℕ → Geometry → ℕ → List ℕ
+missing_text missing g y = if missing == 0 then [] else missing_line missing g y
+
+-- the legend
+unfoldable pub legend_text : List Line → List (List ℕ) → Geometry → Grid → ℕ → List ℕ
+legend_text lines names g grid bottom =
+    columns_text bottom
+    ++ (lines_from names g 2 lines ++ (missing_text (grid.stated - grid.pages) g ((length lines + 2) * 20) ++ codes "</g>\n"))

@@ -1,0 +1,75 @@
+-- The picture as a whole.
+use Rattle.std.specs.Prelude.{ℕ, zero, suc, ◌+◌, ◌-◌, ◌/◌, ◌%◌, ◌||◌, nat_lt, List, [], ◌∷◌, ◌++◌, codes, decimal, ◌==◌, if◌then◌else◌}
+use Rattle.std.specs.List.{concat}
+use Rattle.dbformat.specs.declared.Geometry.{Geometry}
+use Rattle.dbxml.specs.Pieces.{shown_text, tenths_text}
+use Rattle.dbmap.specs.Grids.{page_of_row, rows, side, top_of}
+use Rattle.dbmap.specs.Legends.{height, legend_text}
+use Rattle.dbmap.specs.Sizes.{size_tenths, size_unit}
+use Rattle.dbmap.specs.Squares.{Ground, Square, rows_text}
+use Rattle.dbmap.specs.declared.grid.Grid.{Grid}
+use Rattle.dbmap.specs.declared.legend.Line.{Line}
+use Rattle.dbmap.specs.declared.picture.Heading.{Heading}
+
+-- what begins the picture: its size, its name for who does not see it, the hatching, and a white ground
+unfoldable pub head_text : List ℕ → ℕ → List ℕ
+head_text file height =
+    concat (codes "<svg xmlns=\"http://www.w3.org/2000/svg\" width=\"" ∷ decimal 988 ∷ codes "\" height=\"" ∷ decimal height
+    ∷ codes "\" viewBox=\"0 0 " ∷ decimal 988 ∷ codes " " ∷ decimal height
+    ∷ codes "\" font-family=\"sans-serif\" font-size=\"12\" role=\"img\" aria-label=\"Pages of " ∷ shown_text file 72
+    ∷ codes "\">\n<title>Pages of " ∷ shown_text file 72
+    ∷ codes "</title>\n<defs><pattern id=\"unowned\" width=\"4\" height=\"4\" patternUnits=\"userSpaceOnUse\" patternTransform=\"rotate(45)\"><rect width=\"4\" height=\"4\" fill=\"#FFFFFF\"/><rect width=\"2\" height=\"4\" fill=\"#444444\"/></pattern></defs>\n"
+    ∷ codes "<rect width=\"100%\" height=\"100%\" fill=\"#FFFFFF\"/>\n" ∷ [])
+
+-- how many faults there are
+abbrev pub faults_text : ℕ → List ℕ
+faults_text faults =
+    if faults == 0 then codes "no fault" else (if faults == 1 then codes "1 fault" else decimal faults ++ codes " faults")
+
+-- what stands after the number of pages
+abbrev pub pages_word : ℕ → List ℕ
+pages_word pages = if pages == 1 then codes " page of " else codes " pages of "
+
+-- how many pages there are, and of which size
+abbrev pub size_text : Geometry → List ℕ
+size_text g =
+    concat (decimal g.pages ∷ pages_word g.pages ∷ decimal g.page_size ∷ codes " bytes (" ∷ tenths_text (size_tenths g.pages g.page_size)
+    ∷ size_unit g.pages g.page_size ∷ codes "), " ∷ [])
+
+-- what a square stands for
+abbrev pub unit_text : ℕ → List ℕ
+unit_text run =
+    if run == 1 then codes "; a square is a page, in the order of the file</text>\n"
+    else concat (codes "; a square is " ∷ decimal run ∷ codes " pages, in the order of the file</text>\n" ∷ [])
+
+-- the two lines above the squares
+unfoldable pub heading_text : Heading → ℕ → List ℕ
+heading_text h run =
+    concat (codes "<text x=\"20\" y=\"26\" font-size=\"16\" font-weight=\"bold\">" ∷ shown_text h.file 72
+    ∷ codes "</text>\n<text x=\"20\" y=\"46\" fill=\"#444444\">" ∷ [])
+    ++ (size_text h.geometry ++ (faults_text h.faults ++ unit_text run))
+
+-- the first page of a row
+abbrev pub page_of_row_text : Grid → ℕ → List ℕ
+page_of_row_text g row =
+    concat (codes "<text x=\"64\" y=\"" ∷ decimal (top_of g row + (side g / 2 + 3)) ∷ codes "\">" ∷ decimal (page_of_row g row)
+    ∷ codes "</text>\n" ∷ [])
+
+-- that before it; where rows are narrow, before each second one
+abbrev pub row_name : Grid → ℕ → List ℕ
+row_name g row = if nat_lt 10 (side g) || (row % 2 == 0) then page_of_row_text g row else []
+
+-- those of so many rows from one on
+abbrev pub names_from : Grid → ℕ → ℕ → List ℕ
+names_from g row zero = []
+names_from g row (suc count) = row_name g row ++ names_from g (row + 1) count
+
+unfoldable pub row_names : Grid → List ℕ
+row_names g = codes "<g font-size=\"10\" fill=\"#666666\" text-anchor=\"end\">\n" ++ (names_from g 0 (rows g) ++ codes "</g>\n")
+
+-- the picture, by what is said above the squares, the squares row by row, and the lines of the legend
+unfoldable pub picture_text : Heading → Ground → List (List Square) → List Line → List ℕ
+picture_text h g squares lines =
+    head_text h.file (top_of g.grid (rows g.grid) + height lines (g.grid.stated - g.grid.pages))
+    ++ (heading_text h g.grid.run ++ (row_names g.grid ++ (rows_text g 0 squares
+    ++ (legend_text lines g.names h.geometry g.grid (top_of g.grid (rows g.grid)) ++ codes "</svg>\n"))))

@@ -1,0 +1,80 @@
+-- The square of a run of pages, by its pages, how many of them each owner has, and its faults.
+use Rattle.std.specs.Prelude.{ℕ, zero, suc, ◌+◌, min, Bool, true, false, ◌&&◌, not, nat_lt, List, [], ◌∷◌, ◌++◌, get_or, slice_get, codes, decimal, ◌==◌, if◌then◌else◌}
+use Rattle.std.specs.Option.{option_map_or}
+use Rattle.std.specs.List.{concat}
+use Rattle.dbxml.specs.Pieces.{shown_text}
+use Rattle.dbmap.specs.Cells.{has_pages, is_shaded, owner_numbered, share_of}
+use Rattle.dbmap.specs.Colours.{fill}
+use Rattle.dbmap.specs.Faults.{faults_text}
+use Rattle.dbmap.specs.Marks.{is_framed, tail}
+use Rattle.dbmap.specs.declared.bands.Bands.{Bands}
+use Rattle.dbmap.specs.declared.cell.Cell.{Cell}
+use Rattle.dbmap.specs.declared.cell.Owner.{Owner}
+use Rattle.dbmap.specs.declared.cell.Owner.TheVariants.{Fixed, Freelist, Nobody, Tree}
+use Rattle.dbmap.specs.declared.grid.Width.{Width}
+use Rattle.dbmap.specs.declared.run.Run.{Run}
+
+-- what stands after a number of pages of an owner
+abbrev pub words : Owner → List ℕ
+words (Tree rank) = if nat_lt rank 12 then codes " in " else codes " in other trees"
+words Freelist = codes " in the freelist"
+words Fixed = codes " of fixed use"
+words Nobody = codes " in no tree"
+
+-- the name of the tree of a rank, as it is shown in so many columns, if there is such a tree
+abbrev pub name_text : List (List ℕ) → ℕ → ℕ → List ℕ
+name_text names rank width = option_map_or (λ name. shown_text name width) (slice_get names rank) []
+
+-- what stands before a number of pages
+abbrev pub owner_mark : Bool → List ℕ
+owner_mark true = codes ": "
+owner_mark false = codes ", "
+
+-- how many pages an owner has, and who it is, if it has any; after a colon where it is the first, and else after a comma
+abbrev pub owner_text : Cell → List (List ℕ) → Bool → ℕ → List ℕ
+owner_text c names is_first number =
+    if has_pages c number
+    then concat (owner_mark is_first ∷ decimal (share_of c number).pages ∷ words (owner_numbered number) ∷ name_text names number 72 ∷ [])
+    else []
+
+-- the same of so many owners from a number on
+unfoldable pub owners_from : Cell → List (List ℕ) → Bool → ℕ → ℕ → List ℕ
+owners_from c names is_first number zero = []
+owners_from c names is_first number (suc count) =
+    owner_text c names is_first number ++ owners_from c names (is_first && not (has_pages c number)) (number + 1) count
+
+-- the title after its first word
+unfoldable pub title_text : Run → List (List ℕ) → List ℕ
+title_text r names =
+    concat (codes "s " ∷ decimal r.first ∷ codes " to " ∷ decimal r.last ∷ [])
+    ++ (owners_from r.cell names true 0 16 ++ faults_text r.faulty)
+
+-- the square of pages that all have one owner
+unfoldable pub plain_text : Run → Width → List (List ℕ) → List ℕ
+plain_text r width names =
+    concat (codes "<rect x=\"" ∷ decimal r.x ∷ tail width r.faulty.frame ∷ []) ++ (title_text r names ++ codes "</title></rect>\n")
+
+-- the band of an owner, so high and so far below, if it has one
+abbrev pub band_text : Run → ℕ → ℕ → ℕ → List ℕ
+band_text r number top height =
+    if height == 0 then []
+    else concat (codes "<rect x=\"" ∷ decimal r.x ∷ codes "\" y=\"" ∷ decimal top ∷ codes "\" width=\"6\" height=\"" ∷ decimal height
+    ∷ codes "\" fill=\"" ∷ fill (owner_numbered number) (is_shaded (share_of r.cell number)) ∷ codes "\"/>" ∷ [])
+
+-- the bands of so many owners from a number on, each below those before it
+unfoldable pub bands_from : Run → Bands → ℕ → ℕ → ℕ → List ℕ
+bands_from r bands number zero top = []
+bands_from r bands number (suc count) top =
+    band_text r number top (get_or bands.heights number 0) ++ bands_from r bands (number + 1) count (min (top + get_or bands.heights number 0) 4294967295)
+
+-- the frame of a square in bands, where it is framed
+abbrev pub frame_text : Run → List ℕ
+frame_text r =
+    if is_framed r.faulty.frame
+    then concat (codes "<rect width=\"6\" height=\"6\" stroke=\"#BE0700\" stroke-width=\"2\" x=\"" ∷ decimal r.x ∷ codes "\" fill=\"none\"/>" ∷ [])
+    else []
+
+-- the square of pages of several owners, divided in bands
+unfoldable pub mixed_text : Run → List (List ℕ) → Bands → List ℕ
+mixed_text r names bands =
+    codes "<g><title>page" ++ (title_text r names ++ (codes "</title>" ++ (bands_from r bands 0 16 0 ++ (frame_text r ++ codes "</g>\n"))))

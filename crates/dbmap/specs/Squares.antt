@@ -1,0 +1,111 @@
+-- The squares of a picture, and their text, row by row.
+use Rattle.std.specs.Prelude.{◌≡◌, ℕ, ◌+◌, ◌-◌, Bool, List, [], ◌∷◌, ◌++◌, length, Option, Some, None, codes, decimal}
+use Rattle.std.specs.List.{concat}
+use Rattle.dbmarks.specs.Marking.{page_mark}
+use Rattle.dbmarks.specs.declared.marks.Mark.{Mark}
+use Rattle.dbowner.specs.Climbs.{place_by}
+use Rattle.dbmap.specs.Grids.{cells_of_row, run_of, top_of, x_of}
+use Rattle.dbmap.specs.Outlines.{outlines_text}
+use Rattle.dbmap.specs.Pages.{page_text}
+use Rattle.dbmap.specs.Pens.{change_text, end_text}
+use Rattle.dbmap.specs.Runs.{mixed_text, plain_text}
+use Rattle.dbmap.specs.declared.bands.Bands.{Bands}
+use Rattle.dbmap.specs.declared.cell.Owner.{Owner}
+use Rattle.dbmap.specs.declared.grid.Grid.{Grid}
+use Rattle.dbmap.specs.declared.layout.Layout.{Layout}
+use Rattle.dbmap.specs.declared.page.PageSquare.{PageSquare}
+use Rattle.dbmap.specs.declared.run.Run.{Run}
+use Rattle.dbmap.specs.declared.squares.Squares.{Squares}
+
+-- What squares are drawn by: where they are, the names of the largest trees, and what is remembered of the pages.
+pub record Ground : Type 0 where
+  pub grid : Grid
+  pub names : List (List ℕ)
+  pub marks : List Mark
+
+-- that of a file
+abbrev pub ground_of : {A : Type 0} → Squares A → Layout → Ground
+ground_of s layout = record { grid = layout.grid; names = layout.labels.names.items; marks = s.marks.now }
+
+-- A square: of a page, whose tree has this name, filled for its owner; of a run of pages that all have one owner; or of one that have
+-- several, divided in bands.
+pub data Square : Type 0 where
+  of_page : Owner × Bool → PageSquare → List ℕ → Square
+  of_one : Owner × Bool → Run → Square
+  of_several : Run → Bands → Square
+
+-- what is drawn of a square itself
+abbrev pub square_text : Ground → Square → List ℕ
+square_text g (of_page shade s tree) = page_text s g.grid.width tree
+square_text g (of_one shade r) = plain_text r g.grid.width g.names
+square_text g (of_several r bands) = mixed_text r g.names bands
+
+-- the group that is begun after a square
+abbrev pub group_after : Option (Owner × Bool) → Square → Option (Owner × Bool)
+group_after group (of_page shade s tree) = Some shade
+group_after group (of_one shade r) = Some shade
+group_after group (of_several r bands) = group
+
+-- what is drawn before it
+abbrev pub before_text : Option (Owner × Bool) → Square → List ℕ
+before_text group (of_page shade s tree) = change_text group shade
+before_text group (of_one shade r) = change_text group shade
+before_text group (of_several r bands) = []
+
+-- some squares side by side, and the group that is begun after them
+abbrev pub squares_text : Ground → Option (Owner × Bool) → List Square → List ℕ
+squares_text g group [] = []
+squares_text g group (s ∷ ss) = (before_text group s ++ square_text g s) ++ squares_text g (group_after group s) ss
+
+abbrev pub last_group : Option (Owner × Bool) → List Square → Option (Owner × Bool)
+last_group group [] = group
+last_group group (s ∷ ss) = last_group (group_after group s) ss
+
+-- what a row begins with
+abbrev pub front_text : Grid → ℕ → List ℕ
+front_text g row = concat (codes "<g transform=\"translate(" ∷ decimal 72 ∷ codes "," ∷ decimal (top_of g row) ∷ codes ")\">\n" ∷ [])
+
+-- a row with these squares
+unfoldable pub row_text : Ground → ℕ → List Square → List ℕ
+row_text g row squares =
+    front_text g.grid row
+    ++ (squares_text g None squares ++ (end_text (last_group None squares) ++ (outlines_text g.grid row ++ codes "</g>\n")))
+
+-- rows from one on
+abbrev pub rows_text : Ground → ℕ → List (List Square) → List ℕ
+rows_text g row [] = []
+rows_text g row (squares ∷ rows) = row_text g row squares ++ rows_text g (row + 1) rows
+
+-- What a square of a page is at a place of the grid: it stands there, is of the page of this place, and says of it what is
+-- remembered.
+pub record IsPage (g : Ground) (cell : ℕ) (s : PageSquare) : Type 0 where
+  pub x : s.x ≡ x_of g.grid cell
+  pub page : s.page ≡ (run_of g.grid cell g.grid.pages).0
+  pub place : s.place ≡ place_by (page_mark g.marks s.page)
+
+-- and a square of a run of pages: it is of the pages of this place
+pub record IsRun (g : Ground) (cell : ℕ) (r : Run) : Type 0 where
+  pub x : r.x ≡ x_of g.grid cell
+  pub first : r.first ≡ (run_of g.grid cell g.grid.pages).0
+  pub last : r.last ≡ (run_of g.grid cell g.grid.pages).1
+
+-- a square is that of a place: of a page, where a square is a page, and else of a run
+abbrev pub IsSquare : Ground → ℕ → Square → Type 0
+IsSquare g cell (of_page shade s tree) = (g.grid.run ≡ 1) × IsPage g cell s
+IsSquare g cell (of_one shade r) = IsRun g cell r
+IsSquare g cell (of_several r bands) = IsRun g cell r
+
+-- squares are those of the places from one on
+abbrev pub AreSquares : Ground → ℕ → List Square → Type 0
+AreSquares g cell [] = Unit {0}
+AreSquares g cell (s ∷ ss) = IsSquare g cell s × AreSquares g (cell + 1) ss
+
+-- the squares of a row: each of its places has one
+pub record IsRow (g : Ground) (row : ℕ) (squares : List Square) : Type 0 where
+  pub many : length squares ≡ (cells_of_row g.grid row).1 - (cells_of_row g.grid row).0
+  pub are : AreSquares g (cells_of_row g.grid row).0 squares
+
+-- rows are those from one on
+abbrev pub AreRows : Ground → ℕ → List (List Square) → Type 0
+AreRows g row [] = Unit {0}
+AreRows g row (squares ∷ rows) = IsRow g row squares × AreRows g (row + 1) rows

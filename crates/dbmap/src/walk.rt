@@ -1,0 +1,58 @@
+// What changes from one square to the next.
+ghost use Rattle.std.specs.Prelude.{◌≡◌, None};
+
+use crate::pen::Pen;
+use dbowner::{PageTrees, RootList, TreeNames};
+use dbwalk::Marks;
+use dbxml::{Shown, shown_tree};
+use std::alloc::{Allocator, Global};
+
+/// What changes from one square to the next: what is known of the trees of pages, the tree that was named last, and the pen.
+#[derive(Drop)]
+pub(crate) struct Walk<A: Allocator = Global> {
+    pub(crate) trees: PageTrees<A>,
+    pub(crate) pen: Pen,
+    // The name of the tree of this start, or nothing.
+    pub(crate) name: Shown,
+    named: Option<u32>,
+}
+
+impl<A: Allocator> Walk<A> {
+    /// One that has come to no square.
+    pub(crate) fn new(trees: PageTrees<A>) -> Walk<A> {
+        Walk {
+            trees,
+            pen: Pen::new(),
+            name: Shown::new(),
+            named: None,
+        }
+    }
+
+    /// Goes back before the first square, with the roots of a file entered.
+    pub(crate) fn begin<B: Allocator, C: Allocator>(
+        &mut self,
+        marks: &Marks<B>,
+        roots: &RootList<C>,
+    )
+        ensures { self.new.pen.group ≡ None }
+    {
+        self.trees.enter_roots(marks, roots);
+        self.pen = Pen::new();
+        self.name = Shown::new();
+        self.named = None;
+    }
+
+    /// Makes the name that of the tree of a start, or nothing. Pages that follow one another are mostly of one tree.
+    pub(crate) fn name<B: Allocator>(&mut self, names: &TreeNames<'_, B>, start: Option<u32>)
+        ensures { self.new.pen ≡ self.old.pen }
+    {
+        if start == self.named {
+            return;
+        }
+        self.name = match start {
+            Some(start) => shown_tree(names, start),
+            None => Shown::new(),
+        };
+        self.named = start;
+    }
+}

@@ -1,0 +1,174 @@
+-- A fault that is reported at a start is of a page that was reached from it, and each such start is one of the file's.
+use Rattle.std.proofs.Common.{◌≡◌, ℕ, ◌+◌, inl, inr, Bool, true, false, cond, List, [], ◌∷◌, ◌++◌, map, take, length, Some, refl, sym, ap, subst, ◌∙◌}
+use Rattle.std.specs.Prelude.{option_map, ◌==◌}
+use Rattle.std.specs.List.{enumerate_from}
+use Rattle.dbsurvey.specs.Address.{Address, IsIn}
+use Rattle.dbsurvey.specs.From.{under}
+use Rattle.dbsurvey.specs.Story.{Told, Follow, goes, IsTold, of_errand, of_page, of_place, of_refused}
+use Rattle.dbsurvey.specs.Survey.{Link, children, named_at}
+use Rattle.dbsurvey.proofs.Composing.{named_at-from}
+use Rattle.dbsurvey.proofs.Order.{IsIn-cases}
+use Rattle.dbsurvey.proofs.Ordering.{IsIn-from_map, IsIn-from_flat_map}
+use Rattle.dbsurvey.proofs.Tellings.{goes-errands}
+use Rattle.dbformat.specs.Address.{start_of, then_step, schema_start, last_root_start, freelist_start}
+use Rattle.dbformat.specs.EndFaults.{end_faults}
+use Rattle.dbformat.specs.File.{page_bytes}
+use Rattle.dbformat.specs.Header.{first_trunk, usable_size}
+use Rattle.dbformat.specs.HeaderFaults.{header_faults}
+use Rattle.dbformat.specs.Reference.{Way, Reference, role_of, from_of, role_links, trunk}
+use Rattle.dbformat.specs.Report.{event_faults}
+use Rattle.dbformat.specs.Schema.{schema, root_start, rooted_rows, root_starts, start, freelist_starts, later_starts, starts}
+use Rattle.dbformat.specs.SchemaRow.{SchemaRow}
+use Rattle.dbformat.specs.Story.{Event, at_page, at_key, at_refused, start_errands, story_of, telling}
+use Rattle.dbformat.specs.Survey.{Survey, rules_of}
+use Rattle.dbformat.specs.declared.Fault.{Fault}
+use Rattle.std.proofs.lemmas.Bool.{both_ways}
+use Rattle.dbformat.proofs.LookBack.{key_at}
+use Rattle.dbformat.proofs.Theory.{links-follows, no_tell, told_in_order}
+use Rattle.dbformat.proofs.Visited.{has_address, visit_is}
+use Rattle.dbtrace.specs.Causes.{cause_of}
+use Rattle.dbtrace.specs.declared.Part.{Part}
+use Rattle.dbtrace.specs.declared.Part.TheVariants as part
+use Rattle.dbtrace.specs.declared.Reported.{Reported}
+use Rattle.dbtrace.proofs.Told.{IsOf, told_of}
+use Rattle.dbowner.specs.Owners.{start_at}
+use Rattle.dbowner.proofs.Starts.{one_below, start_visited}
+use Rattle.dbscan.specs.Placed.{at_start, of_file, told_faults, walk_told, IsOfStart}
+use Rattle.dbscan.proofs.FaultPages.{accepted, is_refusal, page_of_event, event_of_page, from_role}
+
+-- the start of a key that is a step on
+start_on : (a : Address) (s : ℕ) → (a ≡ [] → ⊥) → start_of (then_step a s) ≡ start_of a
+start_on [] s h = absurd (h refl)
+start_on (x ∷ a) s h = refl
+
+-- starts are from no page
+rows_from : (file : List ℕ) (k : ℕ) (rows : List SchemaRow) (l : Link Way) → IsIn l (map (root_start file) (enumerate_from k rows)) → l.role.from ≡ 0
+rows_from file k [] l i = absurd i
+rows_from file k (row ∷ rows) l (inl e) = ap (λ (l : Link Way). l.role.from) e
+rows_from file k (row ∷ rows) l (inr i) = rows_from file (k + 1) rows l i
+
+free_from : (file : List ℕ) (l : Link Way) → IsIn l (freelist_starts file) → l.role.from ≡ 0
+free_from file l i = by_case (first_trunk file == 0) i
+  where
+    by_case : (b : Bool) → IsIn l (cond b [] (start freelist_start trunk (first_trunk file) ∷ [])) → l.role.from ≡ 0
+    by_case true i = absurd i
+    by_case false (inl e) = ap (λ (l : Link Way). l.role.from) e
+    by_case false (inr i) = absurd i
+
+start_from : (file : List ℕ) (V : List Reference) (l : Link Way) → IsIn l (starts file V) → l.role.from ≡ 0
+unfolding later_starts
+start_from file V l (inl e) = ap (λ (l : Link Way). l.role.from) e
+start_from file V l (inr i) =
+    let rows = rooted_rows (schema file (under schema_start V)) in
+    elim (IsIn-cases l (root_starts file rows) (freelist_starts file) i) [
+      | inl j ↦ rows_from file 1 (take last_root_start rows) l j
+      | inr j ↦ free_from file l j
+    ]
+
+-- steps of links
+step_in : (ls : List (Link Way)) (l : Link Way) → IsIn l ls → IsIn l.step (map (λ l. l.step) ls)
+step_in [] l i = absurd i
+step_in (m ∷ ls) l (inl e) = inl (ap (λ (l : Link Way). l.step) e)
+step_in (m ∷ ls) l (inr i) = inr (step_in ls l i)
+
+module _ (file : List ℕ) (V : List Reference) (s : Survey file V) where
+  abbrev steps : List ℕ
+  steps = map (λ l. l.step) (starts file V)
+
+  -- the page of a visit was reached from its start
+  visit_start : (r : Reference) → IsIn r V → start_at V r.page ≡ Some (start_of r.address)
+  visit_start r i = ap (λ o. option_map (λ (r : Reference). start_of r.address) o) (visit_is file V s r i)
+
+  -- which is a start of the file
+  visit_step : (r : Reference) → IsIn r V → IsIn (start_of r.address) steps
+  visit_step r i =
+      let u = start_visited file V s r i in
+      elim ((s.exact u.0).0 u.1).0 [
+        | inl j ↦ (let m = named_at-from [] (starts file V) u.0 j in
+            let same : m.0.step ≡ start_of r.address = ap start_of (sym (ap (λ (r : Reference). r.address) m.2) ∙ u.2) in
+            subst (λ k. IsIn k steps) same (step_in (starts file V) m.0 m.1))
+        | inr w ↦ (let m = named_at-from w.0.address ((rules_of file).links w.0.page w.0.role) u.0 w.2 in
+            absurd (has_address file V s w.0 w.1 (no_more w.0.address m.0.step (start_of r.address) (sym (ap (λ (r : Reference). r.address) m.2) ∙ u.2))))
+      ]
+    where
+      no_more : (a : Address) (x k : ℕ) → a ++ x ∷ [] ≡ k ∷ [] → a ≡ []
+      no_more [] x k e = refl
+      no_more (y ∷ []) x k e = cc
+      no_more (y ∷ z ∷ a) x k e = cc
+
+  -- an event's place begins with a start of the file, from which its page was reached, if it has one
+  record IsPlaced (place : Address) (p : ℕ) : Type 0 where
+    pub step : IsIn (start_of place) steps
+    pub reached : (p ≡ 0 → ⊥) → start_at V p ≡ Some (start_of place)
+
+  of_visit : (r : Reference) (place : Address) → IsIn r V → start_of place ≡ start_of r.address → IsPlaced place r.page
+  of_visit r place i e = record { step = subst (λ k. IsIn k steps) (sym e) (visit_step r i); reached = λ d. visit_start r i ∙ ap Some (sym e) }
+
+  of_event : (place : Address) (e : Event) → IsOf file V place e → ((r : Reference) → e ≡ at_refused r → IsPlaced place (from_of r)) → IsPlaced place (page_of_event e)
+  of_event place (at_page r) h refusal = of_visit r place h.0 (ap start_of h.1)
+  of_event place (at_key r v x) h refusal = of_visit r place h.0 (ap start_of h.3 ∙ start_on r.address _ (has_address file V s r h.0))
+  of_event place (at_refused r) h refusal = refusal r refl
+
+  -- a reference that is refused is found at a start, or on a visited page
+  of_start : (r : Reference) → IsIn r (goes (start_errands file V)) → IsPlaced r.address (from_of r)
+  of_start r i =
+      let named = subst (IsIn r) (goes-errands [] (map Follow (starts file V)) ∙ ap (named_at []) (links-follows (starts file V))) i in
+      let m = named_at-from [] (starts file V) r named in
+      let none : from_of r ≡ 0 = ap from_of m.2 ∙ start_from file V m.0 m.1 in
+      let k : start_of r.address ≡ m.0.step = ap (λ (r : Reference). start_of r.address) m.2 in
+      record { step = subst (λ k. IsIn k steps) (sym k) (step_in (starts file V) m.0 m.1); reached = λ d. absurd (d none) }
+
+  of_child : (u r : Reference) → IsIn u V → IsIn r (children (rules_of file) u) → IsPlaced r.address (from_of r)
+  unfolding rules_of
+  of_child u r i c =
+      let m = named_at-from u.address (role_links (role_of u) u.page (usable_size file) (page_bytes file u.page)) r c in
+      let from : from_of r ≡ u.page = ap from_of m.2 ∙ from_role (role_of u) u.page (usable_size file) (page_bytes file u.page) m.0 m.1 in
+      subst (IsPlaced r.address) (sym from) (of_visit u r.address i (one_below file V s u r i c).0)
+
+  refused_at : (t : Told Event) → IsTold (rules_of file) (story_of file) (start_errands file V) V t → (r : Reference) → t.event ≡ at_refused r → IsPlaced t.key (from_of r)
+  unfolding story_of
+  refused_at t (of_errand i) r e = absurd (no_tell [] (starts file V) t i)
+  refused_at t (of_page u i f) r e = absurd (let x : at_page u ≡ at_refused r = sym (ap (λ (t : Told Event). t.event) f) ∙ e in cc)
+  refused_at t (of_place u i j) r e =
+      let m = key_at u.address ((story_of file).items u) t j in
+      absurd (both_ways (is_refusal t.event) (accepted file u m.0 t.event m.1) (ap is_refusal e))
+  refused_at t (of_refused c n out f) r e =
+      let same : c ≡ r = (let x : at_refused c ≡ at_refused r = sym (ap (λ (t : Told Event). t.event) f) ∙ e in cc) in
+      let at : IsPlaced c.address (from_of c) = elim n [ inl i ↦ of_start c i | inr w ↦ of_child w.0 c w.1 w.2 ] in
+      subst (λ a. IsPlaced a (from_of r)) (sym (ap (λ (t : Told Event). t.key) f)) (subst (λ q. IsPlaced c.address (from_of q)) same at)
+
+  -- all that is reported is placed so
+  placed : (t : Told Event) → IsIn t (telling file V) → IsPlaced t.key (page_of_event t.event)
+  placed t i =
+      let told = ((told_in_order file V s).0.exact t).0 i in
+      of_event t.key t.event (told_of file (start_errands file V) V (no_tell [] (starts file V)) t told) (refused_at t told)
+
+  -- so are the faults of the walk
+  of_walk : (x : Reported) → IsIn x (walk_told file V) → IsOfStart file V x
+  of_walk x i =
+      let m = IsIn-from_flat_map (λ t. map (λ f. at_start (start_of t.key) f (cause_of file V t.event f.code)) (event_faults file V t.event)) (telling file V) x i in
+      let t = m.0 in
+      let n = IsIn-from_map (λ f. at_start (start_of t.key) f (cause_of file V t.event f.code)) (event_faults file V t.event) x m.2 in
+      let at = placed t m.1 in
+      let page : n.0.page ≡ page_of_event t.event = event_of_page file V t.event n.0 n.1 in
+      subst (IsOfStart file V) (sym n.2) (λ k e. let same : start_of t.key ≡ k = cc in record {
+        start = subst (λ k. IsIn k steps) same at.step;
+        reached = λ d. ap (start_at V) page ∙ at.reached (λ z. d (page ∙ z)) ∙ ap Some same;
+      })
+
+  of_others : (p : Part) → ((k : ℕ) → p ≡ part.Start k → ⊥) → (fs : List Fault) → (x : Reported) → IsIn x (map (of_file p) fs) → IsOfStart file V x
+  of_others p none fs x i =
+      let m = IsIn-from_map (of_file p) fs x i in
+      subst (IsOfStart file V) (sym m.2) (λ k e. absurd (none k e))
+
+  pub of_starts : (x : Reported) → IsIn x (told_faults file V) → IsOfStart file V x
+  of_starts x i =
+      let first = map (of_file part.Header) (header_faults file (length file)) in
+      let last = map (of_file part.End) (end_faults file V) in
+      elim (IsIn-cases x (first ++ walk_told file V) last i) [
+        | inr j ↦ of_others part.End (λ k e. cc) (end_faults file V) x j
+        | inl j ↦ (elim (IsIn-cases x first (walk_told file V) j) [
+          | inl l ↦ of_others part.Header (λ k e. cc) (header_faults file (length file)) x l
+          | inr l ↦ of_walk x l
+        ])
+      ]
