@@ -1,11 +1,15 @@
 # bash completion for dbck
 
 _dbck() {
-    local cur=${COMP_WORDS[COMP_CWORD]} prev=${COMP_WORDS[COMP_CWORD - 1]} command=${COMP_WORDS[1]} words
+    local cur=${COMP_WORDS[COMP_CWORD]} prev=${COMP_WORDS[COMP_CWORD - 1]} command=${COMP_WORDS[1]} words word behind=
     COMPREPLY=()
+    # Behind the word -- there are only files.
+    for word in "${COMP_WORDS[@]:1:COMP_CWORD - 1}"; do
+        [ "$word" = -- ] && behind=yes
+    done
     if [ "$COMP_CWORD" -eq 1 ]; then
         words='check explain map stat help --help --version'
-    elif [ "$prev" = --limit ]; then
+    elif [ -z "$behind" ] && [ "$prev" = --limit ]; then
         return
     else
         case $command in
@@ -16,7 +20,7 @@ _dbck() {
             *) return ;;
         esac
     fi
-    if [[ $cur == -* || $COMP_CWORD -eq 1 || $command == help ]]; then
+    if [[ -z $behind && ($cur == -* || $COMP_CWORD -eq 1 || $command == help) ]]; then
         mapfile -t COMPREPLY < <(compgen -W "$words" -- "$cur")
     else
         compopt -o filenames 2> /dev/null

@@ -1,7 +1,7 @@
 # fish completion for dbck
 set -l commands check explain map stat help
 complete -c dbck -n "not __fish_seen_subcommand_from $commands" -f -a check -d 'Write a line for each fault'
-complete -c dbck -n "not __fish_seen_subcommand_from $commands" -f -a explain -d 'Write the faults, explained'
+complete -c dbck -n "not __fish_seen_subcommand_from $commands" -f -a explain -d 'Write each injury once'
 complete -c dbck -n "not __fish_seen_subcommand_from $commands" -f -a map -d 'Write a picture of the pages'
 complete -c dbck -n "not __fish_seen_subcommand_from $commands" -f -a stat -d 'Write a row for each page'
 complete -c dbck -n "not __fish_seen_subcommand_from $commands" -f -a help -d 'Show help'
@@ -9,7 +9,7 @@ complete -c dbck -n "not __fish_seen_subcommand_from $commands" -s V -l version 
 complete -c dbck -s h -l help -d 'Show help'
 complete -c dbck -n '__fish_seen_subcommand_from check' -l limit -x -d 'Write at most N fault lines'
 complete -c dbck -n '__fish_seen_subcommand_from check' -l no-progress -d 'Show no progress on a terminal'
-complete -c dbck -n '__fish_seen_subcommand_from explain' -l limit -x -d 'Explain at most N faults'
+complete -c dbck -n '__fish_seen_subcommand_from explain' -l limit -x -d 'Write at most N injuries'
 complete -c dbck -n '__fish_seen_subcommand_from explain' -l no-progress -d 'Show no progress on a terminal'
 complete -c dbck -n '__fish_seen_subcommand_from map' -l no-progress -d 'Show no progress on a terminal'
 complete -c dbck -n '__fish_seen_subcommand_from stat' -l aggregate -d 'Write one row for each tree'
