@@ -11,7 +11,7 @@ use Rattle.dbbytes.proofs.ListLemmas.{pushed}
 abbrev pub if_sum : List ℕ → ℕ → List ℕ → Option (List ℕ)
 if_sum front left lens = cond (eqb (sum lens) left) (Some (front ++ lens)) None
 
--- the lengths, where the first ones are known, so many bytes are left and these types follow
+-- the lengths, where the first ones are known, `left` bytes are left and these types follow
 abbrev pub lens_from : List ℕ → ℕ → List ℕ → Option (List ℕ)
 lens_from front left types = serial_lens types >>= λ lens. if_sum front left lens
 

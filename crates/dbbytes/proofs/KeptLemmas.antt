@@ -1,4 +1,4 @@
--- The bytes that a sieve keeps of a row are enough to tell the row.
+-- The bytes that a sieve keeps of a row are enough to determine the row.
 use Rattle.std.proofs.Common.{◌≡◌, ℕ, ◌+◌, ◌%◌, ◌<◌, ◌≤◌, Bool, true, false, not, ◌&&◌, List, [], ◌∷◌, length, take, drop, get_or, min, Option, Some, None, Result, cond, eqb, leb, ℤ, refl, sym, ap, ◌∙◌, ◌⊎◌, inl, inr, arith}
 use Rattle.std.specs.Prelude.{sum, codes}
 use Rattle.std.specs.Str.{bytes_eq}
@@ -68,7 +68,7 @@ kind_long Utf16be bytes h = none_of _ _ _ _ (longer bytes (ascii_in Utf16be (cod
 name_long : (e : Encoding) (bytes : List ℕ) → 1001 ≤ length bytes → row_name e (text bytes) ≡ None
 name_long e bytes h = let no : leb (length bytes) 1000 ≡ false = grind (arith, nat_tests) in rw no refl
 
--- the value of a serial type by the tests that tell its class
+-- the value of a serial type by the tests for its class
 abbrev classed : Bool → Bool → Bool → Bool → Bool → ℤ → ℤ → List ℕ → Value
 classed a b c d f y z bytes = cond a null (cond b (integer y) (cond c float (cond d (integer z) (cond f (blob bytes) (text bytes)))))
 
@@ -181,7 +181,7 @@ kept_five : (e : Encoding) (a b c d f n0 n1 n2 n3 n4 bodies : ℕ) (more : List 
 kept_five e a b c d f n0 n1 n2 n3 n4 bodies more h =
     rw h (rw (drop_thrice n0 n1 n2 more, kind_kept e a n0 more, name_kept e b n1 (drop n0 more), root_kept d n3 (drop n2 (drop n1 (drop n0 more))) (fourth a b c d f n0 n1 n2 n3 n4 bodies h)) refl)
 
--- what is kept of the columns tells the row
+-- what is kept of the columns determines the row
 pub kept_row : (e : Encoding) (types lens more : List ℕ) (bodies : ℕ) → length types ≡ 5 → length lens ≡ 5 → body_lens types bodies ≡ Some lens
     → kept_columns e types lens more ≡ row_of_values e (body_values types bodies more)
 kept_row e (a ∷ b ∷ c ∷ d ∷ f ∷ []) (n0 ∷ n1 ∷ n2 ∷ n3 ∷ n4 ∷ []) more bodies p q h = kept_five e a b c d f n0 n1 n2 n3 n4 bodies more h

@@ -9,7 +9,7 @@ take-append n [] ys = grind (arith, common_steps)
 take-append zero (x ∷ xs) ys = let e : 0 - length (x ∷ xs) ≡ 0 = omega arith in rw e refl
 take-append (suc n) (x ∷ xs) ys = let e : suc n - suc (length xs) ≡ n - length xs = omega arith in rw e (ap (λ w. x ∷ w) (take-append n xs ys))
 
--- what is left of two parts behind the first n
+-- what is left of two parts after the first n
 pub drop-append : (n : ℕ) (xs ys : List ℕ) → drop n (xs ++ ys) ≡ drop n xs ++ drop (n - length xs) ys
 drop-append n [] ys = grind (arith, common_steps)
 drop-append zero (x ∷ xs) ys = let e : 0 - length (x ∷ xs) ≡ 0 = omega arith in rw e refl
@@ -24,7 +24,7 @@ dropped (suc n) (suc m) (x ∷ xs) e = dropped n m xs (omega arith)
 counted : (n m : ℕ) (xs : List ℕ) → m ≡ min n (length xs) → take m xs ≡ take n xs
 counted n m xs e = rw e (take_min n xs)
 
--- the bytes of a column that are kept, of the record's next bytes and those behind them
+-- the bytes of a column that are kept, of the record's next bytes and those after them
 pub kept_more : (gap want skip count : ℕ) (bytes piece more : List ℕ) → skip ≡ min gap (length piece) → count ≡ min want (length piece - skip)
     → (bytes ++ take count (drop skip piece)) ++ take (want - count) (drop (gap - skip) more) ≡ bytes ++ take want (drop gap (piece ++ more))
 kept_more gap want skip count bytes piece more e f =

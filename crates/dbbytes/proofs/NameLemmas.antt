@@ -20,7 +20,7 @@ escaped_byte c h = rw h refl
 first_at : (xs : List ℕ) (at : ℕ) → at < length xs → get_or (drop at xs) 0 0 ≡ get_or xs at 0
 first_at xs at h = rw (drop-cons xs at 0 h) refl
 
--- a byte that is escaped, where none stands as it is before it
+-- a byte that is escaped, where no unescaped byte comes before it
 pub first_escaped : (xs : List ℕ) (at plain : ℕ) → at < length xs → plain ≡ 0
     → (plain < length (drop at xs) → IsTrue (is_escaped (get_or (drop at xs) plain 0))) → is_escaped (get_or xs at 0) ≡ true
 first_escaped xs at plain h none e =
@@ -41,7 +41,7 @@ rest_plain xs at plain e =
     ap (flat_map escape_byte) (sym cut) ∙ flat_map-append escape_byte (take plain (drop at xs)) (drop plain (drop at xs))
     ∙ rw (e, drop-drop plain at xs) refl
 
--- So much of a text has been put that this rest of it is left.
+-- A part of a text has been put, and this rest of it is left.
 pub record HasPut (old now : OutState) (rest whole : List ℕ) : Type 0 where
   pub done : List ℕ
   pub split : done ++ rest ≡ whole

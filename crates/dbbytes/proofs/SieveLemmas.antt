@@ -112,7 +112,7 @@ pub row_checked : (e : Encoding) (types kind name root k n r : List ℕ) (row_k 
     → checked_row row_k row_r row_n ≡ row_of_kept e types kind name root
 row_checked e types kind name root k n r row_k row_r row_n p p' q q' s s' = rw (p, q, s, p', q', s') refl
 
--- What a sieve has taken, for what it tells of bytes that are still to come.
+-- What a sieve has taken, from what it says of bytes that are still to come.
 pub taken_none : (s : RowSieve) (size : ℕ) (e : Encoding) → ((more : List ℕ) → row_after s more ≡ schema_row more size e) → HasTaken s size e []
 taken_none s size e h = record { tells = h }
 

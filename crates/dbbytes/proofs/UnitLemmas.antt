@@ -106,7 +106,7 @@ begins_pair order bytes u v c h e f p q r s g = record {
   within = h;
 }
 
--- what a text begins with tells whether some surrogate of it has no partner
+-- what a text begins with shows whether some surrogate of it has no partner
 pub unpaired_first : (order : Order) (bytes : List ℕ) → BeginsUnpaired order bytes → has_unpaired_surrogate (units order bytes) ≡ true
 unpaired_first order bytes h = rw h.begins refl
 

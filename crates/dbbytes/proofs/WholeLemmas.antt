@@ -48,7 +48,7 @@ no_types : (s size : ℕ) (bytes : List ℕ) (o : Option (List ℕ)) → size < 
 no_types s size bytes None h = refl
 no_types s size bytes (Some types) h = no_lens s size types bytes (serial_lens types) h
 
--- the header, of so many bytes, of which its size takes k, is within the record
+-- the header, of s bytes, of which its size takes k, is within the record
 within : (s k : ℕ) (bytes : List ℕ) → k ≤ s → s ≤ length bytes
     → values_from (s - k) (length bytes - s) [] 4 0 0 (drop k bytes) ≡ (varints 5 (drop k (take s bytes)) >>= λ types. bodies_of s types (length bytes) bytes)
 unfolding values_from

@@ -10,34 +10,34 @@ use Rattle.dbformat.specs.declared.RowFault.TheVariants.{Malformed}
 use Rattle.dbbytes.specs.declared.record_header.HeaderProgress.{HeaderProgress}
 use Rattle.dbbytes.specs.declared.record_header.HeaderProgress.TheVariants as progress
 
--- the lengths of the values of these types, where they are so many bytes in all
+-- the lengths of the values of these types, if they add up to `bodies`
 abbrev pub body_lens : List ℕ → ℕ → Option (List ℕ)
 body_lens types bodies = do
   lens ← serial_lens types
   if sum lens == bodies then Some lens else None
 
--- the values of these types, whose bodies are so many bytes
+-- the values of these types, whose bodies have `bodies` bytes in all
 abbrev pub body_values : List ℕ → ℕ → List ℕ → Option (List Value)
 body_values types bodies bytes = do
   lens ← body_lens types bodies
   Some (values types lens bytes)
 
--- a varint that goes on with these bytes, and so many behind it
+-- a varint that goes on with these bytes, and `others` more after it
 abbrev pub numbers_from : ℕ → ℕ → ℕ → List ℕ → Option (List ℕ)
 numbers_from n value others bytes = do
   first ← varint_from n value bytes
   rest ← varints others first.2
   Some (first.0 ∷ rest)
 
--- The values of a record of which so many bytes of the header are left, and so many bytes of bodies. Its types so far
--- are these, and so many follow the one that is being read.
+-- The values of a record: how many bytes of its header are left, how many bytes its bodies have, its types so far, and
+-- how many types follow the one that is being read.
 unfoldable pub values_from : ℕ → ℕ → List ℕ → ℕ → ℕ → ℕ → List ℕ → Option (List Value)
 values_from left bodies types others n value bytes =
     if nat_le left (length bytes) then (do
       rest ← numbers_from n value others (take left bytes)
       body_values (types ++ rest) bodies (drop left bytes)) else None
 
--- the values of a record of so many bytes, in the size of whose header the bytes go on
+-- the values of a record of `size` bytes; the size of its header goes on with these bytes
 unfoldable pub sized_values : ℕ → ℕ → ℕ → List ℕ → Option (List Value)
 sized_values size n value bytes = do
   first ← varint_from n value bytes

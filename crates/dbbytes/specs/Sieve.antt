@@ -25,13 +25,13 @@ stage_row e (stage.Bodies left types) kind name root more =
     if length more == left then row_of_kept e types kind name root else Err Malformed
 stage_row e stage.Malformed kind name root more = Err Malformed
 
--- The row that the bytes so far spell with these behind them. So `row_after s []` is the row that they spell alone.
+-- The row that the bytes so far spell with these after them. So `row_after s []` is the row that they spell alone.
 unfoldable pub row_after : RowSieve → List ℕ → Result SchemaRow RowFault
 row_after s more = stage_row s.encoding s.stage (kept s.kind.gap s.kind.want s.kind.bytes.items more)
     (kept s.name.gap s.name.want s.name.bytes.items more) (kept s.root.gap s.root.want s.root.bytes.items more) more
 
--- The sieve has taken these bytes of a row that was to have so many: whatever follows them, it leads to the row of all.
--- A new one has taken none, `feed` adds its piece, and `finish` tells the row of what was taken, so that nothing rests on
--- how this is said.
+-- The sieve has taken these bytes of a row of `size` bytes: whatever follows them, it leads to the row of all. A new
+-- sieve has taken none, `feed` adds its piece, and `finish` gives the row of what was taken, so that no caller depends
+-- on the form of this definition.
 pub record HasTaken (sieve : RowSieve) (size : ℕ) (e : Encoding) (bytes : List ℕ) : Type 0 where
   pub tells : (more : List ℕ) → row_after sieve more ≡ schema_row (bytes ++ more) size e

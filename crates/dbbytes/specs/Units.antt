@@ -23,7 +23,7 @@ text_of order bytes = encode_utf8_all (utf16_lossy_chars (units order bytes))
 pub record BeginsUnpaired (order : Order) (bytes : List ℕ) : Type 0 where
   pub begins : utf16_chars (units order bytes) ≡ None ∷ utf16_chars (units order (drop 2 bytes))
 
--- the text begins with a character of so many bytes
+-- the text begins with a character of `len` bytes
 pub record BeginsWith (order : Order) (bytes : List ℕ) (char len : ℕ) : Type 0 where
   pub begins : utf16_chars (units order bytes) ≡ Some char ∷ utf16_chars (units order (drop len bytes))
   pub some : 0 < len

@@ -1,9 +1,9 @@
-//! The byte formats of a database file: its numbers, how much of a payload stands in a cell, and the rows of its
-//! schema, read as their bytes come.
+//! The byte formats of a database file: its numbers, how much of a payload is in a cell, and the rows of its schema,
+//! read piece by piece.
 //!
 //! ```
 //! let (rowid, len) = varint(bytes)?;
-//! // A record of 600 bytes, whose pieces stand on several pages.
+//! // A record of 600 bytes, in pieces on several pages.
 //! let mut sieve = RowSieve::new(600, Encoding::Utf8);
 //! for piece in pieces {
 //!     sieve.feed(piece);

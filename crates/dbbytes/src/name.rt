@@ -35,7 +35,7 @@ pub fn name_text<O: Out>(name: &[u8], encoding: Encoding, out: &mut O) -> Result
     }
 }
 
-// Puts a text in UTF-16, with its escapes. One that is well-formed has no surrogate that is lost.
+// Puts a text in UTF-16, with its escapes. A well-formed text has no unpaired surrogate, so no character is lost.
 fn put_utf16<O: Out>(order: Order, name: &[u8], out: &mut O) -> Result<(), WriteFailed>
     ensures { Puts result (O.held out.old) (O.held out.new) (flat_map escape_byte (text_of order name.now)) }
 {
@@ -66,7 +66,7 @@ fn next_text(order: Order, bytes: &[u8]) -> (ArrayVec<u8, CHUNK>, usize)
     (text, at)
 }
 
-// Puts a text in UTF-8, with its escapes. What stands between two of them is one put.
+// Puts a text in UTF-8, with its escapes. What comes between two of them is one put.
 fn put_escaped<O: Out>(text: &[u8], out: &mut O) -> Result<(), WriteFailed>
     ensures { Puts result (O.held out.old) (O.held out.new) (flat_map escape_byte text.now) }
 {
@@ -84,7 +84,7 @@ fn put_escaped<O: Out>(text: &[u8], out: &mut O) -> Result<(), WriteFailed>
     Ok(())
 }
 
-// How many bytes stand as they are before the first that does not.
+// The number of bytes before the first that is written by its code.
 fn plain_len(text: &[u8]) -> usize
     ensures within { result ≤ length text.now }
     ensures plain { flat_map escape_byte (take result text.now) ≡ take result text.now }

@@ -12,7 +12,7 @@ pub(crate) struct PartialVarint {
 
 // What one more byte makes of it.
 #[derive(Clone, Copy)]
-pub(crate) enum Progress {
+pub(crate) enum VarintProgress {
     More(PartialVarint),
     Whole { value: u64, length: u8 },
 }
@@ -32,13 +32,13 @@ impl PartialVarint {
     }
 
     // The ninth byte gives all its eight bits (Database File Format, 1.6).
-    pub(crate) fn push(self, byte: u8) -> Progress
+    pub(crate) fn push(self, byte: u8) -> VarintProgress
         ensures length { length_after result ≡ self.length + 1 }
         ensures number { (bytes : List ℕ) → varint_after result bytes
             ≡ varint_from self.length self.value (byte ∷ bytes) }
     {
         if self.length == 8 {
-            return Progress::Whole {
+            return VarintProgress::Whole {
                 value: self.value * 256 + u64::from(byte),
                 length: 9,
             };
@@ -46,9 +46,9 @@ impl PartialVarint {
         let value = self.value * 128 + u64::from(byte % 128);
         let length = self.length + 1;
         if byte < 128 {
-            Progress::Whole { value, length }
+            VarintProgress::Whole { value, length }
         } else {
-            Progress::More(PartialVarint { value, length })
+            VarintProgress::More(PartialVarint { value, length })
         }
     }
 }

@@ -4,7 +4,7 @@ ghost use Rattle.dbformat.specs.Payload.{most_payload, most_local, local_len};
 
 use dbformat::PayloadKind;
 
-/// How many bytes of a payload stand in a cell at most: a payload of as many bytes, or fewer, has no overflow page.
+/// The most bytes of a payload that a cell can have without overflow: a payload of this size or less is wholly in its cell.
 #[inline(always)]
 pub fn most_local(kind: PayloadKind, usable: u32) -> u32
     requires low { 480 ≤ usable }
@@ -18,8 +18,8 @@ pub fn most_local(kind: PayloadKind, usable: u32) -> u32
     }
 }
 
-/// How many bytes of a payload of `p` bytes stand in its cell, on pages of which `usable` bytes can be used. The others
-/// stand on overflow pages.
+/// How many bytes of a payload of `p` bytes are in its cell, on pages of `usable` usable bytes. The others are on
+/// overflow pages.
 #[inline(never)]
 #[tactic(auto, unfolding(dbformat::specs::Payload::local_len))]
 pub fn local_len(kind: PayloadKind, usable: u32, p: u32) -> u32
@@ -27,7 +27,7 @@ pub fn local_len(kind: PayloadKind, usable: u32, p: u32) -> u32
     requires usable_high { usable ≤ 65536 }
     requires p { p ≤ most_payload }
     ensures value { result ≡ local_len kind usable p }
-    // No more than there is, and a page has room for it beside a cell's other parts.
+    // At most the whole payload, and a page has room for it beside a cell's other parts.
     ensures within { result ≤ p }
     ensures room { result + 35 ≤ usable }
 {

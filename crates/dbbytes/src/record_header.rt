@@ -2,10 +2,10 @@
 ghost use Rattle.std.specs.Prelude.{◌<◌};
 ghost use Rattle.dbbytes.specs.declared.serial.TheConstants.{COLUMNS};
 
-use crate::partial::{PartialVarint, Progress};
+use crate::partial::{PartialVarint, VarintProgress};
 use crate::serial::COLUMNS;
 
-// A header whose size is known: what is left of it, what comes behind it, and what it said so far.
+// A header whose size is known: what is left of it, what comes after it, and what it said so far.
 #[derive(Clone, Copy)]
 pub(crate) struct RecordHeader {
     left: u32,
@@ -37,8 +37,8 @@ impl HeaderProgress {
             ≡ progress_row e (progress.Size size number) (byte ∷ more) }
     {
         match number.push(byte) {
-            Progress::More(number) => HeaderProgress::Size { size, number },
-            Progress::Whole { value, length } => {
+            VarintProgress::More(number) => HeaderProgress::Size { size, number },
+            VarintProgress::Whole { value, length } => {
                 if value < u64::from(length) || value > u64::from(size) {
                     return HeaderProgress::Malformed;
                 }
@@ -59,7 +59,7 @@ impl RecordHeader {
     ghost use Rattle.dbbytes.specs.Record.{progress_row, row_by, values_with};
     ghost use Rattle.dbbytes.specs.declared.record_header.HeaderProgress.TheVariants as progress;
 
-    // One of which `left` bytes are still to come, and `bodies` bytes behind it.
+    // One of which `left` bytes are still to come, and `bodies` bytes after it.
     fn new(left: u32, bodies: u32) -> RecordHeader
         ensures left { result.left ≡ left }
         ensures bodies { result.bodies ≡ bodies }
@@ -86,7 +86,7 @@ impl RecordHeader {
         }
         let types = self.types;
         match self.number.push(byte) {
-            Progress::More(number) => HeaderProgress::Types {
+            VarintProgress::More(number) => HeaderProgress::Types {
                 header: RecordHeader {
                     left: self.left - 1,
                     bodies: self.bodies,
@@ -95,7 +95,7 @@ impl RecordHeader {
                     number,
                 },
             },
-            Progress::Whole { value, .. } => self.with_type(value),
+            VarintProgress::Whole { value, .. } => self.with_type(value),
         }
     }
 

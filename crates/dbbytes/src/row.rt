@@ -12,13 +12,13 @@ use crate::text::is_well_formed;
 use byteorder::{BigEndian, ByteOrder};
 use dbformat::{Encoding, RowFault, RowKind};
 
-// In how many bytes a name may be stored (own).
+// The most bytes that a stored name may have (own).
 pub(crate) const MAX_NAME: usize = 1000;
 
-/// What is taken of a row of the schema.
+/// What is kept of a row of the schema.
 #[derive(Clone, Copy, Debug, PartialEq, Eq)]
 pub struct SchemaRow<'a> {
-    /// Its type.
+    /// What the row describes: a table, an index, a view or a trigger.
     pub kind: RowKind,
     /// Its root page, or 0.
     pub root: u32,

@@ -28,7 +28,7 @@ pub(crate) fn is_text(serial_type: u64) -> bool
     serial_type > 9 && serial_type % 2 == 1
 }
 
-// The lengths of the values of these serial types, where they are so many bytes in all.
+// The lengths of the values of these serial types, if they add up to `bodies`.
 pub(crate) fn body_lens(types: &[u64; COLUMNS], bodies: u32) -> Option<[u32; COLUMNS]>
     ensures { result ≡ body_lens types.now bodies }
 {

@@ -6,7 +6,7 @@ use crate::serial::{COLUMNS, body_lens};
 use crate::window::Window;
 use dbformat::{Encoding, RowFault};
 
-// One byte more than the longest type has, `trigger` in UTF-16, so that a longer text is seen to be none.
+// One byte more than the longest type has, `trigger` in UTF-16, so that a longer text is recognised as none of the types.
 const KIND_KEPT: usize = 15;
 
 // One byte more than a name may have.
@@ -15,8 +15,8 @@ const NAME_KEPT: usize = MAX_NAME + 1;
 // An integer has eight bytes at most.
 const ROOT_KEPT: usize = 8;
 
-/// A row of the schema whose bytes pass in pieces. It keeps the bytes of its type, of its root page and of its name, and
-/// takes no memory but its own.
+/// Reads a row of the schema piece by piece. It keeps the bytes of the row's type, of its root page and of its name,
+/// and takes no memory beyond itself.
 #[derive(Drop)]
 pub struct RowSieve {
     encoding: Encoding,
@@ -26,7 +26,7 @@ pub struct RowSieve {
     root: Window<ROOT_KEPT>,
 }
 
-// Where in the record the next byte stands.
+// Where in the record the next byte is.
 #[derive(Clone, Copy)]
 pub(crate) enum Stage {
     // In the size of the header of a record of `size` bytes.
@@ -47,7 +47,7 @@ impl RowSieve {
     ghost use Rattle.dbbytes.specs.Row.{seen};
     ghost use Rattle.dbbytes.specs.Sieve.{HasTaken, row_after};
 
-    /// A sieve for a row of `p` bytes, of which none has come.
+    /// A sieve for a row of `p` bytes, none of which has come.
     pub fn new(p: u32, encoding: Encoding) -> RowSieve
         ensures { HasTaken result p encoding [] }
     {
@@ -112,7 +112,7 @@ impl RowSieve {
         }
     }
 
-    // Goes where the header leads.
+    // Goes on with what follows the header.
     #[tactic(auto, unfolding(crate::specs::Sieve::row_after))]
     fn enter(&mut self, progress: HeaderProgress)
         ensures { (more : List ℕ) → row_after self.new more ≡ progress_row self.old.encoding progress more }
@@ -128,7 +128,7 @@ impl RowSieve {
         }
     }
 
-    // Goes to the first of the bodies, which are so many bytes and have these types.
+    // Goes to the first of the bodies, which are of these types and `bodies` bytes in all.
     #[tactic(auto, unfolding(crate::specs::Sieve::row_after))]
     fn enter_bodies(&mut self, types: [u64; COLUMNS], bodies: u32)
         ensures { (more : List ℕ) → row_after self.new more

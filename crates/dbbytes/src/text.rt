@@ -7,7 +7,7 @@ ghost use Rattle.dbbytes.specs.Units.{BeginsUnpaired, BeginsWith, unit_of, units
 use dbformat::Encoding;
 use std::str;
 
-// Which byte of a 16-bit unit stands first.
+// Which byte of a 16-bit unit comes first.
 #[derive(Clone, Copy)]
 pub(crate) enum Order {
     LowFirst,

@@ -3,7 +3,7 @@ ghost use Rattle.std.specs.Prelude.{◌≡◌, ◌<◌, ◌≤◌, drop, length,
 ghost use Rattle.dbformat.specs.Varint.{varint};
 ghost use Rattle.dbbytes.specs.Varint.{GoesOn};
 
-use crate::partial::{PartialVarint, Progress};
+use crate::partial::{PartialVarint, VarintProgress};
 
 /// The number that `bytes` begin with, and its length in bytes, from 1 to 9. Every spelling of a number is accepted.
 /// `None` only where the bytes end within it.
@@ -78,8 +78,8 @@ fn long_varint(bytes: &[u8]) -> Option<(u64, usize)>
     let mut number = PartialVarint::new();
     for byte in bytes {
         match number.push(*byte) {
-            Progress::More(partial) => number = partial,
-            Progress::Whole { value, length } => return Some((value, usize::from(length))),
+            VarintProgress::More(partial) => number = partial,
+            VarintProgress::Whole { value, length } => return Some((value, usize::from(length))),
         }
     }
     None

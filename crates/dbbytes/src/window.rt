@@ -1,4 +1,4 @@
-// A column of a record of which the first bytes are kept as they pass.
+// The first bytes of one column of a record, kept as the record's bytes pass.
 ghost use Rattle.std.specs.Prelude.{◌≡◌, ℕ, ◌+◌, ◌≤◌, List, [], ◌++◌, min};
 ghost use Rattle.arrayvec.specs.ArrayVec.{array_vec_len};
 ghost use Rattle.dbbytes.specs.Window.{kept};
@@ -7,7 +7,7 @@ use arrayvec::ArrayVec;
 
 #[derive(Drop)]
 pub(crate) struct Window<const N: usize> {
-    // How many bytes pass before the first that is kept, and how many are kept then.
+    // How many bytes pass before the first that is kept, and then how many are kept.
     gap: usize,
     want: usize,
     bytes: ArrayVec<u8, N>,
@@ -15,7 +15,7 @@ pub(crate) struct Window<const N: usize> {
 }
 
 impl<const N: usize> Window<N> {
-    // One that keeps nothing.
+    // A window that keeps nothing.
     pub(crate) fn new() -> Window<N>
         ensures want { result.want ≡ 0 }
         ensures bytes { result.bytes.items ≡ [] }

@@ -3,7 +3,7 @@ ghost use Rattle.std.specs.Prelude.{◌≡◌, ◌*◌, ◌≤◌, length, IfOk,
 
 use std::alloc::{AllocError, Global};
 
-/// Writes some bytes over others from a place on, as far as there are such.
+/// Writes some bytes over others from a place on, as far as those go.
 pub fn patch(file: &mut [u8], at: usize, bytes: &[u8])
     ensures { length file.new ≡ length file.old }
 {
@@ -13,7 +13,7 @@ pub fn patch(file: &mut [u8], at: usize, bytes: &[u8])
     }
 }
 
-/// A database of some pages of one size, which has an empty schema on page 1 and zeros behind it.
+/// A database of some pages of one size, with an empty schema on page 1 and zeros after it.
 pub(crate) fn base_file(alloc: Global, page_size: u32, pages: u32) -> Result<Vec<u8>, AllocError>
     requires size { (512 ≤ page_size) × (page_size ≤ 65536) }
     requires some { (1 ≤ pages) × (pages ≤ 1024) }

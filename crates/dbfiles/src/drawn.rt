@@ -5,18 +5,18 @@ use crate::bytes::patch;
 use arrayvec::ArrayVec;
 use dbsource::{Failures, ReadFailed, Source};
 
-// The counter behind this one.
+// The next counter.
 fn next_drawn(drawn: u32) -> u32 {
     drawn.wrapping_mul(1664525).wrapping_add(1013904223)
 }
 
-// The number below 80 that a counter stands for.
+// The number below 80 that a counter gives.
 fn small(drawn: u32) -> u8 {
     ((drawn >> 16) % 80) as u8
 }
 
-/// The bytes of a page whose head stands here, drawn from a counter, and the counter behind them: small numbers of four bytes
-/// each, and the head of a b-tree page with some cells.
+/// Fills a page with bytes drawn from a counter, with its head at `head_at`, and answers the counter after them: small
+/// numbers of four bytes each, and the head of a b-tree page with some cells.
 pub fn draw(buf: &mut [u8], head_at: usize, from: u32) -> u32 {
     let mut drawn = next_drawn(from);
     let kind = small(drawn);
@@ -49,8 +49,8 @@ pub fn draw(buf: &mut [u8], head_at: usize, from: u32) -> u32 {
     drawn
 }
 
-/// Other bytes at each read, drawn from a counter that goes on. Where there are first bytes, the first read gets these. It
-/// tells nothing, and keeps the offsets that it was asked for.
+/// Other bytes at each read, drawn from a counter that goes on. If there are first bytes, the first read gets these. It
+/// has no told bytes, and keeps the offsets of its reads.
 #[derive(Drop)]
 pub struct DrawnSource<'a> {
     first: &'a [u8],

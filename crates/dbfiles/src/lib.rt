@@ -2,7 +2,7 @@
 //! reads a database.
 //!
 //! ```
-//! // A table `t` whose only row is of 600 bytes, of which 508 stand on page 3.
+//! // A table `t` whose only row is of 600 bytes, of which 508 are on page 3.
 //! let mut file = TestFile::new(alloc, 512, 3)?;
 //! file.schema(&[schema_row(b"table", b"t", 2)]);
 //! file.leaf_table(2).long_cell(1, &[0; 600], 92, 3);
@@ -11,7 +11,7 @@
 //! file.hex(2, 7, "01");
 //! ```
 //!
-//! The same database is a sample, and a test may write it as one text, with what is changed in it behind a colon:
+//! The same database is a sample, and a test may write it as one text, with its changes after a colon:
 //! `TestFile::of(alloc, "LongRow 3: 2 7 01")`.
 //!
 //! What has no place in its page or file spoils it: a page is filled with a byte that is no type, and a file is emptied, so

@@ -1,7 +1,7 @@
 // Varints, and records: a header of serial types, and the bodies of the columns.
 use arrayvec::ArrayVec;
 
-/// A record, column by column: 64 bytes of serial types and 1100 bytes of bodies at most. What is behind these is left out.
+/// A record, column by column: at most 64 bytes of serial types and 1100 bytes of bodies. What exceeds these is left out.
 #[derive(Drop)]
 pub struct Record {
     serials: ArrayVec<u8, 64>,
@@ -44,7 +44,7 @@ impl Record {
         self.column(0, &[])
     }
 
-    /// Its bytes. The header begins with its size, which counts itself and here has one byte.
+    /// The bytes of the record. Its header begins with its own size, which here has one byte.
     pub fn bytes(&self) -> ArrayVec<u8, 1200> {
         let mut bytes = ArrayVec::new();
         let _ = bytes.try_push(self.serials.len().wrapping_add(1) as u8);
@@ -67,7 +67,7 @@ pub fn schema_row(kind: &[u8], name: &[u8], root: u8) -> Record {
 /// A varint: seven bits a byte, the highest first, and a high bit for more. The ninth byte, if there is one, has eight bits.
 pub fn varint(value: u64) -> ArrayVec<u8, 9> {
     let is_long = value >= 1 << 56;
-    // What stands before the last byte.
+    // The groups of seven bits before the last byte.
     let high = if is_long { value >> 8 } else { value >> 7 };
     let mut bytes = ArrayVec::new();
     for shift in [49u32, 42, 35, 28, 21, 14, 7, 0] {

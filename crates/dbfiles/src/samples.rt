@@ -10,9 +10,9 @@ pub enum Sample {
     Smallest,
     /// A row of the schema, of the table `t`, whose root would be page 2.
     OneTable,
-    /// A table with a row of 600 bytes, of which 508 stand on page 3.
+    /// A table with a row of 600 bytes, of which 508 are on page 3.
     LongRow,
-    /// The same behind a pointer map, with the root on page 3.
+    /// The same with a pointer map on page 2, and the root on page 3.
     Mapped,
     /// A table of two leaves, with the rowids 5 and 6.
     TwoLeaves,
@@ -20,7 +20,7 @@ pub enum Sample {
     SharedBytes,
     /// Two rows of the schema that name one root.
     SharedRoot,
-    /// An index of two leaves, whose key between them is of 600 bytes, of which 508 stand on page 5.
+    /// An index of two leaves, whose key between them is of 600 bytes, of which 508 are on page 5.
     Index,
     /// An interior page that is its own child twice, with the key 5.
     OwnChild,
@@ -28,15 +28,15 @@ pub enum Sample {
     ParentAsChild,
     /// A row of the schema in UTF-16, big end first, whose name has a control character.
     Utf16,
-    /// A row of the schema whose SQL stands on page 3, for the most part, and its table on page 2.
+    /// A row of the schema whose SQL is mostly on page 3, and its table on page 2.
     LongSql,
-    /// A trunk and its leaf, behind a pointer map.
+    /// A trunk and its leaf, in a file with a pointer map.
     MappedFreelist,
     /// A trunk, page 2, and its leaf.
     Freelist,
     /// The only trunk names itself as the next.
     OwnTrunk,
-    /// In a file with a pointer map the root of a table is the last page, behind the only trunk.
+    /// In a file with a pointer map the root of a table is the last page, after the only trunk.
     RootLast,
     /// The same with the root before the trunk.
     RootFirst,
@@ -68,7 +68,7 @@ impl Sample {
         Some(sample)
     }
 
-    /// The database of this name, cut to so many pages or with zeros behind it.
+    /// The database of this name, cut to this many pages or with zeros after it.
     ///
     /// # Errors
     ///
@@ -99,7 +99,7 @@ impl Sample {
     }
 }
 
-// A row of 600 bytes on a root page and the one behind it.
+// A row of 600 bytes on a root page and the page after it.
 fn long_row(file: &mut TestFile, root: u8) {
     let overflow = u32::from(root).wrapping_add(1);
     file.schema(&[schema_row(b"table", b"t", root)]);
@@ -191,7 +191,7 @@ fn own_trunk(file: &mut TestFile) {
     file.trunk(2, 2, &[]);
 }
 
-// A table's empty root and the only trunk, one on page 3 and one on page 4, behind the map.
+// A table's empty root and the only trunk, one on page 3 and one on page 4, after the map.
 fn root_beside_trunk(file: &mut TestFile, root: u8, trunk: u32) {
     file.schema(&[schema_row(b"table", b"t", root)]);
     file.freelist(trunk, 1);

@@ -5,8 +5,8 @@ ghost use Rattle.dbsource.specs.Sources.{any_length, no_step, untold_source};
 use crate::bytes::patch;
 use dbsource::{Failures, ReadFailed, Source};
 
-/// A source of a stated length, which gives some bytes and then zeros. Its call number `fails_at`, from 0, fails. It tells
-/// nothing.
+/// A source of a stated length, which gives some bytes and then zeros. Its call number `fails_at`, from 0, fails. It
+/// has no told bytes.
 #[derive(Drop)]
 pub struct StatedSource<'a> {
     bytes: &'a [u8],

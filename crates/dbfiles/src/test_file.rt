@@ -4,7 +4,7 @@ use crate::records::Record;
 use crate::tree_page::TreePage;
 use std::alloc::{AllocError, Global};
 
-/// A database of some pages of one size. At first it has an empty schema on page 1 and zeros behind it.
+/// A database of some pages of one size. At first it has an empty schema on page 1 and zeros after it.
 #[derive(Drop)]
 pub struct TestFile {
     bytes: Vec<u8>,
@@ -12,7 +12,7 @@ pub struct TestFile {
 }
 
 impl TestFile {
-    /// 1 to 1024 pages of 512 to 65536 bytes.
+    /// A database of 1 to 1024 pages of 512 to 65536 bytes. Any other numbers give an empty file.
     ///
     /// # Errors
     ///
@@ -30,7 +30,7 @@ impl TestFile {
         })
     }
 
-    /// Its bytes.
+    /// The bytes of the database, or none where something had no place in it.
     pub fn into_bytes(self) -> Vec<u8> {
         let TestFile {
             bytes,
@@ -39,7 +39,7 @@ impl TestFile {
         bytes
     }
 
-    /// Cuts it to so many pages, or adds zeros.
+    /// Cuts the file to this many pages, or adds zeros.
     ///
     /// # Errors
     ///

@@ -4,8 +4,8 @@ use crate::test_file::TestFile;
 use std::alloc::{AllocError, Global};
 
 impl TestFile {
-    /// The database of a text as `LongRow 3: 1 18 0303, 2 0 0d`: a [`Sample`] by its name, of so many pages, and behind a colon
-    /// what is written over it, as [`change`](TestFile::change) takes it. Of any other text it is empty.
+    /// The database of a text as `LongRow 3: 1 18 0303, 2 0 0d`: a [`Sample`] by its name, the number of its pages, and
+    /// after a colon what is written over it, as [`change`](TestFile::change) takes it. Of any other text it is empty.
     ///
     /// # Errors
     ///

@@ -5,7 +5,7 @@ use crate::records::varint;
 // No type of a page.
 const SPOILED: u8 = 0xee;
 
-/// A page of a tree to which cells are added. Each stands right before those that are there, from the end of the page on, and
+/// A page of a tree to which cells are added. Each goes right before the earlier ones, from the end of the page on, and
 /// takes four bytes at least.
 #[derive(Drop)]
 pub struct TreePage<'a> {
@@ -44,7 +44,7 @@ impl<'a> TreePage<'a> {
         self.put(&[size.as_slice(), varint(rowid).as_slice(), payload])
     }
 
-    /// A cell of a table's leaf with so many bytes of its payload, and the page that the others begin on.
+    /// A cell of a table's leaf with the first `local` bytes of its payload, and the page that the others begin on.
     pub fn long_cell(
         self,
         rowid: u64,
@@ -71,7 +71,7 @@ impl<'a> TreePage<'a> {
         self.put(&[varint(payload.len() as u64).as_slice(), payload])
     }
 
-    /// A cell of an index's interior page with so many bytes of its payload, and the page that the others begin on.
+    /// A cell of an index's interior page with the first `local` bytes of its payload, and the page that the others begin on.
     pub fn long_index_key(
         self,
         left: u32,

@@ -1,4 +1,4 @@
--- How much of a payload stands in the cell of a table leaf.
+-- How much of a payload is in the cell of a table leaf.
 use Rattle.std.proofs.Common.{arith, ◌≡◌, ℕ, ◌+◌, ◌-◌, ◌<◌, ◌≤◌, Bool, true, false, cond, ◌&&◌, Option, Some, None, Ok, Err, List, length, take, drop, refl, sym, ap, subst, ◌∙◌, ℤ}
 use Rattle.std.specs.Prelude.{nat_le, nat_lt}
 use Rattle.std.proofs.lemmas.List.{length-take, length-drop}
@@ -24,7 +24,7 @@ use Rattle.dbsurvey.proofs.Each.{Each}
 use Rattle.dbformat.proofs.PageCells.{has_all_cells}
 use Rattle.dbformat.proofs.CellParts.{at_offset, then_some, same_tree}
 
--- as much of a payload stands in its cell as does not overflow
+-- a cell has as much of its payload as does not overflow
 pub record IsSized (c : Cell) : Type 0 where
   pub within : length c.local ≤ c.size
   pub all_local : c.overflow ≡ None → length c.local ≡ c.size

@@ -57,7 +57,7 @@ module _ {X : Type 0} (f g : FaultCode → X) (code : FaultCode) (same : (c : Fa
   other : (c : FaultCode) (a : ℕ) → code_index c ≡ a → ((code_index code ≡ a) → ⊥) → f c ≡ g c
   other c a e d = same c (apart code c ∙ (let n : (code_index code == code_index c) ≡ false = grind (arith, nat_tests) in n))
 
-  -- the entries behind that of the code
+  -- the entries after that of the code
   past : (cs : List FaultCode) (a : ℕ) → map code_index cs ≡ range_with_len a (length cs) → code_index code < a → map f cs ≡ map g cs
   past [] a e l = refl
   past (c ∷ cs) a e l =

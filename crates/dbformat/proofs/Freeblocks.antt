@@ -41,7 +41,7 @@ pub none_past_end : (v : View) (end offset : ℕ) (b : Bool) → is_good_freeblo
 none_past_end v end offset true h past = let g = good_ends v end offset h in absurd (omega arith)
 none_past_end v end offset false h past = refl
 
--- one good freeblock and those behind it
+-- one good freeblock and those after it
 pub from_good : (n : ℕ) (v : View) (end offset : ℕ) → is_good_freeblock v end offset ≡ true
     → freeblocks_from (suc n) v end offset ≡ freeblock_at v offset ∷ freeblocks_from n v (offset + (freeblock_at v offset).len) (next_freeblock v offset)
 from_good n v end offset h = rw h refl
@@ -50,7 +50,7 @@ pub from_bad : (n : ℕ) (v : View) (end offset : ℕ) → is_good_freeblock v e
 from_bad zero v end offset h = refl
 from_bad (suc n) v end offset h = rw h refl
 
--- where some freeblocks end that come behind this end, and where the list goes on behind them
+-- where some freeblocks after this end themselves end, and where the list goes on after them
 abbrev end_from : ℕ → List Span → ℕ
 end_from end [] = end
 end_from end (f ∷ fs) = end_from (f.offset + f.len) fs
@@ -69,7 +69,7 @@ next_from_first v [] = refl
 next_from_first v (f ∷ []) = refl
 next_from_first v (f ∷ g ∷ fs) = next_from_first v (g ∷ fs)
 
--- behind a list comes none that is good
+-- after a list no good one follows
 abbrev IsOver : View → ℕ → ℕ → List Span → Type 0
 IsOver v end offset fs = is_good_freeblock v (end_from end fs) (next_from v offset fs) ≡ false
 

@@ -1,4 +1,4 @@
--- Where things stand: addresses by their last and by their first step, and the key of a cell.
+-- Places: addresses by their last and by their first step, and the key of a cell.
 use Rattle.std.proofs.Common.{◌≡◌, ℕ, [], ◌∷◌, ◌++◌, refl, not, Option, Some, None, inl, inr, ap}
 use Rattle.std.specs.Prelude.{ℤ}
 use Rattle.dbsurvey.specs.Address.{Address, IsIn}

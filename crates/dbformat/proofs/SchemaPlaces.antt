@@ -1,4 +1,4 @@
--- Each row of the schema has a place of its own; and by how many rows with a root stand before one of them, there are few.
+-- Each row of the schema has a place of its own. Few rows with a root come before any of them.
 use Rattle.std.proofs.Common.{◌≡◌, ℕ, ◌+◌, ◌<◌, ◌≤◌, ◌⊎◌, inl, inr, Bool, true, false, cond, List, [], ◌∷◌, ◌++◌, map, length, Option, Some, None, refl, sym, ap, subst, ◌∙◌, arith}
 use Rattle.std.specs.Prelude.{filter, ◌==◌}
 use Rattle.std.specs.List.{cons_option}
@@ -108,7 +108,7 @@ module _ (a : Address) where
   abbrev before_it : SchemaCell → Bool
   before_it c = is_before c.place a
 
-  -- where all with a root stand before a place
+  -- where all with a root come before a place
   all_before : (S : List SchemaCell) → ((d : SchemaCell) → IsIn d S → IsRooted d → IsBefore d.place a) → count_rooted S ≤ count_rooted (filter before_it S)
   all_before [] h = omega arith
   all_before (d ∷ S) h = by_case (rooted d.row) refl (before_it d) refl (all_before S (λ c i. h c (inr i)))

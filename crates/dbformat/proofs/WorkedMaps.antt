@@ -38,7 +38,7 @@ use Rattle.dbformat.specs.declared.TreeKind.TheVariants as tree
 abbrev empty_page : List ℕ
 empty_page = patched 0 (empty_leaf 512) blank_page
 
--- a table whose root page is behind a free page
+-- a table whose root page is after a free page
 abbrev late_root : ℕ → List ℕ
 late_root greatest = patched 55 (greatest ∷ []) (patched 35 (3 ∷ 0 ∷ 0 ∷ 0 ∷ 1 ∷ []) (one_table 4 (patched 0 (2 ∷ 0 ∷ 0 ∷ 0 ∷ 0 ∷ 1 ∷ []) blank_page ++ blank_page ++ empty_page)))
 
@@ -62,7 +62,7 @@ pub unmapped_check : report (Check 100) (late_root 0) (with_free_page 4 3) ≡ r
 unfolding cell cell_count cell_pointer cells change_counter content_start coverage depth_fault encoding encoding_number fault_line faults first_freeblock first_trunk fixed_use fragmented_bytes freeblocks freelist_count greatest_root has_pointer_map header_faults incremental_vacuum is_size_valid items key_faults keys late_root_fault later_starts local_len map_entry map_page_of more_line own_kind page_bytes page_count page_faults page_size path_text payload record_values refusal_of refused report reserved_bytes right_number row_faults rules_of schema schema_format schema_row serial_len shown_name stat_rows stated_pages story_of sum_faults telling tree_name tree_page_faults tree_view type_byte unused usable_size use_fault varint version_valid_for view walk_faults whole_pages is_utf8 chars utf16_chars encode digits
 unmapped_check = refl
 
--- the root page before the free page, and behind a page of the pointer map
+-- the root page before the free page, and after a page of the pointer map
 abbrev root_first : List ℕ
 root_first = patched 55 (3 ∷ []) (patched 35 (4 ∷ 0 ∷ 0 ∷ 0 ∷ 1 ∷ []) (one_table 3 (patched 0 (1 ∷ 0 ∷ 0 ∷ 0 ∷ 0 ∷ 2 ∷ []) blank_page ++ empty_page ++ blank_page)))
 

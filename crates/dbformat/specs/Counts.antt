@@ -6,7 +6,7 @@ use Rattle.dbformat.specs.Cell.{cells, count}
 use Rattle.dbformat.specs.Coverage.{unused}
 use Rattle.dbformat.specs.declared.counts.Counts.{Counts}
 
--- nothing
+-- all counts 0
 abbrev pub no_counts : Counts
 no_counts = record { ncell = 0; payload = 0; unused = 0; mx_payload = 0 }
 

@@ -31,6 +31,7 @@ pub mod Samples
 pub mod Schema
 pub mod SchemaRow
 pub mod Sound
+pub mod Starts
 pub mod Story
 pub mod Survey
 pub mod Terms

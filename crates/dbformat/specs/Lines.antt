@@ -26,7 +26,7 @@ line_feed = 10
 abbrev pub tab : ℕ
 tab = 9
 
--- the text of a code
+-- the code of a fault, as its line begins with it
 abbrev pub code_text : FaultCode → List ℕ
 code_text H01 = codes "H01"
 code_text H02 = codes "H02"
@@ -64,7 +64,7 @@ code_text N01 = codes "N01"
 code_text M01 = codes "M01"
 code_text M02 = codes "M02"
 
--- the words of a code
+-- what a fault with this code says
 abbrev pub code_words : FaultCode → List ℕ
 code_words H01 = codes "file version is not 1 or 2"
 code_words H02 = codes "payload fraction is not the fixed one"
@@ -102,12 +102,12 @@ code_words N01 = codes "page is not in use"
 code_words M01 = codes "pointer map entry differs"
 code_words M02 = codes "root page after a page that is no root"
 
--- the line of a fault
+-- the line of a fault: its code, page, item and value, and after a colon what it says
 unfoldable pub fault_line : Fault → List ℕ
 fault_line f = code_text f.code ++ codes " page " ++ decimal f.page ++ codes " item " ++ decimal f.item
     ++ codes " value " ++ signed_decimal f.value ++ codes ": " ++ code_words f.code ++ line_feed ∷ []
 
--- the line that stands for k faults more
+-- the line that says that there are k more faults
 unfoldable pub more_line : ℕ → List ℕ
 more_line k = codes "more " ++ decimal k ++ line_feed ∷ []
 

@@ -18,7 +18,7 @@ use Rattle.dbformat.specs.declared.Look.TheVariants.{Zeros, Tree, Other}
 abbrev pub is_zeros : ℕ → List ℕ → Bool
 is_zeros usable page = list_all (λ byte. byte == 0) (take usable page)
 
--- the rowid of the table leaf's cell at offset, behind the size of its payload, where both end within the usable bytes
+-- the rowid of the table leaf's cell at offset, after the size of its payload, where both end within the usable bytes
 abbrev pub rowid_at : View → ℕ → Option ℤ
 rowid_at v offset = do
   size ← varint (bytes_from v offset)
@@ -43,7 +43,7 @@ abbrev pub look_of_view : List ℕ → Result View HeadFault → Look
 look_of_view page (Err e) = Other (take 16 page)
 look_of_view page (Ok v) = Tree (record { kind = v.kind; cells = count v; rowids = rowids v.kind v })
 
--- what page p looks like, of whose bytes so many are usable
+-- what page p looks like, by its usable bytes
 unfoldable pub look_of : ℕ → ℕ → List ℕ → Look
 look_of p usable page = if is_zeros usable page then Zeros else look_of_view page (view p usable page)
 

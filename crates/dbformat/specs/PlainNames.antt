@@ -22,7 +22,7 @@ is_turning c = is_within 0x202A 0x202E c || is_within 0x2066 0x2069 c || is_with
 abbrev pub is_coded : ℕ → Bool
 is_coded c = is_control_or_backslash c || is_turning c
 
--- a byte by its code
+-- a byte by its code: `\x` and two hexadecimal digits
 abbrev pub byte_code : ℕ → List ℕ
 byte_code b = 92 ∷ 120 ∷ hex_text 2 b
 

@@ -5,7 +5,7 @@ ghost use Rattle.dbformat.specs.FixedPages.{IsInRange, entries_per_map, fixed_us
 use crate::{Fixed, Geometry};
 
 impl Geometry {
-    /// The page that holds the byte at 2^30, which no structure uses, whether the file has so many pages or not (1.4).
+    /// The page that holds the byte at 2^30, which no structure uses, whether or not the file is that long (1.4).
     pub(crate) fn lock_page(self) -> u32
         requires { 0 < self.page_size }
         ensures { result ≡ lock_page self.page_size }
@@ -13,28 +13,28 @@ impl Geometry {
         (1 << 30) / self.page_size + 1
     }
 
-    // Whether pages have this number.
+    // Whether the file has a page of this number.
     fn is_page(self, page: u32) -> bool
         ensures { result ≡ is_page self page }
     {
         1 <= page && page <= self.pages
     }
 
-    // The pages of a pointer-map page and those that it describes.
+    // How many pages a pointer-map page and those that it describes are.
     fn group(self) -> u32
         ensures { result ≡ entries_per_map self + 1 }
     {
         self.usable / 5 + 1
     }
 
-    // Whether a pointer-map page stands at this number, where there is a map (1.8).
+    // Whether a pointer-map page is at this number, where there is a map (1.8).
     fn is_map_position(self, page: u32) -> bool
         ensures { result ≡ is_map_position self page }
     {
         page >= 2 && (page - 2) % self.group() == 0
     }
 
-    /// Whether a pointer-map page would stand at the lock-byte page of the file.
+    /// Whether the lock-byte page of the file is at the position of a pointer-map page.
     pub fn has_map_at_lock(self) -> bool
         requires { 0 < self.page_size }
         ensures { result ≡ (self.has_map && nat_le (lock_page self.page_size) self.pages && is_map_position self (lock_page self.page_size)) }

@@ -155,7 +155,7 @@ pub enum Refusal {
     /// There are more pages than the checker takes.
     #[error("E6 file has more than 67108864 pages")]
     TooManyPages,
-    /// A pointer-map page would stand at the lock-byte page.
+    /// The lock-byte page is at the position of a pointer-map page.
     #[error("E7 pointer map at the lock-byte page")]
     MapAtLock,
 }
@@ -224,7 +224,7 @@ impl PageKind {
     }
 }
 
-/// The two rules for how much of a payload stands in its cell.
+/// The two rules that say how much of a payload is in its cell.
 #[derive(Clone, Copy, Debug, PartialEq, Eq)]
 pub enum PayloadKind {
     TableLeaf,
@@ -258,7 +258,7 @@ pub enum CellFault {
 pub enum Coverage {
     /// The first item that holds a byte of an item before it.
     Overlap(u32),
-    /// No two items share a byte, and so many bytes are held by none.
+    /// No two items share a byte; the number is that of the bytes that none holds.
     Unheld(u32),
 }
 
@@ -322,14 +322,14 @@ pub enum PageType {
 /// What is asked of a file.
 #[derive(Clone, Copy, Debug, PartialEq, Eq)]
 pub enum Command {
-    /// The fault lines, so many at most.
+    /// The fault lines, at most `limit`, and then how many more there are.
     Check { limit: u32 },
     /// The rows of the statistics, and all fault lines: with `aggregate` one row for each tree in place of its pages, with
     /// `all` also a row for each page that is in no tree and in no overflow chain.
     Stat { aggregate: bool, all: bool },
 }
 
-/// What was found: no fault, or so many.
+/// What was found: no fault, or the number of faults.
 #[derive(Clone, Copy, Debug, PartialEq, Eq)]
 pub enum Verdict {
     Clean,
@@ -358,21 +358,22 @@ pub fn one_survey()
     ensures by_marks { (file : List ℕ) → IsRefusedByMarks file }
 {}
 
-/// Rules and story of each file are in the theory, and what is told of its survey has one order, that of places, in
-/// which a traversal tells it. The faults of pages and references and the rows come in this order.
+/// The rules and the story of each file are those of the theory. What is reported of its survey has one order, that of
+/// places, in which a traversal reports it. The faults of pages and references and the rows come in this order.
 pub fn told_in_order()
     ensures theory { (file : List ℕ) → IsInTheTheory file }
     ensures told { (file : List ℕ) → IsToldInOrder file }
 {}
 
-/// Faults look back alone: each rests on the pages that are visited up to the place at which it is told. So they can be
-/// told on the way, below page 1 first and then below the starts that this part gives.
+/// Faults look back only: each rests on the pages visited up to its place. So they can be reported during the walk,
+/// below page 1 first and then below the starts that this part gives.
 pub fn faults_look_back()
     ensures back { (file : List ℕ) → LooksBackAlone file }
     ensures starts { (file : List ℕ) → IsByStarts file }
 {}
 
-/// The good freeblocks of a page end before one that is not good, and not for want of the number that bounds them.
+/// The list of a page's good freeblocks ends before one that is not good, and never because the bound on its length is
+/// reached.
 pub fn freeblocks_end()
     ensures { (v : View) → AreFreeblocksAll v }
 {}

@@ -1,5 +1,5 @@
-//! The lines of a report, each put to an [`Out`](dbsource::Out) as a whole: a fault, how many more there are, and `ok`. And the
-//! pieces of lines that are made on the stack.
+//! The lines of a report, each put to an [`Out`](dbsource::Out) as a whole: a fault, how many more there are, and `ok`.
+//! Also the pieces of lines that are made on the stack.
 #![tactic(auto)]
 
 mod codes;

@@ -5,7 +5,7 @@ ghost use Rattle.std.specs.Prelude.{◌≡◌, ◌+◌, ◌≤◌, ◌++◌, len
 use arrayvec::ArrayVec;
 use itoa::Buffer;
 
-/// Adds a text, for which there is room.
+/// Adds a text, for which the caller has made room.
 pub fn append<const CAP: usize>(line: &mut ArrayVec<u8, CAP>, text: &str)
     requires { array_vec_len line.old + length text.now ≤ CAP }
     ensures { line.new.items ≡ line.old.items ++ text.now }

@@ -1,4 +1,4 @@
--- Roots that come after a page that is no root, by marks alone; and with them all that marks tell at the end.
+-- Roots that come after a page that is no root, by marks alone; and with them all that marks say at the end.
 use Rattle.std.proofs.Common.{◌≡◌, ℕ, zero, suc, ◌+◌, ◌≤◌, inl, inr, Bool, true, false, cond, not, ◌&&◌, List, [], ◌∷◌, length, Option, Some, None, refl, sym, ap, subst, ◌∙◌, arith}
 use Rattle.std.specs.Prelude.{find, pos, nat_lt, min, ◌==◌}
 use Rattle.std.specs.List.{range_with_len, reduce}

@@ -123,7 +123,7 @@ page_mark-is g W p = elim (cases_Bool (is_page g p)) [
     page_high : is_page g p ≡ true → p ≤ g.pages
     page_high e = grind (arith, nat_tests)
 
--- where W stands before it, the mark of its page and its depth say why a reference is refused
+-- where W comes before it, the mark of its page and its depth say why a reference is refused
 pub refused-by_mark : (file : List ℕ) (W : List Reference) (c : Reference) (marks : List Mark) → ((u : Reference) → IsIn u W → IsBefore u.address c.address) → AreMarksOf file W marks
     → refused file W c ≡ refusal_by (page_mark marks c.page) (is_too_deep c)
 unfolding refused

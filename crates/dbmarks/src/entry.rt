@@ -14,7 +14,7 @@ pub struct MapEntry {
 }
 
 impl Mark {
-    /// The entry that a page with this mark has. One that is not in use, or is of fixed use, has no entry: its kind is 0.
+    /// The entry that a page with this mark has. A page without a mark or of fixed use has no entry: its kind is 0.
     #[inline(always)]
     pub fn entry(self) -> MapEntry
         ensures { entry_value result ≡ mark_entry self }

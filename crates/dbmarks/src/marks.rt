@@ -10,7 +10,7 @@ use dbformat::{FaultCode, Geometry};
 use std::alloc::{AllocError, Allocator, Global};
 use std::marker::Model;
 
-/// As what a page is used, with the page that it is reached from where a pointer map would name it.
+/// How a page is used, with the page that it is reached from where a pointer map would name it.
 #[derive(Clone, Copy, Debug, PartialEq, Eq)]
 pub enum Mark {
     /// It was not reached, and has no fixed use.
@@ -25,7 +25,7 @@ pub enum Mark {
     FreeLeaf,
     /// The first overflow page of a cell of this page.
     FirstOverflow(u32),
-    /// The overflow page behind this one.
+    /// The overflow page after this one.
     LaterOverflow(u32),
     /// A child of this page of a tree.
     Child(u32),
@@ -205,8 +205,8 @@ impl Marks {
     }
 }
 
-/// Marks alone tell what is told at the end of a run: of each page its faults, the count of the freelist and the greatest
-/// root.
+/// Marks alone decide what is reported at the end of a run: the faults of each page, the count of the freelist and the
+/// greatest root.
 pub fn marks_tell_the_end()
     ensures { (file : List ℕ) → MarksTellTheEnd file }
 {}

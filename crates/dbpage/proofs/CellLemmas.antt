@@ -45,7 +45,7 @@ if_some false x b h = cc
 both_fit : (size end usable : ℕ) → (nat_le size most_payload && nat_le end usable) ≡ true → end ≤ usable
 both_fit size end usable h = grind (arith, nat_tests)
 
--- where a cell stands
+-- the place of a cell
 pub record IsInside (v : View) (offset : ℕ) (c : Cell) : Type 0 where
   pub place : c.offset ≡ offset
   pub ends : c.offset + c.len ≤ v.usable
@@ -114,7 +114,7 @@ cell_within v i c h =
     not_err : {e : CellFault} {d : Cell} → Err e ≡ Ok d → ⊥
     not_err h = cc
 
--- a cell stands at its pointer, whether it is readable or not
+-- a cell is at its pointer, whether it is readable or not
 pub offset-held_by : (v : View) (i : ℕ) → (held_by v i (cell v i)).offset ≡ cell_pointer v i
 offset-held_by v i = by_case (cell v i) refl
   where

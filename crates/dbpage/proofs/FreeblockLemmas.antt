@@ -5,7 +5,7 @@ use Rattle.std.proofs.lemmas.List.{append_assoc, take_at, length_push, length-ta
 use Rattle.std.proofs.lemmas.List.Sums.{sum_by-cons}
 use Rattle.dbformat.specs.Head.{View, content_start, first_freeblock, fragmented_bytes}
 use Rattle.dbformat.specs.Coverage.{Span, freeblocks, freeblocks_from, freeblock_at, next_freeblock, is_good_freeblock, offset_behind, unused}
-use Rattle.dbpage.specs.Freeblocks.{IsPlace}
+use Rattle.dbpage.specs.Freeblocks.{HasPassed}
 use Rattle.dbformat.proofs.Freeblocks.{good_parts, good_ends, none_past_end, from_good, from_bad}
 
 -- any number that is enough gives the same freeblocks
@@ -82,16 +82,16 @@ unfolding freeblocks
 length-freeblocks v = length-freeblocks_from v.usable v 0 (first_freeblock v.number v.bytes)
 
 -- a walk begins with all freeblocks to come
-pub place_start : (v : View) → IsPlace v 0 0 (first_freeblock v.number v.bytes)
+pub place_start : (v : View) → HasPassed v 0 0 (first_freeblock v.number v.bytes)
 unfolding freeblocks
 place_start v = record { whole = refl; behind = refl; few = omega arith }
 
--- and goes on behind a good one
+-- and goes on after a good one
 taken_more : (fs done rest : List Span) (f : Span) (n : ℕ) → done ++ f ∷ rest ≡ fs → length done ≡ n → take (n + 1) fs ≡ done ++ f ∷ []
 taken_more fs done rest f n whole len =
     ap (take (n + 1)) (sym whole ∙ sym (append_assoc done (f ∷ []) rest)) ∙ take_at (done ++ f ∷ []) rest (n + 1) (omega (arith, length_push done f))
 
-module _ (v : View) (number end offset : ℕ) (place : IsPlace v number end offset) where
+module _ (v : View) (number end offset : ℕ) (place : HasPassed v number end offset) where
   count_taken : length (take number (freeblocks v)) ≡ number
   count_taken = length-take-le number (freeblocks v) place.few
 
@@ -107,7 +107,7 @@ module _ (v : View) (number end offset : ℕ) (place : IsPlace v number end offs
   pub one_more : is_good_freeblock v end offset ≡ true → number < length (freeblocks v)
   one_more good = omega (arith, ap length (whole_at good), length-append done (freeblock_at v offset ∷ rest), count_taken)
 
-  pub place_more : is_good_freeblock v end offset ≡ true → IsPlace v (number + 1) (offset + (freeblock_at v offset).len) (next_freeblock v offset)
+  pub place_more : is_good_freeblock v end offset ≡ true → HasPassed v (number + 1) (offset + (freeblock_at v offset).len) (next_freeblock v offset)
   place_more good =
       let taken = taken_more (freeblocks v) done rest (freeblock_at v offset) number (whole_at good) count_taken in
       record {
@@ -116,10 +116,10 @@ module _ (v : View) (number end offset : ℕ) (place : IsPlace v number end offs
         few = omega (arith, one_more good);
       }
 
-pub place_at : (v : View) (n e o e' o' : ℕ) → IsPlace v n e o → e ≡ e' → o ≡ o' → IsPlace v n e' o'
-place_at v n e o e' o' place p q = subst (λ (b : ℕ). IsPlace v n e' b) q (subst (λ (a : ℕ). IsPlace v n a o) p place)
+pub place_at : (v : View) (n e o e' o' : ℕ) → HasPassed v n e o → e ≡ e' → o ≡ o' → HasPassed v n e' o'
+place_at v n e o e' o' place p q = subst (λ (b : ℕ). HasPassed v n e' b) q (subst (λ (a : ℕ). HasPassed v n a o) p place)
 
--- what is left at a good freeblock is that freeblock and what is left behind it
+-- what is left at a good freeblock is that freeblock and what is left after it
 pub left_more : (v : View) (end offset : ℕ) (f : Span) (e' o' : ℕ) → is_good_freeblock v end offset ≡ true → freeblock_at v offset ≡ f
     → offset + (freeblock_at v offset).len ≡ e' → next_freeblock v offset ≡ o' → freeblocks_from v.usable v end offset ≡ f ∷ freeblocks_from v.usable v e' o'
 left_more v end offset f e' o' good same p q =

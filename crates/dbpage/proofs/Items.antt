@@ -106,7 +106,7 @@ pub freeblock_inside : (v : View) (done rest : List Span) (f : Span) → done ++
 unfolding freeblocks
 freeblock_inside v done rest f h = inside_from v.usable v 0 (first_freeblock v.number v.bytes) done rest f h
 
--- behind the marked cells, some freeblocks are marked, and others follow
+-- after the marked cells, some freeblocks are marked, and others follow
 module _ (v : View) (done rest : List Span) (f : Span) (table : List ℕ) (held : ℕ) (was : AreMarked (cell_spans v ++ done) (start_of v) v.usable table held) (whole : done ++ f ∷ rest ≡ freeblocks v) where
   pub freeblock_marked : (new : List ℕ) → Marks table f.offset (f.offset + f.len) new → AreMarked (cell_spans v ++ (done ++ f ∷ [])) (start_of v) v.usable new (held + f.len)
   freeblock_marked new marks =
@@ -129,7 +129,7 @@ pub all_marked : (v : View) (done : List Span) (table : List ℕ) (held : ℕ) �
 unfolding items
 all_marked v done table held was whole = subst (λ (fs : List Span). AreMarked (cell_spans v ++ fs) (start_of v) v.usable table held) whole was
 
--- the next freeblock of a walk stands behind those that came
+-- the next freeblock of a walk comes after those before it
 pub next_whole : (v : View) (done left rest : List Span) (f g : Span) → done ++ left ≡ freeblocks v → left ≡ f ∷ rest → g ≡ f → done ++ g ∷ rest ≡ freeblocks v
 next_whole v done left rest f g whole taken same =
     ap (λ (h : Span). done ++ h ∷ rest) same ∙ ap (λ (fs : List Span). done ++ fs) (sym taken) ∙ whole

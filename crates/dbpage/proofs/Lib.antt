@@ -8,3 +8,4 @@ pub mod Ranges
 pub mod Runs
 pub mod Tables
 pub mod Unheld
+pub mod Zeros

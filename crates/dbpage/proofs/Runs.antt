@@ -1,4 +1,4 @@
--- Cells that stand side by side.
+-- Cells without gaps between them.
 use Rattle.std.proofs.Common.{◌≡◌, ℕ, ◌+◌, ◌-◌, ◌<◌, ◌≤◌, ◌⊎◌, inl, inr, Bool, true, false, ◌||◌, List, [], ◌∷◌, ◌++◌, Option, Some, refl, sym, subst, ap, ◌∙◌, arith}
 use Rattle.std.specs.Prelude.{MatchOption}
 use Rattle.std.proofs.lemmas.Bool.Decides.{nat_tests}
@@ -64,7 +64,7 @@ module _ (spans : List Span) (start end from to : ℕ) (was : IsRun spans start 
   }
 
 module _ (v : View) (n from to : ℕ) (run : AreInRun v n from to) where
-  -- the next cell stands beside the run
+  -- the next cell adjoins the run
   pub cell_joins : (offset len first last : ℕ) → Holds v n offset len → AreAdjoining from to offset len first last → AreInRun v (n + 1) first last
   cell_joins offset len first last has all =
       let s : Span = record { offset = offset; len = len } in

@@ -19,7 +19,7 @@ pub record IsRun (spans : List Span) (start end from to : ℕ) : Type 0 where
 abbrev pub AreInRun : View → ℕ → ℕ → ℕ → Type 0
 AreInRun v n from to = IsRun (cells_upto v n) (content_start v.number v.bytes) v.usable from to
 
--- the first n cells are a run, and the next holds so many bytes from an offset on
+-- the first n cells are a run, and the next holds `len` bytes from an offset on
 pub record EndsRun (v : View) (cells from to offset len : ℕ) : Type 0 where
   pub n : ℕ
   pub next : n + 1 ≡ cells

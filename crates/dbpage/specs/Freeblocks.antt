@@ -12,8 +12,8 @@ pub record Left : Type 0 where
 abbrev pub Walks : Left → Option Span → Left → Type 0
 Walks old came new = MatchOption came ((old.left ≡ []) × (new.left ≡ [])) (λ f. old.left ≡ f ∷ new.left) × (new.page ≡ old.page)
 
--- so many freeblocks came, the last of which ended at end, and the next is at offset
-pub record IsPlace (page : View) (number end offset : ℕ) : Type 0 where
+-- the walk has given `number` freeblocks, the last of which ended at end, and the next is at offset
+pub record HasPassed (page : View) (number end offset : ℕ) : Type 0 where
   pub whole : take number (freeblocks page) ++ freeblocks_from page.usable page end offset ≡ freeblocks page
   pub behind : offset_behind page (take number (freeblocks page)) ≡ offset
   pub few : number ≤ length (freeblocks page)

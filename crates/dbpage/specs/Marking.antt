@@ -6,7 +6,7 @@ use Rattle.dbformat.specs.Head.{View, content_start}
 use Rattle.dbformat.specs.Cell.{cell, count}
 use Rattle.dbformat.specs.Coverage.{Span, held_by, is_held, is_overlapping}
 
--- The mark of a byte is a bit of the table: those of eight bytes stand in one of it, the first in its lowest bit.
+-- The mark of a byte is a bit of the table: the marks of eight bytes are in one byte of it, the first in its lowest bit.
 abbrev pub mark_bit : List ℕ → ℕ → ℕ
 mark_bit table byte = bit_at (slice_index table (byte / 8)) (byte % 8)
 
@@ -43,7 +43,7 @@ pub record HasByte (table : List ℕ) (from to : ℕ) : Type 0 where
 abbrev pub unheld_by : List Span → ℕ → ℕ → ℕ
 unheld_by spans start end = count_by (λ byte. not (is_held spans byte)) (range_with_len start (end - start))
 
--- no two spans share a byte, and they hold so many of the bytes from start up to end
+-- no two spans share a byte, and they hold `held` of the bytes from start up to end
 pub record ShareNoByte (spans : List Span) (start end held : ℕ) : Type 0 where
   pub apart : (k : ℕ) → k < length spans → is_overlapping spans k ≡ false
   pub counted : held + unheld_by spans start end ≡ end - start
@@ -54,7 +54,7 @@ pub record AreMarked (spans : List Span) (start end : ℕ) (table : List ℕ) (h
   pub apart : (k : ℕ) → k < length spans → is_overlapping spans k ≡ false
   pub counted : held + unheld_by spans start end ≡ end - start
 
--- a span right below or right above some bytes, and all of them together
+-- a span right before or right after some bytes, and all of them together
 abbrev pub AreAdjoining : ℕ → ℕ → ℕ → ℕ → ℕ → ℕ → Type 0
 AreAdjoining from to offset len first last =
     ((offset + len ≡ from) × (first ≡ offset) × (last ≡ to)) ⊎ ((offset ≡ to) × (first ≡ from) × (last ≡ offset + len))

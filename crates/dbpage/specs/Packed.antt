@@ -1,4 +1,4 @@
--- Packed pages: those of which one reading of the cells tells all.
+-- Packed pages: those whose cells need only one reading.
 use Rattle.std.specs.Prelude.{◌≡◌, ℕ, ◌+◌, ◌*◌, ◌<◌, ◌≤◌, true, List, length, map, max, fold, filter_map, Option, Some, None, is_some, option_and_then, option_map, Ok, IsOk, ℤ, ◌<ℤ◌, sum_by, MatchBool}
 use Rattle.std.specs.List.{range_with_len}
 use Rattle.std.specs.Result.{result_ok}
@@ -9,11 +9,11 @@ use Rattle.dbformat.specs.declared.Coverage.TheVariants.{Unheld}
 use Rattle.dbpage.specs.declared.packed.CellSums.{CellSums}
 use Rattle.dbpage.specs.declared.packed.Packed.{Packed}
 
--- the readable cells of the first n, each behind its number
+-- the readable cells of the first n, each with its number
 abbrev pub first_cells : View → ℕ → List (ℕ × Cell)
 first_cells v n = filter_map (λ i. option_map (λ c. (i, c)) (result_ok (cell v i))) (range_with_len 0 n)
 
--- how many bytes of payloads stand in these cells
+-- how many bytes of payloads are in these cells
 abbrev pub payload_of : List (ℕ × Cell) → ℕ
 payload_of cells = sum_by (λ (i, c). length c.local) cells
 
@@ -43,7 +43,7 @@ key_at v i = option_and_then (λ c. c.key) (result_ok (cell v i))
 abbrev pub HasRisingKeys : View → ℕ → Type 0
 HasRisingKeys v n = (i : ℕ) (a b : ℤ) → i + 1 < n → key_at v i ≡ Some a → key_at v (i + 1) ≡ Some b → a <ℤ b
 
--- a key is greater than the last, as far as there are both
+-- a key is greater than the last, or one of them is missing
 abbrev pub IsAbove : Option ℤ → Option ℤ → Type 0
 IsAbove last key = (a b : ℤ) → last ≡ Some a → key ≡ Some b → a <ℤ b
 

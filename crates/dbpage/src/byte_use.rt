@@ -8,7 +8,7 @@ use byteorder::{ByteOrder, LittleEndian};
 use std::simd::prelude::*;
 use std::sync::ledger::Ledger;
 
-// Takes the marks of the first `bytes` bytes away.
+// Clears the marks of the first `bytes` bytes.
 #[inline(always)]
 pub(crate) fn clear(table: &mut [u8], bytes: u32)
     requires room { bytes ≤ length table.old }
@@ -18,7 +18,7 @@ pub(crate) fn clear(table: &mut [u8], bytes: u32)
     table[..(bytes / 8 + 1) as usize].fill(0);
 }
 
-// Marks `len` bytes from `from` on, unless one of them is marked. The marks of most items stand in one window.
+// Marks `len` bytes from `from` on, unless one of them is marked. The marks of most items are in one window.
 #[inline(always)]
 pub(crate) fn claim<L: Ledger>(table: &mut [u8], from: u32, len: u32, steps: &mut Steps<L>) -> bool
     requires room { from + len ≤ length table.old }
@@ -36,7 +36,7 @@ pub(crate) fn claim<L: Ledger>(table: &mut [u8], from: u32, len: u32, steps: &mu
     is_free
 }
 
-// `claim` of items of more than a window.
+// `claim` of items that are longer than a window.
 #[inline(never)]
 fn claim_many(table: &mut [u8], from: u32, len: u32) -> bool
     requires room { from + len ≤ length table.old }
@@ -51,8 +51,8 @@ fn claim_many(table: &mut [u8], from: u32, len: u32) -> bool
     }
 }
 
-// `claim` by windows of 64 marks. Each but the last ends where the next begins in the table: a read that has but a part of
-// what was just written waits for it.
+// `claim` by windows of 64 marks. Each but the last ends where the next begins in the table: a read that overlaps a
+// part of what was just written waits for it.
 #[inline(always)]
 pub(crate) fn claim_plain(table: &mut [u8], from: u32, len: u32) -> bool
     requires room { from + len ≤ length table.old }
@@ -71,7 +71,7 @@ pub(crate) fn claim_plain(table: &mut [u8], from: u32, len: u32) -> bool
     claim_few(table, at, end - at)
 }
 
-// `claim` of 64 bytes or more: by a window that ends at a whole byte of the table, by lanes of 256 marks, and what is left.
+// `claim` of 64 bytes or more: by a window that ends at a whole byte of the table, by lanes of 256 marks, and then the rest.
 #[inline(always)]
 pub(crate) fn claim_long(table: &mut [u8], from: u32, len: u32) -> bool
     requires room { from + len ≤ length table.old }
@@ -109,9 +109,9 @@ fn claim_lanes(table: &mut [u8], from: u32) -> bool
     true
 }
 
-// Whether one of 32 bytes of the table has a mark.
+/// Whether one of the 32 bytes from `start` on is not 0. In a table of marks: whether one of 256 bytes is marked.
 #[inline(always)]
-fn has_any(table: &[u8], start: usize) -> bool
+pub(crate) fn has_any(table: &[u8], start: usize) -> bool
     requires { start + 32 ≤ length table.now }
     ensures { MatchBool result (HasByte table.now start (start + 32)) ((k : ℕ) → start ≤ k → k < start + 32 → slice_index table.now k ≡ 0) }
 {
@@ -119,8 +119,8 @@ fn has_any(table: &[u8], start: usize) -> bool
     lanes.simd_ne(u8x32::splat(0)).to_bitmask() != 0
 }
 
-// Marks `len` bytes from `from` on, unless one of them is marked. Their bits stand in eight bytes of the table, and are read
-// and written as one number.
+// Marks `len` bytes from `from` on, unless one of them is marked. Their bits are in eight bytes of the table, which are
+// read and written as one number.
 #[inline(always)]
 fn claim_few(table: &mut [u8], from: u32, len: u32) -> bool
     requires room { from + len ≤ length table.old }
@@ -138,7 +138,7 @@ fn claim_few(table: &mut [u8], from: u32, len: u32) -> bool
     true
 }
 
-// The number whose bits from `from` on are ones up to `to`.
+// The number whose bits from `from` up to `to`, without it, are ones.
 #[inline(always)]
 fn ones(from: u32, to: u32) -> u64
     requires { (from ≤ to) × (from < 64) × (to ≤ 64) }

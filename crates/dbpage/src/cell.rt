@@ -14,17 +14,17 @@ use std::marker::Model;
 pub struct Cell<'a> {
     /// Where it begins, in bytes from the start of the page.
     pub offset: u32,
-    /// How many bytes it has. It holds 4 bytes of its page at least, though it may be shorter.
+    /// Its length in bytes. It holds 4 bytes of its page at least, though it may be shorter.
     pub len: u32,
-    /// How many bytes its payload has, here and on overflow pages: 2147483647 at most, and 0 without a payload.
+    /// The size of its payload in bytes, here and on overflow pages: 2147483647 at most, and 0 without a payload.
     pub size: u32,
-    /// The bytes of the payload that stand in the cell.
+    /// The bytes of the payload that are in the cell.
     pub local: &'a [u8],
     /// The page of its left child, on an interior page.
     pub left: Option<u32>,
-    /// Its rowid or key, in a table tree.
+    /// Its rowid or key, if its page is of a table.
     pub key: Option<i64>,
-    /// The first overflow page, where not all of the payload stands in the cell.
+    /// The first overflow page, if the payload is not wholly in the cell.
     pub overflow: Option<u32>,
 }
 
@@ -37,8 +37,8 @@ impl<'a> Model for Cell<'a> {
 }
 
 impl<'a> PageView<'a> {
-    /// Cell `i`. It is an error where its pointer leads out of the content area, and else where it does not end within
-    /// the usable bytes or its payload is too long.
+    /// Cell `i`. It is an error ([`CellFault::Offset`]) where its pointer leads out of the content area, and else
+    /// ([`CellFault::Unreadable`]) where it does not end within the usable bytes or its payload is too long.
     pub fn cell(&self, i: u32) -> Result<Cell<'a>, CellFault>
         requires { i < count self.now }
         ensures { result ≡ cell self.now i }
@@ -46,8 +46,7 @@ impl<'a> PageView<'a> {
         self.read_cell(self.kind, i)
     }
 
-    // `cell`, within its caller, so that only what this uses is read. A caller that has the kind as a constant need not
-    // ask for it at each cell.
+    // `cell`, inlined, so that only what its caller uses is read. If the caller has the kind as a constant, no cell tests it.
     #[inline(always)]
     pub(crate) fn read_cell(&self, kind: PageKind, i: u32) -> Result<Cell<'a>, CellFault>
         requires within { i < count self.now }
@@ -61,8 +60,8 @@ impl<'a> PageView<'a> {
         self.cell_at(kind, offset).ok_or(CellFault::Unreadable)
     }
 
-    /// The page of child `i`: left of cell `i`, where this is readable, and the right child behind the last cell. `None`
-    /// on a leaf.
+    /// The page of child `i`: left of cell `i`, if this is readable, and the right child after the last cell. `None` on
+    /// a leaf.
     pub fn child(&self, i: u32) -> Option<u32>
         requires { i ≤ count self.now }
         ensures { result ≡ child_number self.now i }
@@ -199,7 +198,7 @@ impl<'a> PageView<'a> {
         ensures { result ≡ payload_cell self.now kind offset before size left key }
     {
         let payload = offset + before;
-        // Most payloads stand in their cells.
+        // Most payloads are wholly in their cells.
         if size <= u64::from(most_local(kind, self.usable)) {
             let size = size as u32;
             let end = payload + size;

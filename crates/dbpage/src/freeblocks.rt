@@ -13,7 +13,7 @@ use std::marker::Model;
 pub struct Freeblock {
     /// Where it begins, in bytes from the start of the page.
     pub offset: u32,
-    /// How many bytes it has, 4 at least.
+    /// Its size in bytes, 4 at least.
     pub size: u32,
 }
 
@@ -27,11 +27,12 @@ impl Model for Freeblock {
     ghost inverse = { λ s. record { offset = s.offset; size = s.len } };
 }
 
-/// The good freeblocks of a page, in the order of their list. It ends at the first that is not good, on every page.
+/// The good freeblocks of a page, in the order of their list. The list ends at the first that is not good, so it ends
+/// on every page.
 #[derive(Drop)]
 pub struct Freeblocks<'v, 'a> {
     page: &'v PageView<'a>,
-    // How many came.
+    // How many were given.
     number: u32,
     // Where the last of them ended.
     end: u32,
@@ -45,11 +46,11 @@ impl<'v, 'a> Model for Freeblocks<'v, 'a> {
     ghost Value = { Left };
 
     ghost use Rattle.dbformat.specs.Coverage.{freeblocks_from};
-    ghost use Rattle.dbpage.specs.Freeblocks.{IsPlace};
+    ghost use Rattle.dbpage.specs.Freeblocks.{HasPassed};
 
     ghost view = { λ f. record { page = f.page.now; left = freeblocks_from f.page.now.usable f.page.now f.end f.offset } };
 
-    ghost invariant = { λ f. IsPlace f.page.now f.number f.end f.offset };
+    ghost invariant = { λ f. HasPassed f.page.now f.number f.end f.offset };
 }
 
 impl<'v, 'a> Iterator for Freeblocks<'v, 'a> {
@@ -70,8 +71,8 @@ impl<'v, 'a> Iterator for Freeblocks<'v, 'a> {
 }
 
 impl<'v, 'a> Freeblocks<'v, 'a> {
-    /// The number and the offset of the first freeblock that is not good, or `None` where all are. Numbers begin at 0.
-    /// It may be called before the end of the iterator as well.
+    /// The number and the offset in bytes of the first freeblock that is not good, or `None` where all are. Numbers
+    /// begin at 0. It may be called before the end of the iterator.
     pub fn bad(&self) -> Option<(u32, u32)>
         ensures { result ≡ bad_freeblock self.now.page }
     {
@@ -104,8 +105,8 @@ impl<'a> PageView<'a> {
         }
     }
 
-    /// Where item `item` of the coverage begins, or 0 where there is none: cells are the first items, whether they are
-    /// readable or not, and the good freeblocks follow.
+    /// Where item `item` of the coverage begins, in bytes from the start of the page, or 0 where there is none. Cells
+    /// are the first items, readable or not, and the good freeblocks follow.
     pub fn item_offset(&self, item: u32) -> u32
         ensures { result ≡ (slice_index_or (items self.now) item (record { offset = 0; len = 0 })).offset }
     {
@@ -123,7 +124,7 @@ impl<'a> PageView<'a> {
         0
     }
 
-    /// How many bytes are free: between the cell pointers and the content area, in freeblocks and in fragments.
+    /// How many bytes are free: between the cell pointers and the content area, in good freeblocks and in fragments.
     pub fn unused(&self) -> u32
         ensures { result ≡ unused self.now }
     {
@@ -135,7 +136,7 @@ impl<'a> PageView<'a> {
         total
     }
 
-    // The freeblock at `offset`, if it is good behind one that ended at `end`.
+    // The freeblock at `offset`, if it is good after one that ended at `end`.
     #[inline(always)]
     fn good_freeblock(&self, end: u32, offset: u32) -> Option<Freeblock>
         ensures good { MatchOption result (is_good_freeblock self.now end offset ≡ false)

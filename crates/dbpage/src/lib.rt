@@ -1,5 +1,5 @@
 //! The b-tree pages of a database file: their heads, cells and freeblocks, and what these hold of a page. Nothing is
-//! copied: a view lends from the page that it was made of. Most pages are told at once, by [`PageView::packed`].
+//! copied: a view borrows the page that it was made of. One reading by [`PageView::packed`] is enough for most pages.
 //!
 //! ```
 //! // Page 2, of which all 4096 bytes are in use.

@@ -4,11 +4,12 @@ ghost use Rattle.std.specs.List.{list_all};
 ghost use Rattle.dbformat.specs.Cell.{count};
 ghost use Rattle.dbformat.specs.Looks.{look_of, rowid, rowids};
 
+use crate::byte_use::has_any;
 use crate::view::PageView;
 use dbformat::{Look, PageKind, Rowids, TreeLook};
 
-/// What page `p` looks like, whose first `usable` bytes are in use; `page` may go on behind them. Zeros come first; then a page
-/// of a tree, where [`PageView::new`] has a view of it.
+/// What page `p` looks like by its first `usable` bytes; `page` may be longer. A page of zeros is [`Look::Zeros`]; else
+/// one that [`PageView::new`] has a view of is a [`Look::Tree`]; of any other the first 16 bytes are given.
 #[inline(never)]
 #[tactic(auto, unfolding(dbformat::specs::Looks::look_of))]
 pub fn look_of(page: &[u8], p: u32, usable: u32) -> Look
@@ -34,14 +35,28 @@ pub fn look_of(page: &[u8], p: u32, usable: u32) -> Look
     }
 }
 
+// Whether all bytes are 0. They are looked at by 32, and one by one at the end.
 fn are_zeros(bytes: &[u8]) -> bool
+    ensures { result ≡ list_all (λ byte. byte == 0) bytes.now }
+{
+    let mut start = 0;
+    while bytes.len() - start >= 32 {
+        if has_any(bytes, start) {
+            return false;
+        }
+        start += 32;
+    }
+    each_is_zero(&bytes[start..])
+}
+
+fn each_is_zero(bytes: &[u8]) -> bool
     ensures { result ≡ list_all (λ byte. byte == 0) bytes.now }
 {
     bytes.iter().all(|byte| *byte == 0)
 }
 
 impl<'a> PageView<'a> {
-    // The rowids of the first and the last cell of a leaf of a table, where both can be read so far.
+    // The rowids of the first and the last cell of a leaf of a table, if both can be read.
     fn rowids(&self) -> Option<Rowids>
         ensures { result ≡ rowids self.now.kind self.now }
     {
@@ -54,8 +69,8 @@ impl<'a> PageView<'a> {
         })
     }
 
-    // The rowid of cell `i` of a leaf of a table, where its pointer leads into the content area, and the size of its payload and
-    // the rowid end within the usable bytes.
+    // The rowid of cell `i` of a leaf of a table, if its pointer leads into the content area, and the size of its
+    // payload and the rowid end within the usable bytes.
     #[tactic(auto, unfolding(dbformat::specs::Looks::rowid))]
     fn rowid(&self, i: u32) -> Option<i64>
         requires { i < count self.now }

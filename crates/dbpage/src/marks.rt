@@ -16,8 +16,8 @@ use std::sync::ledger::{Blank, Ledger};
 /// What the items of a page hold of it: the first that shares a byte with an item before it, or how many bytes of the
 /// content area are in none. Items are the cells, readable or not, and then the good freeblocks.
 ///
-/// `table` is room to work in, a byte for each usable byte of the page. What it holds does not matter, and is open
-/// afterwards. `steps` counts each byte that is marked for an item, and the finding that an item's byte is marked.
+/// `table` is room to work in, at least as many bytes as the page has usable ones. Its contents do not matter, and are
+/// unspecified afterwards. `steps` counts each byte that is marked for an item, and the finding that an item's byte is marked.
 pub fn coverage<L: Ledger>(view: &PageView<'_>, table: &mut [u8], steps: &mut Steps<L>) -> Coverage
     requires { view.now.usable ≤ length table.old }
     ensures items { result ≡ coverage view.now }
@@ -109,7 +109,7 @@ fn mark_cells_of<L: Ledger>(
     Ok(held)
 }
 
-// Where cell `i` begins and how many bytes it holds, if it is readable: four at least.
+// Where cell `i` begins and how many bytes it holds, four at least, if it is readable.
 #[inline(always)]
 fn held_by_cell(view: &PageView<'_>, kind: PageKind, i: u32) -> Option<(u32, u32)>
     requires within { i < count view.now }
@@ -122,7 +122,7 @@ fn held_by_cell(view: &PageView<'_>, kind: PageKind, i: u32) -> Option<(u32, u32
     }
 }
 
-// Marks what the good freeblocks hold behind the `held` bytes of the cells, and counts it all.
+// Marks what the good freeblocks hold, after the `held` bytes of the cells, and counts it all.
 pub(crate) fn mark_freeblocks<L: Ledger>(
     view: &PageView<'_>,
     held: u32,

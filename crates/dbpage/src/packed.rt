@@ -1,4 +1,4 @@
-// Packed pages: one reading of the cells tells all of them.
+// Packed pages: a page whose cells need only one reading.
 ghost use Rattle.std.specs.Prelude.{◌≡◌, ℕ, None, false, ◌+◌, ◌<◌, ◌≤◌, length, MatchBool, MatchOption};
 ghost use Rattle.dbformat.specs.Head.{content_start};
 ghost use Rattle.dbformat.specs.Cell.{count};
@@ -26,12 +26,12 @@ pub struct Packed {
     pub unheld: u32,
 }
 
-/// What cells add up to, one after another from the first on.
+/// Sums over the cells, from the first on.
 #[derive(Clone, Copy, Debug, PartialEq, Eq)]
 pub struct CellSums {
-    /// How many bytes of payload stand in the cells.
+    /// How many bytes of payload are in the cells.
     pub payload: u32,
-    /// How many bytes the greatest payload of a cell has, with those on overflow pages.
+    /// The size in bytes of the greatest payload of a cell, with its bytes on overflow pages.
     pub greatest: u32,
     /// The key of the first cell, where there is one and it has a key.
     pub first: Option<i64>,
@@ -42,11 +42,11 @@ pub struct CellSums {
 }
 
 impl<'a> PageView<'a> {
-    /// What one reading of the cells gives of the page. `None` only where it is not packed: where a cell is not readable,
-    /// where the keys do not rise, or where two items share a byte.
+    /// What one reading of the cells gives of the page. `None` only where it is not packed: where a cell is not
+    /// readable, where the keys do not rise, or where two items share a byte.
     ///
-    /// `table` is room to work in, a byte for each usable byte of the page. What it holds does not matter, and is open
-    /// afterwards.
+    /// `table` is room to work in, at least as many bytes as the page has usable ones. Its contents do not matter, and
+    /// are unspecified afterwards.
     #[inline(never)]
     pub fn packed(&self, table: &mut [u8]) -> Option<Packed>
         requires { self.now.usable ≤ length table.old }
@@ -55,8 +55,8 @@ impl<'a> PageView<'a> {
         by_kind!(self.kind, kind => self.packed_in_run(kind, table))
     }
 
-    // `packed` of a page of this kind. No byte is marked while the cells stand side by side, in one run. SQLite fills a page
-    // from its end downwards, so that on most pages this is so up to the last.
+    // `packed` of a page of this kind. No byte is marked while the cells form one run without gaps. SQLite fills a page
+    // from its end downwards, so on most pages they do up to the last.
     #[inline(always)]
     fn packed_in_run(&self, kind: PageKind, table: &mut [u8]) -> Option<Packed>
         requires kind { kind ≡ self.now.kind }
@@ -103,7 +103,7 @@ impl<'a> PageView<'a> {
             .packed_by_clear_marks::<Brand>(begun, table, Blank::new(1))
     }
 
-    // The same view, in the caller's own room: a write into a table cannot change it, and a loop need not read it anew.
+    // The same view, as a local of the caller: a write into a table cannot change it, so a loop need not read it again.
     #[inline(always)]
     fn copied(&self) -> PageView<'a>
         ensures { result ≡ self.now }
@@ -119,7 +119,8 @@ impl<'a> PageView<'a> {
         }
     }
 
-    // `packed_by_marks`, where no byte is marked yet. The marks are counted in the ledger that `blank` opens, for nobody.
+    // `packed_by_marks`, where no byte is marked yet. The marks are counted in the ledger that `blank` opens, which
+    // nobody reads.
     #[inline(always)]
     fn packed_by_clear_marks<L: Ledger>(
         &self,
@@ -153,7 +154,7 @@ impl<'a> PageView<'a> {
         ensures { MatchOption result (IsUnpacked self.now)
             (λ held. AreMarked (cells_upto self.now begun.now.cells) (content_start self.now.number self.now.bytes) self.now.usable table.new held) }
     {
-        // So that the proof has what is known of the view.
+        // This gives the proof what is known of the view.
         let _ = &self.usable;
         let in_run = begun.run.len();
         if !claim(table, begun.run.from, in_run, steps) {
@@ -199,8 +200,8 @@ impl<'a> PageView<'a> {
         }
     }
 
-    // Adds cell `i` to the sums of those before it, and tells which bytes it holds. `None` where it is not readable, or where
-    // its key does not rise.
+    // Adds cell `i` to the sums of those before it, and answers which bytes it holds. `None` where it is not readable,
+    // or where its key does not rise.
     #[inline(always)]
     fn add_cell(&self, kind: PageKind, i: u32, sums: &mut CellSums) -> Option<(u32, u32)>
         requires kind { kind ≡ self.now.kind }
@@ -209,7 +210,7 @@ impl<'a> PageView<'a> {
         ensures { MatchOption result (IsUnpacked self.now) (λ held. Holds self.now i held.0 held.1
             × AddUpTo self.now (i + 1) sums.new) }
     {
-        // So that the proof has what is known of the view.
+        // This gives the proof what is known of the view.
         let _ = &self.usable;
         let Ok(cell) = self.read_cell(kind, i) else {
             return None;
@@ -227,7 +228,7 @@ impl<'a> PageView<'a> {
         Some((cell.offset, cell.len.max(4)))
     }
 
-    // The numbers of a page of whose cells these are the sums, and whose items hold so many bytes.
+    // The result for a page: the sums of its cells, and from `held`, the bytes that its items hold, those that none holds.
     #[inline(always)]
     fn packed_from(&self, sums: CellSums, held: u32) -> Packed
         requires read { AddUpTo self.now (count self.now) sums }
@@ -241,8 +242,8 @@ impl<'a> PageView<'a> {
     }
 }
 
-// What was read of a page before a byte is marked: how many cells, their sums, the run of the first of them, and what the
-// last holds, where it is not part of this run.
+// What was read of a page before a byte is marked: how many cells, their sums, the run of the first of them, and what
+// the last holds, if it is not part of this run.
 #[derive(Clone, Copy)]
 struct Beginning {
     cells: u32,
@@ -252,7 +253,7 @@ struct Beginning {
 }
 
 impl CellSums {
-    // Those of no cell.
+    // The sums of no cell.
     #[inline(always)]
     fn new() -> CellSums
         ensures { result ≡ record { payload = 0; greatest = 0; first = None; last = None; has_overflow = false } }
@@ -267,7 +268,7 @@ impl CellSums {
     }
 }
 
-/// Whether a key is greater than the last, as far as there are both.
+/// Whether a key is greater than the last, or one of them is missing.
 #[inline(always)]
 pub fn is_rising(last: Option<i64>, key: Option<i64>) -> bool
     ensures { MatchBool result (IsAbove last key) (IsAbove last key → ⊥) }

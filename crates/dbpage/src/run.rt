@@ -1,8 +1,8 @@
-// A run: cells that stand side by side.
+// A run: cells without gaps between them.
 ghost use Rattle.std.specs.Prelude.{◌≡◌, ◌+◌, ◌-◌, ◌^◌, ◌<◌, ◌≤◌, IsTrue, false};
 ghost use Rattle.dbpage.specs.Marking.{AreAdjoining};
 
-// The bytes from one offset up to another: those that cells hold which stand side by side.
+// A range of bytes, which cells without gaps between them hold.
 #[derive(Clone, Copy)]
 pub(crate) struct Run {
     pub(crate) from: u32,
@@ -10,7 +10,7 @@ pub(crate) struct Run {
 }
 
 impl Run {
-    // That of no cell of a page of `usable` bytes.
+    // The run of no cell, at the end of a page of `usable` bytes.
     #[inline(always)]
     pub(crate) fn new(usable: u32) -> Run
         ensures { result ≡ record { from = usable; to = usable } }
@@ -21,7 +21,7 @@ impl Run {
         }
     }
 
-    // How many bytes they are.
+    // Its length in bytes.
     #[inline(always)]
     pub(crate) fn len(&self) -> u32
         requires { self.now.from ≤ self.now.to }
@@ -30,7 +30,8 @@ impl Run {
         self.to - self.from
     }
 
-    // Adds a cell that holds `len` bytes from `offset` on, if these stand right below or right above the others.
+    // Adds a cell that holds `len` bytes from `offset` on, if it ends where the run begins, or begins where the run
+    // ends. Answers whether it did.
     #[inline(always)]
     pub(crate) fn add(&mut self, offset: u32, len: u32) -> bool
         requires { offset + len < 2 ^ 32 }

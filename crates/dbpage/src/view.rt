@@ -7,7 +7,7 @@ ghost use Rattle.dbformat.specs.Cell.{count};
 use dbformat::{HeadFault, PageKind, u16_at};
 use std::marker::Model;
 
-// `$call` with the kind of a page as a constant, so that a loop in it is compiled for each kind, and asks for none.
+// `$call` with the kind of a page as a constant, so that a loop in it is compiled for each kind and does not test it.
 macro_rules! by_kind {
     ($kind:expr, $known:ident => $call:expr) => {
         match $kind {
@@ -33,8 +33,8 @@ macro_rules! by_kind {
 
 pub(crate) use by_kind;
 
-/// A b-tree page whose head is sound: its type is known, and its content area lies between the cell pointers and the
-/// end of the usable bytes. The numbers of the head are read once, when the view is made.
+/// A b-tree page whose head is sound: its type is known, and its content area is between the cell pointers and the end
+/// of the usable bytes. The numbers of the head are read once, when the view is made.
 #[derive(Drop)]
 pub struct PageView<'a> {
     pub(crate) bytes: &'a [u8],
@@ -61,9 +61,9 @@ impl<'a> Model for PageView<'a> {
 }
 
 impl<'a> PageView<'a> {
-    /// A view of page `p`, whose first `usable` bytes are in use; `page` may go on behind them. It is an error where
-    /// the type of the page is unknown, and else where the content area begins before the end of the cell pointers or
-    /// past the usable bytes.
+    /// A view of page `p`, whose first `usable` bytes are in use; `page` may be longer. It is an error
+    /// ([`HeadFault::UnknownType`]) where the type of the page is unknown, and else ([`HeadFault::ContentStart`]) where
+    /// the content area begins before the end of the cell pointers or past the usable bytes.
     ///
     /// A page of a `Bench` of `dbsource`, with the usable bytes of that bench's geometry, needs no test before the call:
     /// `PageView::new(bench.page(0), p, bench.geometry().usable)`.
@@ -103,7 +103,7 @@ impl<'a> PageView<'a> {
         self.kind
     }
 
-    /// How many cells the page has, readable or not: at most 32764, since their pointers stand before the content area.
+    /// The number of cells, readable or not: at most 32764, since their pointers come before the content area.
     #[inline(always)]
     pub fn cells(&self) -> u32
         ensures number { result ≡ count self.now }
@@ -112,7 +112,7 @@ impl<'a> PageView<'a> {
         self.cells
     }
 
-    /// How many bytes are in fragments, as the head says.
+    /// The number of bytes in fragments that the head states.
     #[inline(always)]
     pub fn fragments(&self) -> u8
         ensures { result ≡ fragmented_bytes self.now.number self.now.bytes }
@@ -154,7 +154,7 @@ pub fn type_byte(page: &[u8], p: u32) -> u8
     page[header_start(p) as usize]
 }
 
-// Where the page header of page `p` begins: behind the file's header on page 1.
+// Where the page header of page `p` begins: after the file's header on page 1.
 #[inline(always)]
 fn header_start(p: u32) -> u32
     ensures value { result ≡ header_start p }
@@ -193,7 +193,7 @@ fn cell_count(page: &[u8], p: u32) -> u16
     u16_at(page, header_start(p) + 3)
 }
 
-/// The start of the content area of page `p`, also of one whose head is not sound: 0 stands for 65536.
+/// The start of the content area of page `p`, in bytes, also of one whose head is not sound. A stored 0 means 65536.
 #[inline(always)]
 #[tactic(auto, unfolding(dbformat::specs::Head::content_start))]
 pub fn content_start(page: &[u8], p: u32) -> u32

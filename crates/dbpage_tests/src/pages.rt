@@ -14,8 +14,8 @@ use dbpage::{Cell, PageView, content_start, look_of, type_byte, uncounted_covera
 use std::fmt::Write;
 use std::process::Abort;
 
-/// A page in four texts: a name, the number of the page and its usable bytes, runs of bytes behind their offsets, beside
-/// which all are 0, and what is answered of it, part by part. The first word of a part says what is asked for.
+/// A page in four texts: a name, the number of the page and its usable bytes, runs of bytes after their offsets (all
+/// others are 0), and the expected answers, part by part. The first word of a part says what is asked for.
 pub(crate) type Case = [&'static str; 4];
 
 /// Asks for all parts of some pages.
@@ -58,7 +58,7 @@ fn check(rt: &impl Abort, case: &Case, page: &[u8], table: &mut [u8]) {
     }
 }
 
-// What is asked of the page of this number and so many usable bytes.
+// What is asked of the page of this number with this many usable bytes.
 fn answer(
     rt: &impl Abort,
     page: &[u8],
@@ -131,7 +131,7 @@ fn write_part(name: &str, part: Option<i64>, text: &mut Text) {
     }
 }
 
-// The children that there are, each behind its number.
+// The children that there are, each with its number.
 fn write_children(view: &PageView<'_>, text: &mut Text) {
     for i in 0..view.cells().saturating_add(1) {
         if let Some(child) = view.child(i) {

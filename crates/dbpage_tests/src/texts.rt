@@ -14,8 +14,8 @@ fn digit_of(letter: u8) -> Option<u8> {
     }
 }
 
-/// Writes the bytes that a text spells from a place on: two hexadecimal digits a byte, and letters between two of '. Spaces
-/// between them are left out. The place behind the last byte, or none where the text has anything else.
+/// Writes the bytes that a text spells from a place on: two hexadecimal digits a byte, and letters between two of '.
+/// Spaces between them are left out. Answers the place after the last byte, or none where the text has anything else.
 pub(crate) fn write_bytes(bytes: &mut [u8], at: usize, text: &str) -> Option<usize> {
     let mut at = at;
     let mut is_letter = false;

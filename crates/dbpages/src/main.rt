@@ -1,9 +1,9 @@
 //! Prints a line for each page of a database file, `dbpages FILE`: its number, and the kind and the number of cells of a
 //! b-tree page. An example of a program over `dbsource` and `dbpage`.
 //!
-//! Where pointer maps and the lock-byte page stand is fixed by the file's shape. Every other page is judged by its own bytes:
-//! an overflow page or a free page is told not to be a b-tree page, but a free page that SQLite did not clear still looks like
-//! the b-tree page that it was.
+//! The places of pointer-map pages and of the lock-byte page follow from the file's shape. Every other page is judged
+//! by its own bytes: an overflow page or a free page is reported as no b-tree page, but a free page that SQLite did not
+//! clear still looks like the b-tree page that it was.
 #![tactic(auto)]
 
 use anyhow::{Context, Result};

@@ -1,4 +1,4 @@
--- A file of which no fault is told is sound: the parts of a sound file, out of its survey.
+-- A file without a reported fault is sound: the parts of a sound file, out of its survey.
 
 -- the rows of the schema, and that its tree's payloads spell them
 pub mod SchemaRows

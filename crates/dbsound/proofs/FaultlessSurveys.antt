@@ -1,5 +1,5 @@
--- A survey of which no fault is told is all that its starts lead to, and at each of its visits begins a term: a chain at an
--- overflow page, a tree at a page of a tree, a freelist at the first trunk.
+-- A survey without a reported fault is all that its starts lead to, and at each of its visits begins a term: a chain at
+-- an overflow page, a tree at a page of a tree, a freelist at the first trunk.
 
 -- what is below the starts, and below each visit
 pub mod Followed

@@ -1,4 +1,4 @@
--- Of a sound file no fault is told: its survey is the visits of its terms, and none of these has one.
+-- A sound file has no fault to report: its survey is the visits of its terms, and none of these has one.
 pub mod Survey
 -- no fault of a page, of a key, of a row of the schema, or of a reference
 pub mod Pages

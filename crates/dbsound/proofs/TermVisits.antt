@@ -1,7 +1,7 @@
 -- The visits of a term: its pages as references, each at its address, in the order of addresses. They are defined here, and
 -- each module has a property of them, by induction on terms.
 
--- where they stand, and their uses
+-- where they are, and their uses
 pub mod Under
 pub mod Uses
 -- they are all that the first of them leads to

@@ -14,7 +14,7 @@ use Rattle.dbformat.specs.declared.Refusal.{Refusal}
 abbrev pub IsRefusedBeside : List ℕ → List ℕ → Refusal → Type 0
 IsRefusedBeside whole broken why = Sound whole × (refusal broken ≡ Some why) × (Sound broken → ⊥)
 
--- the one file is sound; the other is read, but is not, and this fault is all that is told of it
+-- the one file is sound; the other is read, but is not sound, and this is its only fault
 abbrev pub FailsBeside : List ℕ → List ℕ → Fault → Type 0
 FailsBeside whole broken f = Sound whole × (refusal broken ≡ None) × (faults broken (survey broken) ≡ f ∷ []) × (Sound broken → ⊥)
 
@@ -58,7 +58,7 @@ one_row root = one_table root []
 abbrev pub two_leaves : ℕ → List ℕ
 two_leaves rowid = with_byte 2045 rowid small_tree
 
--- a schema without rows, and a trunk of 512 bytes that says that it has so many leaves
+-- a schema without rows, and a trunk of 512 bytes that claims this many leaves
 abbrev pub one_trunk : ℕ → List ℕ
 one_trunk leaves = with_byte 519 leaves (patched 35 (2 ∷ 0 ∷ 0 ∷ 0 ∷ 1 ∷ []) (base_file 512 2))
 
@@ -74,11 +74,11 @@ mapped_trunk type = with_byte 512 type (with_byte 55 1 (patched 35 (3 ∷ 0 ∷ 
 abbrev empty_page : List ℕ
 empty_page = patched 0 (empty_leaf 512) blank_page
 
--- a table with this root page, a trunk, and the pages behind page 1, the first of which is a pointer map
+-- a table with this root page, a trunk, and the pages after page 1, the first of which is a pointer map
 abbrev root_and_trunk : ℕ → ℕ → List ℕ → List ℕ
 root_and_trunk root trunk pages = with_byte 55 root (patched 35 (trunk ∷ 0 ∷ 0 ∷ 0 ∷ 1 ∷ []) (one_table root pages))
 
--- the root page of a table before a free page, and one behind it
+-- the root page of a table before a free page, and one after it
 abbrev pub early_root : List ℕ
 early_root = root_and_trunk 3 4 (patched 0 (1 ∷ 0 ∷ 0 ∷ 0 ∷ 0 ∷ 2 ∷ []) blank_page ++ empty_page ++ blank_page)
 

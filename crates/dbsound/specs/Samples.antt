@@ -33,6 +33,6 @@ first_leaf = patched 413 (136 ∷ 84 ∷ []) (long_row_leaf 6)
 abbrev last_leaf : List ℕ
 last_leaf = patched 508 (0 ∷ 6 ∷ []) (patched 0 (13 ∷ 0 ∷ 0 ∷ 0 ∷ 1 ∷ 1 ∷ 252 ∷ 0 ∷ 1 ∷ 252 ∷ []) blank_page)
 
--- a file of one table behind a pointer map: its root is page 3, with the leaves 4 and 5, and the overflow pages 6 and 7
+-- a file of one table, with a pointer map: its root is page 3, with the leaves 4 and 5, and the overflow pages 6 and 7
 abbrev pub mapped_file : List ℕ
 mapped_file = patched 55 (3 ∷ []) (one_table 3 (map_page ++ table_root ++ first_leaf ++ last_leaf ++ patched 3 (7 ∷ []) blank_page ++ blank_page))

@@ -1,4 +1,4 @@
--- A file is sound exactly where no fault is told of it: the statements of the contracts.
+-- A file is sound exactly where no fault of it is reported: the statements of the contracts.
 use Rattle.std.specs.Prelude.{◌≡◌, ◌↔◌, ℕ, List, [], ◌++◌, map, None, Ok}
 use Rattle.dbformat.specs.File.{refusal}
 use Rattle.dbformat.specs.Reference.{Reference}
@@ -10,7 +10,7 @@ use Rattle.dbformat.specs.declared.Verdict.{Verdict}
 use Rattle.dbformat.specs.declared.Verdict.TheVariants.{Clean}
 use Rattle.dbsound.specs.Below.{use_of}
 
--- a file is sound exactly where it is read and no fault is told of it
+-- a file is sound exactly where it is read and no fault of it is reported
 abbrev pub IsSoundByFaults : List ℕ → Type 0
 IsSoundByFaults file = (V : List Reference) → Survey file V → Sound file ↔ ((refusal file ≡ None) × (faults file V ≡ []))
 

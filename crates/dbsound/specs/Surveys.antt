@@ -17,7 +17,7 @@ abbrev pub IsByItsStarts : List ℕ → Type 0
 IsByItsStarts file = (V : List Reference) → Survey file V → walk_faults file V ≡ []
     → V ≡ flat_map (λ d. below V d.address) (named_at [] (starts file V))
 
--- and below a visit stands the visit itself, and what is below each reference of its page
+-- and below a visit are the visit itself, and what is below each reference of its page
 abbrev pub IsByItsLinks : List ℕ → Type 0
 IsByItsLinks file = (V : List Reference) → Survey file V → walk_faults file V ≡ []
     → (r : Reference) → IsIn r V

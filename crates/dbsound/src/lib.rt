@@ -1,26 +1,27 @@
-//! A file is sound exactly where no fault is told of it.
+//! A file is sound exactly where no fault of it is reported.
 //!
-//! `dbformat` says twice when a file is good. Its *report* (specs/Report) tells the faults that are found along the survey of
-//! the file: of its header, of each page, reference, key and row of the schema, and at the end. *Sound* (specs/Sound) knows no
-//! survey: finite terms, which are trees with their overflow chains and a freelist, account for each page once and keep every
-//! rule. Here is proved that the two agree. A theorem is the contract of a function with an empty body; its statement stands in
-//! specs/, and its proof in proofs/, where each folder has a file of its name that lists what is in it.
+//! `dbformat` says twice when a file is good. Its *report* (specs/Report) has the faults that are found along the survey of
+//! the file: of its header, of each page, reference, key and row of the schema, and at the end. *Sound* (specs/Sound) knows
+//! no survey: finite terms, which are trees with their overflow chains and a freelist, account for each page once and keep
+//! every rule. This crate proves that the two agree. A theorem is the contract of a function with an empty body; its
+//! statement is in specs/, and its proof in proofs/, where each folder has a file of its name that lists what is in it.
 //!
-//! **Clean means sound** (proofs/FaultlessSurveys, then FaultlessFiles). Where no fault is told no reference is refused. So the
-//! survey is all that its starts lead to, and below a visit stand the visit and what is below each reference of its page: that
-//! is `surveys_are_whole`. By recursion on how many pages are below a visit, a chain begins at each overflow page and a tree at
-//! each page of a tree: that is `visits_begin_terms`. The keys of a cell bound those below its children, as no key is out of
-//! order; all leaves of a start have one depth, and none is too deep. A tree at each root, the chain of trunks, the rows that
-//! the schema's payloads spell, and what the end says of all pages are then the parts of a sound file.
+//! **Clean means sound** (proofs/FaultlessSurveys, then FaultlessFiles). If no fault is reported, no reference is
+//! refused. So the survey is all that its starts lead to, and below a visit are the visit itself and what is below each
+//! reference of its page: that is `surveys_are_whole`. By recursion on how many pages are below a visit, a chain begins
+//! at each overflow page and a tree at each page of a tree: that is `visits_begin_terms`. The keys of a cell bound
+//! those below its children, as no key is out of order; all leaves of a start have one depth, and none is too deep. A
+//! tree at each root, the chain of trunks, the rows that the schema's payloads spell, and what the end says of all
+//! pages are then the parts of a sound file.
 //!
-//! **Sound means clean** (proofs/TermVisits, TermKeys and TermRows, then SoundFiles). The visits of a term are its pages, each
-//! at its address, by recursion on the term; each property of them is an induction of its own. They are all that the first of
-//! them leads to, their keys are in order, leaves have one depth, and the rows that are read along them are those that the
-//! payloads spell. As each page has one use, the visits of all terms are the survey, and no reference is refused. Then test by
-//! test nothing is told: of a page for itself, of two pages of one tree, of the schema's rows, and at the end.
+//! **Sound means clean** (proofs/TermVisits, TermKeys and TermRows, then SoundFiles). The visits of a term are its pages,
+//! each at its address, by recursion on the term; each property of them is an induction of its own. They are all that the
+//! first of them leads to, their keys are in order, leaves have one depth, and the rows that are read along them are those
+//! that the payloads spell. As each page has one use, the visits of all terms are the survey, and no reference is refused.
+//! Then no test reports a fault: none of a page by itself, of two pages of one tree, of the schema's rows, or at the end.
 //!
-//! What is known of surveys under any rules stands in `dbsurvey`, and what is known of the pages, cells and visits of any file
-//! in `dbformat`.
+//! What is known of surveys under any rules is in `dbsurvey`, and what is known of the pages, cells and visits of any
+//! file is in `dbformat`.
 #![tactic(auto)]
 
 ghost use Rattle.std.specs.Prelude.{ℕ, List, pos, negsuc};
@@ -38,9 +39,9 @@ ghost use Rattle.dbsound.specs.Surveys.{IsByItsStarts, IsByItsLinks, HasChainsBe
 
 pub mod statistics;
 
-/// Clean is sound: a file is sound exactly where it is read and no fault is told of it, and so where a command answers that
-/// it is clean, and where the verdict on a file that is read is that it is. The survey of a sound file has just the pages of
-/// its terms, each once, in the order of the terms and with their uses.
+/// Clean is sound: a file is sound exactly where it is read and no fault of it is reported. So it is where a command
+/// answers that the file is clean, and where the verdict on a file that is read is clean. The survey of a sound file
+/// has exactly the pages of its terms, each once, in the order of the terms and with their uses.
 pub fn clean_is_sound()
     ensures faults { (file : List ℕ) → IsSoundByFaults file }
     ensures answer { (file : List ℕ) → IsSoundByAnswer file }
@@ -48,10 +49,10 @@ pub fn clean_is_sound()
     ensures uses { (file : List ℕ) → HasItsUses file }
 {}
 
-/// Each rule of a sound file can fail alone. Beside a sound file stands one that differs from it by a byte, by a page, or by
-/// the order of two pages, and that is not read, or of which just the fault of this rule is told; so it is not sound. Two
-/// rules have no file here, since large files alone break them: that the schema's tree is at most 20 pages high, and that
-/// the schema has at most 65536 roots.
+/// Each rule of a sound file can fail alone. Beside a sound file there is one that differs from it by a byte, by a
+/// page, or by the order of two pages, and that is not read, or has only the fault of this rule; so it is not sound.
+/// Two rules have no file here, since only large files break them: that the schema's tree is at most 20 pages high, and
+/// that the schema has at most 65536 roots.
 pub fn each_rule_can_fail_alone()
     ensures is_read { IsRefusedBeside long_row_file wrong_magic Magic }
     ensures header { FailsBeside long_row_file unknown_version (fault H01 1 18 (pos 3)) }
@@ -76,7 +77,7 @@ pub fn other_shapes_are_sound()
 {}
 
 /// Where pages and references have no fault, a survey is what is below its starts, one after another, and below each
-/// visit stands what is below each reference of its page.
+/// visit is what is below each reference of its page.
 pub fn surveys_are_whole()
     ensures starts { (file : List ℕ) → IsByItsStarts file }
     ensures links { (file : List ℕ) → IsByItsLinks file }

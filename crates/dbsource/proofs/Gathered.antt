@@ -9,7 +9,7 @@ use Rattle.dbsource.proofs.Puts.{appends_append, appends_kept, appends_nothing}
 use Rattle.dbsource.specs.Gathers.{gathered_most, kept_line}
 use Rattle.dbsource.specs.Outs.{Begins, Writes}
 
--- where nothing told is lost, what the writer holds is a beginning of it, and the rest is gathered
+-- where no known byte is lost, what the writer holds is a beginning of them, and the rest is gathered
 pub kept_begins : (all written : Option (List ℕ)) (gathered : List ℕ)
     → Keeps all (append_known written gathered) → IfSome all (λ bytes. Appends written (Some bytes) gathered)
 kept_begins None written gathered h = tt

@@ -81,7 +81,7 @@ read_once bytes n MapAtLock h e = refl
 
 -- ---- what is said of each file that agrees with what was read
 
--- how many bytes are told, if any are
+-- the number of told bytes, if there are any
 abbrev pub told_len : Option (List ℕ) → ℕ
 told_len None = 0
 told_len (Some file) = length file
@@ -90,13 +90,13 @@ pub told_len_is : (o : Option (List ℕ)) → IfSome o (λ file. length file ≡
 told_len_is None = tt
 told_len_is (Some file) = refl
 
--- there is a file of so many bytes that begins with these
+-- there is a file of this length that begins with these bytes
 pub beginning : (bytes : List ℕ) (len : ℕ) → length bytes ≤ len → (file : List ℕ) × (length file ≡ len) × IsRangeOf file 0 bytes
 beginning bytes len h =
     let zeros : List ℕ = replicate (len - length bytes) 0 in
     let whole : length (bytes ++ zeros) ≡ len = length-append bytes zeros ∙ ap (λ n. length bytes + n) (length-replicate (len - length bytes) 0) ∙ omega arith in
     (bytes ++ zeros, whole, (omega arith, sym (take-append_seam bytes zeros)))
 
--- so it is of told bytes
+-- so it holds of told bytes
 pub opens_told : {step : Step} {lengths : Lengths} (r : Result HeaderBytes OpenError) {old new : SourceState} → Opens step lengths r old new → IfSome old.bytes (IsOpenOf r)
 opens_told r {old = old} o = if_told_both old.bytes (λ file f e. f e) (has_told o.asks.log) o.same

@@ -26,7 +26,7 @@ behind line (b ∷ bytes) zero inside here after =
 behind line (b ∷ bytes) (suc i) inside here after =
     behind (line_with line b) bytes i (omega arith) here (λ k past within. after (suc k) (omega arith) (omega arith))
 
--- behind the last line feed a line begins
+-- after the last line feed a line begins
 pub begun_behind : (bytes : List ℕ) (i : ℕ) → i < length bytes → get_or bytes i 0 ≡ 10
     → ((k : ℕ) → i + 1 ≤ k → k < length bytes → get_or bytes k 0 ≢ 10) → drop (i + 1) bytes ≡ begun_line bytes
 begun_behind bytes i inside here after =

@@ -97,7 +97,7 @@ pub has_ranges : {step : Step} {P : List ByteRange → Type 0} {Q : List ℕ →
     → HasLog step P Q old new → HasRanges step P old.trail new.trail
 has_ranges h = record { log = h.log; leads = h.leads; holds = h.holds }
 
--- what is known of each file that agrees is known of told bytes
+-- what is known of each file that agrees holds of told bytes
 pub has_told : {step : Step} {P : List ByteRange → Type 0} {Q : List ℕ → Type 0} {old new : SourceState}
     → HasLog step P Q old new → IfSome old.bytes Q
 has_told {old = old} h = if_told old.bytes (λ file f. h.files file f) h.tells

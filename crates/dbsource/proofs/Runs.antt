@@ -39,7 +39,7 @@ same_trail n m a b o p s t e =
     same_parts : s.fronts ≡ t.fronts → s.ranges ≡ t.ranges → s ≡ t
     same_parts f r = ap₂ (λ (a : List Front) (b : List ByteRange). let x : Trail = record { fronts = a; ranges = b } in x) f r
 
--- what the source behind a header was asked, and what it answered
+-- what the source under a header was asked, and what it answered
 pub record Behind (step : Step) (name : ℕ) (head : List ℕ) (told : Option (List ℕ)) (old : Trail) (log : List Answer) (new : Trail) : Type 0 where
   pub raw : List Answer
   pub after : Trail
@@ -107,7 +107,7 @@ pages_within bytes len = omega (arith, div-mul-le_self len (page_size bytes), mu
     by_valid true = min-le_right (stated_pages bytes) (len / page_size bytes)
     by_valid false = omega arith
 
--- told bytes that begin with the header are what the source behind it told
+-- told bytes that begin with the header are the told bytes of the inner source
 begun_told : (head file : List ℕ) → take 100 file ≡ head → begun head (Some file) ≡ Some file
 begun_told head file e = ap (λ b. cond b (Some file) None) ((bytes_eq-Decides (take 100 file) head).1 e)
 
@@ -122,7 +122,7 @@ same_front step name name' head head' P Q old new log =
     let b = behind step name head old.bytes old.trail (headed_trail name' head' new.bytes new.trail) log.log log.leads in
     let m = same_trail name' name head' head new.bytes old.bytes new.trail b.after b.is in (m.0, m.1)
 
--- what was asked of a source with its header before it, as it was asked of the source behind that
+-- what was asked of a source with its header over it, as it was asked of the inner source
 pub read_behind : (step : Step) (name name' : ℕ) (h : HeaderBytes) (head' : List ℕ) (T : List ℕ → Type 0) (old new : SourceState)
     → refusal_of h.bytes h.file_len ≡ None → length h.bytes ≡ 100
     → HasLog (HeadedStep step) (IsPageLog (geometry_of h.bytes h.file_len)) (λ file. IsHeaderOf h file → T file) (headed name h.bytes old) (headed name' head' new)
@@ -161,7 +161,7 @@ read_behind step name name' h head' T old new accepted size log =
     by_told None f e = tt
     by_told (Some file) f e = f file (sym e)
 
--- the header's read, and then what was read behind it
+-- the header's read, and then what was read after it
 pub ran : (step : Step) (lengths : Lengths) (h : HeaderBytes) (T : List ℕ → Type 0) (old mid new : SourceState)
     → refusal_of h.bytes h.file_len ≡ None → length h.bytes ≡ 100 → Opens step lengths (Ok h) old mid → step old.trail (given 0 h.bytes) mid.trail
     → HasReadBehind step (IsPageLog (geometry_of h.bytes h.file_len)) h T mid new → HasRead step lengths (IsRunLog (geometry_of h.bytes h.file_len)) (λ file ranges. IsHeaderOf h file × T file) old new
@@ -256,7 +256,7 @@ read_weaker P Q h f q = record {
   short = h.short;
 }
 
--- What is so of each file that agrees is so of told bytes, which stay; and of one that is too short nothing was read.
+-- What holds of each file that agrees holds of told bytes, which stay; and of a file that is too short nothing was read.
 pub told_file : (step : Step) (lengths : Lengths) (P : List ByteRange → Type 0) (Q : List ℕ → List ByteRange → Type 0) (old new : SourceState) → ToldFileIsRead step lengths P Q old new
 told_file step lengths P Q old new h = by_told old.bytes h.tells refl
   where
@@ -272,7 +272,7 @@ told_file step lengths P Q old new h = by_told old.bytes h.tells refl
       unread = λ l. let leads : Leads step old.trail [] new.trail = subst (λ log. Leads step old.trail log new.trail) (h.short (subst (λ n. n < 100) k.0 l)) h.leads in leads;
     }
 
--- what is so of each file that agrees is so of told bytes
+-- what holds of each file that agrees holds of told bytes
 pub of_told : {step : Step} {lengths : Lengths} {P : List ByteRange → Type 0} (T : List ℕ → Type 0) {old new : SourceState} → HasRead step lengths P (λ file ranges. T file) old new → IfSome old.bytes T
 of_told T {old = old} h = if_told old.bytes (λ file k. h.files file k.0 k.1) h.tells
 

@@ -22,14 +22,14 @@ put_length file bytes offset h = simp (length-append, length-take, length-drop) 
 front_length : (file : List ℕ) (offset : ℕ) → offset ≤ length file → length (take offset file) ≡ offset
 front_length file offset h = simp length-take (omega arith)
 
--- what stands before the end of a front does not depend on what follows it
+-- what comes before the end of a front does not depend on what follows it
 before : (a x y : List ℕ) (o k : ℕ) → o + k ≤ length a → take k (drop o (a ++ x)) ≡ take k (drop o (a ++ y))
 before a x y o k h =
     let l : o ≤ length a = omega arith in
     let m : k ≤ length (drop o a) = simp length-drop (omega arith) in
     ap (take k) (drop-append-le o a x l) ∙ take-append-le k (drop o a) x m ∙ sym (take-append-le k (drop o a) y m) ∙ sym (ap (take k) (drop-append-le o a y l))
 
--- nor what stands behind it on the front
+-- nor does what comes after it depend on the front
 behind : (a b x : List ℕ) (o : ℕ) → length a ≡ length b → length a ≤ o → drop o (a ++ x) ≡ drop o (b ++ x)
 behind a b x o e h =
     let f : length a + (o - length a) ≡ o = omega arith in
@@ -43,7 +43,7 @@ put_there file bytes offset h =
     ap (λ n. drop n (put file offset bytes)) (sym front) ∙ drop-append_seam (take offset file) (bytes ++ drop (offset + length bytes) file) in
     (omega (arith, put_length file bytes offset h), sym (ap (take (length bytes)) rest ∙ take-append_seam bytes (drop (offset + length bytes) file)))
 
--- what stands elsewhere stays
+-- what is elsewhere stays
 pub put_other : (file bytes piece : List ℕ) (offset o : ℕ) → offset + length bytes ≤ length file → (o + length piece ≤ offset) ⊎ (offset + length bytes ≤ o)
     → IsRangeOf file o piece → IsRangeOf (put file offset bytes) o piece
 put_other file bytes piece offset o h (inl l) r =
@@ -92,7 +92,7 @@ fits_put size p file bytes (given o piece ∷ log) (q ∷ pages) e one s h ok f 
     rw (m.0, m.1, s) (pages_apart size p q one c.0 c.1) in
     (put_other file bytes piece ((p - 1) * size) o (omega arith) apart f.0, fits_put size p file bytes log pages k.1 one s h (λ r i. ok r (inr i)) f.1)
 
--- a file of so many bytes that begins so
+-- a file of this length that begins so
 pub record IsSnapshot (head : List ℕ) (len : ℕ) (log : List Answer) (file : List ℕ) : Type 0 where
   pub length : length file ≡ len
   pub begins : take 100 file ≡ head

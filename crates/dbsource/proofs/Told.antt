@@ -1,4 +1,4 @@
--- What is said of the bytes that a source tells, if it does.
+-- What is said of the told bytes of a source, if it has any.
 use Rattle.std.specs.Prelude.{Option, Some, None, IfSome}
 
 pub if_told : {A : Type 0} {P Q : A → Type 0} (o : Option A) → ((a : A) → P a → Q a) → IfSome o P → IfSome o Q

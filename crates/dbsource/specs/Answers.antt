@@ -7,7 +7,7 @@ use Rattle.dbformat.specs.declared.ByteRange.{ByteRange}
 abbrev pub IsRangeOf : List ℕ → ℕ → List ℕ → Type 0
 IsRangeOf bytes offset piece = (offset + length piece ≤ length bytes) × (piece ≡ take (length piece) (drop offset bytes))
 
--- what a read was answered: these bytes, which stand from offset on; or nothing, for a range
+-- the answer to a read: these bytes, which begin at offset; or nothing, for a range
 pub data Answer : Type 0 where
   given : ℕ → List ℕ → Answer
   failed : ByteRange → Answer
@@ -32,18 +32,18 @@ abbrev pub Fits : List ℕ → List Answer → Type 0
 Fits file [] = Unit {0}
 Fits file (a ∷ log) = FitsAnswer file a × Fits file log
 
--- a header that is put over what a source gives, the name of the reference to that source, and the bytes that it tells
+-- a header that is put over what a source gives, the name of the reference to that source, and its told bytes
 pub record Front : Type 0 where
   pub name : ℕ
   pub head : List ℕ
   pub told : Option (List ℕ)
 
--- what a source keeps: the headers that stand before it, which no read changes, and ranges that it was asked for
+-- what a source keeps: the headers over it, which no read changes, and the requested ranges
 pub record Trail : Type 0 where
   pub fronts : List Front
   pub ranges : List ByteRange
 
--- nothing
+-- the trail of a source that was asked for nothing
 abbrev pub no_trail : Trail
 no_trail = record { fronts = []; ranges = [] }
 

@@ -3,11 +3,11 @@ use Rattle.std.specs.Prelude.{ℕ, ◌+◌, ◌==◌, List, [], ◌∷◌, ◌++
 use Rattle.std.specs.Io.KnownBytes.{append_known}
 use Rattle.dbsource.specs.Outs.{OutState}
 
--- how many bytes are gathered at most
+-- the most bytes that are gathered
 abbrev pub gathered_most : ℕ
 gathered_most = 65536
 
--- what a writer holds, if it tells it; the bytes behind these that it was not yet handed; and how many calls failed
+-- what a writer holds, where it is known; the bytes after these that it has not yet been given; and how many calls failed
 pub record Gathering : Type 0 where
   pub written : Option (List ℕ)
   pub gathered : List ℕ
@@ -17,20 +17,20 @@ pub record Gathering : Type 0 where
 abbrev pub told : Gathering → OutState
 told s = record { bytes = append_known s.written s.gathered; pending = s.gathered; failures = s.failures }
 
--- a line with one more byte; behind a line feed (10) another begins
+-- a line with one more byte; after a line feed (10) another begins
 abbrev pub line_with : List ℕ → ℕ → List ℕ
 line_with line byte = if byte == 10 then [] else line ++ byte ∷ []
 
--- the line that these bytes end in: what stands behind the last line feed, or all where there is none
+-- the line that these bytes end in: what comes after the last line feed, or all where there is none
 abbrev pub begun_line : List ℕ → List ℕ
 begun_line bytes = fold line_with [] bytes
 
--- the begun line, where so many bytes have room behind it, and else nothing
+-- the unfinished line, where `count` bytes have room after it, and else nothing
 abbrev pub kept_line : List ℕ → ℕ → List ℕ
 kept_line gathered count = if nat_le (length (begun_line gathered) + count) gathered_most then begun_line gathered else []
 
--- What is gathered behind a put: all with the piece, where that has room; else the begun line with it, where that has room;
--- else the piece alone, or nothing where it is longer than the buffer.
+-- What is gathered after a put: all with the piece, where that has room; else the unfinished line with it, where that
+-- has room; else the piece alone, or nothing where it is longer than the buffer.
 abbrev pub gathered_with : List ℕ → List ℕ → List ℕ
 gathered_with gathered piece =
     if nat_le (length gathered + length piece) gathered_most then gathered ++ piece

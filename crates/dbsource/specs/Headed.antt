@@ -18,14 +18,14 @@ abbrev pub begun : List ℕ → Option (List ℕ) → Option (List ℕ)
 begun head None = None
 begun head (Some file) = if bytes_eq (take 100 file) head then Some file else None
 
--- its trail is that of the source behind it, with the header before it
+-- its trail is that of the inner source, with the header before it
 abbrev pub headed_trail : ℕ → List ℕ → Option (List ℕ) → Trail → Trail
 headed_trail name head told trail = record { fronts = record { name = name; head = head; told = told } ∷ trail.fronts; ranges = trail.ranges }
 
 abbrev pub headed : ℕ → List ℕ → SourceState → SourceState
 headed name head s = record { bytes = begun head s.bytes; trail = headed_trail name head s.bytes s.trail; failures = s.failures }
 
--- A step of it: one of the source behind it, whose answer it gives with the header over it.
+-- A step of it: one of the inner source, whose answer it gives with the header over it.
 pub record HeadedStep (step : Step) (old : Trail) (a : Answer) (new : Trail) : Type 0 where
   pub name : ℕ
   pub head : List ℕ
@@ -38,7 +38,7 @@ pub record HeadedStep (step : Step) (old : Trail) (a : Answer) (new : Trail) : T
   pub given_as : a ≡ over_answer head raw
   pub moved : step before raw after
 
--- a length of it: one of the source behind it
+-- a length of it: one of the inner source
 pub record HeadedLength (lengths : Lengths) (trail : Trail) (n : ℕ) : Type 0 where
   pub name : ℕ
   pub head : List ℕ

@@ -36,9 +36,9 @@ abbrev pub IsOpenOf : Result HeaderBytes OpenError → List ℕ → Type 0
 IsOpenOf (Ok h) file = IsHeaderOf h file
 IsOpenOf (Err e) file = IsRefusalOf e file
 
--- There is a length: one that the source answered, unless it failed at that; and that of the told bytes, where there are any.
--- What is answered is so of each file of this length that agrees with what was read, and there is such a file. Where the length
--- is too short for a header nothing was read.
+-- There is a length: one that the source answered, unless it failed at that, and that of the told bytes, where there
+-- are any. The result is right for each file of this length that agrees with what was read, and there is such a file.
+-- Where the length is too short for a header nothing was read.
 pub record Opens (step : Step) (lengths : Lengths) (r : Result HeaderBytes OpenError) (old new : SourceState) : Type 0 where
   pub len : ℕ
   pub same : IfSome old.bytes (λ file. length file ≡ len)

@@ -1,4 +1,4 @@
--- What a bench ends as, where its byte-use table is lent for writing.
+-- The state of a bench when a borrow of its byte-use table for writing ends.
 use Rattle.std.specs.Prelude.{ℕ, List, length, take, drop, ◌++◌}
 use Rattle.std.specs.Borrow.{Lends, MutBor, Fml, RattleType, Array, u8}
 use Rattle.std.specs.declared.alloc.Allocator.{Ghosts}

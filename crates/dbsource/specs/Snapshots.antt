@@ -13,15 +13,16 @@ abbrev pub FitsBehindHeader : List ℕ → List Answer → Type 0
 FitsBehindHeader file [] = Unit {0}
 FitsBehindHeader file (a ∷ log) = FitsAnswer file (over_answer (take 100 file) a) × FitsBehindHeader file log
 
--- and with all that a run read: with the first answer, which is the header's, as it is, and with each later one behind the header
+-- and with all that a run read: with the first answer, which is the header's, as it is, and with each later one after
+-- the header
 abbrev pub FitsRun : List ℕ → List Answer → Type 0
 FitsRun file [] = Unit {0}
 FitsRun file (a ∷ log) = FitsAnswer file a × FitsBehindHeader file log
 
--- There is a length: one that the source answered, unless it failed at that, and nothing was read; and that of the told bytes,
--- where there are any. What was answered to the reads is a log that leads the source's trail from old to new. There is a file of
--- this length that agrees with the log; of each such file, and of the ranges that were asked for, Q holds; and told bytes are
--- such a file. Where the length is too short for a header nothing was read.
+-- There is a length: one that the source answered, unless it failed at that and nothing was read; and that of the told
+-- bytes, where there are any. The answers to the reads are a log that leads the source's trail from old to new. There
+-- is a file of this length that agrees with the log. Of each such file, and of the requested ranges, Q holds; and told
+-- bytes are such a file. Where the length is too short for a header nothing was read.
 pub record HasRead (step : Step) (lengths : Lengths) (P : List ByteRange → Type 0) (Q : List ℕ → List ByteRange → Type 0) (old new : SourceState) : Type 0 where
   -- how many bytes the file has
   pub len : ℕ
@@ -29,56 +30,56 @@ pub record HasRead (step : Step) (lengths : Lengths) (P : List ByteRange → Typ
   pub log : List Answer
   -- they lead the source from the trail that it had to the one that it has
   pub leads : Leads step old.trail log new.trail
-  -- the bytes that it tells, if it does, are as they were
+  -- its told bytes, if it has any, are as they were
   pub told : new.bytes ≡ old.bytes
   -- the source answered this length; or it failed at that, and nothing was read
   pub answered : lengths old.trail len ⊎ ((log ≡ []) × (new.failures ≡ one_more old.failures))
-  -- P is so of the ranges that were asked for
+  -- P holds of the requested ranges
   pub holds : P (map asked log)
   -- there is a file of this length that agrees with all that was read
   pub there_is : (file : List ℕ) × (length file ≡ len) × FitsRun file log
-  -- of each such file, and of the ranges, Q is so
+  -- Q holds of each such file and of the ranges
   pub files : (file : List ℕ) → length file ≡ len → FitsRun file log → Q file (map asked log)
   -- told bytes are such a file
   pub tells : IfSome old.bytes (λ file. (length file ≡ len) × FitsRun file log)
   -- a file too short for a header is not read
   pub short : len < 100 → log ≡ []
 
--- The same behind a header that had been read before. There is a file of this header that agrees with the log from its byte
--- 100 on; of each such file Q holds; and told bytes are such a file, where the header is theirs.
+-- The same after a header that had been read before. There is a file of this header that agrees with the log from its
+-- byte 100 on. Of each such file Q holds; and told bytes are such a file, where the header is theirs.
 pub record HasReadBehind (step : Step) (P : List ByteRange → Type 0) (h : HeaderBytes) (Q : List ℕ → Type 0) (old new : SourceState) : Type 0 where
-  -- the answers to the reads behind the header, in their order
+  -- the answers to the reads after the header, in their order
   pub log : List Answer
   -- they lead the source from the trail that it had to the one that it has
   pub leads : Leads step old.trail log new.trail
-  -- the bytes that it tells, if it does, are as they were
+  -- its told bytes, if it has any, are as they were
   pub told : new.bytes ≡ old.bytes
-  -- P is so of the ranges that were asked for
+  -- P holds of the requested ranges
   pub holds : P (map asked log)
   -- there is a file of this header that agrees with all that was read
   pub there_is : (file : List ℕ) × IsHeaderOf h file × FitsBehindHeader file log
-  -- of each such file Q is so
+  -- Q holds of each such file
   pub files : (file : List ℕ) → IsHeaderOf h file → FitsBehindHeader file log → Q file
   -- told bytes agree, where this header is theirs
   pub tells : IfSome old.bytes (λ file. IsHeaderOf h file → FitsBehindHeader file log)
 
--- What a run made of a source that tells its bytes.
+-- What a run made of a source with told bytes.
 pub record HasReadTold (step : Step) (P : List ByteRange → Type 0) (Q : List ℕ → List ByteRange → Type 0) (old new : SourceState) (file : List ℕ) : Type 0 where
   -- the answers to the reads, in their order
   pub log : List Answer
   -- they lead the source from the trail that it had to the one that it has
   pub leads : Leads step old.trail log new.trail
-  -- P is so of the ranges that were asked for
+  -- P holds of the requested ranges
   pub holds : P (map asked log)
   -- the bytes agree with all that was read
   pub fits : FitsRun file log
-  -- of them, and of the ranges, Q is so
+  -- Q holds of them and of the ranges
   pub claimed : Q file (map asked log)
-  -- they stay
+  -- they do not change
   pub stay : new.bytes ≡ Some file
   -- and where they are too few for a header nothing was read
   pub unread : length file < 100 → new.trail ≡ old.trail
 
--- So it is of told bytes wherever Q is so of each file that agrees with what was read.
+-- So Q holds of told bytes wherever it holds of each file that agrees with what was read.
 abbrev pub ToldFileIsRead : Step → Lengths → (List ByteRange → Type 0) → (List ℕ → List ByteRange → Type 0) → SourceState → SourceState → Type 0
 ToldFileIsRead step lengths P Q old new = HasRead step lengths P Q old new → IfSome old.bytes (HasReadTold step P Q old new)

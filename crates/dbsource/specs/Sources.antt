@@ -4,26 +4,26 @@ use Rattle.dbformat.specs.declared.ByteRange.{ByteRange}
 use Rattle.dbsource.specs.Answers.{Answer, asked, Fits, Leads, Lengths, Step, Trail, no_trail}
 use Rattle.dbsource.specs.Failures.{failures_after}
 
--- a source as contracts see it: the bytes that it tells, or that it tells none; what it keeps; and how many calls failed
+-- a source as contracts see it: its told bytes, or that it has none; what it keeps; and how many calls failed
 pub record SourceState : Type 0 where
   pub bytes : Option (List ℕ)
   pub trail : Trail
   pub failures : ℕ
 
--- one that tells these bytes, and was asked for nothing yet
+-- a source with these told bytes that was asked for nothing yet
 abbrev pub source_of : List ℕ → SourceState
 source_of bytes = record { bytes = Some bytes; trail = no_trail; failures = 0 }
 
--- one that tells none
+-- a source without told bytes
 abbrev pub untold_source : SourceState
 untold_source = record { bytes = None; trail = no_trail; failures = 0 }
 
--- what is told are bytes, of which there are fewer than 2 ^ 64
+-- told bytes are bytes, fewer than 2 ^ 64
 abbrev pub AreBytes : List ℕ → Type 0
 AreBytes bytes = (length bytes < 2 ^ 64) × ((k : ℕ) → slice_index bytes k < 256)
 
--- There is a log of which P holds by its ranges: it leads the source's trail from old to new, and told bytes stay and agree
--- with it. Of each file that agrees with it, Q holds.
+-- There is a log of which P holds by its ranges: it leads the source's trail from old to new, and told bytes stay and
+-- agree with it. Of each file that agrees with it, Q holds.
 pub record HasLog (step : Step) (P : List ByteRange → Type 0) (Q : List ℕ → Type 0) (old new : SourceState) : Type 0 where
   pub log : List Answer
   pub leads : Leads step old.trail log new.trail
@@ -46,7 +46,7 @@ pub record HasRanges (step : Step) (P : List ByteRange → Type 0) (old new : Tr
   pub leads : Leads step old log new
   pub holds : P (map asked log)
 
--- a source of whose lengths nothing is said beside the bytes that it tells
+-- a source whose lengths are known by its told bytes alone
 abbrev pub any_length : Lengths
 any_length trail n = Unit {0}
 

@@ -12,8 +12,8 @@ use arrayvec::ArrayVec;
 use std::alloc::{AllocError, Allocator, Global};
 use std::marker::Model;
 
-/// The 22 buffers that a walk reads pages to, each of a page's size: 20 for the levels of a tree, one for the page of a
-/// chain or of the pointer map, and one that counts the uses of a page's bytes.
+/// The 22 buffers that a walk reads pages into, each of a page's size: 20 for the levels of a tree, one for the page of
+/// a chain or of the pointer map, and one that counts the uses of a page's bytes.
 #[derive(Drop)]
 pub struct Bench<A: Allocator = Global> {
     geometry: Geometry,
@@ -35,7 +35,8 @@ impl<A: Allocator> Model for Bench<A> {
 }
 
 impl<A: Allocator> Bench<A> {
-    /// The geometry of the file. Asked for within a loop that reads pages, it says without a test that they have its page size.
+    /// The geometry of the file. A loop that reads pages asks for it, since it says without a test that the buffers
+    /// have its page size.
     pub fn geometry(&self) -> Geometry
         ensures value { result ≡ self.now.geometry }
         ensures range { IsInRange result }
@@ -55,7 +56,7 @@ impl<A: Allocator> Bench<A> {
         }
     }
 
-    /// The bytes at a level, beside the table of their uses.
+    /// The bytes at a level, and beside them the table of their uses.
     pub fn uses(&mut self, level: usize) -> (&[u8], &mut [u8])
         requires { level < 20 }
         ensures* writes_back { sem 𝓛 (LendsUses A.row A.Allocator self.entry result.1) }
@@ -66,11 +67,11 @@ impl<A: Allocator> Bench<A> {
         (self.levels[level].as_slice(), self.uses.as_mut_slice())
     }
 
-    /// Reads a page to a level, where 20 is the chain buffer: asks for its bytes once.
+    /// Reads a page into a level, where 20 is the chain buffer: asks for its bytes once.
     ///
     /// # Errors
     ///
-    /// [`ReadFailed`] exactly where the source failed. What the level holds is open then; all else is as it was.
+    /// [`ReadFailed`] exactly where the source failed. The bytes of the level are then unspecified; all else is as it was.
     pub fn load<S: Source>(
         &mut self,
         level: usize,

@@ -10,19 +10,19 @@ use std::alloc::{AllocError, Allocator, Global};
 use std::io::Write;
 use std::marker::Model;
 
-// How many bytes are gathered at most.
+// The most bytes that are gathered.
 const CAPACITY: usize = 65_536;
 
-/// A writer behind a buffer of 65536 bytes. What is put is gathered there. Where the next piece finds no room, the gathered
-/// lines are handed to the writer, up to the last line feed, and the line that was begun stays gathered. Where that leaves no
-/// room for the piece it goes too, and a piece that is longer than the buffer is written straight, behind all that was
-/// gathered. A [`flush`](Out::flush) hands on all.
+/// A writer with a buffer of 65536 bytes, which gathers what is put. When a piece finds no room, the gathered lines go
+/// to the writer, up to the last line feed, and the unfinished line stays gathered. If the piece still has no room,
+/// that line goes too. A piece longer than the buffer is written directly, after all that was gathered. A
+/// [`flush`](Out::flush) hands on everything.
 ///
-/// So a line of at most 65536 bytes is handed on whole, if no piece goes on behind its line feed and no flush cuts it: what
-/// another writer to the same place writes between two puts stands before the line or behind it.
+/// So a line of at most 65536 bytes reaches the writer whole, unless a piece goes on after its line feed or a flush
+/// cuts it: what another writer writes to the same place between two puts comes before the line or after it.
 ///
-/// What the writer does not take stays gathered, and is handed on again later, so no byte is lost or written twice. What is
-/// gathered at the end is written by `flush` alone: a drop writes nothing.
+/// What the writer does not take stays gathered, and is handed on again later, so no byte is lost or written twice.
+/// Only `flush` writes what is gathered at the end: a drop writes nothing.
 #[derive(Drop)]
 pub struct BufferedOut<W: Write, A: Allocator = Global> {
     writer: W,
@@ -42,7 +42,7 @@ impl<W: Write, A: Allocator> Model for BufferedOut<W, A> {
 }
 
 impl<W: Write> BufferedOut<W> {
-    /// One over `writer`, as [`new_in`](BufferedOut::new_in).
+    /// A buffered Out over `writer`, as [`new_in`](BufferedOut::new_in).
     ///
     /// # Errors
     ///
@@ -57,7 +57,8 @@ impl<W: Write> BufferedOut<W> {
 }
 
 impl<W: Write, A: Allocator> BufferedOut<W, A> {
-    /// One over `writer`, which has to hand on what it takes by itself. The buffer is one growth from `alloc`, the only one.
+    /// A buffered Out over `writer`, which is never flushed and has to hand on what it takes by itself. The buffer is
+    /// one growth from `alloc`, the only one.
     ///
     /// # Errors
     ///
@@ -75,7 +76,7 @@ impl<W: Write, A: Allocator> BufferedOut<W, A> {
         })
     }
 
-    /// The writer. It holds a beginning of what was put, and lacks the bytes that are gathered.
+    /// The writer. It has a beginning of what was put, without the bytes that are still gathered.
     pub fn writer(&self) -> &W
         ensures { W.contents result.now ≡ self.now.written }
     {
@@ -91,7 +92,7 @@ impl<W: Write, A: Allocator> BufferedOut<W, A> {
     }
 }
 
-// Where the line begins that these bytes end in: behind the last line feed.
+// Where the last, unfinished line of these bytes begins: after the last line feed.
 fn begun_at(bytes: &[u8]) -> usize
     ensures bound { result ≤ length bytes.now }
     ensures line { drop result bytes.now ≡ begun_line bytes.now }
@@ -120,7 +121,7 @@ fn hand_on<W: Write, A: Allocator>(
     written
 }
 
-// Lets go of the first `count` bytes.
+// Removes the first `count` bytes.
 fn drop_front<A: Allocator>(bytes: &mut Vec<u8, A>, count: usize)
     requires { count ≤ vec_len bytes.old }
     ensures items { bytes.new.items ≡ drop count bytes.old.items }
@@ -132,7 +133,7 @@ fn drop_front<A: Allocator>(bytes: &mut Vec<u8, A>, count: usize)
     bytes.truncate(len - count);
 }
 
-// Hands on the gathered lines. The begun one goes too where `count` bytes have no room behind it.
+// Hands on the gathered lines. The unfinished one goes too where `count` bytes have no room after it.
 fn make_room<W: Write, A: Allocator>(
     writer: &mut W,
     gathered: &mut Vec<u8, A>,
@@ -155,7 +156,7 @@ fn make_room<W: Write, A: Allocator>(
     hand_on(writer, gathered, handed)
 }
 
-// Gathers a piece that has room.
+// Gathers a piece that has room in the buffer.
 fn gather<A: Allocator>(gathered: &mut Vec<u8, A>, piece: &[u8])
     requires { vec_len gathered.old + length piece.now ≤ vec_capacity gathered.old }
     ensures items { gathered.new.items ≡ gathered.old.items ++ piece.now }

@@ -5,26 +5,26 @@ ghost use Rattle.dbsource.specs.Sources.{SourceState};
 use crate::Source;
 use std::marker::Brand;
 
-/// What may be claimed of a file that was read: it is for proofs alone.
+/// What may be claimed of a file that was read. Only proofs use it.
 pub trait Claim {
     ghost use Rattle.std.specs.Prelude.{ℕ, List};
     ghost use Rattle.dbformat.specs.declared.ByteRange.{ByteRange};
 
-    // Of the ranges that were asked for, whatever the file.
+    // What is claimed of the requested ranges, whatever the file.
     ghost asks: { List ByteRange → Type 0 };
-    // Of a file, and of the ranges.
+    // What is claimed of a file and of the requested ranges.
     ghost holds: { List ℕ → List ByteRange → Type 0 };
 }
 
-// Where no other claim is picked, nothing.
+// The default claim: nothing.
 impl Claim for Brand {
     ghost asks = { λ ranges. Unit {0} };
 
     ghost holds = { λ file ranges. Unit {0} };
 }
 
-/// Whatever is claimed of each file that agrees with what was read is so of the bytes that a source tells, as memory does. They
-/// stay, and where they are too few for a header nothing was read. So a run over a file in memory is one over its bytes.
+/// Whatever is claimed of each file that agrees with what was read holds of a source's told bytes, as of memory. They do not
+/// change, and if they are too few for a header, nothing was read. So a run over a file in memory is a run over its bytes.
 pub fn told_files_are_read<S: Source, C: Claim>()
     ensures { (old new : SourceState) → ToldFileIsRead S.step S.lengths C.asks C.holds old new }
 {}

@@ -9,7 +9,7 @@ pub enum OpenError {
     /// The file's first bytes, or its length, say that it is not to be read.
     #[error("{0}")]
     Refused(Refusal),
-    /// The source failed.
+    /// The source failed to answer its length, or to read the header.
     #[error("E8 the file cannot be read")]
     ReadFailed,
 }
@@ -20,13 +20,13 @@ pub enum RunError {
     /// The file's first bytes, or its length, say that it is not to be read.
     #[error("{0}")]
     Refused(Refusal),
-    /// The source failed.
+    /// The source failed to answer its length, or a read.
     #[error("E8 the file cannot be read")]
     ReadFailed,
-    /// A growth was refused.
+    /// Memory was refused.
     #[error("E9 out of memory")]
     OutOfMemory,
-    /// An out failed.
+    /// An Out failed to take what was put, or to hand it on.
     #[error("E10 the output cannot be written")]
     WriteFailed,
 }

@@ -4,7 +4,7 @@ ghost use Rattle.dbsource.specs.Failures.{one_more};
 
 use std::marker::Model;
 
-/// How many calls failed, in 64 bits: behind the greatest number comes 0.
+/// How many calls failed, in 64 bits: after the greatest number comes 0.
 #[derive(Debug, Drop)]
 pub struct Failures {
     count: u64,
@@ -19,14 +19,14 @@ impl Model for Failures {
 }
 
 impl Failures {
-    /// None yet.
+    /// No failure yet.
     pub fn new() -> Failures
         ensures { result ≡ 0 }
     {
         Failures { count: 0 }
     }
 
-    /// Counts one more.
+    /// Counts one more failure.
     pub fn add(&mut self)
         ensures { self.new ≡ one_more self.old }
     {

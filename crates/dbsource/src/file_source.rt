@@ -13,11 +13,11 @@ use std::rt::{Clock, Files};
 use std::time::Duration;
 use std::{fs, io};
 
-/// A file that is only read. Nothing is known of the bytes that it gives: it tells none.
+/// A file, opened for reading only. It has no told bytes: no contract knows what the file holds.
 ///
-/// It may ask the system for more than it is asked for. Where reads follow one another it makes longer ones, of at most 256 KiB,
-/// and answers from these; and of a file that is not in memory it reads each MiB in which it reads once more as a whole, so that
-/// the system has it in memory. It has memory for that where it finds some.
+/// It may ask the system for more than its caller asks for. Where reads follow one another it makes longer ones, of at
+/// most 256 KiB, and answers from these. Of a file that is not in memory it reads each MiB once as a whole when the
+/// first read falls into it, so that the system has it in memory. It does both only if there is memory for the buffers.
 #[derive(Drop)]
 pub struct FileSource<'r, C> {
     file: File,
@@ -34,7 +34,7 @@ impl<'r, C> Model for FileSource<'r, C> {
     ghost view = { λ s. record untold_source { failures = s.failures } };
 }
 
-// Whether what was looked at is a file that has a length: a regular one, or a block device.
+// Whether the path has a file with a length: a regular one, or a block device.
 fn has_length(looked: io::Result<Metadata>) -> bool {
     match looked {
         Ok(metadata) => metadata.is_file() || metadata.file_type().is_block_device(),
@@ -54,12 +54,12 @@ impl<'r, R: Files<File = File> + Clock + AllocGlobal> FileSource<'r, R> {
         FileSource::open_with(rt, path, Some(Duration::from_micros(DEVICE_MICROS)))
     }
 
-    /// Opens the file as [`open`](FileSource::open) does, for tests and for measurements: a read that takes `bound` or longer
-    /// is taken to come from a device, so each at 0; and with no bound no MiB is read once more.
+    /// Opens the file as [`open`](FileSource::open) does, for tests and measurements. A read that takes `bound` or
+    /// longer counts as one from a device, so with a bound of 0 each does; with no bound no MiB is read as a whole.
     ///
     /// # Errors
     ///
-    /// [`ReadFailed`], as there.
+    /// [`ReadFailed`], as `open`.
     pub fn open_with(
         rt: &'r R,
         path: &str,
@@ -67,12 +67,12 @@ impl<'r, R: Files<File = File> + Clock + AllocGlobal> FileSource<'r, R> {
     ) -> Result<FileSource<'r, R>, ReadFailed>
         ensures { IfOk result (λ s. s ≡ untold_source) }
     {
-        // Before it is opened, since a named pipe would wait for its writer, and since opening a device can do something.
+        // Before it is opened: opening a named pipe would wait for its writer, and opening a device may have an effect.
         if !has_length(fs::metadata(rt, path)) {
             return Err(ReadFailed);
         }
         match fs::open(rt, path) {
-            // And again, since another file may have come to the path meanwhile.
+            // And again: another file may have come to the path meanwhile.
             Ok(mut file) if has_length(file.metadata()) => {
                 let len = file.seek(SeekFrom::End(0)).unwrap_or(0);
                 Ok(FileSource {
@@ -88,7 +88,8 @@ impl<'r, R: Files<File = File> + Clock + AllocGlobal> FileSource<'r, R> {
 }
 
 impl<C: Clock> FileSource<'_, C> {
-    // Reads as many bytes as `buf` has, from `offset` on: as the file does, where that was not done before.
+    // Reads as many bytes as `buf` has, from `offset` on: from the bytes of a longer read if they are there, else from
+    // the file.
     fn read(&mut self, offset: u64, buf: &mut [u8]) -> io::Result<()>
         ensures { self.new ≡ self.old }
     {
@@ -111,7 +112,7 @@ impl<C: Clock> Source for FileSource<'_, C> {
 
     ghost lengths = { any_length };
 
-    // The metadata of a block device have no length, and its end has.
+    // The metadata of a block device state no length; its end does.
     fn len(&mut self) -> Result<u64, ReadFailed> {
         match self.file.seek(SeekFrom::End(0)) {
             Ok(end) => Ok(end),

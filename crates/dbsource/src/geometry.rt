@@ -11,7 +11,7 @@ use dbformat::u32_at;
 // The most pages that are looked at.
 const MOST_PAGES: u64 = 67108864;
 
-// Whether the header has a greatest root page, as one of a file with a pointer map has.
+// Whether the header states a greatest root page, which only a file with a pointer map has.
 #[tactic(auto, unfolding(dbformat::specs::Header::has_pointer_map, dbformat::specs::Header::greatest_root))]
 fn has_pointer_map(header: &[u8]) -> bool
     requires { 100 ≤ length header.now }
@@ -20,7 +20,7 @@ fn has_pointer_map(header: &[u8]) -> bool
     u32_at(header, 52) != 0
 }
 
-// The bytes of a page that structures use.
+// How many bytes of a page structures use.
 #[tactic(auto, unfolding(dbformat::specs::Header::usable_size, dbformat::specs::Header::reserved_bytes))]
 fn usable_size(header: &[u8]) -> u32
     requires { 100 ≤ length header.now }
@@ -29,7 +29,7 @@ fn usable_size(header: &[u8]) -> u32
     page_size(header).saturating_sub(u32::from(header[20]))
 }
 
-// The shape of a file of so many bytes.
+// The shape of a file of `file_len` bytes.
 pub(crate) fn geometry_of(header: &[u8], file_len: u64) -> Geometry
     requires header { 100 ≤ length header.now }
     requires sized { 0 < page_size header.now }
@@ -44,7 +44,7 @@ pub(crate) fn geometry_of(header: &[u8], file_len: u64) -> Geometry
     }
 }
 
-// Why a file of so many bytes that begins with these is not read.
+// Why a file of this length whose first bytes are these is not read.
 #[tactic(auto, unfolding(dbformat::specs::File::refusal_of))]
 pub(crate) fn refusal_of(header: &[u8], file_len: u64) -> Option<Refusal>
     requires header { 100 ≤ length header.now }

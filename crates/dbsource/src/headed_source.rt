@@ -1,11 +1,11 @@
-// A source behind a header that was read of it.
+// A source with a header over its first bytes.
 ghost use Rattle.std.specs.Prelude.{◌≡◌, length};
 ghost use Rattle.dbsource.specs.Headed.{over};
 
 use crate::{Header, ReadFailed, Source};
 
-/// A source of which the header was read: a read from the beginning of the file on begins with the header's bytes, whatever
-/// the source behind it answers then. So a file that is written meanwhile has one header in a run.
+/// A source whose header was read before. A read at the beginning of the file gives that header's bytes, whatever the
+/// inner source answers then. So a file that is written meanwhile has one header in a run.
 #[derive(Drop)]
 pub struct HeadedSource<'a, S> {
     header: &'a Header,
@@ -13,7 +13,7 @@ pub struct HeadedSource<'a, S> {
 }
 
 impl<'a, S: Source> HeadedSource<'a, S> {
-    /// One over `source`, of which `header` was read.
+    /// One over `source`, from which `header` was read.
     pub fn new(header: &'a Header, source: &'a mut S) -> HeadedSource<'a, S>
         ensures same { result.source.ghost_name ≡ source.entry.ghost_name }
         ensures source { result.source.now ≡ source.old }
@@ -23,7 +23,7 @@ impl<'a, S: Source> HeadedSource<'a, S> {
     }
 }
 
-// Puts the header over bytes that were read at an offset.
+// Puts the header over bytes that were read at `offset`.
 fn put_over(header: &[u8], offset: u64, buf: &mut [u8])
     requires { length header.now ≡ 100 }
     ensures { buf.new ≡ over header.now offset buf.old }

@@ -10,8 +10,7 @@ use crate::header_words::HEADER_LEN;
 use crate::{Geometry, OpenError, Refusal, Source};
 use std::marker::Model;
 
-/// The header of a file that is not refused: its first 100 bytes, how many bytes the file has, and the shape that these
-/// give it.
+/// The header of a file that is not refused: its first 100 bytes, its length in bytes, and the shape that these give it.
 #[derive(Clone, Copy)]
 pub struct Header {
     bytes: [u8; 100],
@@ -38,7 +37,7 @@ impl Model for Header {
 }
 
 impl Header {
-    /// Reads the header of `source`: its length, and then, where there are so many, its first 100 bytes, once.
+    /// Reads the header of `source`: its length, and then its first 100 bytes, once, if it has that many.
     ///
     /// # Errors
     ///
@@ -70,7 +69,7 @@ impl Header {
         &self.bytes
     }
 
-    /// How many bytes the file has.
+    /// The length of the file in bytes.
     pub fn file_len(&self) -> u64
         ensures { result ≡ self.now.file_len }
     {

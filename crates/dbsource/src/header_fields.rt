@@ -1,4 +1,4 @@
-// The fields of a header that faults are told of (Database File Format, 1.3).
+// The fields of a header that may have faults (Database File Format, 1.3).
 ghost use Rattle.std.specs.Prelude.{◌≡◌};
 ghost use Rattle.dbformat.specs.Header.{stated_pages, first_trunk, freelist_count, schema_format};
 ghost use Rattle.dbformat.specs.Header.{greatest_root, encoding, encoding_number, incremental_vacuum};
@@ -64,7 +64,7 @@ impl Header {
         u32_at(self.bytes(), 56)
     }
 
-    /// How the texts of the schema are stored. A number that stands for no encoding is read as UTF-8 (1.3.13).
+    /// How the texts of the schema are stored. A number that is no encoding is read as UTF-8 (1.3.13).
     #[tactic(auto, unfolding(dbformat::specs::Header::encoding))]
     pub fn encoding(&self) -> Encoding
         ensures { result ≡ encoding self.now.bytes }

@@ -10,7 +10,7 @@ use dbformat::{u16_at, u32_at};
 // The bytes of a header.
 pub(crate) const HEADER_LEN: usize = 100;
 
-// What a database begins with.
+// The first 16 bytes of a database.
 const MAGIC: &[u8; 16] = b"SQLite format 3\0";
 
 pub(crate) fn has_magic(bytes: &[u8]) -> bool
@@ -33,7 +33,7 @@ pub(crate) fn has_page_size(bytes: &[u8]) -> bool
     )
 }
 
-// The bytes of a page. A stored 1 stands for 65536.
+// The size of a page in bytes. A stored 1 means 65536.
 #[tactic(auto, unfolding(dbformat::specs::Header::page_size))]
 pub(crate) fn page_size(bytes: &[u8]) -> u32
     requires { 100 ≤ length bytes.now }
@@ -56,7 +56,7 @@ pub(crate) fn is_size_valid(bytes: &[u8]) -> bool
     u32_at(bytes, 28) != 0 && u32_at(bytes, 24) == u32_at(bytes, 92)
 }
 
-// The pages that are looked at, in a file of so many bytes.
+// How many pages are looked at, in a file of `file_len` bytes.
 #[tactic(auto, unfolding(dbformat::specs::Header::page_count, dbformat::specs::Header::whole_pages, dbformat::specs::Header::stated_pages))]
 pub(crate) fn page_count(bytes: &[u8], file_len: u64) -> u64
     requires header { 100 ≤ length bytes.now }

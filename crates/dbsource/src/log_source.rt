@@ -47,7 +47,7 @@ impl<'a> LogSource<'a> {
     }
 }
 
-/// Where a [`LogSource`] has room for them, the ranges that it kept in a call are what the call asked for.
+/// If a [`LogSource`] has room for them, the ranges that it kept in a call are those that the call asked for.
 pub fn log_source_keeps_its_log()
     ensures { KeepsItsLog }
 {}

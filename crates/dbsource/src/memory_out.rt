@@ -6,7 +6,7 @@ use crate::{Failures, Out, WriteFailed};
 use std::alloc::{Allocator, Global};
 use std::marker::Model;
 
-/// Bytes in memory. A put fails only where its growth was refused, and then nothing of it is held.
+/// Bytes in memory. A put fails only where its growth was refused, and then none of its bytes is held.
 #[derive(Drop)]
 pub struct MemOut<A: Allocator = Global> {
     bytes: Vec<u8, A>,
@@ -23,7 +23,7 @@ impl<A: Allocator> Model for MemOut<A> {
 }
 
 impl MemOut {
-    /// An empty one. It takes memory from `alloc` as bytes are put.
+    /// An empty Out. It takes memory from `alloc` as bytes are put.
     pub fn new(alloc: Global) -> MemOut
         ensures { result ≡ empty_out }
     {
@@ -32,7 +32,7 @@ impl MemOut {
 }
 
 impl<A: Allocator> MemOut<A> {
-    /// An empty one, over any allocator.
+    /// An empty Out, over any allocator.
     pub fn new_in(alloc: A) -> MemOut<A>
         ensures { result ≡ empty_out }
     {

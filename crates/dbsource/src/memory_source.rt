@@ -50,7 +50,7 @@ pub(crate) fn copy_range(bytes: &[u8], offset: u64, buf: &mut [u8]) -> bool
     true
 }
 
-// How many bytes there are, and that they are bytes.
+// The number of bytes. A contract also says that each is below 256.
 pub(crate) fn byte_count(bytes: &[u8]) -> u64
     ensures number { result ≡ length bytes.now }
     ensures bytes { AreBytes bytes.now }

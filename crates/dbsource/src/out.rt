@@ -3,16 +3,16 @@ ghost use Rattle.dbsource.specs.Outs.{Flushes, Puts};
 
 use thiserror::Error;
 
-/// A put that was not made whole.
+/// A put or a flush that was not taken whole.
 #[derive(Clone, Copy, Debug, Error, PartialEq, Eq)]
 #[error("the output cannot be written")]
 pub struct WriteFailed;
 
-/// What bytes can be put to, piece by piece.
+/// Where the bytes of a report are put, piece by piece.
 pub trait Out {
     ghost use Rattle.dbsource.specs.Outs.{OutState};
 
-    // The bytes that it holds, if it tells them, those of them that it did not yet hand on, and its failures.
+    // The bytes that it holds, where they are known, those of them that it has not yet handed on, and its failures.
     ghost held: { Self → OutState };
 
     /// Appends the bytes of `piece`.

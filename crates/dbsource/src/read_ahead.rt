@@ -6,33 +6,35 @@ use std::os::unix::fs::FileExt;
 use std::rt::Clock;
 use std::time::{Duration, Instant};
 
-// How many bytes a window has. In one piece a disk that turns reads them in about the time that its head takes to a page, and
-// an SSD at the rate at which it reads a whole file. More would seldom be faster, and reads more that a run may not need.
+// The size of a window in bytes. A turning disk reads this much in about the time that its head takes to move to a page, and
+// an SSD at the rate at which it reads a whole file. Larger windows are seldom faster, and read more that a run may not need.
 const WINDOW: usize = 1_048_576;
 
-// How many windows the greatest file has that is checked, of 67108864 pages of 65536 bytes: half a mebibyte of bits.
+// The windows of the greatest file that is checked, of 67108864 pages of 65536 bytes. Their bits take half a mebibyte.
 const MOST_WINDOWS: u64 = 4_194_304;
 
-// How many bytes of a read are timed at most: a page of the usual size. One of 65536 bytes may take 20 microseconds from memory.
+// At most this many bytes of a read are timed: a page of the usual size. One of 65536 bytes may take 20 microseconds
+// from memory.
 const TIMED: usize = 4096;
 
-/// How many microseconds so many bytes take at least that come from a device. From memory they take one or two, from a fast SSD
-/// some forty.
+/// The least time in microseconds that a read of `TIMED` bytes takes from a device. From memory it takes one or two,
+/// from a fast SSD some forty.
 pub(crate) const DEVICE_MICROS: u64 = 15;
 
-/// The windows of a file. The beginning of the first read in each is timed: if it came from a device, the whole window is read
-/// once, so that the system has it in memory when its other pages are read. What that returns is not used.
+/// The windows of a file. The beginning of the first read in each is timed: if it came from a device, the whole window
+/// is read once, so that the system has it in memory when its other pages are read. These bytes are not used.
 #[derive(Drop)]
 pub(crate) struct ReadAhead<'r, C> {
     clock: &'r C,
     bound: Duration,
-    // A bit a window: whether a read in it was timed.
+    // One bit for each window: whether a read in it was timed.
     seen: Vec<u64>,
     buffer: Vec<u8>,
 }
 
 impl<'r, C: Clock> ReadAhead<'r, C> {
-    /// Of a file of `len` bytes, where a page that takes `bound` or longer comes from a device. All memory is taken here.
+    /// The windows of a file of `len` bytes, where a page that takes `bound` or longer comes from a device. All memory
+    /// is taken here.
     ///
     /// # Errors
     ///
@@ -52,7 +54,7 @@ impl<'r, C: Clock> ReadAhead<'r, C> {
         })
     }
 
-    // Whether no read in this window was timed yet. Behind the length that the file had there are no windows.
+    // Whether no read in this window was timed yet. There are no windows after the length that the file had.
     fn is_new(&mut self, window: u64) -> bool {
         let bit = 1u64 << (window % 64);
         match self.seen.get_mut((window / 64) as usize) {
@@ -64,7 +66,8 @@ impl<'r, C: Clock> ReadAhead<'r, C> {
         }
     }
 
-    /// Reads from `offset` on, as the file does, and then ahead, if that is due. An error is that of the read itself.
+    /// Reads from `offset` on, as the file does, and then ahead if the window is new and the read was slow. An error is
+    /// that of the read itself.
     pub fn read(&mut self, file: &File, offset: u64, buf: &mut [u8]) -> io::Result<()> {
         let window = offset / WINDOW as u64;
         if !self.is_new(window) {
@@ -82,7 +85,7 @@ impl<'r, C: Clock> ReadAhead<'r, C> {
         file.read_exact_at(rest, offset.wrapping_add(first.len() as u64))
     }
 
-    // Reads a window. The buffer has its bytes only now, so that a file in memory costs none.
+    // Reads a window. The buffer gets its bytes only now, so that a file in memory costs none.
     fn fetch(&mut self, file: &File, start: u64) {
         if self.buffer.resize(WINDOW, 0).is_ok() {
             let _ = file.read_at(&mut self.buffer, start);

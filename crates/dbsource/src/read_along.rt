@@ -4,31 +4,31 @@ use std::alloc::{AllocError, Global};
 use std::fs::File;
 use std::os::unix::fs::FileExt;
 
-// After how many reads in a row the next one is a longer one: so many seldom follow one another by chance.
+// After this many reads in a row the next one is a longer one. Fewer often follow one another by chance.
 const ROW: u32 = 4;
 
-// How long a longer read is: each of a row is twice as long as the one before. Beyond the greatest, calls are few, and what
-// is read is no longer in the processor's cache when it is copied.
+// The sizes of longer reads in bytes: each in a row is twice as long as the one before, up to the greatest. Beyond that
+// the calls are few, and what is read is no longer in the processor's cache when it is copied.
 const LEAST: usize = 32_768;
 
 const GREATEST: usize = 262_144;
 
-/// The bytes of the last longer read. A read that they answer is one that the system answered before.
+/// The bytes of the last longer read, which answer later reads that they cover.
 #[derive(Drop)]
 pub(crate) struct ReadAlong {
     buffer: Vec<u8>,
-    // Where in the file the bytes stand, and how many they are.
+    // Where in the file the bytes begin, and how many there are.
     start: u64,
     held: usize,
-    // Where the last read ended, and how many before it followed one another.
+    // Where the last read ended, and how many reads before it followed one another.
     end: u64,
     row: u32,
-    // How long the next longer read is.
+    // The size of the next longer read.
     size: usize,
 }
 
 impl ReadAlong {
-    /// Of no bytes yet. All memory is taken here.
+    /// No bytes yet. All memory is taken here.
     ///
     /// # Errors
     ///
@@ -44,8 +44,8 @@ impl ReadAlong {
         })
     }
 
-    /// Reads from `offset` on, from the bytes that are held or by a longer read, or answers `false` where that is not due or
-    /// does not return all of them; what `buf` holds is open then.
+    /// Reads from `offset` on, from the bytes that are held or by a longer read. Answers `false` where no longer read
+    /// is due or it does not return all of them; the contents of `buf` are then unspecified.
     pub fn read(&mut self, file: &File, offset: u64, buf: &mut [u8]) -> bool {
         let follows = offset == self.end;
         self.end = offset.saturating_add(buf.len() as u64);
@@ -75,7 +75,7 @@ impl ReadAlong {
         }
     }
 
-    // Reads as many bytes as are due from `offset` on, or fewer. Where that fails none are held.
+    // Makes the longer read that is due from `offset` on, which may return fewer bytes. Where it fails none are held.
     fn fill(&mut self, file: &File, offset: u64) {
         self.held = 0;
         if self.buffer.len() < self.size && self.buffer.resize(self.size, 0).is_err() {

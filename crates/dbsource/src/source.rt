@@ -6,29 +6,29 @@ ghost use Rattle.dbsource.specs.Sources.{AreBytes};
 
 use thiserror::Error;
 
-/// A read, or a length, that was refused.
+/// A read, or a question for the length, that failed.
 #[derive(Clone, Copy, Debug, Error, PartialEq, Eq)]
 #[error("the source cannot be read")]
 pub struct ReadFailed;
 
-/// What can be asked for its bytes, range by range.
+/// Where the bytes of a database are read, range by range.
 pub trait Source {
     ghost use Rattle.dbsource.specs.Answers.{Lengths, Step};
     ghost use Rattle.dbsource.specs.Sources.{SourceState};
 
-    // The bytes that it tells, if it does, what it keeps of the ranges that it was asked for, and its failures.
+    // Its told bytes, if it has any, what it keeps of the requested ranges, and its failures.
     ghost held: { Self → SourceState };
-    // What a read, by its answer, makes of the trail.
+    // What the answer to a read makes of the trail.
     ghost step: { Step };
-    // Which lengths it may answer, by the trail. So of a source of which no more is known than its trait, a length that is
-    // spoken of is one that it answered.
+    // Which lengths it may answer, by the trail. So where only the trait is known of a source, a length in a contract
+    // is one that it answered.
     ghost lengths: { Lengths };
 
-    /// How many bytes there are.
+    /// The number of bytes.
     ///
     /// # Errors
     ///
-    /// [`ReadFailed`] where that cannot be told; one failure is counted then.
+    /// [`ReadFailed`] where the length is not known; one failure is counted then.
     fn len(&mut self) -> Result<u64, ReadFailed>
         ensures told { (held self.new).bytes ≡ (held self.old).bytes }
         ensures trail { (held self.new).trail ≡ (held self.old).trail }
@@ -41,7 +41,8 @@ pub trait Source {
     ///
     /// # Errors
     ///
-    /// [`ReadFailed`] where not all of them could be read; one failure is counted then, and what `buf` holds is open.
+    /// [`ReadFailed`] where not all of them could be read. One failure is counted then, and the contents of `buf` are
+    /// unspecified.
     fn read_at(&mut self, offset: u64, buf: &mut [u8]) -> Result<(), ReadFailed>
         ensures told { (held self.new).bytes ≡ (held self.old).bytes }
         ensures trail { step (held self.old).trail (answer result offset buf.new) (held self.new).trail }

@@ -7,7 +7,7 @@ use crate::{Failures, Out, WriteFailed};
 use std::io::Write;
 use std::marker::Model;
 
-/// A writer, each of whose writes takes what it takes. An error of it, or a write of nothing, fails the put.
+/// A writer, called until it has taken the whole piece. An error of it, or a write that takes nothing, fails the put.
 #[derive(Drop)]
 pub struct StreamOut<W: Write> {
     writer: W,
@@ -23,7 +23,7 @@ impl<W: Write> Model for StreamOut<W> {
 }
 
 impl<W: Write> StreamOut<W> {
-    /// One over `writer`, which has to hand on what it takes by itself: a put does not flush.
+    /// An Out over `writer`. A put does not flush it, so the writer has to hand on what it takes by itself.
     pub fn new(writer: W) -> StreamOut<W>
         ensures { result ≡ record { bytes = W.contents writer; failures = 0 } }
     {
@@ -34,7 +34,7 @@ impl<W: Write> StreamOut<W> {
     }
 }
 
-// Writes the piece, as often as it takes. The first result says how many bytes of it were taken.
+// Writes the piece in as many writes as it takes. The first result is how many bytes of it were taken.
 pub(crate) fn write_whole<W: Write>(
     writer: &mut W,
     piece: &[u8],

@@ -1,4 +1,4 @@
--- A machine's run along what is told below errands, step by step.
+-- A machine's run along what is reported below errands, step by step.
 use Rattle.std.proofs.Common.{◌≡◌, ℕ, true, false, List, [], ◌∷◌, ◌++◌, Option, Some, None, refl, sym, ap, ◌∙◌, append_assoc}
 use Rattle.std.specs.Prelude.{filter_map, option_to_list}
 use Rattle.std.proofs.lemmas.List.{append-nil}
@@ -59,7 +59,7 @@ module _ {R E S X : Type 0} (rules : Rules R) (story : Story R E) (pages : ℕ) 
   pub run_none : (now : Run R S X) → below now [] ≡ now
   run_none now = ap (run machine now) (telling_none_law rules story pages are now.visits)
 
-  -- one event, and what is told behind it
+  -- one event, and what is reported after it
   one_on : (now : Run R S X) (t : Told E) (o : Option (Triple R)) (es : List (Errand R E)) → machine.visit t.event ≡ o
       → run machine now (t ∷ telling_of rules story pages (now.visits ++ option_to_list o) es) ≡ below (advance machine now t.event) es
   one_on now t o es e = ap (λ o. run machine (advance machine now t.event) (telling_of rules story pages (now.visits ++ option_to_list o) es)) (sym e)

@@ -1,4 +1,4 @@
--- Lists whose elements stand once, and ranges of numbers.
+-- Lists in which each element occurs once, and ranges of numbers.
 use Rattle.std.proofs.Common.{◌≡◌, ℕ, zero, suc, ◌+◌, ◌<◌, ◌≤◌, ◌⊎◌, inl, inr, Bool, true, false, cond, List, [], ◌∷◌, map, ◌∙◌, refl, sym, ap, arith, flat_map, subst}
 use Rattle.std.specs.Prelude.{filter, All, Contains}
 use Rattle.std.specs.List.{range_with_len}
@@ -8,7 +8,7 @@ use Rattle.dbsurvey.proofs.Ordering.{IsIn-from_map, IsIn-from_flat_map}
 use Rattle.dbsurvey.proofs.Lists.{filter-from}
 use Rattle.dbsurvey.proofs.Order.{EachPair-append}
 
--- no element stands twice
+-- no element occurs twice
 abbrev pub IsOnce : {X : Type 0} → List X → Type 0
 IsOnce {X} xs = EachPair (λ x y. x ≡ y → ⊥) xs
 

@@ -1,4 +1,4 @@
--- How often a page stands in a list.
+-- How often a page occurs in a list.
 use Rattle.std.proofs.Common.{arith, ◌≡◌, ◌⊎◌, ℕ, zero, suc, ◌+◌, ◌≤◌, inl, inr, Bool, true, false, cond, List, [], ◌∷◌, ◌++◌, refl, sym, ap, subst, ◌∙◌}
 use Rattle.std.specs.Prelude.{filter, sum_by, ◌==◌, IsPermutation}
 use Rattle.std.specs.List.{range_with_len}
@@ -10,7 +10,7 @@ use Rattle.dbsurvey.specs.Address.{IsIn}
 use Rattle.dbsurvey.proofs.Elements.{IsOnce, IsIn-range, IsIn-from_range}
 use Rattle.dbsurvey.proofs.Lists.{filter-has, filter-from}
 
--- how often p stands in a list
+-- how often p occurs in a list
 abbrev one_at : ℕ → ℕ → ℕ
 one_at p x = cond (x == p) 1 0
 

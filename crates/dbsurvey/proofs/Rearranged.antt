@@ -6,7 +6,7 @@ use Rattle.dbsurvey.specs.Address.{IsIn}
 use Rattle.dbsurvey.proofs.Order.{IsIn-left, IsIn-right, IsIn-cases, EachPair-append, EachPair-left, EachPair-right, EachPair-across}
 use Rattle.dbsurvey.proofs.Elements.{IsOnce}
 
--- where an element stands
+-- the place of an element
 pub parted : {X : Type 0} (x : X) (ys : List X) → IsIn x ys → (front : List X) × (back : List X) × (ys ≡ front ++ x ∷ back)
 parted x [] i = absurd i
 parted x (y ∷ ys) (inl e) = ([], ys, ap (λ z. z ∷ ys) (sym e))
@@ -54,7 +54,7 @@ rearranged {X} (x ∷ xs) ys a b h k =
     (IsPermutation-cons x xs (p.0 ++ p.1) inner)
     (IsPermutation-sym (p.0 ++ x ∷ p.1) (x ∷ (p.0 ++ p.1)) (IsPermutation-middle p.0 x p.1)))
 
--- a list whose elements stand once, and all stand in another, is no longer than that one
+-- a list without repetition whose elements are all in another is no longer than that one
 pub no_longer : {X : Type 0} (xs ys : List X) → IsOnce xs → ((x : X) → IsIn x xs → IsIn x ys) → length xs ≤ length ys
 no_longer [] ys a h = omega arith
 no_longer (x ∷ xs) ys a h =

@@ -1,4 +1,4 @@
--- What is told below some errands stands at keys that go on from theirs.
+-- What is reported below some errands has keys that continue theirs.
 use Rattle.std.proofs.Common.{◌≡◌, ℕ, zero, suc, Bool, true, false, cond, inl, inr, List, [], ◌∷◌, ◌++◌, refl, sym, subst}
 use Rattle.dbsurvey.specs.Address.{IsIn, Address}
 use Rattle.dbsurvey.specs.Survey.{Triple, Rules}

@@ -50,8 +50,8 @@ pub record Rest (R : Type 0) : Type 0 where
   pub join : (rules : Rules R) (pages : ℕ) (W cs ds : List (Triple R)) → AreRules rules pages
       → part_of rules pages W (cs ++ ds) ≡ part_of rules pages W cs ++ part_of rules pages (W ++ part_of rules pages W cs) ds
 
--- What a survey has at an address rests on what it has below that address, which is what stands before it in the
--- list; and it has each page once.
+-- What a survey has at an address rests on what it has below that address, which comes before it in the list; and each
+-- page is in it once.
 pub record BelowDecides (R : Type 0) : Type 0 where
   pub decided : (rules : Rules R) (starts : List (Link R)) (V W : List (Triple R)) (t : Triple R)
       → IsSurvey rules starts V → ((u : Triple R) → IsIn u W ↔ (IsIn u V × IsBefore u.address t.address))
@@ -72,8 +72,8 @@ pub record OneSurveyFrom (R : Type 0) : Type 0 where
       → AreRules rules pages → ((V : List (Triple R)) → IsRising (first ∷ more V)) → IsSurveyFrom rules first more V
       → under first.step V ≡ first_part rules pages first
 
--- All that candidates lead to, where each page stands once and W owns none, is the part below them, and nothing is
--- refused in it; and a part in which nothing is refused is all that its candidates lead to.
+-- All that candidates lead to, where each page occurs once and W owns none, is the part below them, and nothing in it
+-- is refused; and a part in which nothing is refused is all that its candidates lead to.
 pub record Wholes (R : Type 0) : Type 0 where
   pub visited : (rules : Rules R) (pages : ℕ) (W cs V : List (Triple R)) → AreRules rules pages → IsWhole rules cs V
       → HasEachPageOnce V → ((t : Triple R) → IsIn t V → IsOwned W t.page → ⊥) → part_of rules pages W cs ≡ V
@@ -81,8 +81,8 @@ pub record Wholes (R : Type 0) : Type 0 where
   pub whole : (rules : Rules R) (pages : ℕ) (W cs : List (Triple R)) → AreRules rules pages → AreApart cs
       → IsNoneRefused rules cs (part_of rules pages W cs) → IsWhole rules cs (part_of rules pages W cs)
 
--- What the traversal tells of a survey is all that is told of it, in strictly ascending order of keys, and no other
--- list is; what it tells before an event is what has a smaller key.
+-- The traversal reports exactly what is to be reported of a survey, in strictly ascending order of keys. No other list
+-- does. What it reports before an event is what has a smaller key.
 pub record Telling (R E : Type 0) : Type 0 where
   pub exact : (rules : Rules R) (story : Story R E) (pages : ℕ) (items : List (Item R E)) (V : List (Triple R))
       → AreRules rules pages → IsStoryOf rules story → AreRising items → IsSurvey rules (links_in items) V
@@ -96,7 +96,7 @@ pub record Telling (R E : Type 0) : Type 0 where
       → AreRules rules pages → IsStoryOf rules story → AreErrandsApart errands → free pages W ≤ fuel
       → IsTelling rules story errands (part_of rules pages W (goes errands)) (tell_below rules story pages fuel W errands)
 
--- What is left to tell, step by step, for a program with a list of errands that are still to be done.
+-- What is left to report, step by step, for a program with a list of errands that are still to be done.
 pub record TellingSteps (R E : Type 0) : Type 0 where
   pub none : (rules : Rules R) (story : Story R E) (pages : ℕ) (W : List (Triple R)) → AreRules rules pages
       → telling_of rules story pages W [] ≡ []
@@ -114,9 +114,9 @@ pub record TellingSteps (R E : Type 0) : Type 0 where
   pub goes : (rules : Rules R) (story : Story R E) (t : Triple R) → IsStoryOf rules story
       → goes (errands_of story t) ≡ children rules t
 
--- What is told of a survey can be read off the survey itself, without a traversal: a named triple is visited if it
--- may be and no earlier one has its page, and all that is told, put in order, is the telling. The pages whose own
--- events are told are those of the survey, in its order, and below some errands those of the part below them.
+-- What is reported of a survey follows from the survey itself, without a traversal: a named triple is visited if it may
+-- be and no earlier one has its page, and all reported events, put in order, are the telling. The pages whose own
+-- events are reported are those of the survey, in its order; below some errands they are those of the part below them.
 pub record TellingInOrder (R E : Type 0) : Type 0 where
   pub visited : (rules : Rules R) (starts : List (Link R)) (V : List (Triple R)) (t : Triple R)
       → IsSurvey rules starts V → IsNamed rules (named_at [] starts) V t → IsIn t V ↔ (is_visited rules V t ≡ true)
@@ -133,8 +133,8 @@ pub record TellingInOrder (R E : Type 0) : Type 0 where
       → AreRules rules pages → IsStoryOf rules story → ShowsVisits story visit → AreQuiet visit errands
       → visits_in visit (telling_of rules story pages W errands) ≡ part_of rules pages W (goes errands)
 
--- What is read off all that is told, each by the triples visited up to it, step by step: for a program that tells of
--- each page as it comes by it.
+-- What a function gives for each reported event, by the triples visited up to it, step by step: for a program that
+-- reports each page when it reaches it.
 pub record ReadingBelow (R E X : Type 0) : Type 0 where
   pub none : (rules : Rules R) (story : Story R E) (pages : ℕ) (visit : E → Option (Triple R)) (each : List (Triple R) → E → List X) (W : List (Triple R))
       → AreRules rules pages → read_below rules story pages visit each W [] ≡ []
@@ -153,8 +153,8 @@ pub record ReadingBelow (R E X : Type 0) : Type 0 where
   pub both : (visit : E → Option (Triple R)) (each : List (Triple R) → E → List X) (W : List (Triple R)) (L M : List (Told E))
       → read_back visit each W (L ++ M) ≡ read_back visit each W L ++ read_back visit each (W ++ visits_in visit L) M
 
--- What was visited stands before what is still to be done, at each step of a program; and of such a list all is
--- earlier.
+-- The visited triples come before what is still to be done, at each step of a program; and all triples of such a list
+-- are earlier.
 pub record Passing (R E : Type 0) : Type 0 where
   pub visit : (story : Story R E) (W : List (Triple R)) (c : Triple R) → IsPast {E = E} W (Go c ∷ [])
       → IsPast (W ++ (c ∷ [])) (errands_of story c)
@@ -166,9 +166,9 @@ pub record Passing (R E : Type 0) : Type 0 where
   pub earlier : (W : List (Triple R)) (a : Address) → ((u : Triple R) → IsIn u W → IsBefore u.address a)
       → earlier W a ≡ W
 
--- A machine's run along all that is told below errands, step by step: for a program with a list of errands that are still
--- to be done. Its visits are those of the traversal, and what it puts out is added to what was put out before. And where
--- at each event it puts out what is read off by the visits alone, it does so on the whole.
+-- A machine's run along all that is reported below errands, step by step: for a program with a list of errands that are
+-- still to be done. Its visits are those of the traversal, and its output is appended to the output so far. If its
+-- output at each event follows from the visits alone, so does its whole output.
 pub record Runs (R E S X Y : Type 0) : Type 0 where
   pub none : (rules : Rules R) (story : Story R E) (pages : ℕ) (machine : Machine R E S X) (now : Run R S X)
       → AreRules rules pages → run_below rules story pages machine now [] ≡ now
@@ -196,7 +196,7 @@ pub record Runs (R E S X Y : Type 0) : Type 0 where
       → filter_map f (machine.out (up_to machine (run machine now A) t.event) (run machine now A).state t.event) ≡ each (up_to machine (run machine now A) t.event) t.event)
       → filter_map f (run machine now L).items ≡ filter_map f now.items ++ read_back machine.visit each now.visits L
 
--- By the greatest key so far alone an entry is found to be out of order exactly where it is so after an earlier one.
+-- The greatest key so far alone tells whether an entry is out of order, that is, whether it is so after an earlier one.
 pub record RunningGreatest (K : Type 0) : Type 0 where
   pub exact : (less : K → K → Bool) (before : List (Entry K)) (e : Entry K) → IsLine less
       → (is_out less (greatest_from less None before) e ≡ true) ↔ IsOut less before e

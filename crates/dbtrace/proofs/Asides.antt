@@ -1,4 +1,4 @@
--- Below a page of no tree stands no page of a tree; so what is told there leaves the progress.
+-- Below a page that is in no tree there is no page of a tree; so what is reported there leaves the progress as it is.
 use Rattle.std.proofs.Common.{◌≡◌, ℕ, zero, suc, ◌<◌, inl, inr, cond, not, ◌&&◌, List, [], ◌∷◌, ◌++◌, map, length, Option, Some, None, refl, sym, ap, subst, arith, ◌∙◌}
 use Rattle.std.specs.Prelude.{option_to_list, pos, ◌==◌}
 use Rattle.std.proofs.lemmas.List.{append-nil, length-append}

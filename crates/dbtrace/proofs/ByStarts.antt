@@ -1,4 +1,4 @@
--- The faults of a file with the starts of the places that they are told at, start by start.
+-- The faults of a file with the starts of their places, start by start.
 use Rattle.std.proofs.Common.{◌≡◌, ℕ, inl, inr, List, [], ◌∷◌, ◌++◌, map, Option, Some, None, refl, sym, ap, ap₂, subst, ◌∙◌, append_assoc, append-nil}
 use Rattle.std.specs.Prelude.{filter_map, flat_map, option_to_list}
 use Rattle.std.proofs.lemmas.List.Elements.{filter_map-append}
@@ -53,12 +53,12 @@ module _ {X : Type 0} (make : ℕ → Fault → Cause → X) where
     of_event k U e = filter_map-append (made_of k) (map told_row (option_to_list (event_row file e))) (told_by (cause_of file U e) (event_faults file U e))
         ∙ ap₂ (λ a b. a ++ b) (of_rows k (option_to_list (event_row file e))) (of_faults k (cause_of file U e) (event_faults file U e))
 
-    -- of a list of what is told, each at the start of its key, where W has the visits before the list
+    -- of a list of reported events, each at the start of its key, where W has the visits before the list
     abbrev by_keys : List Reference → List (Told Event) → List X
     by_keys W [] = []
     by_keys W (t ∷ L) = made_at (start_of t.key) (told_at file (W ++ option_to_list (own_visit t.event)) t.event) ++ by_keys (W ++ option_to_list (own_visit t.event)) L
 
-    -- of all that is told below some errands
+    -- of all that is reported below some errands
     abbrev pub made_below : List Reference → List (Errand Way Event) → List X
     made_below W es = by_keys W (telling_of (rules_of file) (story_of file) (geometry file).pages W es)
 

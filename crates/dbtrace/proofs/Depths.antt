@@ -1,4 +1,4 @@
--- The depth of the first leaf is a fold over the visits, and by it the faults of a page are told.
+-- The depth of the first leaf is a fold over the visits, and the faults of a page follow from it.
 use Rattle.std.proofs.Common.{◌≡◌, ℕ, inl, inr, Bool, true, false, cond, not, ◌&&◌, List, [], ◌∷◌, ◌++◌, Option, Some, None, refl, sym, ap, arith, ◌∙◌, subst}
 use Rattle.std.specs.Prelude.{find, option_map, ◌==◌, pos}
 use Rattle.std.specs.Option.{option_map_or, option_or}
@@ -24,7 +24,7 @@ use Rattle.dbtrace.specs.declared.Cause.TheVariants as cause
 use Rattle.dbtrace.specs.declared.TreeLeaf.{TreeLeaf}
 use Rattle.dbtrace.specs.Starts.{IsOfEarlierStart, AreOfEarlierStarts}
 
--- where two readings agree on a code, they tell its fault as one
+-- where two readings agree on a code, they report its fault alike
 pub told_same : (why other : FaultCode → Cause) (b : Bool) (f : Fault) → why f.code ≡ other f.code → told_by why (told_if b f) ≡ told_by other (told_if b f)
 told_same why other true f e = ap (λ c. told_fault f c ∷ []) e
 told_same why other false f e = refl

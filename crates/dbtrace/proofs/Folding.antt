@@ -1,4 +1,4 @@
--- What is told of a start is read off the progress of its walk.
+-- What is reported of a start follows from the progress of its walk.
 use Rattle.std.proofs.Common.{◌≡◌, ℕ, inl, inr, Bool, true, false, cond, not, ◌&&◌, List, [], ◌∷◌, ◌++◌, map, length, ℤ, Option, Some, None, refl, sym, ap, subst, arith, ◌∙◌, append_assoc}
 use Rattle.std.specs.Prelude.{flat_map, option_map, option_to_list, nat_le, ◌==◌}
 use Rattle.std.specs.Option.{option_map_or}
@@ -143,7 +143,7 @@ module _ (file : List ℕ) (k : ℕ) (W : List Reference) (c : Reference) (at : 
     abbrev at_event : Event → List Reference
     at_event e = up_to (machine file) (after A) e
 
-    -- what is told at an event, by the progress and by the definitions
+    -- what is reported at an event, by the progress and by the definitions
     abbrev by_progress : Event → List Fault → List Finding
     by_progress e fs = told_by (cause_by file (at_event e) (after A).state e) fs
 

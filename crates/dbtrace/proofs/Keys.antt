@@ -33,7 +33,7 @@ use Rattle.dbtrace.proofs.Depths.{other_start}
 use Rattle.dbtrace.proofs.Tops.{values, top_found}
 use Rattle.dbtrace.proofs.Told.{visited, trace, tells, IsOf, told_as, key_told, below_start, before, visited_before, page_before}
 
--- the keys of what was told
+-- the keys of what was reported
 abbrev pub keys_told_at : Event → List Key
 keys_told_at (at_page r) = []
 keys_told_at (at_key r v x) = key_of r v x
@@ -56,7 +56,7 @@ greatest_is file now (t ∷ A) = by_event t.event (λ m. greatest_is file m A)
     by_event (at_key r v x) h = h (advance file now (at_key r v x)) ∙ sym (greatest_both now.state.greatest (key_of r v x) (keys_told A))
     by_event (at_refused r) h = h (advance file now (at_refused r))
 
--- keys that are told at rising places, at most one at each
+-- keys that are reported at rising places, at most one at each
 ascending_keys : (A : List (Told Event)) → IsAscending (λ (t : Told Event). t.key) A → ((m : Told Event) → IsIn m A → (j : Key) → IsIn j (keys_told_at m.event) → j.place ≡ m.key)
     → IsAscending (λ (k : Key). k.place) (keys_told A)
 ascending_keys [] asc at = tt
@@ -101,7 +101,7 @@ module _ (file : List ℕ) (k : ℕ) (W : List Reference) (c : Reference) (at : 
     abbrev is_earlier : Key → Bool
     is_earlier j = (start_of j.place == start_of key.place) && is_before j.place key.place
 
-    -- a key of the visits that is of this tree and stands before the place was told
+    -- a key of the visits that is of this tree and comes before the place was reported
     was_told : (j : Key) → IsIn j (earlier_keys file U key) → IsIn j (keys_told A)
     unfolding keys
     was_told j i =
@@ -167,7 +167,7 @@ module _ (file : List ℕ) (k : ℕ) (W : List Reference) (c : Reference) (at : 
         back h = let m = IsIn-from_map key_entry (keys_told A) h.0 h.1 in
             any_true (is_out_of_order key) (earlier_keys file U key) m.0 (was_earlier m.0 m.1) (same_test key m.0 ∙ subst (λ d. IsOutAfter int_lt d (key_entry key)) m.2 h.2)
 
-    -- the keys that were told rise by place
+    -- the reported keys rise by place
     rising : IsAscending (λ (k : Key). k.place) (keys_told A)
     rising = ascending_keys A (EachPair-left (λ (s : Told Event) (t : Told Event). IsBefore s.key t.key) A (t ∷ B) (subst (IsAscending (λ (t : Told Event). t.key)) split (tells file W c).ascending))
         (λ m i j l. at_place m.key m.event (told_as file W c m ((before file W c A B t split m).0 i).0) j l)

@@ -48,7 +48,7 @@ same_by : (why other : FaultCode → Cause) → ((code : FaultCode) → why code
 same_by why other h [] = refl
 same_by why other h (f ∷ fs) = ap₂ (λ c l. told_fault f c ∷ l) (h f.code) (same_by why other h fs)
 
--- the cause that a fault is told with
+-- the cause that a fault is reported with
 abbrev cause_in : Cause → List Finding → Cause
 cause_in none (told_fault f why ∷ fs) = why
 cause_in none fs = none
@@ -132,7 +132,7 @@ module _ (file : List ℕ) (U T : List Reference) (place : Address) (after : (t 
   event_front V (at_key r v x) h own = same_by (by_all (at_key r v x)) (by_front (at_key r v x)) (key_front r v x (sym h.3)) (event_faults file U (at_key r v x))
   event_front V (at_refused r) h own = same_by (by_all (at_refused r)) (by_front (at_refused r)) (λ code. chain_front r (sym h) (bytes_left (role_of r)) 0) (event_faults file U (at_refused r))
 
--- at an event of all that is told
+-- at an event of all that is reported
 
 module _ (file : List ℕ) (V : List Reference) (s : Survey file V) where
   -- its faults with their causes

@@ -32,7 +32,7 @@ use Rattle.dbtrace.specs.Walk.{Walk, machine, advance}
 use Rattle.dbtrace.proofs.SchemaOrder.{IsRowOf, row_from, schema_ascends}
 use Rattle.dbtrace.proofs.Told.{visited, trace, tells, IsToldBelow, IsOf, told_as, key_told, before, visited_after}
 
--- the rows of what was told, after the visits of W
+-- the rows of what was reported, after the visits of W
 abbrev pub rows_told : List ℕ → List Reference → List (Told Event) → List SchemaCell
 rows_told file W A = read_back own_visit (rows_at_event file) W A
 
@@ -52,7 +52,7 @@ roots_are file now (t ∷ A) = by_event t.event (λ m. roots_are file m A)
         let f = ap length (filter_map-append (λ c. rooted c.row) R (rows_told file m.visits A)) ∙ length-append (rooted_rows R) (rooted_rows (rows_told file m.visits A)) in
         omega arith
 
--- a row stands at the place of its event
+-- a row is at the place of its event
 row_place : (file : List ℕ) (V X : List Reference) (place : Address) (e : Event) → IsOf file V place e → (d : SchemaCell) → IsIn d (rows_at_event file X e) → d.place ≡ place
 row_place file V X place (at_page r) h d i = absurd i
 row_place file V X place (at_refused r) h d i = absurd i

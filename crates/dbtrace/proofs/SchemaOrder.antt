@@ -1,4 +1,4 @@
--- No page of a tree stands below a leaf, so the rows of the schema ascend.
+-- No page of a tree is below a leaf, so the rows of the schema ascend.
 use Rattle.std.proofs.Common.{◌≡◌, ℕ, zero, suc, ◌-◌, ◌<◌, ◌⊎◌, inl, inr, Bool, true, false, cond, List, [], ◌∷◌, ◌++◌, map, length, Option, Some, None, refl, sym, ap, subst, arith, ◌∙◌}
 use Rattle.std.specs.Prelude.{flat_map, option_map, option_to_list, nat_lt, nat_le, ◌==◌}
 use Rattle.std.specs.List.{enumerate_from}

@@ -40,7 +40,7 @@ roots_after file now (at_page r) = omega arith
 roots_after file now (at_key r v x) = refl
 roots_after file now (at_refused r) = omega arith
 
--- so many rows with a root are given at an event, and along a trace
+-- how many rows with a root an event gives, and a trace
 pub roots_at : (file : List ℕ) (now : Walk) (e : Event) → (advance file now e).state.roots ≡ now.state.roots + roots_in (items_at file (advance file now e).visits now.state e)
 roots_at file now e =
     let U = (advance file now e).visits in

@@ -1,4 +1,4 @@
--- What is told at an event of the tree of a start, and what was visited and told before it.
+-- What is reported at an event of the tree of a start, and what was visited and reported before it.
 use Rattle.std.proofs.Common.{◌≡◌, ℕ, ◌↔◌, inl, inr, List, [], ◌∷◌, ◌++◌, map, Option, Some, None, refl, sym, ap, subst, ◌∙◌}
 use Rattle.std.specs.Prelude.{flat_map}
 use Rattle.dbsurvey.specs.Address.{IsIn, Address, IsBefore, IsAscending}
@@ -27,7 +27,7 @@ use Rattle.dbformat.proofs.LookBack.{key_at}
 use Rattle.dbformat.proofs.NoFaults.{placed, cell_in_items}
 
 module _ (file : List ℕ) where
-  -- an item of a page that is told at a step: a readable cell, at the step of its key
+  -- an item of a page that is reported at a step: a readable cell, at the step of its key
   abbrev IsOfPage : Reference → Item Way Event → Type 0
   IsOfPage u (Follow l) = Unit {0}
   IsOfPage u (Place step (at_page r)) = ⊥
@@ -75,7 +75,7 @@ module _ (file : List ℕ) where
   )
   of_place_at V u step (at_refused r) i h = absurd h
 
-  -- of what is told below errands that are all references
+  -- of what is reported below errands that are all references
   pub told_of : (errands : List (Errand Way Event)) (V : List Reference) → ((e : Told Event) → IsIn (Tell e) errands → ⊥) → (e : Told Event)
       → IsTold (rules_of file) (story_of file) errands V e → IsOf V e.key e.event
   unfolding story_of
@@ -134,7 +134,7 @@ module _ (file : List ℕ) (W : List Reference) (c : Reference) where
         back : IsIn r visited × IsBefore r.address t.key → IsIn r (visits_in own_visit A)
         back h = visits-has own_visit A r (told_own (story_of file) r) ((before (told_own (story_of file) r)).1 (of_page r h.0 refl, h.1)) ((shows_visits file).of_page r)
 
-    -- the page of a key that was told before it was visited before it
+    -- the page of a key that was reported before it was visited before it
     pub page_before : (r : Reference) (s : ℕ) → IsIn r visited → IsBefore (then_step r.address s) t.key → IsIn r (visits_in own_visit A)
     page_before r s i b = (visited_before r).1 (i, IsBefore-trans r.address (then_step r.address s) t.key (IsBefore-beginning r.address s []) b)
 

@@ -27,7 +27,7 @@ use Rattle.dbtrace.specs.declared.Cause.TheVariants as cause
 abbrev pub cell_key : Key → CellKey
 cell_key k = record { page = k.page; item = k.item; value = k.value }
 
--- whether a key is above another: it is greater, or it is as great and stands before it
+-- whether a key is above another: it is greater, or it is equal and comes before it
 abbrev pub is_above : Key → Key → Bool
 is_above j k = int_lt k.value j.value || (not (int_lt j.value k.value) && is_before j.place k.place)
 
@@ -68,15 +68,15 @@ is_same a b = not (is_before a b) && not (is_before b a)
 abbrev pub chain_head : List Reference → Reference → Option Reference
 chain_head V r = if chain_number r.address == 0 then Some r else find (λ u. is_same u.address (head_address r.address)) V
 
--- how many overflow pages so many bytes take
+-- the number of overflow pages that a number of bytes takes
 abbrev pub pages_for : ℕ → ℕ → ℕ
 pages_for usable left = (left + (usable - 5)) / (usable - 4)
 
--- The chain that begins with this head, where so many bytes are left at page `number` of it, and so many pages were found.
+-- The chain that begins with this head: `left` bytes remain at page `number` of it, and `found` pages were found.
 abbrev pub chain_of : ℕ → Reference → ℕ → ℕ → ℕ → CellChain
 chain_of usable head number left found = record { page = from_of head; item = item_of head; pages = number + pages_for usable left; found = found }
 
--- the cause of a fault at page `number` of a chain, where so many bytes are left; `more` is 1 where this page was found
+-- the cause of a fault at page `number` of a chain, where this many bytes are left; `more` is 1 where this page was found
 abbrev pub chain_cause : List ℕ → List Reference → Reference → Option ℕ → ℕ → Cause
 chain_cause file V r None more = cause.Itself
 chain_cause file V r (Some left) more =
@@ -86,7 +86,7 @@ chain_cause file V r (Some left) more =
 abbrev pub refusal_cause : List ℕ → List Reference → Reference → Cause
 refusal_cause file V r = chain_cause file V r (bytes_left (role_of r)) 0
 
--- The cause of a fault of this code that is told at an event.
+-- The cause of a fault of this code that is reported at an event.
 abbrev pub cause_of : List ℕ → List Reference → Event → FaultCode → Cause
 cause_of file V (at_page r) P01 = cause.Look (look_at file r.page)
 cause_of file V (at_page r) T05 = option_map_or (λ l. cause.Leaf l.page) (first_leaf file V r) cause.Itself

@@ -1,4 +1,4 @@
--- What a walk tells: rows of the statistics and faults, in the order of their places.
+-- What a walk reports: rows of the statistics and faults, in the order of their places.
 use Rattle.std.specs.Prelude.{List, ◌++◌, map, option_to_list}
 use Rattle.dbsurvey.specs.Story.{Errand, goes}
 use Rattle.dbsurvey.specs.Traverse.{part_of}
@@ -30,11 +30,11 @@ told_alone f = told_fault f Itself
 abbrev pub told_by : (FaultCode → Cause) → List Fault → List Finding
 told_by why fs = map (λ f. told_fault f (why f.code)) fs
 
--- what is told at an event, where the visits so far are those of U: its row, if it has one, and then its faults
+-- what is reported at an event, where the visits so far are those of U: its row, if it has one, and then its faults
 abbrev pub told_at : List ℕ → List Reference → Event → List Finding
 told_at file U event = map told_row (option_to_list (event_row file event)) ++ told_by (cause_of file U event) (event_faults file U event)
 
--- what is told below some errands, after the visits of W
+-- what is reported below some errands, after the visits of W
 abbrev pub told_below : List ℕ → List Reference → List (Errand Way Event) → List Finding
 told_below file W errands = read_below (rules_of file) (story_of file) (geometry file).pages own_visit (told_at file) W errands
 

@@ -52,7 +52,7 @@ rows_at_event file U (at_page r) = []
 rows_at_event file U (at_key r v cell) = rows_of file U r v cell
 rows_at_event file U (at_refused r) = []
 
--- the items of an event: the row of the schema goes to the taker before its faults are told
+-- the items of an event: the taker gets the row of the schema before its faults are reported
 abbrev pub items_at : List ℕ → List Reference → Progress → Event → List Item
 items_at file U p event = map given (readable (rows_at_event file U event))
     ++ map found (map told_row (option_to_list (event_row file event)) ++ told_by (cause_by file U p event) (faults_at file U p event))

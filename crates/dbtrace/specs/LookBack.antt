@@ -1,4 +1,4 @@
--- The law: what is told of a file's pages and references rests on what was visited up to it, the causes of faults as well.
+-- The law: what is reported of a file's pages and references, causes included, rests on what was visited before it.
 use Rattle.std.specs.Prelude.{◌≡◌, ℕ, List, [], ◌∷◌, ◌++◌, flat_map, option_to_list}
 use Rattle.dbsurvey.specs.Address.{IsIn}
 use Rattle.dbsurvey.specs.InOrder.{visits_in}
@@ -11,7 +11,7 @@ use Rattle.dbformat.specs.declared.Fault.{Fault}
 use Rattle.dbtrace.specs.Causes.{cause_of}
 use Rattle.dbtrace.specs.Finding.{told_at, told_below}
 
--- the visits up to an event, after what is told before it
+-- the visits up to an event, after what is reported before it
 abbrev pub visits_up_to : List (Told Event) → Told Event → List Reference
 visits_up_to before t = visits_in own_visit before ++ option_to_list (own_visit t.event)
 
@@ -21,7 +21,8 @@ CausesLookBack file = (V : List Reference) → Survey file V
     → (before after : List (Told Event)) (t : Told Event) → before ++ t ∷ after ≡ telling file V
     → (f : Fault) → IsIn f (event_faults file V t.event) → cause_of file V t.event f.code ≡ cause_of file (visits_up_to before t) t.event f.code
 
--- So the rows and the faults with their causes, by the whole survey, are those of all that is told, each by the visits up to it.
+-- So the rows and the faults with their causes, defined by the whole survey, are those of all reported events, each by
+-- the visits up to it.
 abbrev pub FindingsLookBack : List ℕ → Type 0
 FindingsLookBack file = (V : List Reference) → Survey file V
     → flat_map (λ t. told_at file V t.event) (telling file V) ≡ told_below file [] (start_errands file V)

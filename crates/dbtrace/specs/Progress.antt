@@ -45,7 +45,7 @@ abbrev pub greatest_after : Option CellKey → List Key → Option CellKey
 greatest_after top [] = top
 greatest_after top (key ∷ keys) = greatest_after (greater_key top (cell_key key)) keys
 
--- its value
+-- the value of the greatest key, if there is one
 abbrev pub value_of : Option CellKey → Option ℤ
 value_of top = option_map (λ k. k.value) top
 

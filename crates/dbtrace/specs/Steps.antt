@@ -38,8 +38,8 @@ pub record HasSteps (file : List ℕ) : Type 0 where
   pub state : (now : Walk) (es : List (Errand Way Event)) → (run_below file now es).state ≡ (run_below file (bare now) es).state
   pub roots : (now : Walk) (es : List (Errand Way Event)) → (run_below file now es).state.roots ≡ now.state.roots + roots_in (run_below file (bare now) es).items
 
--- What is below a reference to a page of no tree, as an overflow chain or the freelist, leaves the progress, gives no row, and
--- tells what the definitions give by the visits.
+-- What is below a reference to a page that is in no tree, as an overflow chain or the freelist, leaves the progress as
+-- it is, gives no row, and reports what the definitions give by the visits.
 pub record IsAside (file : List ℕ) (now : Walk) (c : Reference) : Type 0 where
   pub state : (run_below file now (Go c ∷ [])).state ≡ now.state
   pub findings_are : findings (run_below file now (Go c ∷ [])).items ≡ findings now.items ++ told_below file now.visits (Go c ∷ [])

@@ -1,6 +1,6 @@
-//! What is told of a file, as a fold over the events of a walk. `dbformat` tells the faults of a page, a key and a schema row
-//! by all that was visited before, and by the places of its keys. A walk keeps a few values instead: here is proved that they
-//! are enough.
+//! What is reported of a file, as a fold over the events of a walk. `dbformat` defines the faults of a page, a key and
+//! a schema row by all that was visited before, and by the places of its keys. A walk keeps a few values instead. Here
+//! it is proved that they are enough.
 #![tactic(auto)]
 
 ghost use Rattle.std.specs.Prelude.{ℕ, List};
@@ -10,11 +10,14 @@ ghost use Rattle.dbtrace.specs.Steps.{AreAside, HasSteps};
 
 use dbformat::{Fault, Look};
 
-/// A key of a cell: where it stands, and what it is.
+/// A key of a cell: its place, and its value.
 #[derive(Clone, Copy, Debug, PartialEq, Eq)]
 pub struct CellKey {
+    /// The page of the cell.
     pub page: u32,
+    /// The number of the cell on its page, from 0.
     pub item: u32,
+    /// The rowid, or the key of an interior page.
     pub value: i64,
 }
 
@@ -25,20 +28,23 @@ pub struct TreeLeaf {
     pub depth: u32,
 }
 
-/// The overflow chain of a cell: where the cell stands, how many pages the payload takes that is left to place, and how many
-/// were found.
+/// The overflow chain of a cell, and how much of it was found.
 #[derive(Clone, Copy, Debug, PartialEq, Eq)]
 pub struct CellChain {
+    /// The page of the cell.
     pub page: u32,
+    /// The number of the cell on its page, from 0.
     pub item: u32,
+    /// How many overflow pages the payload takes.
     pub pages: u32,
+    /// How many of them were found.
     pub found: u32,
 }
 
 /// What a fault goes back to.
 #[derive(Clone, Copy, Debug, PartialEq, Eq)]
 pub enum Cause {
-    /// Nothing but what stands at its own place.
+    /// The fault goes back to nothing but itself.
     Itself,
     /// The key that a key is not above: the greatest before it, at the first cell that has it.
     Key(CellKey),
@@ -53,11 +59,11 @@ pub enum Cause {
 /// A part of a report: the header of a file, what is found from a start on, and what is found when all pages have been visited.
 #[derive(Clone, Copy, Debug, PartialEq, Eq)]
 pub enum Part {
-    /// The header.
+    /// The faults of the header.
     Header,
     /// What is reached from this start: 0 is the schema, 1 to 65536 are its rows that have a root page, 65537 is the freelist.
     Start(u32),
-    /// The end.
+    /// What is found when all pages have been visited.
     End,
 }
 
@@ -69,8 +75,8 @@ pub struct Reported {
     pub cause: Cause,
 }
 
-/// What a walk keeps beside the visits is a fold over the events so far: the greatest key, the depth of the first leaf and the
-/// number of rows with a root. All that is told of a start is read off it, word for word as the definitions have it.
+/// What a walk keeps beside the visits is a fold over the events so far: the greatest key, the depth of the first leaf
+/// and the number of rows with a root. All that is reported of a start follows from it, exactly as it is defined.
 pub fn progress_is_enough()
     ensures { (file : List ℕ) → IsFold file }
 {}
@@ -81,8 +87,8 @@ pub fn walks_go_by_steps()
     ensures aside { (file : List ℕ) → AreAside file }
 {}
 
-/// Causes look back alone, as faults do: each rests on the pages that are visited up to the place at which its fault is told.
-/// So a fault can be told with its cause on the way.
+/// Causes look back only, as faults do: each rests on the pages visited before the fault. So a fault can be reported
+/// with its cause during the walk.
 pub fn causes_look_back()
     ensures causes { (file : List ℕ) → CausesLookBack file }
     ensures findings { (file : List ℕ) → FindingsLookBack file }

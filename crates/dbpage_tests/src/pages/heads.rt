@@ -20,7 +20,7 @@ const HEADS: [Case; 19] = [
         "0 0d 0000 0000 0200 00",
         "kind LeafTable 0",
     ],
-    // 0 stands for 65536 at every page size.
+    // 0 means 65536 at every page size.
     [
         "content from 65536 on",
         "2 of 512",

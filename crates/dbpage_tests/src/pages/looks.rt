@@ -30,7 +30,7 @@ const NO_TREES: [Case; 7] = [
         "0 '2026-11-25 ERROR: out of memory'",
         "look Other([50, 48, 50, 54, 45, 49, 49, 45, 50, 53, 32, 69, 82, 82, 79, 82])",
     ],
-    // The type of a leaf, and content behind the page.
+    // The type of a leaf, and content past the end of the page.
     [
         "a leaf by its type alone",
         "2 of 512",
@@ -105,7 +105,7 @@ const CELLS: [Case; 6] = [
         "0 0d 0000 0003 01f0 00 01f0 0000 01f0, 496 02 07",
         "look Tree(TreeLook { kind: LeafTable, cells: 3, rowids: Some(Rowids { first: 7, last: 7 }) })",
     ],
-    // The payload goes on behind the page, the rowid ends with it.
+    // The payload goes on past the end of the page, the rowid ends with it.
     [
         "a rowid up to the end",
         "2 of 512",

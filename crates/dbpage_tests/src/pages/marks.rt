@@ -31,7 +31,7 @@ fn covers_the_last_bytes(rt: HostRuntime) {
     check_all(&rt, &LAST_BYTES);
 }
 
-// Of a page of 2048 bytes, of which so many are usable.
+// Whether a page of 2048 bytes, of which `usable` are usable, has this coverage.
 fn has_coverage(rt: &impl Abort, page: &[u8; 2048], usable: u32, want: Coverage) -> bool {
     assert!(rt; 480 <= usable && usable <= 2048);
     let mut table = [255u8; 2048];
@@ -62,8 +62,8 @@ fn put(page: &mut [u8; 2048], start: u32, bytes: &[u8]) {
     }
 }
 
-// Of a leaf with a cell of `len` bytes at `from` and one of four bytes at `one`, in either order, the bytes that are not held,
-// or that the second shares one with the first. No header stands on the other's.
+// A leaf with a cell of `len` bytes at `from` and one of four bytes at `one`, in either order: the number of bytes that
+// are not held, or that the second cell shares a byte with the first. Neither header is on the other's bytes.
 fn compare(rt: &impl Abort, from: u32, len: u32, one: u32) {
     let is_free = one.wrapping_add(4) <= from || one >= from.wrapping_add(len);
     let want = if is_free {

@@ -45,7 +45,7 @@ const PACKED_PAGES: [Case; 8] = [
         "0 0d 01f0 0002 01f0 00 01fc 01f7, 496 00000008, 503 03 02 'abc' 02 01 'AB'",
         "packed none",
     ],
-    // Of the 478 bytes of the first payload 39 stand in its cell, and all two of the other.
+    // Of the 478 bytes of the first payload 39 are in its cell, and all two of the other.
     [
         "a payload on an overflow page",
         "2 of 512",

@@ -64,7 +64,7 @@ const PLAIN_NAMES: [[&str; 3]; 16] = [
         "ef bf bd ef bf be ef bf bf",
         "\u{fffd}\\xef\\xbf\\xbe\\xef\\xbf\\xbf",
     ],
-    // U+0080 and U+009F, and the character behind them.
+    // U+0080 and U+009F, and the character after them.
     ["utf8", "c2 80 c2 9f c2 a0", "\\xc2\\x80\\xc2\\x9f\u{a0}"],
     ["le", "'b' 00 2e 20", "b\\xe2\\x80\\xae"],
     ["be", "20 69 00 'b' 00 7f", "\\xe2\\x81\\xa9b\\x7f"],

@@ -1,4 +1,4 @@
-// Varints, the lengths of serial types, and how much of a payload stands in its cell.
+// Varints, the lengths of serial types, and how much of a payload is in its cell.
 use crate::texts::{Text, bytes_of, expect_text};
 use dbbytes::{local_len, serial_len, varint};
 use dbformat::PayloadKind;
@@ -83,7 +83,7 @@ fn varints(rt: HostRuntime) {
     }
 }
 
-// Cut within the number there is none, and behind it there is the same.
+// A number that is cut has no value, and bytes after it change nothing.
 fn check_cuts(rt: &impl Abort, bytes: &[u8], whole: Option<(u64, usize)>) {
     for end in 0..bytes.len() {
         let want = match whole {
@@ -122,7 +122,7 @@ fn local_lengths(rt: HostRuntime) {
     }
 }
 
-// Payloads about the most and the least that stands in a cell.
+// Payloads about the most and the least that a cell can have of them.
 fn check_kind(rt: &impl Abort, kind: PayloadKind, usable: u32, most: u32, least: u32) {
     let overflow = usable.wrapping_sub(4);
     for (payload, want) in [

@@ -230,7 +230,7 @@ fn names_of_a_thousand_bytes(rt: HostRuntime) -> Result<(), Fail> {
     Ok(())
 }
 
-// A row whose name is so many times an `a`, in as much room as it takes.
+// A row whose name is `len` times an `a`, in exactly the room that it takes.
 fn check_long_name(rt: &impl Abort, bytes: &mut [u8], types: &[u8; 7], len: usize) {
     let (before, after) = (12usize, len.wrapping_add(12));
     write(bytes, 0, types);

@@ -1,4 +1,4 @@
--- A file without faults is sound: what its survey has stands as the parts of a sound file.
+-- A file without faults is sound: its survey gives the parts of a sound file.
 use Rattle.std.proofs.Common.{◌≡◌, ◌≢◌, ℕ, ◌≤◌, inl, inr, Bool, true, false, not, ◌&&◌, List, [], ◌∷◌, ◌++◌, map, length, None, refl, sym, ap, subst, ◌∙◌}
 use Rattle.std.specs.Prelude.{flat_map, filter_map, fold, max, option_map, ◌==◌, IsPermutation, All, IfSome, Contains}
 use Rattle.std.specs.List.{range_with_len}

@@ -1,5 +1,5 @@
--- The keys of a tree in a survey without faults: none is out of order after one at an earlier place. So the keys behind
--- a cell are above its key, and those before it are up to it.
+-- The keys of a tree in a survey without faults: none is out of order after one at an earlier place. So the keys after
+-- a cell are above its key, and those before it are at most its key.
 use Rattle.std.proofs.Common.{◌≡◌, ℕ, ◌<◌, inl, Bool, true, false, cond, List, [], ◌∷◌, ◌++◌, Option, Some, None, ℤ, refl, sym, ap, subst, ◌∙◌, arith}
 use Rattle.std.specs.Prelude.{flat_map, int_lt, int_le, ◌&&◌, ◌==◌}
 use Rattle.std.specs.List.{list_any}
@@ -68,7 +68,7 @@ module _ (file : List ℕ) (V : List Reference) (s : Survey file V) (none : walk
       in_cell (n, c) e = rw e (inl refl)
 
   module _ (x : ℕ × Cell) (j : IsIn x (cells v)) (k : Key) (is_key : IsKey file V k) (step : ℕ) (b : Address) (at : k.place ≡ r.address ++ (step ∷ b)) where
-    -- keys behind that of a cell are above it
+    -- keys after that of a cell are above it
     pub above_cell : key_step x.0 < step → IsLow x.1.key k
     above_cell h = by_case x.1.key refl
       where

@@ -93,12 +93,12 @@ module _ (file : List ℕ) where
         subst (λ q. Freelist file q (use_as trunk 0 c.page ∷ map (use_as free_leaf c.page) (free_leaves (page_bytes file c.page)) ++ h.0)) at term,
       )
 
-  -- a leaf, and what comes behind it
+  -- a leaf, and what comes after it
   one_leaf : (a : Address) (p k x : ℕ) (c : Reference) (V U : List Reference) (W : List Use) → c ≡ at_link a (leaf_link p (k, x)) → V ≡ [] → map use_of U ≡ W
       → map use_of (c ∷ (V ++ U)) ≡ use_as free_leaf p x ∷ W
   one_leaf a p k x c V U W f e h = ap (λ X. map use_of (c ∷ (X ++ U))) e ∙ ap (λ c. use_of c ∷ map use_of U) f ∙ ap (λ l. use_as free_leaf p x ∷ l) h
 
-  -- nothing behind
+  -- nothing after
   no_more : (V U : List Reference) (W : List Use) → U ≡ [] → map use_of V ≡ W → map use_of (V ++ U) ≡ W
   no_more V U W e h = ap (λ X. map use_of (V ++ X)) e ∙ ap (map use_of) (append-nil V) ∙ h
 

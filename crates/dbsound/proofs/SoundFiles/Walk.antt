@@ -45,7 +45,7 @@ module _ (file : List ℕ) (s : Sound file) (survey : Survey file (all_visits fi
       (subst (λ cs. IsNamed (rules_of file) cs (all_visits file s) c)
       (goes-errands [] (map Follow (starts file (all_visits file s))) ∙ ap (named_at []) (links-follows (starts file (all_visits file s))) ∙ starts_are) n)
 
--- what is told at a place is a key of a cell
+-- an event at a place is a key of a cell
 key_of_cell : (r : Reference) (kind : TreeKind) (v : View) (x : ℕ × Cell) (step : ℕ) (event : Event) → IsIn (Place step event) (cell_items r kind v x)
     → event ≡ at_key r v x
 key_of_cell r kind v (i, c) step event h = elim (IsIn-cases (Place step event) (map Follow (cell_links r.page kind (i, c))) (Place (key_step i) (at_key r v (i, c)) ∷ []) h) [

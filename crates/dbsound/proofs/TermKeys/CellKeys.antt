@@ -40,7 +40,7 @@ pub view_place : (r : Reference) (o : Option View) (k : Key) → IsIn k (keys_of
 view_place r None k h = absurd h
 view_place r (Some v) k h = let m = IsIn-from_flat_map (key_of r v) (cells v) k h in (m.0.0, key_place r v m.0 k m.2)
 
--- a key stands below the page that has it
+-- a key is below the page that has it
 placed_from : (file : List ℕ) (V : List Reference) (a : Address) (n : ℕ) → Each (IsFrom a n) V → Each (IsPlaced a n) (keys_in file V)
 placed_from file V a n h k i =
     let m = IsIn-from_flat_map (keys_at file) V k i in
@@ -105,7 +105,7 @@ shuffle k X O B D h = elim (IsIn-cases k (X ++ O) (B ++ D) h) [
   | inr i ↦ (elim (IsIn-cases k B D i) [ inl j ↦ IsIn-left k (B ++ X) (O ++ D) (IsIn-left k B X j) | inr j ↦ IsIn-right k (B ++ X) (O ++ D) (IsIn-right k O D j) ])
 ]
 
--- one cell of an interior page: what is below its left child, its key, and what comes behind
+-- one cell of an interior page: what is below its left child, its key, and what comes after
 module _ (file : List ℕ) (r : Reference) (v : View) (i : ℕ) (c : Cell) (cs : List Cell) (m : ℤ) (key : c.key ≡ Some m) (open_page : is_interior v.kind ≡ true) (A B C : List Reference) (low high : Option ℤ) where
   abbrev pub own_rest : List Key
   own_rest = flat_map (key_of r v) (enumerate_from (i + 1) cs)

@@ -1,4 +1,4 @@
--- How deep the pages of a tree stand: none deeper than its leaves, which stand at one depth.
+-- The depths of the pages of a tree: none is deeper than its leaves, which have one depth.
 use Rattle.std.proofs.Common.{◌≡◌, ℕ, ◌+◌, ◌≤◌, Bool, true, false, List, [], ◌∷◌, ◌++◌, length, Option, Some, None, ℤ, refl, sym, subst, ◌∙◌, arith, length-append}
 use Rattle.std.specs.Prelude.{is_some}
 use Rattle.dbsurvey.specs.Address.{Address}

@@ -1,4 +1,4 @@
--- The trees of a file stand at starts of their own: what holds of two pages of one start holds tree by tree.
+-- The trees of a file have starts of their own: what holds of two pages of one start holds tree by tree.
 use Rattle.std.proofs.Common.{ℤ, arith, ◌≡◌, ◌⊎◌, ℕ, suc, ◌+◌, ◌<◌, ◌≤◌, inl, inr, Bool, false, Option, Some, List, [], ◌∷◌, ◌++◌, length, refl, sym, ap, subst, append_assoc, ◌∙◌}
 use Rattle.dbsurvey.specs.Address.{IsIn, Address, IsBefore}
 use Rattle.dbsurvey.proofs.Order.{IsIn-cases}
@@ -41,7 +41,7 @@ alike_both rel low mid high X Y sx sy x y r t i j e = by_cases (IsIn-cases r X Y
     by_cases (inr m) (inl n) = absurd (other t r (sx t n) (sy r m) (sym e))
     by_cases (inr m) (inr n) = y r t m n e
 
--- the leaf t stands as deep as the leaf r
+-- the leaf t has the depth of the leaf r
 pub record AreLevel (file : List ℕ) (r t : Reference) : Type 0 where
   pub level : (v w : View) → tree_view file r ≡ Some v → is_interior v.kind ≡ false → tree_view file t ≡ Some w → is_interior w.kind ≡ false
       → length r.address ≡ length t.address

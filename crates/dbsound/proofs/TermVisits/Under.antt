@@ -1,5 +1,4 @@
--- Where the visits of a term stand: below the address of its first page. So they all begin with it, and with no address
--- beside it.
+-- The visits of a term are below the address of its first page. So they all begin with it, and with no address beside it.
 use Rattle.std.proofs.Common.{◌≡◌, ℕ, ◌+◌, ◌*◌, ◌≤◌, Bool, List, [], ◌∷◌, ◌++◌, Option, ℤ, sym, ◌∙◌, arith, append_assoc, ◌≢◌, ◌<◌, true, false, subst}
 use Rattle.std.proofs.lemmas.List.{append-nil}
 use Rattle.dbsurvey.specs.Address.{Address}
