@@ -42,7 +42,7 @@ page_kind_text InteriorTable = codes "an interior page of a table"
 page_kind_text LeafIndex = codes "a leaf of an index"
 page_kind_text InteriorIndex = codes "an interior page of an index"
 
--- so many cells
+-- the text of n cells
 abbrev pub cells_text : ℕ → List ℕ
 cells_text n = decimal n ++ (if n == 1 then codes " cell" else codes " cells")
 

@@ -16,8 +16,8 @@ use Rattle.dbentries.specs.declared.entries.Home.{Home}
 use Rattle.dbentries.specs.declared.entries.Home.TheVariants as home
 use Rattle.dbentries.specs.declared.entries.Entries.TheInside.{Inside}
 
--- The entries as contracts see them: the first ones, `limit` at most, and of how many faults the others speak; and for the part
--- of the last fault a note for each code.
+-- The entries as contracts see them: the first ones, `limit` at most, and how many faults belong to the others; and for
+-- the part of the last fault a note for each code.
 pub record Stored : Type 0 where
   pub limit : ℕ
   pub listed : List Entry

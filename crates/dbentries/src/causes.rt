@@ -40,7 +40,7 @@ fn same_kind(one: PageKind, other: PageKind) -> bool
     )
 }
 
-// How many cells a page has that looks like one of a tree.
+// How many cells a page has if it looks like one of a tree, else 0.
 pub(crate) fn cells_of(cause: Cause) -> u64
     ensures { result ≡ cells_of cause }
 {
@@ -50,7 +50,7 @@ pub(crate) fn cells_of(cause: Cause) -> u64
     }
 }
 
-// How many entries a code has in one part at most.
+// The most entries that a code has in one part.
 pub(crate) fn most(code: FaultCode) -> usize
     ensures most { result ≡ most code }
     ensures few { (1 ≤ result) × (result ≤ 6) }

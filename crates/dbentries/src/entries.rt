@@ -1,4 +1,4 @@
-// The entries of the faults that were told.
+// The entries of the reported faults.
 ghost use Rattle.std.specs.Prelude.{◌≡◌, ◌≤◌, ◌<◌, ◌+◌, [], ◌∷◌, ◌++◌, List, IfOk, find};
 ghost use Rattle.dbentries.specs.Kept.{kept_of};
 ghost use Rattle.dbentries.specs.Listing as listing;
@@ -17,8 +17,7 @@ use dbtrace::{Cause, Part, Reported};
 use std::alloc::{AllocError, Allocator, Global};
 use std::marker::Model;
 
-/// The entries of the faults that were told: the first ones, as many as there is room for, and of how many faults the others
-/// speak.
+/// The entries of the reported faults: the first ones, as many as there is room for, and how many faults belong to the others.
 #[derive(Drop)]
 pub struct Entries<A: Allocator = Global> {
     listed: Vec<Entry, A>,
@@ -48,7 +47,7 @@ pub(crate) enum Home {
     New,
 }
 
-// What stands where no entry is kept yet.
+// Fills the places where no entry is kept yet.
 const NO_ENTRY: Reported = Reported {
     part: Part::Header,
     fault: Fault {
@@ -61,7 +60,7 @@ const NO_ENTRY: Reported = Reported {
 };
 
 impl<A: Allocator + Copy> Entries<A> {
-    /// No entries, with room for so many: one growth from any allocator. After that it takes no memory.
+    /// No entries, with room for `limit`: one growth from any allocator. After that it takes no memory.
     ///
     /// # Errors
     ///
@@ -83,7 +82,7 @@ impl<A: Allocator + Copy> Entries<A> {
 }
 
 impl<A: Allocator> Entries<A> {
-    /// Adds a fault, behind those of earlier parts and of its own.
+    /// Adds a fault, which comes after those of earlier parts and the earlier ones of its own part.
     pub fn add(&mut self, told: &Reported)
         ensures entries { (xs : List Reported) → AreEntriesOf xs self.old → self.old.part ≤ rank told.now.part → AreEntriesOf (xs ++ told.now ∷ []) self.new }
         ensures limit { self.new.limit ≡ self.old.limit }
@@ -112,7 +111,7 @@ impl<A: Allocator> Entries<A> {
         &self.listed[..self.shown]
     }
 
-    /// Of how many faults the other entries speak: these entries, and the faults that belong to them.
+    /// How many faults belong to the other entries: these entries, and the faults that belong to them.
     pub fn rest(&self) -> u64
         ensures { result ≡ self.now.rest }
     {
@@ -152,10 +151,10 @@ impl<A: Allocator> Entries<A> {
     }
 
     // What is noted of a code.
-    fn note(&self, code: FaultCode) -> Note
-        ensures { result ≡ note_of self.now.notes code }
+    fn note(&self, code: FaultCode) -> &Note
+        ensures { result.now ≡ note_of self.now.notes code }
     {
-        self.notes[code.index()]
+        &self.notes[code.index()]
     }
 
     // Where a fault goes.
@@ -163,7 +162,7 @@ impl<A: Allocator> Entries<A> {
         ensures { result ≡ home_of told.now self.now }
     {
         let note = self.note(told.fault.code);
-        if let Some(slot) = self.same(told, &note) {
+        if let Some(slot) = self.same(told, note) {
             return Home::Kept(slot);
         }
         if note.cut {
@@ -195,7 +194,7 @@ impl<A: Allocator> Entries<A> {
         ensures { self.new ≡ put_kept slot told.now self.old }
     {
         if slot < self.shown {
-            self.listed[slot] = self.listed[slot].with(told);
+            self.listed[slot].add(told);
         }
     }
 

@@ -6,27 +6,32 @@ use crate::causes::cells_of;
 use crate::runs::{NO_RUNS, Runs};
 use dbtrace::Reported;
 
-/// What is kept of the faults that belong to another: how many there are, where the last one is, and the pages. The count
-/// stops at the greatest number of 64 bits.
+/// What is kept of the faults that belong to another.
 #[derive(Clone, Copy, Debug)]
 pub struct Others {
+    /// How many there are, up to the greatest number of 64 bits.
     pub count: u64,
+    /// The page of the last one.
     pub page: u32,
+    /// The item of the last one.
     pub item: u32,
+    /// The pages that they are of.
     pub runs: Runs,
-    /// How many cells these pages have, where they look like pages of a tree.
+    /// How many cells these pages have, if they look like pages of a tree.
     pub cells: u64,
 }
 
 /// A fault that leads, and the faults that belong to it.
 #[derive(Clone, Copy, Debug)]
 pub struct Entry {
+    /// The fault that leads.
     pub first: Reported,
+    /// Those that belong to it.
     pub others: Others,
 }
 
 impl Entry {
-    // Of this fault alone.
+    // An entry of this fault alone.
     pub(crate) fn of(first: &Reported) -> Entry
         ensures { result ≡ entry_of first.now }
     {
@@ -42,20 +47,15 @@ impl Entry {
         }
     }
 
-    // With one fault more.
-    pub(crate) fn with(self, told: &Reported) -> Entry
-        ensures { result ≡ entry_added self told.now }
+    /// Adds a fault that belongs to it.
+    pub(crate) fn add(&mut self, told: &Reported)
+        ensures { self.new ≡ entry_added self.old told.now }
     {
-        let others = self.others;
-        Entry {
-            first: self.first,
-            others: Others {
-                count: others.count.saturating_add(1),
-                page: told.fault.page,
-                item: told.fault.item,
-                runs: others.runs.with(told.fault.page),
-                cells: others.cells.saturating_add(cells_of(told.cause)),
-            },
-        }
+        let others = &mut self.others;
+        others.count = others.count.saturating_add(1);
+        others.page = told.fault.page;
+        others.item = told.fault.item;
+        others.runs.add(told.fault.page);
+        others.cells = others.cells.saturating_add(cells_of(told.cause));
     }
 }

@@ -1,14 +1,14 @@
-//! What `explain` lists of a file: of all its faults those that lead, each with the faults that go back to the same injury.
+//! What `explain` lists of a file: the faults that lead, each with the faults that go back to the same injury.
 //!
-//! A fault leads where no earlier fault of its code and part goes back to what it goes back to. [`Entries`] keeps the first of
-//! them, and of the faults that belong to each how many there are and which pages they are of. It takes memory when it is made,
-//! and none for a fault; and it takes a bounded number of steps a fault.
+//! A fault leads if no earlier fault of its code and part goes back to the same cause. [`Entries`] keeps the first of
+//! them, and for each how many faults belong to it and on which pages. It takes memory when it is made, and none for a
+//! fault. A fault takes a bounded number of steps.
 //!
 //! [`put_cause`] and [`put_others`] put the lines below the fault line of an entry: what it goes back to, and how many faults
 //! belong to it, with the pages that look alike in runs.
 //!
-//! specs/Listing has the definition, over the list of all faults; specs/Lines and specs/Others have the lines. Faults of lost
-//! pages may be listed apart ([`Entries::insert`]): by [`weaving_is_listing`] that comes to the same.
+//! specs/Listing has the definition, over the list of all faults; specs/Lines and specs/Others have the lines. Faults
+//! of lost pages may be listed apart ([`Entries::insert`]): by [`weaving_is_listing`] the result is the same.
 #![tactic(auto)]
 
 ghost use Rattle.std.specs.Prelude.{List};
@@ -33,8 +33,8 @@ pub use lines::put_cause;
 pub use others::put_others;
 pub use runs::{MAX_RUNS, Run, Runs};
 
-/// The entries of all faults, in the order of a report, are those of the faults that are of no lost page, with the entries of
-/// lost pages put into their places. So what a lost page looks like can be found out last.
+/// The entries of all faults, in the order of a report, are those of the faults of no lost page, with the entries of
+/// lost pages put into their places. So the looks of lost pages can be found out last.
 pub fn weaving_is_listing()
     ensures { (xs : List Reported) → WeavingIsListing xs }
 {}

@@ -3,7 +3,7 @@ ghost use Rattle.std.specs.Prelude.{◌≡◌, ◌<◌};
 ghost use Rattle.dbentries.specs.Listing.{last_of};
 ghost use Rattle.dbentries.specs.Store.{slots_of, with_slot, with_unkept};
 
-// How many entries a code has in a part at most.
+// The most entries that a code has in a part.
 pub(crate) const MOST: usize = 6;
 
 /// The entries of a code in one part: the numbers of those that are kept, and whether one is not.
@@ -14,7 +14,7 @@ pub(crate) struct Note {
     pub(crate) cut: bool,
 }
 
-// No entries.
+// The note of a code without entries.
 pub(crate) const NO_NOTE: Note = Note {
     slots: [0; MOST],
     kept: 0,
@@ -22,7 +22,7 @@ pub(crate) const NO_NOTE: Note = Note {
 };
 
 impl Note {
-    // With one entry more, which is kept under this number.
+    // The note with one more entry, which is kept under this number.
     pub(crate) fn with_slot(self, slot: usize) -> Note
         requires { self.kept < 6 }
         ensures { result ≡ with_slot slot self }
@@ -36,7 +36,7 @@ impl Note {
         }
     }
 
-    // With an entry that is not kept.
+    // The note with one more entry, which is not kept.
     pub(crate) fn with_unkept(self) -> Note
         ensures { result ≡ with_unkept self }
     {

@@ -1,8 +1,9 @@
 // Pages in runs.
-ghost use Rattle.std.specs.Prelude.{◌≡◌, replicate};
-ghost use Rattle.dbentries.specs.Kept.{no_run, run_added};
+ghost use Rattle.std.specs.Prelude.{◌≡◌, ◌+◌, ◌<◌, replicate};
+ghost use Rattle.dbformat.specs.Lines.{counted};
+ghost use Rattle.dbentries.specs.Kept.{no_run, run_added, run_begun, run_grown};
 
-/// How many runs are kept.
+/// The most runs that are kept.
 pub const MAX_RUNS: usize = 10;
 
 /// Pages that follow one another, from `first` to `last`.
@@ -12,16 +13,16 @@ pub struct Run {
     pub last: u32,
 }
 
-/// The first runs of some pages, and how many there are in all.
+/// The first runs of some pages, and how many runs there are in all.
 #[derive(Clone, Copy, Debug)]
 pub struct Runs {
     pub kept: [Run; MAX_RUNS],
     pub count: u64,
-    /// The last page.
+    /// The last page of them.
     pub last: u32,
 }
 
-// No pages.
+// The runs of no pages.
 pub(crate) const NO_RUNS: Runs = Runs {
     kept: [Run { first: 0, last: 0 }; MAX_RUNS],
     count: 0,
@@ -29,31 +30,38 @@ pub(crate) const NO_RUNS: Runs = Runs {
 };
 
 impl Runs {
-    // With one page more.
-    pub(crate) fn with(self, page: u32) -> Runs
-        ensures { result ≡ run_added self page }
+    /// Adds a page.
+    pub(crate) fn add(&mut self, page: u32)
+        ensures { self.new ≡ run_added self.old page }
     {
-        let mut kept = self.kept;
         if self.count > 0 && u64::from(page) == u64::from(self.last) + 1 {
-            if self.count <= 10 {
-                kept[self.count as usize - 1].last = page;
-            }
-            return Runs {
-                kept,
-                count: self.count,
-                last: page,
-            };
+            self.extend(page);
+        } else {
+            self.begin(page);
         }
+        self.last = page;
+    }
+
+    // Lets the last run, if it is kept, end at this page.
+    fn extend(&mut self, page: u32)
+        requires { 0 < self.old.count }
+        ensures { self.new ≡ record self.old { kept = run_grown self.old page } }
+    {
+        if self.count <= 10 {
+            self.kept[self.count as usize - 1].last = page;
+        }
+    }
+
+    // Begins a run at this page, which is kept if there is room.
+    fn begin(&mut self, page: u32)
+        ensures { self.new ≡ record self.old { kept = run_begun self.old page; count = counted (self.old.count + 1) } }
+    {
         if self.count < 10 {
-            kept[self.count as usize] = Run {
+            self.kept[self.count as usize] = Run {
                 first: page,
                 last: page,
             };
         }
-        Runs {
-            kept,
-            count: self.count.saturating_add(1),
-            last: page,
-        }
+        self.count = self.count.saturating_add(1);
     }
 }

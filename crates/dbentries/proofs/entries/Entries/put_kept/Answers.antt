@@ -13,12 +13,12 @@ returns-then-slot-self g c =
     let inside = c.self.inside in
     let items = inside.listed.items in
     let told = c.args.told.now in
-    let d = c.index.result.now in
+    let d = c.index_mut.result.now in
     let l = length-take inside.shown items in
     let within : c.args.slot < length (take inside.shown items) = omega (arith, l, c.self.invariant.0, c.if-slot-self.true) in
-    let same : take inside.shown (set items c.args.slot c.with.result) ≡ changed_at (λ e. entry_added e told) c.args.slot (take inside.shown items) =
-    take-set-lt inside.shown items c.args.slot c.with.result c.if-slot-self.true
-    ∙ ap (set (take inside.shown items) c.args.slot) (c.with.ensures ∙ ap (λ e. entry_added e told) (c.index.ensures ∙ sym (get_or-take inside.shown items c.args.slot d c.if-slot-self.true)))
+    let same : take inside.shown (set items c.args.slot c.add.new.self) ≡ changed_at (λ e. entry_added e told) c.args.slot (take inside.shown items) =
+    take-set-lt inside.shown items c.args.slot c.add.new.self c.if-slot-self.true
+    ∙ ap (set (take inside.shown items) c.args.slot) (c.add.ensures ∙ ap (λ e. entry_added e told) (c.index_mut.ensures.value ∙ sym (get_or-take inside.shown items c.args.slot d c.if-slot-self.true)))
     ∙ sym (changed-set (λ e. entry_added e told) c.args.slot (take inside.shown items) d within) in
     ap (λ l. record (stored inside) { listed = l }) same ∙ ap (put_kept c.args.slot told) c.self.view_is
 
