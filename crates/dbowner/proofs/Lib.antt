@@ -1,9 +1,6 @@
 pub mod Slots
 pub mod Passing
-pub mod Ways
-pub mod Starts
 pub mod Owned
 pub mod PageMarks
-pub mod RootLists
 pub mod RootPages
 pub mod Trees

@@ -10,8 +10,9 @@ use Rattle.dbformat.specs.Reference.{Reference}
 use Rattle.dbformat.specs.Schema.{starts}
 use Rattle.dbformat.specs.Survey.{Survey}
 use Rattle.dbformat.proofs.Visited.{allowed, visit_is}
-use Rattle.dbowner.specs.Owners.{Owner, Nobody, Layout, Freelist, Tree, is_start, owner_at, owner_of, first_start, AreOwned}
-use Rattle.dbowner.proofs.Starts.{start_is, start_visited, first_is}
+use Rattle.dbformat.specs.Starts.{is_start, first_start}
+use Rattle.dbowner.specs.Owners.{Owner, Nobody, Layout, Freelist, Tree, owner_at, owner_of, AreOwned}
+use Rattle.dbformat.proofs.BelowStarts.{start_is, start_visited, first_is}
 
 abbrev tree_at : List Reference → ℕ → Owner
 tree_at V k = option_map_or (λ u. Tree u.page) (find (is_start k) V) Nobody

@@ -20,11 +20,12 @@ use Rattle.dbmarks.proofs.Markings.{page_mark-in, page_mark-out}
 use Rattle.dbmarks.proofs.EndMarking.{found_in, survey_visits, visited-mark, root_test}
 use Rattle.dbowner.specs.declared.place.Place.{Place}
 use Rattle.dbowner.specs.declared.place.Place.TheVariants as place
-use Rattle.dbowner.specs.Owners.{start_at, place_in, place_of}
+use Rattle.dbformat.specs.Starts.{start_at}
+use Rattle.dbowner.specs.Owners.{place_in, place_of}
 use Rattle.dbowner.specs.Climbs.{place_by, parent_by, parent}
 use Rattle.dbowner.specs.Steps.{start_by}
-use Rattle.dbowner.proofs.Starts.{start_or_below, one_below, on_freelist}
-use Rattle.dbowner.proofs.Ways.{child_from}
+use Rattle.dbformat.proofs.BelowStarts.{start_here, start_or_below, one_below, on_freelist}
+use Rattle.dbformat.proofs.Ways.{child_from}
 
 -- role by role
 
@@ -123,9 +124,6 @@ module _ (file : List ℕ) (V : List Reference) (s : Survey file V) where
           ap (λ p. place_by (page_mark (marks_of (geometry file) V) p)) (sym k.1) ∙ ap place_by (mark_here r k.0) ∙ place_by_role (role_of r) (from_of r)
           ∙ sym (ap (λ o. by_visit o (is_fixed (geometry file) p)) e ∙ ap (by_visit (Some r)) free)
 
-  pub start_here : (r : Reference) → IsIn r V → start_at V r.page ≡ Some (start_of r.address)
-  start_here r i = ap (λ o. option_map (λ r. start_of r.address) o) (visit_is file V s r i)
-
   depth_here : (r : Reference) → IsIn r V → depth_at V r.page ≡ depth r.address
   depth_here r i = ap (λ o. option_map_or (λ r. depth r.address) o 0) (visit_is file V s r i)
 
@@ -142,7 +140,7 @@ module _ (file : List ℕ) (V : List Reference) (s : Survey file V) where
         | inr w ↦ (let u : Reference = w.0 in
             let same : q ≡ u.page = sym (named (role_of r) (from_of r) q e).0 ∙ child_from file u r w.2 in
             let step = one_below file V s u r w.1 w.2 in (
-              start_here r i ∙ ap Some step.0 ∙ sym (ap (start_at V) same ∙ start_here u w.1),
+              start_here file V s r i ∙ ap Some step.0 ∙ sym (ap (start_at V) same ∙ start_here file V s u w.1),
               depth_here r i ∙ step.1 ∙ ap (λ d. d + 1) (sym (ap (depth_at V) same ∙ depth_here u w.1)),
             ))
       ]
@@ -154,7 +152,7 @@ module _ (file : List ℕ) (V : List Reference) (s : Survey file V) where
           let at : parent_by (Some (visit_mark r)) ≡ Some q = sym (ap parent_by (mark_here r k.0)) ∙ ap (parent (marks_of (geometry file) V)) k.1 ∙ h in
           subst (λ p. (start_at V p ≡ start_at V q) × (depth_at V p ≡ depth_at V q + 1)) k.1 (of_visit r k.0 at)
 
-  -- of one that is of no other and no root the mark tells the start
+  -- the mark of a page that is of no other page and no root shows the start
   pub mark_start : (p : ℕ) → parent (marks_of (geometry file) V) p ≡ None → ((r : Reference) → IsIn r V → r.page ≡ p → is_root (role_of r) ≡ true → ⊥)
       → start_by (page_mark (marks_of (geometry file) V) p) ≡ start_at V p
   mark_start p h off = by_case (visit_of V p) refl
@@ -166,7 +164,7 @@ module _ (file : List ℕ) (V : List Reference) (s : Survey file V) where
           let at : parent_by (Some (visit_mark r)) ≡ None = sym (ap parent_by (mark_here r k.0)) ∙ ap (parent (marks_of (geometry file) V)) k.1 ∙ h in
           ap (λ p. start_by (page_mark (marks_of (geometry file) V) p)) (sym k.1) ∙ ap start_by (mark_here r k.0)
           ∙ unnamed (role_of r) (from_of r) (start_of r.address) at (off r k.0 k.1) (on_freelist file V s r k.0)
-          ∙ sym (start_here r k.0) ∙ ap (start_at V) k.1
+          ∙ sym (start_here file V s r k.0) ∙ ap (start_at V) k.1
 
   -- the pages with a root's mark are those that are visited as roots
   pub root_marked : (r : Reference) → IsIn r V → is_root (role_of r) ≡ true → is_marked is_root_mark (marks_of (geometry file) V) r.page ≡ true

@@ -21,13 +21,13 @@ use Rattle.dbmarks.specs.declared.marks.Mark.{Mark}
 use Rattle.dbmarks.specs.EndMarks.{is_root_mark, is_marked}
 use Rattle.dbmarks.specs.Marking.{AreMarksOf}
 use Rattle.dbmarks.proofs.Markings.{marks_of-length}
-use Rattle.dbowner.specs.Owners.{start_at, first_start}
+use Rattle.dbformat.specs.Starts.{start_at, first_start}
 use Rattle.dbowner.specs.Climbs.{known_of, AreTrees}
-use Rattle.dbowner.specs.Roots.{AreListed}
+use Rattle.dbscan.specs.Roots.{AreListed}
 use Rattle.dbowner.specs.Steps.{is_open, entered}
-use Rattle.dbowner.proofs.PageMarks.{start_here, root_marked, root_visited}
+use Rattle.dbowner.proofs.PageMarks.{root_marked, root_visited}
 use Rattle.dbowner.proofs.Slots.{has_room, open_is, open_slot, within, put_here, put_there, nothing_known}
-use Rattle.dbowner.proofs.Starts.{root_start_is, first_is}
+use Rattle.dbformat.proofs.BelowStarts.{start_here, root_start_is, first_is}
 
 abbrev Known : Type 0
 Known = Option (Option ℕ)
@@ -117,7 +117,7 @@ all_entered marks known rows i n p k l h =
     none true (Some a) = refl
     none false (Some a) = refl
 
--- where the rows up to number i were entered, what is known and the other rows tell the starts of all roots
+-- where the rows up to number i were entered, what is known and the other rows give the starts of all roots
 abbrev pub AreEntered : List Mark → List SchemaRow → ℕ → List Known → Type 0
 AreEntered marks rows i known = (p : ℕ) → option_or (known_of known p) (root_known marks (length known) (row_start (i + 1) (drop i rows) p) p) ≡ root_known marks (length known) (listed_start rows p) p
 

@@ -9,13 +9,14 @@ use Rattle.dbformat.specs.File.{geometry}
 use Rattle.dbformat.specs.FixedPages.{is_page}
 use Rattle.dbformat.specs.Reference.{Reference, role_of, is_root}
 use Rattle.dbformat.specs.Survey.{Survey}
+use Rattle.dbformat.proofs.BelowStarts.{start_here}
 use Rattle.dbmarks.specs.declared.marks.Mark.{Mark}
 use Rattle.dbmarks.specs.Marking.{AreMarksOf, page_mark}
 use Rattle.dbmarks.proofs.Markings.{page_mark-out}
-use Rattle.dbowner.specs.Owners.{start_at}
+use Rattle.dbformat.specs.Starts.{start_at}
 use Rattle.dbowner.specs.Climbs.{parent_by, parent, above, IsPassed, slot, known_of, AreTrees}
 use Rattle.dbowner.specs.Steps.{start_by, start_above, IsClimb, IsSettled}
-use Rattle.dbowner.proofs.PageMarks.{depth_at, one_up, mark_start, start_here}
+use Rattle.dbowner.proofs.PageMarks.{depth_at, one_up, mark_start}
 use Rattle.dbowner.proofs.Slots.{has_room, no_slot}
 
 abbrev Known : Type 0

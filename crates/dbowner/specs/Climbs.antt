@@ -8,7 +8,7 @@ use Rattle.dbformat.specs.Reference.{Reference, role_of, is_root}
 use Rattle.dbmarks.specs.Marking.{page_mark}
 use Rattle.dbmarks.specs.declared.marks.Mark.{Mark}
 use Rattle.dbmarks.specs.declared.marks.Mark.TheVariants.{Fixed, Root, Trunk, FreeLeaf, FirstOverflow, LaterOverflow, Child}
-use Rattle.dbowner.specs.Owners.{start_at}
+use Rattle.dbformat.specs.Starts.{start_at}
 use Rattle.dbowner.specs.declared.page_trees.PageTrees.TheInside.{Inside}
 use Rattle.dbowner.specs.declared.place.Place.{Place}
 use Rattle.dbowner.specs.declared.place.Place.TheVariants as place

@@ -1,4 +1,3 @@
-pub mod Roots
 pub mod Owners
 pub mod Climbs
 pub mod Steps

@@ -1,22 +1,18 @@
 -- Who owns page p of a file, and as what, where V is the survey of the file: each page of V has one visit, and the address of
--- a visit begins with the start that it was come by from.
-use Rattle.std.specs.Prelude.{◌≡◌, ◌↔◌, ℕ, Bool, ◌&&◌, List, [], ◌∷◌, find, option_map, Option, ◌==◌, if◌then◌else◌}
+-- a visit begins with the start that it was reached from.
+use Rattle.std.specs.Prelude.{◌≡◌, ◌↔◌, ℕ, List, [], ◌∷◌, find, ◌==◌, if◌then◌else◌}
 use Rattle.std.specs.Option.{option_map_or}
 use Rattle.dbsurvey.specs.Address.{IsIn}
-use Rattle.dbsurvey.specs.Survey.{Link}
-use Rattle.dbformat.specs.Address.{start_of, depth, freelist_start}
+use Rattle.dbformat.specs.Address.{start_of, freelist_start}
 use Rattle.dbformat.specs.EndFaults.{visit_of}
 use Rattle.dbformat.specs.File.{geometry}
 use Rattle.dbformat.specs.FixedPages.{is_fixed}
-use Rattle.dbformat.specs.Reference.{Role, root, child, first_overflow, later_overflow, trunk, free_leaf, Way, Reference, role_of, from_of}
+use Rattle.dbformat.specs.Reference.{Role, root, child, first_overflow, later_overflow, trunk, free_leaf, Reference, role_of, from_of}
 use Rattle.dbformat.specs.Schema.{starts}
+use Rattle.dbformat.specs.Starts.{start_at, is_start, first_start}
 use Rattle.dbformat.specs.Survey.{Survey}
 use Rattle.dbowner.specs.declared.place.Place.{Place}
 use Rattle.dbowner.specs.declared.place.Place.TheVariants as place
-
--- the start that page p belongs to: that of its visit, if it has one
-abbrev pub start_at : List Reference → ℕ → Option ℕ
-start_at V p = option_map (λ r. start_of r.address) (visit_of V p)
 
 -- what a page is that is visited in a role, from a page
 abbrev pub place_in : Role → ℕ → Place
@@ -40,10 +36,6 @@ pub data Owner : Type 0 where
   Freelist : Owner
   Tree : ℕ → Owner
 
--- whether a visit is that of start k
-abbrev pub is_start : ℕ → Reference → Bool
-is_start k r = (start_of r.address == k) && (depth r.address == 1)
-
 -- what belongs to a start: the freelist, or the tree of the page that is visited there
 abbrev pub owner_at : List Reference → ℕ → Owner
 owner_at V k = if k == freelist_start then Freelist else option_map_or (λ u. Tree u.page) (find (is_start k) V) Nobody
@@ -52,10 +44,6 @@ owner_at V k = if k == freelist_start then Freelist else option_map_or (λ u. Tr
 unfoldable pub owner_of : List ℕ → List Reference → ℕ → Owner
 owner_of file V p =
     if is_fixed (geometry file) p then Layout else option_map_or (λ r. owner_at V (start_of r.address)) (visit_of V p) Nobody
-
--- the first start that names page p
-abbrev pub first_start : List (Link Way) → ℕ → Option ℕ
-first_start links p = option_map (λ l. l.step) (find (λ l. l.page == p) links)
 
 -- A visited page has an owner: the freelist, just where its visit is below that start; or else the tree of a root page, which
 -- is visited at the start of its visit, and that is the first start that names this root page.

@@ -21,7 +21,7 @@ abbrev pub entered : List Mark → List (Option (Option ℕ)) → ℕ → ℕ �
 entered marks known page start p =
     if (p == page) && (is_marked is_root_mark marks p && is_open known p) then Some (Some start) else known_of known p
 
--- the start that a mark alone tells
+-- the start that a mark shows on its own
 abbrev pub start_by : Option Mark → Option ℕ
 start_by (Some Trunk) = Some freelist_start
 start_by (Some FreeLeaf) = Some freelist_start

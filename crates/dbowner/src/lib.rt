@@ -1,7 +1,4 @@
-//! The roots of a database, and who owns a page of it, and what the page is: told by the marks of a walk and its list of roots,
-//! without a page read anew.
-//!
-//! [`RootList`] takes the rows of the schema in a walk, and keeps those that have a root page.
+//! Who owns a page of a database, and what the page is: by the marks of a walk and its list of roots, without a page read anew.
 //!
 //! specs/Owners says it by the survey of a file, of which nothing but the visits is used: the start that a page belongs to
 //! ([`PageTrees::start_of`]), what it is there ([`place_of`]), and that the tree of a root page owns it
@@ -19,15 +16,14 @@ mod owner;
 mod page_trees;
 mod place;
 mod place_texts;
-mod roots;
 mod tree_names;
 
 pub use dbformat::{Encoding, Fixed, Geometry};
+pub use dbscan::RootList;
 pub use dbsource::{Out, WriteFailed};
 pub use dbwalk::{Marks, SchemaRow};
 pub use owner::visited_pages_are_owned;
 pub use page_trees::PageTrees;
 pub use place::{Place, mark_of, place_of};
 pub use place_texts::{place_from, place_front, place_tree, place_words};
-pub use roots::RootList;
 pub use tree_names::TreeNames;

@@ -7,14 +7,14 @@ ghost use Rattle.dbmarks.specs.EndMarks.{is_root_mark, is_marked};
 ghost use Rattle.dbmarks.specs.Marking.{AreMarksOf};
 ghost use Rattle.dbowner.specs.Climbs.{above, slot, known_of, known_pages, unpacked, AreTrees};
 ghost use Rattle.dbowner.specs.Climbs as climbs;
-ghost use Rattle.dbowner.specs.Owners.{start_at};
-ghost use Rattle.dbowner.specs.Roots.{AreListed};
+ghost use Rattle.dbformat.specs.Starts.{start_at};
+ghost use Rattle.dbscan.specs.Roots.{AreListed};
 ghost use Rattle.dbowner.specs.Steps.{entered, Fits, IsClimb, IsSettled};
 ghost use Rattle.dbowner.specs.Steps as steps;
 
 use crate::place::mark_of;
-use crate::roots::RootList;
 use dbformat::{FREELIST_START, Geometry, SCHEMA_START};
+use dbscan::RootList;
 use dbwalk::{Mark, Marks};
 use std::alloc::{AllocError, Allocator, Global};
 use std::marker::Model;

@@ -4,9 +4,9 @@ ghost use Rattle.dbsource.specs.Outs.{Puts};
 ghost use Rattle.dbwalk.specs.Rows.{schema_row_of};
 ghost use Rattle.dbowner.specs.Texts.{kind_text, row_text, tree_of_row};
 
-use crate::roots::RootList;
 use dbbytes::plain_name_text;
 use dbformat::{Encoding, RowKind, SCHEMA_START};
+use dbscan::RootList;
 use dbsource::{Out, WriteFailed};
 use dbwalk::SchemaRow;
 use std::alloc::{Allocator, Global};

@@ -15,19 +15,19 @@ use Rattle.dbwalk.specs.Telling.{StopsBy}
 use Rattle.dbscan.specs.Finishes.{Leaves}
 use Rattle.dbscan.specs.Notices.{CutsFaults, HearsFaults, run_notices}
 use Rattle.dbscan.proofs.FaultsHeard.{faults_heard_by}
-use Rattle.dbreport.specs.CheckSink.{CutsFault, LeavesCheck, ShowsFault, end_text, verdict_of}
+use Rattle.dbreport.specs.CheckSink.{CutsFault, LeavesCheck, ShowsFault, end_text, found_verdict}
 use Rattle.dbreport.specs.declared.checking.CheckSink.{CheckSink}
 use Rattle.dbreport.proofs.RunAnswers.{if_ok}
 use Rattle.dbreport.proofs.RunReports.{check_answer, check_out}
 use Rattle.dbreport.proofs.Checks.{check_writes, check_finds, check_begins}
 
 module _ {O : Type 0} (held : O → OutState) (file : List ℕ) (V : List Reference) (survey : Survey file V) where
-  -- it stopped within what is told
+  -- it stopped within what is reported
   check_stopped : (e : RunError) (s t : CheckSink O) → StopsBy (HearsFaults (ShowsFault held)) (CutsFaults (CutsFault held)) e s (run_notices file V) t → LeavesCheck held file V (Err e) s t
   check_stopped e s t k none no_more =
       (check_begins held (faults file V) s t none no_more e (faults_heard_by (ShowsFault held) (CutsFault held) {A = Verdict} file V survey (Err e) s t k), tt)
 
-  -- all was told, and then the last line was put, or a beginning of it
+  -- all was reported, and then the last line was put, or a beginning of it
   module _ (s t u : CheckSink O) (told : Moves (HearsFaults (ShowsFault held)) s (run_notices file V) t) where
     all : Moves (ShowsFault held) s (faults file V) t
     all = faults_heard_by (ShowsFault held) (CutsFault held) {A = Unit {0}} file V survey (Ok tt) s t told
@@ -35,7 +35,7 @@ module _ {O : Type 0} (held : O → OutState) (file : List ℕ) (V : List Refere
     pub check_cut : {X : Type 0} (x : X) → Puts {A = Verdict} (Err x) (held t.out.now) (held u.out.now) (end_text t.shown t.more) → LeavesCheck held file V (Err WriteFailed) s u
     check_cut x puts none no_more = ((check_writes held (faults file V) s t none no_more all (Err x) (held u.out.now) puts).held, tt)
 
-    pub check_ended : {X : Type 0} (v : Verdict) → Puts {E = X} (Ok v) (held t.out.now) (held u.out.now) (end_text t.shown t.more) → v ≡ verdict_of t.shown t.more → LeavesCheck held file V (Ok v) s u
+    pub check_ended : {X : Type 0} (v : Verdict) → Puts {E = X} (Ok v) (held t.out.now) (held u.out.now) (end_text t.shown t.more) → v ≡ found_verdict t.shown t.more → LeavesCheck held file V (Ok v) s u
     check_ended v puts found none no_more =
         ((check_writes held (faults file V) s t none no_more all (Ok v) (held u.out.now) puts).held, found ∙ check_finds held (faults file V) s t none no_more all)
 

@@ -1,4 +1,4 @@
--- What a check has written and found, by the findings that its sink was told.
+-- What a check has written and found, by the findings that were reported to its sink.
 use Rattle.std.proofs.Common.{◌≡◌, ℕ, zero, suc, ◌+◌, ◌-◌, ◌^◌, ◌<◌, ◌≤◌, true, false, cond, inl, inr, List, [], ◌∷◌, ◌++◌, length, take, drop, Result, Ok, refl, sym, ap, ap₂, ◌∙◌, subst, arith, length-drop}
 use Rattle.std.specs.Prelude.{flat_map, ◌==◌, nat_lt}
 use Rattle.std.proofs.Math.Seq.{take-nil}
@@ -7,16 +7,16 @@ use Rattle.std.proofs.lemmas.Bool.{cases_Bool}
 use Rattle.std.proofs.lemmas.Bool.Decides.{nat_tests}
 use Rattle.dbsurvey.specs.Moves.{Moves, Stops, MovesBySome}
 use Rattle.dbformat.specs.Lines.{counted, fault_line, more_line, ok_line}
-use Rattle.dbformat.specs.Report.{check_text, more_text, verdict}
+use Rattle.dbformat.specs.Report.{check_text, more_text, verdict, verdict_of}
 use Rattle.dbformat.specs.declared.Fault.{Fault}
 use Rattle.dbformat.specs.declared.Verdict.{Verdict}
-use Rattle.dbformat.specs.declared.Verdict.TheVariants.{Clean, Faulty}
+use Rattle.dbformat.proofs.Verdicts.{verdict_counted}
 use Rattle.dbsource.specs.Outs.{Begins, OutState, Puts}
 use Rattle.dbsource.specs.declared.error.RunError.{RunError}
 use Rattle.dbsource.specs.declared.error.RunError.TheVariants.{ReadFailed, WriteFailed, OutOfMemory, Refused}
 use Rattle.dbsource.proofs.Puts.{appends_nothing, puts_then}
 use Rattle.dbwalk.specs.Telling.{StopsBy}
-use Rattle.dbreport.specs.CheckSink.{CutsFault, PutsAll, ShowsFault, end_text, verdict_of}
+use Rattle.dbreport.specs.CheckSink.{CutsFault, PutsAll, ShowsFault, end_text, found_verdict}
 use Rattle.dbreport.specs.declared.checking.CheckSink.{CheckSink}
 use Rattle.dbsource.proofs.Beginnings.{begins_nothing, begins_more, begins_after}
 
@@ -56,20 +56,16 @@ text_is limit (f ∷ fs) =
     ap (λ b. lines limit (f ∷ fs) ++ cond b ok_line (more_text (counted (length (drop limit (f ∷ fs)))))) (some_left limit f fs)
     ∙ ap (λ l. lines limit (f ∷ fs) ++ l) (more_counted (length (drop limit (f ∷ fs))))
 
-verdict_is : (limit : ℕ) (fs : List Fault) → verdict_of (length (take limit fs)) (counted (length (drop limit fs))) ≡ verdict fs
-verdict_is limit [] =
-    let d : length (drop {A = Fault} limit []) ≡ 0 = length-drop limit [] ∙ omega arith in
-    rw (take-nil limit, d) refl
-verdict_is limit (f ∷ fs) =
-    let k = parts limit (f ∷ fs) in
-    let e : counted (length (take limit (f ∷ fs)) + counted (length (drop limit (f ∷ fs)))) ≡ counted (length (f ∷ fs)) = omega arith in
-    ap (λ b. cond b Clean (Faulty (counted (length (take limit (f ∷ fs)) + counted (length (drop limit (f ∷ fs))))))) (some_left limit f fs)
-    ∙ ap Faulty e
+verdict_is : (limit : ℕ) (fs : List Fault) → found_verdict (length (take limit fs)) (counted (length (drop limit fs))) ≡ verdict fs
+verdict_is limit fs =
+    let k = parts limit fs in
+    let e : counted (length (take limit fs) + counted (length (drop limit fs))) ≡ counted (length fs) = omega arith in
+    ap verdict_of e ∙ verdict_counted fs
 
 -- ---- fault after fault
 
 module _ {O : Type 0} (held : O → OutState) where
-  -- what the sink has become by some faults
+  -- the state of the sink after some faults
   record Saw (s : CheckSink O) (fs : List Fault) (t : CheckSink O) : Type 0 where
     same_out : t.out.ghost_name ≡ s.out.ghost_name
     limit : t.limit ≡ s.limit
@@ -176,7 +172,7 @@ module _ {O : Type 0} (held : O → OutState) where
       let b = bounds_kept s h.0 f h.1 l m in
       saw_fault s h.0 f h.1 fs t l (saw_all fs h.0 t b.0 b.1 h.2)
 
-  -- What is known where not all was told: what is held has grown by a beginning of the lines, on the same Out.
+  -- What is known if not all was reported: what is held has grown by a beginning of the lines, on the same Out.
   abbrev Breaks : CheckSink O → List Fault → CheckSink O → Type 0
   Breaks s fs t = (t.out.ghost_name ≡ s.out.ghost_name) × Begins (held s.out.now).bytes (held t.out.now).bytes (lines (s.limit - s.shown) fs)
 
@@ -210,13 +206,13 @@ module _ {O : Type 0} (held : O → OutState) where
   breaks_by OutOfMemory fs s t l m h = breaks_some fs s t l m h
   breaks_by (Refused r) fs s t l m h = breaks_some fs s t l m h
 
-  -- ---- the whole check, from a sink that was told nothing
+  -- ---- the whole check, from a sink to which nothing was reported
 
   module _ (found : List Fault) (s t : CheckSink O) (none : s.shown ≡ 0) (no_more : s.more ≡ 0) where
     room : s.limit - s.shown ≡ s.limit
     room = omega arith
 
-    -- all was told, and then the last line was put
+    -- all was reported, and then the last line was put
     module _ (moved : Moves (ShowsFault held) s found t) where
       saw : Saw s found t
       saw = saw_all found s t (omega arith) (omega arith) moved
@@ -234,10 +230,10 @@ module _ {O : Type 0} (held : O → OutState) where
           subst (λ l. Puts r (held s.out.now) u l) (ap (λ l. lines s.limit found ++ l) end ∙ text_is s.limit found)
           (puts_then r (lines s.limit found) (end_text t.shown t.more) refl first h)
 
-      pub check_finds : verdict_of t.shown t.more ≡ verdict found
-      check_finds = ap₂ verdict_of shown_is more_is ∙ verdict_is s.limit found
+      pub check_finds : found_verdict t.shown t.more ≡ verdict found
+      check_finds = ap₂ found_verdict shown_is more_is ∙ verdict_is s.limit found
 
-    -- a beginning was told
+    -- a beginning was reported
     module _ (e : RunError) (stopped : StopsBy (ShowsFault held) (CutsFault held) e s found t) where
       breaks : Breaks s found t
       breaks = breaks_by e found s t (omega arith) (omega arith) stopped

@@ -29,7 +29,7 @@ hex_room (suc (suc places)) rest h k =
     let all : rest < 16 ^ suc places * 16 = rw pow-suc at k in
     (omega arith, rw e (omega arith))
 
--- What stands in a text of eight digits after some were written, so many places of which are free.
+-- The contents of a text of eight digits after some were written, and the free places before them.
 pub record HasDigits (number rest at : ℕ) (old text : List ℕ) : Type 0 where
   pub within : at < 8
   pub len : length text ≡ 8

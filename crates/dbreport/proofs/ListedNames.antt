@@ -9,7 +9,7 @@ use Rattle.dbformat.specs.Lines.{row_name_text, tree_name}
 use Rattle.dbformat.specs.Reference.{Reference}
 use Rattle.dbformat.specs.Schema.{schema, rooted_rows}
 use Rattle.dbformat.specs.SchemaRow.{SchemaRow}
-use Rattle.dbowner.specs.Roots.{AreListed}
+use Rattle.dbscan.specs.Roots.{AreListed}
 use Rattle.dbscan.specs.Starts.{at_row}
 use Rattle.dbreport.specs.TreeNames.{name_at}
 

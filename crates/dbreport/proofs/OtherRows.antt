@@ -1,4 +1,4 @@
--- The rows of the other pages are those that the marks tell.
+-- The rows of the other pages are those that the marks give.
 use Rattle.std.proofs.Common.{◌≡◌, ℕ, suc, ◌+◌, ◌-◌, ◌<◌, ◌≤◌, Bool, true, false, cond, List, [], ◌∷◌, ◌++◌, length, Option, Some, None, Result, Ok, Err, refl, ap, ap₂, subst, ◌∙◌, arith}
 use Rattle.std.specs.Prelude.{flat_map, filter_map, option_map}
 use Rattle.std.specs.List.{cons_option}
@@ -48,7 +48,7 @@ by_visit g p false None h = refl
 by_visit g p true (Some r) h = absurd (let k : true ≡ false = h r refl in cc)
 by_visit g p false (Some r) h = by_role g p (role_of r) (from_of r)
 
--- a page's mark tells what other page it is
+-- a page's mark shows what other page it is
 pub other_by_mark : (file : List ℕ) (V : List Reference) (p : ℕ) → AreVisits (geometry file) V → marked_other (geometry file) p (mark_of (geometry file) V p) ≡ other_page file V p
 unfolding mark_of
 other_by_mark file V p h = by_visit (geometry file) p (is_fixed (geometry file) p) (visit_of V p)
@@ -69,7 +69,7 @@ rows_text line other (p ∷ ps) = by_case (other p) (rows_text line other ps)
     by_case None h = h
     by_case (Some what) h = ap (λ l. line (other_row p what) ++ l) h
 
--- the lines that the marks tell are those of the rows
+-- the lines that the marks give are those of the rows
 pub others_text : (file : List ℕ) (V : List Reference) (g : Geometry) (marks : List Mark) → g ≡ geometry file → Survey file V → AreMarksOf file V marks
     → marked_lines g marks 1 (length marks) ≡ flat_map (form_line file V) (other_rows file V)
 unfolding form_line

@@ -25,7 +25,7 @@ nothing_asked g e = inl e
 header_asked : (g : Geometry) {log : List ByteRange} → log ≡ header_range ∷ [] → IsRunLog g log
 header_asked g e = inr ([], e, no_pages g)
 
--- the header alone was asked for
+-- only the header was asked for
 pub opened_log : (g : Geometry) (r : Result HeaderBytes OpenError) (log : List ByteRange) → IsOpenLog r log → IsRunLog g log
 opened_log g (Ok h) log e = header_asked g e
 opened_log g (Err (Refused Short)) log e = nothing_asked g e
@@ -48,9 +48,9 @@ some_range = record { page_size = (omega arith, omega arith); usable = (omega ar
 pub opened_some_log : (r : Result HeaderBytes OpenError) (log : List ByteRange) → IsOpenLog r log → IsSomeRunLog log
 opened_some_log r log e = (some_geometry, some_range, opened_log some_geometry r log e)
 
--- ---- behind the header
+-- ---- after the header
 
--- nothing was asked for behind the header
+-- nothing was asked for after the header
 behind_none : {step : Step} {T : List ℕ → Type 0} (h : HeaderBytes) (s : SourceState) (file : List ℕ) → IsHeaderOf h file
     → ((file : List ℕ) → IsHeaderOf h file → T file) → HasReadBehind step (IsPageLog (geometry_of h.bytes h.file_len)) h T s s
 behind_none h s file is q = record {
@@ -63,7 +63,7 @@ behind_none h s file is q = record {
   tells = told_all s.bytes (λ file is. tt);
 }
 
--- the header, and what was read behind it, of a run
+-- the header, and what was read after it, of a run
 pub whole_run : {step : Step} {lengths : Lengths} {T : List ℕ → Type 0} (h : HeaderBytes) {old mid new : SourceState} → Opens step lengths (Ok h) old mid → step old.trail (given 0 h.bytes) mid.trail
     → (refusal_of h.bytes h.file_len ≡ None) × (length h.bytes ≡ 100) → IsInRange (geometry_of h.bytes h.file_len)
     → HasReadBehind step (IsPageLog (geometry_of h.bytes h.file_len)) h T mid new → HasRead step lengths IsSomeRunLog (λ file ranges. IsRunLog (geometry file) ranges × T file) old new
@@ -72,7 +72,7 @@ whole_run {step} {lengths} {T} h {old} {mid} {new} opens first accepted range be
     read_weaker (IsRunLog g) _ (ran step lengths h T old mid new accepted.0 accepted.1 opens first behind)
     (λ ranges p. (g, range, p)) (λ file ranges p t. (subst (λ s. IsRunLog s ranges) t.0.shape p, t.1))
 
--- a run that asked for nothing behind the header
+-- a run that asked for nothing after the header
 pub header_run : {step : Step} {lengths : Lengths} {T : List ℕ → Type 0} (h : HeaderBytes) {old mid : SourceState} → Opens step lengths (Ok h) old mid → step old.trail (given 0 h.bytes) mid.trail
     → (refusal_of h.bytes h.file_len ≡ None) × (length h.bytes ≡ 100) → IsInRange (geometry_of h.bytes h.file_len)
     → ((file : List ℕ) → IsHeaderOf h file → T file) → HasRead step lengths IsSomeRunLog (λ file ranges. IsRunLog (geometry file) ranges × T file) old mid

@@ -1,4 +1,4 @@
--- What a sink is lent after an answer, and what its Outs count.
+-- What a sink borrows after an answer, and what its Outs count.
 use Rattle.std.proofs.Common.{◌≡◌, ℕ, inl, inr, List, [], ◌∷◌, Ok, Err, Result, ap, ◌∙◌}
 use Rattle.dbsource.specs.Errors.{is_write_failed}
 use Rattle.dbsource.specs.Failures.{CountsAfter, failures_after}
@@ -13,7 +13,7 @@ abbrev pub second : List ℕ → ℕ
 second [] = 0
 second (x ∷ xs) = first xs
 
--- it is lent the same
+-- it borrows the same
 pub lent_same : {A : Type 0} (r : Result A RunError) (s t : SinkState) → SinkAfter is_write_failed r s t → t.lent ≡ s.lent
 lent_same (Ok a) s t h = ap (λ (x : SinkState). x.lent) h
 lent_same (Err (Refused r)) s t h = ap (λ (x : SinkState). x.lent) h
@@ -21,7 +21,7 @@ lent_same (Err ReadFailed) s t h = ap (λ (x : SinkState). x.lent) h
 lent_same (Err OutOfMemory) s t h = ap (λ (x : SinkState). x.lent) h
 lent_same (Err WriteFailed) s t h = h.lent
 
--- where it is lent one Out, that failed once more exactly at a failed write
+-- if it borrows one Out, this failed once more exactly at a failed write
 pub one_failed : {A : Type 0} (r : Result A RunError) (a b : List ℕ) (m n : ℕ) → SinkAfter is_write_failed r (record { lent = a; failures = m ∷ [] }) (record { lent = b; failures = n ∷ [] })
     → n ≡ failures_after is_write_failed r m
 one_failed (Ok x) a b m n h = ap (λ (s : SinkState). first s.failures) h

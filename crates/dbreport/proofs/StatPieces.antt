@@ -10,7 +10,7 @@ use Rattle.dbreport.specs.Sums.{sums_of}
 use Rattle.dbreport.specs.declared.statistics.sums.Sums.{Sums}
 use Rattle.dbreport.proofs.SumLemmas.{counted-mul}
 
--- columns behind others, and the end of the line
+-- columns after others, and the end of the line
 abbrev ended : List (List ℕ) → List ℕ
 ended [] = line_feed ∷ []
 ended (x ∷ xs) = column x ++ ended xs
@@ -20,7 +20,7 @@ columns_first : (x : List ℕ) (xs : List (List ℕ)) → columns (x ∷ xs) ≡
 columns_first x [] = refl
 columns_first x (y ∷ xs) = append_assoc x (tab ∷ join_with_byte tab (y ∷ xs)) (line_feed ∷ []) ∙ ap (λ w. x ++ (tab ∷ w)) (columns_first y xs)
 
--- some columns, and others behind them
+-- some columns, and others after them
 ended-append : (xs ys : List (List ℕ)) → ended (xs ++ ys) ≡ flat_map column xs ++ ended ys
 ended-append [] ys = refl
 ended-append (x ∷ xs) ys = ap (λ w. column x ++ w) (ended-append xs ys) ∙ sym (append_assoc (column x) (flat_map column xs) (ended ys))

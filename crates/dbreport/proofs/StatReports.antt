@@ -1,7 +1,6 @@
 -- What the statistics have written of a file in the end, and what they found: its report.
-use Rattle.std.proofs.Common.{◌≡◌, ℕ, None, suc, ◌+◌, true, false, cond, List, [], ◌∷◌, ◌++◌, length, Result, Ok, Err, inl, inr, refl, sym, ap, ◌∙◌, subst, arith}
-use Rattle.std.specs.Prelude.{flat_map, ◌==◌, if◌then◌else◌}
-use Rattle.std.proofs.lemmas.Bool.Decides.{nat_tests}
+use Rattle.std.proofs.Common.{◌≡◌, ℕ, None, ◌+◌, List, [], ◌++◌, length, Result, Ok, Err, inl, inr, sym, ap, ◌∙◌, subst, arith}
+use Rattle.std.specs.Prelude.{flat_map, if◌then◌else◌}
 use Rattle.std.proofs.lemmas.Grind.{flat_map-append}
 use Rattle.dbsurvey.specs.Moves.{Moves}
 use Rattle.dbformat.specs.File.{geometry, refusal}
@@ -9,14 +8,13 @@ use Rattle.dbformat.specs.declared.Command.TheVariants.{Stat}
 use Rattle.dbformat.specs.Header.{encoding as encoding_of}
 use Rattle.dbformat.specs.Lines.{counted, fault_line, form_line}
 use Rattle.dbformat.specs.Reference.{Reference}
-use Rattle.dbformat.specs.Report.{faults, verdict}
+use Rattle.dbformat.specs.Report.{faults, verdict, verdict_of}
 use Rattle.dbformat.specs.Rows.{form_rows, other_rows, page_rows, tree_rows}
 use Rattle.dbformat.specs.Survey.{Survey}
-use Rattle.dbformat.specs.declared.Fault.{Fault}
 use Rattle.dbformat.specs.declared.Geometry.{Geometry}
 use Rattle.dbformat.specs.declared.Verdict.{Verdict}
-use Rattle.dbformat.specs.declared.Verdict.TheVariants.{Clean, Faulty}
 use Rattle.dbformat.proofs.HeaderPrefix.{encoding_within}
+use Rattle.dbformat.proofs.Verdicts.{verdict_counted}
 use Rattle.dbsource.specs.HeaderBytes.{HeaderBytes}
 use Rattle.dbsource.specs.Headers.{IsHeaderOf}
 use Rattle.dbsource.specs.Outs.{OutState, Writes}
@@ -25,7 +23,7 @@ use Rattle.dbwalk.specs.Telling.{StopsBy}
 use Rattle.dbscan.specs.Finishes.{Leaves}
 use Rattle.dbscan.specs.Notices.{run_notices}
 use Rattle.dbreport.specs.Runs.{IsReported}
-use Rattle.dbreport.specs.StatSink.{CutsStat, HasBegun, HasWritten, HearsStat, found_verdict}
+use Rattle.dbreport.specs.StatSink.{CutsStat, HasBegun, HasWritten, HearsStat}
 use Rattle.dbreport.specs.StatStarts.{IsForFile, LeavesStat, rows_text}
 use Rattle.dbreport.specs.Statistics.{form_of}
 use Rattle.dbreport.specs.Sums.{sums_of}
@@ -46,28 +44,21 @@ form_text form file V s =
 from_none : (n : ℕ) → 0 + n ≡ n
 from_none n = omega arith
 
-not_none : (n : ℕ) → (counted (suc n) == 0) ≡ false
-not_none n = grind (arith, nat_tests)
-
-by_count : (fs : List Fault) → found_verdict (counted (length fs)) ≡ verdict fs
-by_count [] = refl
-by_count (f ∷ fs) = ap (λ b. cond b Clean (Faulty (counted (suc (length fs))))) (not_none (length fs))
-
 module _ {O E : Type 0} (held : O → OutState) (held' : E → OutState) (file : List ℕ) (V : List Reference) (survey : Survey file V) where
   -- it was cut off
   begun : (e : RunError) (s t : StatSink O E) → HasBegun held held' s t (rows_text s.form.aggregate s.form.all file V) (faults file V) → LeavesStat held held' file V (Err e) s t
   begun e s t h for none = ((subst (λ l. HasBegun held held' s t l (faults file V)) (form_text s.form file V survey) h).out, h.err, tt)
 
   -- all was written
-  whole : (v : Verdict) (s t : StatSink O E) → HasWritten held held' s t (rows_text s.form.aggregate s.form.all file V) (faults file V) → v ≡ found_verdict t.found
+  whole : (v : Verdict) (s t : StatSink O E) → HasWritten held held' s t (rows_text s.form.aggregate s.form.all file V) (faults file V) → v ≡ verdict_of t.found
       → LeavesStat held held' file V (Ok v) s t
   whole v s t h found for none = (
     (subst (λ l. HasWritten held held' s t l (faults file V)) (form_text s.form file V survey) h).out,
     h.err,
-    found ∙ ap found_verdict (h.found 0 none ∙ ap counted (from_none (length (faults file V)))) ∙ by_count (faults file V),
+    found ∙ ap verdict_of (h.found 0 none ∙ ap counted (from_none (length (faults file V)))) ∙ verdict_counted (faults file V),
   )
 
-  -- a beginning of what is told was heard
+  -- a beginning of what is reported was heard
   stat_stopped : (e : RunError) (s t : StatSink O E) → StopsBy (HearsStat held held') (CutsStat held held') e s (run_notices file V) t → LeavesStat held held' file V (Err e) s t
   stat_stopped e s t k for none = begun e s t (run_written {A = Verdict} held held' file V survey s t for (Err e) k) for none
 
@@ -93,7 +84,7 @@ module _ {O E : Type 0} (held : O → OutState) (held' : E → OutState) (file :
       }
 
   -- all was heard
-  pub stat_ended : (s t : StatSink O E) → Moves (HearsStat held held') s (run_notices file V) t → (v : Verdict) → v ≡ found_verdict t.found → LeavesStat held held' file V (Ok v) s t
+  pub stat_ended : (s t : StatSink O E) → Moves (HearsStat held held') s (run_notices file V) t → (v : Verdict) → v ≡ verdict_of t.found → LeavesStat held held' file V (Ok v) s t
   stat_ended s t told v found for none = whole v s t (run_written {A = Unit {0}} held held' file V survey s t for (Ok tt) told) found for none
 
 -- a sink by the header of a file is as the file asks for

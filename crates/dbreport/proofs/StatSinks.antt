@@ -1,4 +1,4 @@
--- What the sink of the statistics writes of what it is told, notice after notice.
+-- What the sink of the statistics writes of what it hears, notice after notice.
 use Rattle.std.proofs.Common.{◌≡◌, ℕ, ◌+◌, ◌⊎◌, inl, inr, Bool, not, List, [], ◌∷◌, ◌++◌, Result, Ok, Err, refl, sym, ap, ◌∙◌, subst, arith, append-nil}
 use Rattle.std.specs.Io.KnownBytes.{Appends}
 use Rattle.dbsurvey.specs.Moves.{Moves, Stops, MovesBySome}
@@ -43,14 +43,14 @@ cut_none : {S I : Type 0} (move fail : S → I → S → Type 0) (s t : S) → C
 cut_none move fail s t (inl e) = e
 cut_none move fail s t (inr h) = absurd h
 
--- before the first item, in it, or behind it
+-- before the first item, in it, or after it
 cut_first : {S I : Type 0} (move fail : S → I → S → Type 0) (s : S) (i : I) (L : List I) (t : S) → Cut move fail s (i ∷ L) t → (s ≡ t) ⊎ fail s i t ⊎ ((m : S) × move s i m × Cut move fail m L t)
 cut_first move fail s i L t (inl (inl e)) = inl e
 cut_first move fail s i L t (inl (inr h)) = inr (inr (h.0, h.1, inl h.2))
 cut_first move fail s i L t (inr (inl h)) = inr (inl h)
 cut_first move fail s i L t (inr (inr h)) = inr (inr (h.0, h.1, inr h.2))
 
--- how lines are written between two notices: in which form, with which encoding and size of a page, and behind which rows of the
+-- how lines are written between two notices: in which form, with which encoding and size of a page, and after which rows of the
 -- same tree
 pub record Sheet : Type 0 where
   pub form : Form
@@ -66,7 +66,7 @@ lines p (found at (told_fault f why)) = []
 lines p (ended at) = end_text p.form.aggregate (name_at p.encoding at) p.size p.rows
 lines p (walked g marks) = other_lines p.form.all g marks
 
--- and how they are written behind it
+-- and how they are written after it
 abbrev pub next : Sheet → Notice → Sheet
 next p (whole f) = p
 next p (found at (told_row r)) = record p { rows = p.rows ++ r ∷ [] }
@@ -127,7 +127,7 @@ module _ {O E : Type 0} (held : O → OutState) (held' : E → OutState) where
     by_sheet P f at h =
         subst (λ (a : Form). P (f a.aggregate (name_at p.encoding at) p.size)) on.form (subst (λ e. P (f s.form.aggregate (name_at e at) p.size)) on.encoding (subst (λ z. P (f s.form.aggregate (name_at s.encoding at) z)) on.size h))
 
-    -- behind what leaves all but the rows of the tree as it was
+    -- after a notice that changes at most the rows of the tree
     on_same : (m : StatSink O E) → IsSameSink s m → (rows : List StatRow) → m.sums ≡ sums_of rows → IsOn (record p { rows = rows }) m
     on_same m same rows e = record { form = same.form ∙ on.form; encoding = same.encoding ∙ on.encoding; size = same.page_size ∙ on.size; summed = e }
 

@@ -1,4 +1,4 @@
--- What the statistics write of the starts of a file, by what is told of them.
+-- What the statistics write of the starts of a file, by what is reported of them.
 use Rattle.std.proofs.Common.{◌≡◌, ℕ, suc, ◌+◌, Bool, true, false, cond, List, [], ◌∷◌, ◌++◌, length, map, take, Some, Result, refl, sym, ap, ap₂, ◌∙◌, subst, arith, append_assoc, append-nil}
 use Rattle.std.specs.Prelude.{flat_map, slice_get, codes, ◌==◌, if◌then◌else◌}
 use Rattle.std.specs.List.{enumerate_from}
@@ -66,7 +66,7 @@ pages_ended true name size [] = refl
 pages_ended true name size (r ∷ rows) = refl
 pages_ended false name size rows = append-nil (pages_text false name size rows)
 
--- ---- the lines of what is told
+-- ---- the lines of what is reported
 
 found_lines : (p : Sheet) (at : At) (items : List Finding) (rest : List Notice)
     → all_lines p (map (found at) items ++ rest) ≡ pages_text p.form.aggregate (name_at p.encoding at) p.size (rows_told items) ++ all_lines (record p { rows = p.rows ++ rows_told items }) rest
@@ -187,7 +187,7 @@ module _ (file : List ℕ) (V : List Reference) (form all : Bool) where
       ∙ lines_then sheet (start_notices file V) (geometry file) (marks_of (geometry file) V) (end_faults file V)
       ∙ ap₂ (λ a b. a ++ b) (start_lines survey) (others_shown all survey)
 
--- All of a file was told, or a beginning: so were its rows and faults written.
+-- All of a file was reported, or a beginning: its rows and faults were written accordingly.
 pub run_written : {A O E : Type 0} (held : O → OutState) (held' : E → OutState) (file : List ℕ) (V : List Reference) → Survey file V → (s t : StatSink O E) → IsForFile file s
     → (r : Result A RunError) → Tells (HearsStat held held') (CutsStat held held') r s (run_notices file V) t
     → WritesBoth held held' r s t (rows_text s.form.aggregate s.form.all file V) (faults file V)

@@ -1,4 +1,4 @@
--- The text of the statistics, written start by start, is that of the rows of the form; and what is told comes by parts too.
+-- The text of the statistics, written start by start, is that of the rows of the form; and what is reported comes by parts too.
 use Rattle.std.proofs.Common.{◌≡◌, ℕ, inl, inr, Bool, true, false, cond, if◌then◌else◌, List, [], ◌∷◌, ◌++◌, map, Option, Some, None, refl, sym, ap, ap₂, subst, ◌∙◌, append-nil}
 use Rattle.std.specs.Prelude.{filter, filter_map, flat_map, option_to_list, ◌==◌}
 use Rattle.std.specs.List.{cons_option}
@@ -40,7 +40,7 @@ use Rattle.dbscan.proofs.Starts.{quiet_go}
 use Rattle.dbsound.proofs.RowCounts.FormRows.{start_role}
 use Rattle.dbreport.proofs.StatTrees.{rows_none, rows_join, row_of_tree, HasLaterStarts, trees_apart, IsTree, no_tree, tree, IsStart, below_links, later_starts_below, row_start, one_tree}
 
--- ---- what is told
+-- ---- what is reported
 
 -- the rows among it are those of the visits
 

@@ -20,6 +20,6 @@ min-mul m n (suc s) =
           rw (e, min-eq_right much, min-eq_right all) refl)
     ]
 
--- the size of so many pages, which is counted from their count
+-- the size of n pages, which is computed from their count
 pub counted-mul : (n s : ℕ) → counted (counted n * s) ≡ counted (n * s)
 counted-mul n s = min-mul (2 ^ 64 - 1) n s

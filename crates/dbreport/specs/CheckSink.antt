@@ -2,10 +2,9 @@
 use Rattle.std.specs.Prelude.{◌≡◌, ℕ, ◌+◌, true, ◌==◌, nat_lt, List, [], ◌∷◌, Result, Ok, Err, IfOk, if◌then◌else◌}
 use Rattle.dbformat.specs.Lines.{counted, fault_line, ok_line}
 use Rattle.dbformat.specs.Reference.{Reference}
-use Rattle.dbformat.specs.Report.{check_text, faults, more_text, verdict}
+use Rattle.dbformat.specs.Report.{check_text, faults, more_text, verdict, verdict_of}
 use Rattle.dbformat.specs.declared.Fault.{Fault}
 use Rattle.dbformat.specs.declared.Verdict.{Verdict}
-use Rattle.dbformat.specs.declared.Verdict.TheVariants.{Clean, Faulty}
 use Rattle.dbsource.specs.Outs.{OutState, Puts, Writes}
 use Rattle.dbsource.specs.declared.error.RunError.{RunError}
 use Rattle.dbwalk.specs.Telling.{SinkState}
@@ -34,19 +33,19 @@ pub record CutsFault {O : Type 0} (held : O → OutState) (s : CheckSink O) (f :
   pub room : nat_lt s.shown s.limit ≡ true
   pub puts : PutsPart (held s.out.now) (held t.out.now) (fault_line f)
 
--- the last line, where so many faults were shown, and so many more were told
+-- the last line, by the number of faults that were shown, and of those that were not
 abbrev pub end_text : ℕ → ℕ → List ℕ
 end_text shown more = if shown + more == 0 then ok_line else more_text more
 
 -- and what was found
-abbrev pub verdict_of : ℕ → ℕ → Verdict
-verdict_of shown more = if shown + more == 0 then Clean else Faulty (counted (shown + more))
+abbrev pub found_verdict : ℕ → ℕ → Verdict
+found_verdict shown more = verdict_of (counted (shown + more))
 
--- it is lent its Out, whose failures are counted
+-- it borrows its Out, whose failures are counted
 abbrev pub check_held : {O : Type 0} → (O → OutState) → CheckSink O → SinkState
 check_held held s = record { lent = s.out.ghost_name ∷ []; failures = (held s.out.now).failures ∷ [] }
 
--- What a check leaves of its sink, where it was told nothing before: its text, or after an error a beginning of it; and the verdict.
+-- What a check leaves of its sink, where it heard nothing before: its text, or after an error a beginning of it; and the verdict.
 abbrev pub LeavesCheck : {O : Type 0} → (O → OutState) → List ℕ → List Reference → Result Verdict RunError → CheckSink O → CheckSink O → Type 0
 LeavesCheck held file V r s t = s.shown ≡ 0 → s.more ≡ 0
     → Writes r (held s.out.now).bytes (held t.out.now).bytes (check_text s.limit (faults file V)) × IfOk r (λ v. v ≡ verdict (faults file V))

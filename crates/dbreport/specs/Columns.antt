@@ -1,4 +1,4 @@
--- Columns of a line of the statistics, each behind a tab, and the pieces of lines that are put by themselves.
+-- Columns of a line of the statistics, each after a tab, and the pieces of lines that are put by themselves.
 use Rattle.std.specs.Prelude.{ℕ, ◌-◌, ◌*◌, List, [], ◌∷◌, ◌++◌, codes, decimal, flat_map}
 use Rattle.dbformat.specs.Lines.{chain_text, counted, counts_columns, line_feed, no_text, pagetype_text, tab}
 use Rattle.dbformat.specs.Rows as format
@@ -25,12 +25,12 @@ place_text page size = column (decimal ((page - 1) * size)) ++ column (decimal s
 abbrev pub child_text : ℕ → List ℕ
 child_text child = hex_text 3 child ++ codes "/"
 
--- the row of a page from behind the children on
+-- the row of a page, after the children
 abbrev pub page_end : ℕ → StatRow → List ℕ
 page_end size row = chain_text row.chain ++ column (decimal row.page) ++ column (pagetype_text row.pagetype)
     ++ counts_text row.counts ++ place_text row.page size
 
--- the row of a tree from behind its name on
+-- the row of a tree, after its name
 abbrev pub tree_end : ℕ → Sums → List ℕ
 tree_end size sums = column no_text ++ column (decimal sums.pages) ++ column no_text
     ++ counts_text sums.counts

@@ -1,5 +1,5 @@
 -- What an answer of a run says of the file, and of what was written.
-use Rattle.std.specs.Prelude.{◌≡◌, ◌<◌, ◌↔◌, ℕ, true, false, List, length, Option, None, Some, Result, Ok, Err, IfOk, ⊤}
+use Rattle.std.specs.Prelude.{◌≡◌, ◌↔◌, ℕ, true, false, List, Option, None, Some, Result, Ok, Err, IfOk, ⊤}
 use Rattle.dbformat.specs.File.{geometry, refusal}
 use Rattle.dbformat.specs.FixedPages.{geometry_of}
 use Rattle.dbformat.specs.Reference.{Reference}
@@ -28,12 +28,12 @@ use Rattle.dbsource.specs.declared.out.Out.{Ghosts as OutWords}
 use Rattle.dbsource.specs.declared.source.Source.{Ghosts as SourceWords}
 use Rattle.dbreport.specs.StatSink.{failures_of_each}
 
--- that a command is a check
+-- whether a command is a check
 abbrev pub IsCheck : Command → Type 0
 IsCheck (Check limit) = ⊤
 IsCheck (Stat aggregate all) = ⊥
 
--- A refused file is answered its refusal or a failed read, and any other never a refusal.
+-- A refused file is answered with its refusal or with a failed read, and any other file never with a refusal.
 abbrev pub IsAnswerOf : {A : Type 0} → Result A RunError → List ℕ → Type 0
 IsAnswerOf (Err (Refused r)) file = refusal file ≡ Some r
 IsAnswerOf (Err ReadFailed) file = Unit {0}
@@ -44,7 +44,7 @@ abbrev pub IsUnwritten : {A X : Type 0} → Result A RunError → X → X → Ty
 IsUnwritten (Err (Refused r)) old new = new ≡ old
 IsUnwritten r old new = Unit {0}
 
--- at a refusal the header alone was asked for, once; and not even that, where the file is too short to have one
+-- at a refusal only the header was asked for, once; and not even that, where the file is too short to have one
 abbrev pub AsksHeaderAlone : {A : Type 0} → Step → Result A RunError → Trail → Trail → Type 0
 AsksHeaderAlone step (Err (Refused r)) old new = HasRanges step (IsOpenLog (Err (opening.Refused r))) old new
 AsksHeaderAlone step r old new = Unit {0}
@@ -69,8 +69,8 @@ pub record IsReportedBy (told : Report) (r : Result Verdict RunError) (out_old o
 abbrev pub IsReported : Command → List ℕ → List Reference → Result Verdict RunError → Option (List ℕ) → Option (List ℕ) → Option (List ℕ) → Option (List ℕ) → Type 0
 IsReported command file V r out_old out_new err_old err_new = IsReportedBy (report command file V) r out_old out_new err_old err_new
 
--- What a run left is so of a file, where `rep` is the report of a file by its survey: the file has a survey, and by any survey of
--- it that is its report; `Clean` is what a sound file is answered, and no other.
+-- A run left this of a file, where `rep` is the report of a file by its survey: the file has a survey, and by any survey of it
+-- that is its report. The answer is `Clean` exactly for a sound file.
 pub record IsRunBy (rep : List ℕ → List Reference → Report) (file : List ℕ) (r : Result Verdict RunError) (out_old out_new err_old err_new : Option (List ℕ)) : Type 0 where
   pub survey : Survey file (survey file)
   pub reported : (V : List Reference) → Survey file V → IsReportedBy (rep file V) r out_old out_new err_old err_new
@@ -82,7 +82,7 @@ pub record IsRunOf (command : Command) (file : List ℕ) (r : Result Verdict Run
   pub run : IsRunBy (report command) file r out_old out_new err_old err_new
   pub counts : (V : List Reference) → Survey file V → CountsPages command file V
 
--- ---- a run from a source and an Out to what these have become, by what their traits say of them
+-- ---- from a source and an Out to their states after the run, by what their traits say of them
 
 module _ {S O : Type 0} (source : SourceWords S) (out : OutWords O) where
   -- Whatever the source answered: there is a file, of the length that it answered, that agrees with every byte that the run used;
@@ -92,8 +92,7 @@ module _ {S O : Type 0} (source : SourceWords S) (out : OutWords O) where
       (λ file ranges. IsRunLog (geometry file) ranges × ((err : Option (List ℕ)) → IsRunBy rep file r (out.held old.1).bytes (out.held new.1).bytes err err))
       (source.held old.0) (source.held new.0)
 
-  -- Who failed is what was answered: the source failed, once, exactly at a failed read, and the Out, once, exactly at a failed
-  -- write.
+  -- The answer says who failed: the source, once, exactly at a failed read, and the Out, once, exactly at a failed write.
   pub record FailsOnce (r : Result Verdict RunError) (old new : S × O) : Type 0 where
     pub reads : (source.held new.0).failures ≡ failures_after is_read_failed r (source.held old.0).failures
     pub writes : (out.held new.1).failures ≡ failures_after is_write_failed r (out.held old.1).failures
@@ -114,14 +113,14 @@ module _ {S O E : Type 0} (source : SourceWords S) (out : OutWords O) (err : Out
       × IsRunOf command file r (out.held old.1).bytes (out.held new.1).bytes (err.held old.2).bytes (err.held new.2).bytes)
       (source.held old.0) (source.held new.0)
 
-  -- The same behind a header that had been read before: there is a file of this header that agrees, and so on.
+  -- The same after a header that had been read before: there is a file of this header that agrees, and so on.
   abbrev pub HasRunBehind : HeaderBytes → Command → Result Verdict RunError → S × O × E → S × O × E → Type 0
   HasRunBehind h command r old new = HasReadBehind source.step (IsPageLog (geometry_of h.bytes h.file_len)) h
       (λ file. IsRunOf command file r (out.held old.1).bytes (out.held new.1).bytes (err.held old.2).bytes (err.held new.2).bytes)
       (source.held old.0) (source.held new.0)
 
-  -- Who failed is what was answered: the source failed, once, exactly at a failed read; just one of the Outs, once, exactly at a
-  -- failed write; and of a check that is the first.
+  -- The answer says who failed: the source, once, exactly at a failed read; exactly one of the Outs, once, exactly at a failed
+  -- write. Of a check that is the first Out.
   pub record FailsAsAnswered (command : Command) (r : Result Verdict RunError) (old new : S × O × E) : Type 0 where
     pub reads : (source.held new.0).failures ≡ failures_after is_read_failed r (source.held old.0).failures
     pub writes : CountsAfter is_write_failed r (failures_of_each (out.held old.1) (err.held old.2)) (failures_of_each (out.held new.1) (err.held new.2))
@@ -133,7 +132,7 @@ module _ {S O E : Type 0} (source : SourceWords S) (out : OutWords O) (err : Out
     pub first : IsUnwritten r old.1 new.1
     pub second : IsUnwritten r old.2 new.2
 
--- ---- what is so of a source that tells its bytes, in each case where it is so of each file that agrees with what was read
+-- ---- what holds of a source with told bytes, in each case where it holds of each file that agrees with what was read
 
 -- what `run` says
 abbrev pub ToldRunsAreRead : Step → Lengths → Type 0

@@ -1,12 +1,10 @@
 -- The sink of the statistics: what a finding makes of it, and what it has written and counted after some.
-use Rattle.std.specs.Prelude.{◌≡◌, ℕ, ◌+◌, Bool, true, false, not, ◌==◌, List, [], ◌∷◌, ◌++◌, length, flat_map, Result, Ok, MatchResult, if◌then◌else◌}
+use Rattle.std.specs.Prelude.{◌≡◌, ℕ, ◌+◌, Bool, true, false, not, List, [], ◌∷◌, ◌++◌, length, flat_map, Result, Ok, MatchResult}
 use Rattle.std.specs.Io.KnownBytes.{Appends, Keeps}
 use Rattle.dbformat.specs.Lines.{counted, fault_line, page_line, tree_line}
 use Rattle.dbformat.specs.Rows.{StatRow}
 use Rattle.dbformat.specs.declared.Fault.{Fault}
 use Rattle.dbformat.specs.declared.Geometry.{Geometry}
-use Rattle.dbformat.specs.declared.Verdict.{Verdict}
-use Rattle.dbformat.specs.declared.Verdict.TheVariants.{Clean, Faulty}
 use Rattle.dbsource.specs.Outs.{Begins, Flushes, OutState}
 use Rattle.dbtrace.specs.Finding.{told_row, told_fault}
 use Rattle.dbmarks.specs.declared.marks.Mark.{Mark}
@@ -24,7 +22,7 @@ abbrev pub pages_text : Bool → List ℕ → ℕ → List StatRow → List ℕ
 pages_text true name size rows = []
 pages_text false name size rows = flat_map (page_line name size) rows
 
--- what is written behind the rows of a tree
+-- what is written after the rows of a tree
 abbrev pub end_text : Bool → List ℕ → ℕ → List StatRow → List ℕ
 end_text true name size [] = []
 end_text true name size (row ∷ rows) = tree_line name size (row ∷ rows)
@@ -51,7 +49,7 @@ pub record IsSameSink {O E : Type 0} (s t : StatSink O E) : Type 0 where
   pub page_size : t.page_size ≡ s.page_size
   pub form : t.form ≡ s.form
 
--- an Out was flushed: what it told stays, nothing of it is pending, and it did not fail
+-- an Out was flushed: the bytes that it has stay, none of them is pending, and it did not fail
 abbrev pub IsFlushed : OutState → OutState → Type 0
 IsFlushed old new = Flushes {A = Unit {0}} {E = Unit {0}} (Ok tt) old new
 
@@ -60,7 +58,7 @@ abbrev pub IsFlushedIf : Bool → OutState → OutState → Type 0
 IsFlushedIf true old new = IsFlushed old new
 IsFlushedIf false old new = new ≡ old
 
--- a row was taken: it was written, behind the faults that came before it, or counted for its tree's
+-- a row was taken: it was written, after the faults that came before it, or counted for its tree's
 pub record TakesRow {O E : Type 0} (held : O → OutState) (held' : E → OutState) (s : StatSink O E) (at : At) (r : StatRow) (t : StatSink O E) : Type 0 where
   pub same : IsSameSink s t
   pub err : IsFlushedIf (not s.form.aggregate) (held' s.err.now) (held' t.err.now)
@@ -74,7 +72,7 @@ pub record CutsRow {O E : Type 0} (held : O → OutState) (held' : E → OutStat
   pub err : Keeps (held' s.err.now).bytes (held' t.err.now).bytes
   pub out : Begins (held s.out.now).bytes (held t.out.now).bytes (text_of s at (r ∷ []))
 
--- a fault was written, behind the rows that came before it, and counted
+-- a fault was written, after the rows that came before it, and counted
 pub record TakesFault {O E : Type 0} (held : O → OutState) (held' : E → OutState) (s : StatSink O E) (f : Fault) (t : StatSink O E) : Type 0 where
   pub same : IsSameSink s t
   pub out : IsFlushed (held s.out.now) (held t.out.now)
@@ -92,13 +90,9 @@ pub record CutsFault {O E : Type 0} (held : O → OutState) (held' : E → OutSt
 abbrev pub failures_of_each : OutState → OutState → List ℕ
 failures_of_each out err = out.failures ∷ err.failures ∷ []
 
--- it is lent both Outs, whose failures are counted
+-- it borrows both Outs, whose failures are counted
 abbrev pub stat_held : {O E : Type 0} → (O → OutState) → (E → OutState) → StatSink O E → SinkState
 stat_held held held' s = record { lent = s.out.ghost_name ∷ s.err.ghost_name ∷ []; failures = failures_of_each (held s.out.now) (held' s.err.now) }
-
--- what was found, by the count of faults
-abbrev pub found_verdict : ℕ → Verdict
-found_verdict n = if n == 0 then Clean else Faulty n
 
 -- From one sink to the other these bytes were written to the first Out, and the lines of these faults to the second.
 pub record HasWritten {O E : Type 0} (held : O → OutState) (held' : E → OutState) (s t : StatSink O E) (text : List ℕ) (faults : List Fault) : Type 0 where
@@ -109,7 +103,7 @@ pub record HasWritten {O E : Type 0} (held : O → OutState) (held' : E → OutS
   pub out : Appends (held s.out.now).bytes (held t.out.now).bytes text
   pub err : Appends (held' s.err.now).bytes (held' t.err.now).bytes (flat_map fault_line faults)
 
--- of each a beginning was written
+-- a beginning of each was written
 pub record HasBegun {O E : Type 0} (held : O → OutState) (held' : E → OutState) (s t : StatSink O E) (text : List ℕ) (faults : List Fault) : Type 0 where
   pub out : Begins (held s.out.now).bytes (held t.out.now).bytes text
   pub err : Begins (held' s.err.now).bytes (held' t.err.now).bytes (flat_map fault_line faults)
@@ -118,7 +112,7 @@ pub record HasBegun {O E : Type 0} (held : O → OutState) (held' : E → OutSta
 abbrev pub WritesBoth : {A X O E : Type 0} → (O → OutState) → (E → OutState) → Result A X → StatSink O E → StatSink O E → List ℕ → List Fault → Type 0
 WritesBoth held held' r s t text faults = MatchResult r (λ _. HasWritten held held' s t text faults) (λ _. HasBegun held held' s t text faults)
 
--- A tree has ended: its own row was written, where its rows are added up, behind the faults that came before it.
+-- A tree has ended: its own row was written, where its rows are added up, after the faults that came before it.
 pub record EndsTree {O E : Type 0} (held : O → OutState) (held' : E → OutState) (s : StatSink O E) (at : At) (t : StatSink O E) : Type 0 where
   pub form : t.form ≡ s.form
   pub encoding : t.encoding ≡ s.encoding

@@ -1,8 +1,8 @@
-// A check of a file: what it writes of what it is told.
+// A check of a file: what it writes of the notices that it hears.
 ghost use Rattle.std.specs.Prelude.{◌≡◌, IfOk, MatchResult};
 ghost use Rattle.dbsource.specs.Failures.{failures_after, is_any};
 ghost use Rattle.dbsource.specs.Outs.{Puts};
-ghost use Rattle.dbreport.specs.CheckSink.{CutsFault, ShowsFault, end_text, verdict_of};
+ghost use Rattle.dbreport.specs.CheckSink.{CutsFault, ShowsFault, end_text, found_verdict};
 
 use dbformat::Verdict;
 use dblines::{put_fault, put_ok, put_rest};
@@ -21,7 +21,7 @@ pub(crate) struct CheckSink<'a, O> {
 }
 
 impl<'a, O: Out> CheckSink<'a, O> {
-    // One that was told nothing, and shows so many faults at most.
+    // One that heard nothing, and shows `limit` faults at most.
     pub(crate) fn new(out: &'a mut O, limit: u32) -> CheckSink<'a, O>
         ensures same_out { result.out.ghost_name ≡ out.entry.ghost_name }
         ensures out { result.out.now ≡ out.old }
@@ -55,15 +55,15 @@ impl<'a, O: Out> CheckSink<'a, O> {
     fn end(&mut self) -> Result<Verdict, WriteFailed>
         ensures same_out { self.new.out.ghost_name ≡ self.old.out.ghost_name }
         ensures text { Puts result (O.held self.old.out.now) (O.held self.new.out.now) (end_text self.old.shown self.old.more) }
-        ensures verdict { IfOk result (λ v. v ≡ verdict_of self.old.shown self.old.more) }
+        ensures verdict { IfOk result (λ v. v ≡ found_verdict self.old.shown self.old.more) }
     {
         let count = u64::from(self.shown).saturating_add(self.more);
         if count == 0 {
             put_ok(self.out)?;
-            return Ok(Verdict::Clean);
+        } else {
+            put_rest(self.out, self.more)?;
         }
-        put_rest(self.out, self.more)?;
-        Ok(Verdict::Faulty(count))
+        Ok(Verdict::of(count))
     }
 }
 

@@ -1,4 +1,4 @@
-//! What is told of a database: its faults and the rows of its statistics, as lines, and the verdict.
+//! What is written of a database: its faults and the rows of its statistics, as lines, and the verdict.
 //!
 //! ```
 //! let mut source = MemSource::new(bytes);

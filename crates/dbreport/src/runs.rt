@@ -84,7 +84,7 @@ pub fn run_on<A: Allocator, S: Source, O: Out, E: Out>(
     out: &mut O,
     err: &mut E,
 ) -> Result<Verdict, RunError>
-    // Whatever the source answers: there is a file of the desk's header that agrees with what was read behind it, and of each
+    // Whatever the source answers: there is a file of the desk's header that agrees with what was read after it, and of each
     // such file this was the run.
     ensures read { HasRunBehind S.Source O.Out E.Out desk.old.header command result (source.old, out.old, err.old) (source.new, out.new, err.new) }
     // The verdict is `Clean` exactly where such a file is sound, and so where told bytes are, if the header is theirs.
@@ -132,9 +132,9 @@ pub fn run_in<A: Allocator + Copy, S: Source, O: Out, E: Out>(
 
 /// Reads the database that `source` gives, and writes what `command` asks of it: for a check the fault lines to `out`,
 /// and nothing to `err`; for the statistics the rows to `out`, and all fault lines to `err`. What it keeps of the file
-/// stands on a [`Desk`], in memory from `alloc`.
+/// is on a [`Desk`], in memory from `alloc`.
 ///
-/// The statistics flush the one Out before they put to the other, so that rows and faults stand in the order of the report
+/// The statistics flush the one Out before they put to the other, so that rows and faults come in the order of the report
 /// where both lead to one place. What was put last may be pending at the end: a caller flushes both.
 ///
 /// # Errors

@@ -1,4 +1,4 @@
--- What is told with its causes is the faults of the file, in their order.
+-- What is reported with its causes is the faults of the file, in their order.
 use Rattle.std.proofs.Common.{◌≡◌, ℕ, List, [], ◌∷◌, ◌++◌, length, map, refl, ap₂, ◌∙◌}
 use Rattle.std.proofs.lemmas.List.{map-append}
 use Rattle.dbsurvey.specs.Story as story
@@ -15,7 +15,7 @@ use Rattle.dbtrace.specs.declared.Part.TheVariants as part
 use Rattle.dbtrace.specs.declared.Reported.{Reported}
 use Rattle.dbscan.specs.Placed.{at_start, of_file, walk_told, told_faults, faults_of}
 
--- faults, of whatever each is told with
+-- the faults alone, whatever each is reported with
 bare : (tell : Fault → Reported) → ((f : Fault) → (tell f).fault ≡ f) → (fs : List Fault) → faults_of (map tell fs) ≡ fs
 bare tell same [] = refl
 bare tell same (f ∷ fs) = ap₂ (λ g gs. g ∷ gs) (same f) (bare tell same fs)

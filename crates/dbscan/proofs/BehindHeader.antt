@@ -1,4 +1,4 @@
--- What a run reads behind a header.
+-- What a run reads after a header.
 use Rattle.std.proofs.Common.{◌≡◌, ℕ, List, length, None, sym, subst}
 use Rattle.dbformat.specs.File.{refusal_of}
 use Rattle.dbformat.specs.FixedPages.{geometry_of}

@@ -1,4 +1,4 @@
--- What is told at the end: page after page by the marks, and all of it by the visits.
+-- What is reported at the end: page after page by the marks, and all of it by the visits.
 use Rattle.std.proofs.Common.{◌≡◌, ℕ, ◌+◌, ◌-◌, ◌≤◌, Bool, true, false, cond, ◌&&◌, List, [], ◌∷◌, ◌++◌, map, Option, Some, None, Result, Ok, Err, refl, sym, ap, ap₂, subst, ◌∙◌, arith}
 use Rattle.std.specs.Prelude.{count_by, flat_map, option_to_list, nat_lt, pos}
 use Rattle.std.specs.List.{range_with_len}
@@ -42,7 +42,7 @@ late_none : (has later : Bool) (f : Fault) → told_if ((has && false) && later)
 late_none true later f = refl
 late_none false later f = refl
 
--- nothing is told of a page of fixed use
+-- nothing is reported of a page of fixed use
 pub fixed_items : (file : List ℕ) (least : Option ℕ) (p : ℕ) (m : Mark) → is_fixed_mark m ≡ true → page_items file least p m ≡ []
 fixed_items file None p Fixed h = refl
 fixed_items file (Some least) p Fixed h = ap (map whole) (late_none (geometry file).has_map (nat_lt least p) (fault M02 p 0 (pos least)))
@@ -54,7 +54,7 @@ fixed_items file least p (FirstOverflow from) h = cc
 fixed_items file least p (LaterOverflow from) h = cc
 fixed_items file least p (Child from) h = cc
 
--- what is told of another, from its two faults
+-- what is reported of another page, from its two faults
 pub other_items : (file : List ℕ) (least : Option ℕ) (p : ℕ) (m : Mark) (a b : Option Fault) (e : Option MapEntry) (has : Bool) → e ≡ map_entry file p → has ≡ (geometry file).has_map
     → option_to_list a ≡ mark_fault p e m → option_to_list b ≡ late_fault has p m least → items_of (a ∷ b ∷ []) ≡ page_items file least p m
 other_items file least p m a b e has is own ea eb =
@@ -86,7 +86,7 @@ items_one_more file V least n =
     let f : ℕ → List Notice = λ p. page_items file least p (mark_of (geometry file) V p) in
     ap (flat_map f) (numbers_more n) ∙ flat_map-append f (range_with_len 1 n) ((n + 1) ∷ []) ∙ ap (λ l. flat_map f (range_with_len 1 n) ++ l) (append-nil (f (n + 1)))
 
--- what is told of them is the first of what is told of all
+-- what is reported of the first pages is the beginning of what is reported of all
 pub items_begin : (file : List ℕ) (V : List Reference) (least : Option ℕ) (n m : ℕ) → n ≤ m → (rest : List Notice) × (pages_items file V least n ++ rest ≡ pages_items file V least m)
 items_begin file V least n m l =
     let f : ℕ → List Notice = λ p. page_items file least p (mark_of (geometry file) V p) in
@@ -114,7 +114,7 @@ module _ (file : List ℕ) (V : List Reference) (s : Survey file V) where
       let count = ap freelist_count header.begins ∙ freelist_count_within file in
       rw (format, encoding, greatest, count, e, ← told.greatest, ← told.free) refl
 
-  -- the faults of the whole, as they were told, and then those of the pages
+  -- the faults of the whole, as they were reported, and then those of the pages
   pub all_items : (h : HeaderBytes) (rows : Bool) (marks : List Mark) (greatest free : ℕ) (faults : List (Option Fault))
       → IsHeaderOf h file → AreMarksOf file V marks → rows ≡ has_rows file V → greatest ≡ greatest_root_marked marks → free ≡ count_by is_free_mark marks
       → flat_map option_to_list faults ≡ counted_faults h.bytes rows greatest free

@@ -1,14 +1,13 @@
 -- The faults of an event are of its page: of the one that is visited, or that a reference is found on.
 use Rattle.std.proofs.Common.{◌≡◌, ℕ, ◌-◌, inl, inr, Bool, true, false, cond, not, ◌&&◌, List, [], ◌∷◌, ◌++◌, map, length, Option, Some, None, Result, Ok, Err, refl, sym, ap, subst, ◌∙◌}
-use Rattle.std.specs.Prelude.{flat_map, is_none, nat_le, nat_lt, option_map, option_to_list, pos, ℤ, ◌==◌}
-use Rattle.std.specs.List.{enumerate_from, range_with_len}
+use Rattle.std.specs.Prelude.{flat_map, is_none, nat_le, pos, ℤ, ◌==◌}
+use Rattle.std.specs.List.{range_with_len}
 use Rattle.dbsurvey.specs.Address.{IsIn}
 use Rattle.dbsurvey.specs.Story.{Item, Follow, Place}
-use Rattle.dbsurvey.specs.Survey.{Link}
 use Rattle.dbsurvey.proofs.Order.{IsIn-cases}
-use Rattle.dbsurvey.proofs.Ordering.{IsIn-from_map, IsIn-from_flat_map}
-use Rattle.dbformat.specs.Address.{start_of, schema_start, last_root_start, overflow_step, child_step}
-use Rattle.dbformat.specs.Cell.{Cell, cell, cells, count, overflow_size, right_child}
+use Rattle.dbsurvey.proofs.Ordering.{IsIn-from_flat_map}
+use Rattle.dbformat.specs.Address.{start_of, schema_start, last_root_start}
+use Rattle.dbformat.specs.Cell.{Cell, cell, cells, count}
 use Rattle.dbformat.specs.Coverage.{bad_freeblock, coverage}
 use Rattle.dbformat.specs.Faults.{fault}
 use Rattle.dbformat.specs.File.{page_bytes}
@@ -16,8 +15,7 @@ use Rattle.dbformat.specs.Head.{View, view, view_of_kind, type_byte, page_kind, 
 use Rattle.dbformat.specs.Header.{usable_size}
 use Rattle.dbformat.specs.KeyFaults.{Key, key_of, key_faults, earlier_roots, row_faults, row_faults_if, row_faults_at, cell_place_faults}
 use Rattle.dbformat.specs.PageFaults.{cell_fault, cell_faults, freeblock_fault, coverage_fault, fragment_fault, empty_fault, inner_faults, faults_of_view, tree_page_faults, depth_fault, role_faults, page_faults}
-use Rattle.dbformat.specs.Payload.{overflow_next}
-use Rattle.dbformat.specs.Reference.{Role, root, child, first_overflow, later_overflow, trunk, free_leaf, Way, Reference, role_of, from_of, link, cell_links, right_links, page_links, overflow_links, trunk_links, role_links, leaf_link, next_trunk, trunk_next, leaf_count, most_leaves, free_leaves}
+use Rattle.dbformat.specs.Reference.{Role, root, child, first_overflow, later_overflow, trunk, free_leaf, Way, Reference, role_of, from_of, cell_links, right_links, overflow_links, trunk_links}
 use Rattle.dbformat.specs.ReferenceFaults.{refusal_fault, reference_faults}
 use Rattle.dbformat.specs.Report.{event_faults}
 use Rattle.dbformat.specs.Schema.{SchemaCell, schema_cell}
@@ -40,9 +38,17 @@ use Rattle.dbformat.specs.declared.RowFault.TheVariants.{Malformed, Root}
 use Rattle.dbformat.specs.declared.TreeKind.{TreeKind}
 use Rattle.dbformat.proofs.Theory.{no_place}
 
--- all of these faults are of page p
+-- what holds of each fault of two lists holds of each of both together
+pub each_both : (P : Fault → Type 0) (xs ys : List Fault) → ((f : Fault) → IsIn f xs → P f) → ((f : Fault) → IsIn f ys → P f) → (f : Fault) → IsIn f (xs ++ ys) → P f
+each_both P xs ys h k f i = elim (IsIn-cases f xs ys i) [ inl j ↦ h f j | inr j ↦ k f j ]
+
+-- a fault is of page p
+abbrev IsOf : ℕ → Fault → Type 0
+IsOf p f = f.page ≡ p
+
+-- all of these faults are
 abbrev pub AreOf : ℕ → List Fault → Type 0
-AreOf p fs = (f : Fault) → IsIn f fs → f.page ≡ p
+AreOf p fs = (f : Fault) → IsIn f fs → IsOf p f
 
 module _ (p : ℕ) where
   of_none : AreOf p []
@@ -56,9 +62,6 @@ module _ (p : ℕ) where
   of_if true g e = of_one g e
   of_if false g e = of_none
 
-  of_both : (xs ys : List Fault) → AreOf p xs → AreOf p ys → AreOf p (xs ++ ys)
-  of_both xs ys h k f i = elim (IsIn-cases f xs ys i) [ inl j ↦ h f j | inr j ↦ k f j ]
-
   of_each : {X : Type 0} (each : X → List Fault) (xs : List X) → ((x : X) → AreOf p (each x)) → AreOf p (flat_map each xs)
   of_each each xs h f i = let m = IsIn-from_flat_map each xs f i in h m.0 f m.2
 
@@ -67,10 +70,10 @@ module _ (p : ℕ) where
 inner_of : (v : View) (is_child : Bool) → AreOf v.number (inner_faults v is_child)
 inner_of v is_child =
     let p = v.number in
-    of_both p (fragment_fault v ++ cell_faults v ++ freeblock_fault v ++ coverage_fault v good) (empty_fault v is_child)
-    (of_both p (fragment_fault v ++ cell_faults v ++ freeblock_fault v) (coverage_fault v good)
-    (of_both p (fragment_fault v ++ cell_faults v) (freeblock_fault v)
-    (of_both p (fragment_fault v) (cell_faults v) (of_if p _ _ refl) (of_each p (cell_fault v) (range_with_len 0 (count v)) at_cell))
+    each_both (IsOf p) (fragment_fault v ++ cell_faults v ++ freeblock_fault v ++ coverage_fault v good) (empty_fault v is_child)
+    (each_both (IsOf p) (fragment_fault v ++ cell_faults v ++ freeblock_fault v) (coverage_fault v good)
+    (each_both (IsOf p) (fragment_fault v ++ cell_faults v) (freeblock_fault v)
+    (each_both (IsOf p) (fragment_fault v) (cell_faults v) (of_if p _ _ refl) (of_each p (cell_fault v) (range_with_len 0 (count v)) at_cell))
     (at_freeblock (bad_freeblock v) refl))
     (at_coverage good (coverage v) refl))
     (of_if p _ _ refl)
@@ -125,9 +128,9 @@ unfolding page_faults
 page_of file V r = by_role (role_of r)
   where
     by_role : (role : Role) → AreOf r.page (role_faults role file V r)
-    by_role (root kind) = of_both r.page (tree_page_faults kind false r.page (usable_size file) (page_bytes file r.page)) (depth_fault file V r)
+    by_role (root kind) = each_both (IsOf r.page) (tree_page_faults kind false r.page (usable_size file) (page_bytes file r.page)) (depth_fault file V r)
         (tree_of_page kind false r.page (usable_size file) (page_bytes file r.page)) (depth_of_page file V r)
-    by_role (child kind) = of_both r.page (tree_page_faults kind true r.page (usable_size file) (page_bytes file r.page)) (depth_fault file V r)
+    by_role (child kind) = each_both (IsOf r.page) (tree_page_faults kind true r.page (usable_size file) (page_bytes file r.page)) (depth_fault file V r)
         (tree_of_page kind true r.page (usable_size file) (page_bytes file r.page)) (depth_of_page file V r)
     by_role (first_overflow left) = of_if r.page _ _ refl
     by_role (later_overflow left) = of_if r.page _ _ refl
@@ -142,7 +145,7 @@ row_of_cell is_full c = by_row c.row
     by_row : (row : Result SchemaRow RowFault) → AreOf c.page (row_faults_if is_full (record c { row = row }))
     by_row (Err Malformed) = of_one c.page _ refl
     by_row (Err (Root value)) = of_one c.page _ refl
-    by_row (Ok r) = of_both c.page (told_if (is_none r.name) (fault _ c.page c.item c.rowid)) _ (of_if c.page _ _ refl) (of_if c.page _ _ refl)
+    by_row (Ok r) = each_both (IsOf c.page) (told_if (is_none r.name) (fault _ c.page c.item c.rowid)) _ (of_if c.page _ _ refl) (of_if c.page _ _ refl)
 
 rows_of_cell : (file : List ℕ) (V : List Reference) (c : SchemaCell) → AreOf c.page (row_faults file V c)
 unfolding row_faults
@@ -154,7 +157,7 @@ key_of_page file V k = of_if k.page _ _ refl
 
 cell_of_page : (file : List ℕ) (V : List Reference) (r : Reference) (v : View) (x : ℕ × Cell) → AreOf r.page (cell_place_faults file V r v x)
 cell_of_page file V r v (i, c) =
-    of_both r.page (row_faults_at file V r v (i, c)) (flat_map (key_faults file V) (key_of r v (i, c)))
+    each_both (IsOf r.page) (row_faults_at file V r v (i, c)) (flat_map (key_faults file V) (key_of r v (i, c)))
     (by_case ((start_of r.address == schema_start) && not (is_interior v.kind))) (by_key c.key)
   where
     by_case : (b : Bool) → AreOf r.page (cond b (row_faults file V (schema_cell file V r (i, c))) [])
@@ -163,7 +166,7 @@ cell_of_page file V r v (i, c) =
 
     by_key : (o : Option ℤ) → AreOf r.page (flat_map (key_faults file V) (key_of r v (i, record c { key = o })))
     by_key None = of_none r.page
-    by_key (Some value) = of_both r.page (key_faults file V _) [] (key_of_page file V _) (of_none r.page)
+    by_key (Some value) = each_both (IsOf r.page) (key_faults file V _) [] (key_of_page file V _) (of_none r.page)
 
 -- ---- a reference that is refused
 
@@ -222,57 +225,3 @@ accepted_items free_leaf r usable page step event h = absurd h
 pub accepted : (file : List ℕ) (r : Reference) (step : ℕ) (event : Event) → IsIn (Place step event) ((story_of file).items r) → is_refusal event ≡ false
 unfolding story_of
 accepted file r step event h = accepted_items (role_of r) r (usable_size file) (page_bytes file r.page) step event h
-
--- ---- links are from their page
-
-from_option : (p step item : ℕ) (role : Role) (o : Option ℕ) (l : Link Way) → IsIn l (option_to_list (option_map (link p step item role) o)) → l.role.from ≡ p
-from_option p step item role None l i = absurd i
-from_option p step item role (Some q) l (inl e) = ap (λ (l : Link Way). l.role.from) e
-from_option p step item role (Some q) l (inr i) = absurd i
-
-from_cell : (p : ℕ) (kind : TreeKind) (x : ℕ × Cell) (l : Link Way) → IsIn l (cell_links p kind x) → l.role.from ≡ p
-from_cell p kind (i, c) l h = elim (IsIn-cases l (option_to_list (option_map (link p (overflow_step i) i (first_overflow (overflow_size c))) c.overflow)) _ h) [
-  | inl j ↦ from_option p (overflow_step i) i (first_overflow (overflow_size c)) c.overflow l j
-  | inr j ↦ from_option p (child_step i) i (child kind) c.left l j
-]
-
-from_page : (p : ℕ) (kind : TreeKind) (o : Option View) (l : Link Way) → IsIn l (page_links p kind o) → l.role.from ≡ p
-from_page p kind None l h = absurd h
-from_page p kind (Some v) l h = elim (IsIn-cases l (flat_map (cell_links p kind) (cells v)) (right_links p kind v) h) [
-  | inl j ↦ (let m = IsIn-from_flat_map (cell_links p kind) (cells v) l j in from_cell p kind m.0 l m.2)
-  | inr j ↦ from_option p (child_step (count v)) (count v) (child kind) (right_child v) l j
-]
-
-from_overflow : (p usable left : ℕ) (page : List ℕ) (l : Link Way) → IsIn l (overflow_links p usable left page) → l.role.from ≡ p
-from_overflow p usable left page l h = by_case (nat_lt (usable - 4) left) h
-  where
-    by_case : (b : Bool) → IsIn l (cond b (link p 0 0 (later_overflow (left - (usable - 4))) (overflow_next page) ∷ []) []) → l.role.from ≡ p
-    by_case true (inl e) = ap (λ (l : Link Way). l.role.from) e
-    by_case true (inr i) = absurd i
-    by_case false i = absurd i
-
-from_next : (p : ℕ) (page : List ℕ) (item : ℕ) (l : Link Way) → IsIn l (next_trunk p page item) → l.role.from ≡ p
-from_next p page item l h = by_case (trunk_next page == 0) h
-  where
-    by_case : (b : Bool) → IsIn l (cond b [] (link p item item trunk (trunk_next page) ∷ [])) → l.role.from ≡ p
-    by_case true i = absurd i
-    by_case false (inl e) = ap (λ (l : Link Way). l.role.from) e
-    by_case false (inr i) = absurd i
-
-from_trunk : (p usable : ℕ) (page : List ℕ) (l : Link Way) → IsIn l (trunk_links p usable page) → l.role.from ≡ p
-from_trunk p usable page l h = by_case (nat_le (leaf_count page) (most_leaves usable)) h
-  where
-    by_case : (b : Bool) → IsIn l (cond b (map (leaf_link p) (enumerate_from 0 (free_leaves page)) ++ next_trunk p page (leaf_count page)) (next_trunk p page 0)) → l.role.from ≡ p
-    by_case true i = elim (IsIn-cases l (map (leaf_link p) (enumerate_from 0 (free_leaves page))) (next_trunk p page (leaf_count page)) i) [
-      | inl j ↦ (let m = IsIn-from_map (leaf_link p) (enumerate_from 0 (free_leaves page)) l j in ap (λ (l : Link Way). l.role.from) m.2)
-      | inr j ↦ from_next p page (leaf_count page) l j
-    ]
-    by_case false i = from_next p page 0 l i
-
-pub from_role : (role : Role) (p usable : ℕ) (page : List ℕ) (l : Link Way) → IsIn l (role_links role p usable page) → l.role.from ≡ p
-from_role (root kind) p usable page l h = from_page p kind (undamaged kind p usable page) l h
-from_role (child kind) p usable page l h = from_page p kind (undamaged kind p usable page) l h
-from_role (first_overflow left) p usable page l h = from_overflow p usable left page l h
-from_role (later_overflow left) p usable page l h = from_overflow p usable left page l h
-from_role trunk p usable page l h = from_trunk p usable page l h
-from_role free_leaf p usable page l h = absurd h

@@ -1,4 +1,4 @@
--- What a reporter makes of a run to which faults alone are something: it takes the faults of the file.
+-- What a run makes of a reporter on which only faults have an effect: it takes the faults of the file.
 use Rattle.std.proofs.Common.{inl, inr, ℕ, List, [], ◌∷◌, Result, Ok, Err, subst}
 use Rattle.dbsurvey.specs.Moves.{Moves, Stops, MovesBySome}
 use Rattle.dbsurvey.proofs.Moving.{some_none}

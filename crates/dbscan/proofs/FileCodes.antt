@@ -2,7 +2,6 @@
 use Rattle.std.proofs.Common.{◌≡◌, ℕ, inl, inr, Bool, true, false, List, [], ◌∷◌, ◌++◌, Option, None, Some, ap, refl, ◌∙◌}
 use Rattle.std.specs.Prelude.{flat_map, option_map, option_to_list, slice_index, nat_lt, not, pos, ◌&&◌, ◌==◌}
 use Rattle.dbsurvey.specs.Address.{IsIn}
-use Rattle.dbsurvey.proofs.Order.{IsIn-cases}
 use Rattle.dbsurvey.proofs.Ordering.{IsIn-from_flat_map}
 use Rattle.dbformat.specs.EndFaults.{visit_of, entry_fault, use_fault, least_other_page, late_root_fault, format_fault, greatest_root_fault, freelist_fault, sum_faults, page_numbers, page_end_faults, end_faults}
 use Rattle.dbformat.specs.File.{MapEntry, geometry, map_entry}
@@ -15,6 +14,7 @@ use Rattle.dbformat.specs.declared.Fault.{Fault}
 use Rattle.dbformat.specs.declared.FaultCode.{FaultCode}
 use Rattle.dbformat.specs.declared.FaultCode.TheVariants.{H01, H02, H03, H04, H05, H06, H07}
 use Rattle.dbscan.specs.Placed.{is_header_code, is_end_code}
+use Rattle.dbscan.proofs.FaultPages.{each_both}
 
 -- all codes pass the test
 pub record AreOf (p : FaultCode → Bool) (fs : List Fault) : Type 0 where
@@ -25,7 +25,7 @@ module _ (p : FaultCode → Bool) where
   of_none = record { each = λ f i. absurd i }
 
   pub of_both : (xs ys : List Fault) → AreOf p xs → AreOf p ys → AreOf p (xs ++ ys)
-  of_both xs ys h k = record { each = λ f i. elim (IsIn-cases f xs ys i) [ inl j ↦ h.each f j | inr j ↦ k.each f j ] }
+  of_both xs ys h k = record { each = each_both (λ f. p f.code ≡ true) xs ys h.each k.each }
 
   pub of_test : (b : Bool) (x : Fault) → p x.code ≡ true → AreOf p (told_if b x)
   of_test true x e = record { each = λ f i. elim i [ inl g ↦ ap (λ f. p f.code) g ∙ e | inr n ↦ absurd n ] }

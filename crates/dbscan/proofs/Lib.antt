@@ -13,6 +13,7 @@ pub mod MapPlaces
 pub mod PlacedFaults
 pub mod Reached
 pub mod Refusals
+pub mod RootLists
 pub mod RootsTaken
 pub mod RunItems
 pub mod RunTold

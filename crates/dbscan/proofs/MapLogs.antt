@@ -1,4 +1,4 @@
--- What is read of the pointer map: page after page, and behind what walks read.
+-- What is read of the pointer map: page after page, and after what walks read.
 use Rattle.std.proofs.Common.{◌≡◌, ◌≢◌, ℕ, ◌+◌, ◌<◌, ◌≤◌, Bool, true, false, cond, ◌&&◌, inl, inr, List, [], ◌∷◌, ◌++◌, Some, None, Result, Ok, Err, refl, sym, ap, ap₂, ◌∙◌, subst, arith}
 use Rattle.std.specs.Prelude.{IfErr, is_some, ◌==◌}
 use Rattle.std.proofs.lemmas.Bool.{both_ways, cases_Bool, eq-eqb}
@@ -89,7 +89,8 @@ map_is_readable g p h = record { from_one = let k = (at_position g p h.0).0 in o
 apart : (p q : ℕ) → p < q → p ≢ q
 apart p q l e = omega arith
 
--- what walks read is one with what is read of the map behind it: no page of fixed use is read by a walk, and each page has a mark then
+-- the log of the walks joined with that of the map, which is read after them: no walk reads a page of fixed use, and each page
+-- that it reads has a mark
 pub walk_then_map_log : (g : Geometry) (old new : List Mark) (walked mapped : List ByteRange) → AreMarksFor g old
     → Reads g.page_size old new walked → MapReads g mapped → ReadsMarked g new (walked ++ mapped)
 walk_then_map_log g old new walked mapped m h k = record {
@@ -128,7 +129,7 @@ walk_log g old new walked m h =
 pub no_log : (g : Geometry) (marks : List Mark) → AreMarksFor g marks → ReadsMarked g marks []
 no_log g marks m = walk_log g marks marks [] m (record { pages = []; ranges = refl; distinct = tt; fresh = λ p i. absurd i; marked = λ p i. absurd i; kept = keeps_same marks })
 
--- and behind these pages that have no mark
+-- and after these, pages that have no mark
 pub looks_log : (g : Geometry) (marks : List Mark) (log looks : List ByteRange)
     → ReadsMarked g marks log → ReadsRising g.page_size (IsUnmarked marks) looks → IsPageLog g (log ++ looks)
 looks_log g marks log looks h k = record {

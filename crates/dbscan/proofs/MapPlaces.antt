@@ -1,4 +1,4 @@
--- Where the entry of a page stands in the pointer map, and that the map page which was read last is the one that has it.
+-- The position of the entry of a page in the pointer map; and the map page that was read last is the one that has it.
 use Rattle.std.proofs.Common.{◌≡◌, ℕ, ◌+◌, ◌-◌, ◌*◌, ◌/◌, ◌%◌, ◌<◌, ◌≤◌, Bool, true, false, cond, not, ◌&&◌, List, length, Some, None, Result, Ok, Err, refl, sym, ap, ap₂, ◌∙◌, subst, arith, inl, inr, rules}
 use Rattle.std.specs.Prelude.{◌==◌, nat_lt, nat_le, option_map, is_some, slice_index, OnOk}
 use Rattle.std.proofs.lemmas.Bool.{cases_Bool, and_parts, eqb-true, not-true}
@@ -114,7 +114,7 @@ next_read file bytes p h e = λ has low high.
     let n : p + 1 - 1 ≡ p = omega arith in
     e ∙ ap (page_bytes file) (sym (ap (last_map (geometry file)) n ∙ k.1))
 
--- no map page stands at the lock-byte page
+-- the lock-byte page is never a map page
 lock_no_position : (file : List ℕ) → refusal file ≡ None → (geometry file).has_map ≡ true → nat_le (lock_page (geometry file).page_size) (geometry file).pages ≡ true
     → is_map_position (geometry file) (lock_page (geometry file).page_size) ≡ false
 unfolding refusal_of
@@ -165,7 +165,7 @@ pub on_ok : {A E : Type 0} {P : Type 0} (r : Result A E) → P → OnOk r P
 on_ok (Ok a) p = p
 on_ok (Err e) p = tt
 
--- a map page that is not in use has no page behind it
+-- a map page that is not in use has no page after it
 pub not_in_use : (g : Geometry) (p : ℕ) → (IsMapInUse g p → ⊥) → fixed_use g p ≡ Some Map → g.pages ≤ p
 not_in_use g p h e = elim (cases_Bool (nat_lt p g.pages)) [
   | inl k ↦ absurd (h (e, (let l : p < g.pages = grind (arith, nat_tests) in l)))

@@ -33,9 +33,9 @@ freelist_begins file e i = by_case (first_trunk file == 0) i
     by_case false (inl f) = subst (λ e. BeginsWith freelist_start (errand_key e)) (sym f) ([], refl)
     by_case false (inr i) = absurd i
 
--- ---- whatever is read off the faults that are told at starts
+-- ---- whatever is a function of the faults that are reported at starts
 
--- so it is read off a notice
+-- so it is a function of a notice
 pub record IsRead {X : Type 0} (make : ℕ → Fault → Cause → X) (read : Notice → Option X) : Type 0 where
   pub of_row : (at : At) (row : StatRow) → read (found at (told_row row)) ≡ None
   pub of_fault : (at : At) (f : Fault) (why : Cause) → read (found at (told_fault f why)) ≡ Some (make at.number f why)
@@ -47,7 +47,7 @@ module _ {X : Type 0} (make : ℕ → Fault → Cause → X) (read : Notice → 
   found_read at (told_row r ∷ items) = ap₂ cons_option (is.of_row at r) (found_read at items)
   found_read at (told_fault f why ∷ items) = ap₂ cons_option (is.of_fault at f why) (found_read at items)
 
-  -- a tree, and what is told after it
+  -- a tree, and what is reported after it
   tree_then : (at : At) (W : List Reference) (c : Reference) (es : List (Errand Way Event)) (ns : List Notice) → c.address ≡ at.number ∷ []
       → filter_map read ns ≡ made_below make file (W ++ visited_below file W (Go c ∷ [])) es
       → filter_map read (tree_notices at file W c ++ ns) ≡ made_below make file W (Go c ∷ es)
@@ -66,7 +66,7 @@ module _ {X : Type 0} (make : ℕ → Fault → Cause → X) (read : Notice → 
       (λ k W. found_read at_freelist (told_below file W (errands_left file [])) ∙ sym (below_start make file freelist_start W (errands_left file []) (freelist_begins file)))
       (λ k row rows W ns es h. tree_then (at_row k row) W (root_reference file k row) es ns refl h) 1 rows W
 
-  -- it is that of the telling
+  -- it is that of what is reported of the file
   pub starts_read : (V : List Reference) → Survey file V
       → filter_map read (start_notices file V) ≡ flat_map (λ t. map (λ f. make (start_of t.key) f (cause_of file V t.event f.code)) (event_faults file V t.event)) (telling file V)
   starts_read V s =

@@ -1,6 +1,6 @@
 -- A fault that is reported at a start is of a page that was reached from it, and each such start is one of the file's.
 use Rattle.std.proofs.Common.{◌≡◌, ℕ, ◌+◌, inl, inr, Bool, true, false, cond, List, [], ◌∷◌, ◌++◌, map, take, length, Some, refl, sym, ap, subst, ◌∙◌}
-use Rattle.std.specs.Prelude.{option_map, ◌==◌}
+use Rattle.std.specs.Prelude.{◌==◌}
 use Rattle.std.specs.List.{enumerate_from}
 use Rattle.dbsurvey.specs.Address.{Address, IsIn}
 use Rattle.dbsurvey.specs.From.{under}
@@ -10,7 +10,7 @@ use Rattle.dbsurvey.proofs.Composing.{named_at-from}
 use Rattle.dbsurvey.proofs.Order.{IsIn-cases}
 use Rattle.dbsurvey.proofs.Ordering.{IsIn-from_map, IsIn-from_flat_map}
 use Rattle.dbsurvey.proofs.Tellings.{goes-errands}
-use Rattle.dbformat.specs.Address.{start_of, then_step, schema_start, last_root_start, freelist_start}
+use Rattle.dbformat.specs.Address.{start_of, schema_start, last_root_start, freelist_start}
 use Rattle.dbformat.specs.EndFaults.{end_faults}
 use Rattle.dbformat.specs.File.{page_bytes}
 use Rattle.dbformat.specs.Header.{first_trunk, usable_size}
@@ -25,21 +25,17 @@ use Rattle.dbformat.specs.declared.Fault.{Fault}
 use Rattle.std.proofs.lemmas.Bool.{both_ways}
 use Rattle.dbformat.proofs.LookBack.{key_at}
 use Rattle.dbformat.proofs.Theory.{links-follows, no_tell, told_in_order}
-use Rattle.dbformat.proofs.Visited.{has_address, visit_is}
+use Rattle.dbformat.proofs.Visited.{has_address}
 use Rattle.dbtrace.specs.Causes.{cause_of}
 use Rattle.dbtrace.specs.declared.Part.{Part}
 use Rattle.dbtrace.specs.declared.Part.TheVariants as part
 use Rattle.dbtrace.specs.declared.Reported.{Reported}
 use Rattle.dbtrace.proofs.Told.{IsOf, told_of}
-use Rattle.dbowner.specs.Owners.{start_at}
-use Rattle.dbowner.proofs.Starts.{one_below, start_visited}
+use Rattle.dbformat.specs.Starts.{start_at}
+use Rattle.dbformat.proofs.BelowStarts.{one_below, start_here, start_of-step, start_visited}
+use Rattle.dbformat.proofs.Ways.{of_role}
 use Rattle.dbscan.specs.Placed.{at_start, of_file, told_faults, walk_told, IsOfStart}
-use Rattle.dbscan.proofs.FaultPages.{accepted, is_refusal, page_of_event, event_of_page, from_role}
-
--- the start of a key that is a step on
-start_on : (a : Address) (s : ℕ) → (a ≡ [] → ⊥) → start_of (then_step a s) ≡ start_of a
-start_on [] s h = absurd (h refl)
-start_on (x ∷ a) s h = refl
+use Rattle.dbscan.proofs.FaultPages.{accepted, is_refusal, page_of_event, event_of_page}
 
 -- starts are from no page
 rows_from : (file : List ℕ) (k : ℕ) (rows : List SchemaRow) (l : Link Way) → IsIn l (map (root_start file) (enumerate_from k rows)) → l.role.from ≡ 0
@@ -75,10 +71,6 @@ module _ (file : List ℕ) (V : List Reference) (s : Survey file V) where
   abbrev steps : List ℕ
   steps = map (λ l. l.step) (starts file V)
 
-  -- the page of a visit was reached from its start
-  visit_start : (r : Reference) → IsIn r V → start_at V r.page ≡ Some (start_of r.address)
-  visit_start r i = ap (λ o. option_map (λ (r : Reference). start_of r.address) o) (visit_is file V s r i)
-
   -- which is a start of the file
   visit_step : (r : Reference) → IsIn r V → IsIn (start_of r.address) steps
   visit_step r i =
@@ -102,11 +94,11 @@ module _ (file : List ℕ) (V : List Reference) (s : Survey file V) where
     pub reached : (p ≡ 0 → ⊥) → start_at V p ≡ Some (start_of place)
 
   of_visit : (r : Reference) (place : Address) → IsIn r V → start_of place ≡ start_of r.address → IsPlaced place r.page
-  of_visit r place i e = record { step = subst (λ k. IsIn k steps) (sym e) (visit_step r i); reached = λ d. visit_start r i ∙ ap Some (sym e) }
+  of_visit r place i e = record { step = subst (λ k. IsIn k steps) (sym e) (visit_step r i); reached = λ d. start_here file V s r i ∙ ap Some (sym e) }
 
   of_event : (place : Address) (e : Event) → IsOf file V place e → ((r : Reference) → e ≡ at_refused r → IsPlaced place (from_of r)) → IsPlaced place (page_of_event e)
   of_event place (at_page r) h refusal = of_visit r place h.0 (ap start_of h.1)
-  of_event place (at_key r v x) h refusal = of_visit r place h.0 (ap start_of h.3 ∙ start_on r.address _ (has_address file V s r h.0))
+  of_event place (at_key r v x) h refusal = of_visit r place h.0 (ap start_of h.3 ∙ start_of-step r.address _ (has_address file V s r h.0))
   of_event place (at_refused r) h refusal = refusal r refl
 
   -- a reference that is refused is found at a start, or on a visited page
@@ -122,7 +114,7 @@ module _ (file : List ℕ) (V : List Reference) (s : Survey file V) where
   unfolding rules_of
   of_child u r i c =
       let m = named_at-from u.address (role_links (role_of u) u.page (usable_size file) (page_bytes file u.page)) r c in
-      let from : from_of r ≡ u.page = ap from_of m.2 ∙ from_role (role_of u) u.page (usable_size file) (page_bytes file u.page) m.0 m.1 in
+      let from : from_of r ≡ u.page = ap from_of m.2 ∙ of_role (role_of u) u.page (usable_size file) (page_bytes file u.page) m.0 m.1 in
       subst (IsPlaced r.address) (sym from) (of_visit u r.address i (one_below file V s u r i c).0)
 
   refused_at : (t : Told Event) → IsTold (rules_of file) (story_of file) (start_errands file V) V t → (r : Reference) → t.event ≡ at_refused r → IsPlaced t.key (from_of r)

@@ -13,7 +13,7 @@ use Rattle.dbformat.specs.Sound.{with_root}
 use Rattle.dbformat.specs.declared.RowFault.{RowFault}
 use Rattle.dbwalk.specs.Taking.{HasRootRoom, StartsEmpty, roots_after, first_roots, gives, readable_rows}
 use Rattle.dbwalk.proofs.RootTakings.{list_has_room, first_more}
-use Rattle.dbowner.specs.Roots.{Listed, kept_row, TakesRow}
+use Rattle.dbscan.specs.Roots.{Listed, kept_row, TakesRow}
 use Rattle.dbscan.proofs.ShortNames.{roots_are_kept}
 
 roots_have_room : HasRootRoom TakesRow (λ l. length l.rows)
@@ -26,7 +26,7 @@ roots_have_room = record {
 pub roots_start_empty : (first : Listed) → first.rows ≡ [] → StartsEmpty TakesRow (λ l. length l.rows) first
 roots_start_empty first e = record { room = roots_have_room; none = ap length e }
 
--- row after row, behind those that have come
+-- row after row, after those that have come
 rows_after : (rows came : List SchemaRow) (s t : Listed) → s.rows ≡ first_roots kept_row came → Moves (gives TakesRow) s rows t → t.rows ≡ first_roots kept_row (came ++ with_root rows)
 rows_after [] came s t h e = ap (λ (l : Listed). l.rows) (sym e) ∙ h ∙ ap (first_roots kept_row) (sym (append-nil came))
 rows_after (row ∷ rows) came s t h m =
@@ -65,7 +65,7 @@ schema_roots file V s t e m =
     ∙ sym (take-map kept_row last_root_start (rooted_rows (schema file V)))
     ∙ ap (take last_root_start) (roots_are_kept file V)
 
--- The starts behind the first are those of the rows that it holds, and the freelist's.
+-- The starts after the first are those of the rows that it holds, and the freelist's.
 pub starts_listed : (file : List ℕ) (V : List Reference) (rows : List SchemaRow) → rows ≡ take last_root_start (rooted_rows (schema file V))
     → later_starts file V ≡ map (root_start file) (enumerate_from 1 rows) ++ freelist_starts file
 unfolding later_starts

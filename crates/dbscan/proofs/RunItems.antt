@@ -1,4 +1,4 @@
--- What a run comes by in the walks from all starts: the survey, and its faults.
+-- What a run finds in the walks from all starts: the survey, and its faults.
 use Rattle.std.proofs.Common.{◌≡◌, ℕ, List, [], ◌∷◌, ◌++◌, map, refl, sym, ap, subst, ◌∙◌}
 use Rattle.dbsurvey.specs.Address.{IsIn}
 use Rattle.dbsurvey.specs.From.{under}
@@ -25,7 +25,7 @@ use Rattle.dbwalk.proofs.Telling.Lefts.{left_start}
 use Rattle.dbscan.specs.Starts.{AreBelowStarts, schema_reference, later_errands}
 use Rattle.dbscan.specs.Walks.{Any, IsAt}
 
--- starts rest on the schema alone
+-- starts depend only on the schema
 later_same : (file : List ℕ) (U V : List Reference) → schema file U ≡ schema file V → later_starts file U ≡ later_starts file V
 unfolding later_starts
 later_same file U V e = rw e refl

@@ -1,4 +1,4 @@
--- All that a run tells: the header's faults, what is below the starts, and the faults at the end.
+-- All that a run reports: the header's faults, what is below the starts, and the faults at the end.
 use Rattle.std.proofs.Common.{◌≡◌, ℕ, List, [], ◌∷◌, ◌++◌, map, length, append_assoc, refl, sym, ap, ap₂, ◌∙◌}
 use Rattle.std.specs.Prelude.{option_to_list}
 use Rattle.std.proofs.lemmas.List.Elements.{filter_map-append}
@@ -71,6 +71,6 @@ run_faults file V s =
 
 -- ---- its parts, one after another
 
--- the header's faults, as they are told
+-- the header's faults, as they are reported
 pub header_items : (file : List ℕ) (h : HeaderBytes) → IsHeaderOf h file → map whole (header_faults h.bytes h.file_len) ≡ map whole (header_faults file (length file))
 header_items file h is = ap (map whole) (ap₂ header_faults is.begins is.whole ∙ header_faults_within file (length file))

@@ -1,4 +1,5 @@
--- What a reporter is told in a scan, part by part: the faults of the header, what is found at the starts, and what is told after the walks.
+-- What a reporter hears in a scan, part by part: the faults of the header, what is found at the starts, and what is reported
+-- after the walks.
 use Rattle.std.proofs.Common.{◌≡◌, ℕ, Bool, List, ◌++◌, length, map, Result, Ok, Err, sym, ap, subst}
 use Rattle.dbsurvey.specs.Moves.{Moves}
 use Rattle.dbformat.specs.HeaderFaults.{header_faults}
@@ -7,7 +8,7 @@ use Rattle.dbsource.specs.HeaderBytes.{HeaderBytes}
 use Rattle.dbsource.specs.Headers.{IsHeaderOf}
 use Rattle.dbsource.specs.declared.error.RunError.{RunError}
 use Rattle.dbmarks.specs.Marking.{AreMarksOf}
-use Rattle.dbowner.specs.Roots.{AreListed}
+use Rattle.dbscan.specs.Roots.{AreListed}
 use Rattle.dbwalk.specs.Telling.{StopsBy, Tells}
 use Rattle.dbwalk.proofs.Telling.Belows.{stops_by_first, stops_by_after}
 use Rattle.dbscan.specs.Desks.{Things}
@@ -38,13 +39,13 @@ module _ {S : Type 0} (hears cuts : S → Notice → S → Type 0) (file : List 
     starts_stopped e t k = stops_by_after hears cuts e s a t first (start_notices file V ++ last) header_told
         (stops_by_first hears cuts e a t (start_notices file V) last k)
 
-    -- or not before what is told after the walks
+    -- or not before what is reported after the walks
     all_told : {A : Type 0} (r : Result A RunError) (b t : S) → Moves hears a (start_notices file V) b → Tells hears cuts r b last t
         → Tells hears cuts r s (run_notices file V) t
     all_told r b t walked k = tells_then hears cuts r s a t first (start_notices file V ++ last) header_told
         (tells_then hears cuts r a b t (start_notices file V) last walked k)
 
-    -- behind the walks all is known of the file, and the telling of the end leaves it
+    -- after the walks all is known of the file, and the report of the end does not change it
     pub scan_ended : (r : Result (Unit {0}) RunError) (any : Bool) (b t : S) (walked ended : Things) → AreWalked hears cuts file V (Ok any) walked.marks walked.roots.rows a b → ended ≡ record walked { pages = ended.pages }
         → Tells hears cuts r b last t → IsScanned hears cuts file V r ended.marks ended.roots.rows s t
     scan_ended (Ok u) any b t walked ended w same k = record {

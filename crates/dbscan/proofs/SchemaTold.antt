@@ -1,4 +1,4 @@
--- What is told below the schema's start shows whether the schema has a row.
+-- What is reported below the schema's start shows whether the schema has a row.
 use Rattle.std.proofs.Common.{◌≡◌, ℕ, inl, inr, Bool, true, false, cond, not, ◌&&◌, List, [], ◌∷◌, ◌++◌, map, Option, Some, None, refl, sym, ap, ap₂, ◌∙◌}
 use Rattle.std.specs.Prelude.{option_to_list, ◌||◌, ◌==◌}
 use Rattle.std.specs.Option.{option_map_or}
@@ -49,7 +49,7 @@ by_row_alone : (why : FaultCode → Cause) (o : Option StatRow) (fs : List Fault
 by_row_alone why None fs = none_by_faults why fs
 by_row_alone why (Some x) fs = or_none (is_schema_leaf x) (list_any is_schema_row (told_by why fs)) (none_by_faults why fs)
 
--- by what is told of it, and by its page, a visit shows a row of the schema
+-- by what is reported of it, and by its page, a visit shows a row of the schema
 abbrev by_told : List ℕ → Reference → Bool
 by_told file r = option_map_or is_schema_leaf (row_in (role_of r) file r) false
 
@@ -61,7 +61,7 @@ at_event file U (at_page r) = by_row_alone (cause_of file U (at_page r)) (row_in
 at_event file U (at_key r v cell) = none_by_faults (cause_of file U (at_key r v cell)) (event_faults file U (at_key r v cell))
 at_event file U (at_refused r) = none_by_faults (cause_of file U (at_refused r)) (event_faults file U (at_refused r))
 
--- all that is told, by its visits
+-- all that is reported, by its visits
 in_list : (file : List ℕ) (W : List Reference) (L : List (Told Event)) → list_any is_schema_row (read_back own_visit (told_at file) W L) ≡ list_any (by_told file) (visits_in own_visit L)
 in_list file W [] = refl
 in_list file W (t ∷ L) =
@@ -127,7 +127,7 @@ at_schema : (a : Address) → (a ≡ [] → ⊥) → (start_of a == schema_start
 at_schema [] some e = absurd (some refl)
 at_schema (x ∷ a) some e = e
 
--- By all that is told below page 1: whether the schema has a row.
+-- By all that is reported below page 1: whether the schema has a row.
 pub schema_rows_told : (file : List ℕ) (V : List Reference) → Survey file V → list_any is_schema_row (told_below file [] (errands_at [] (Follow schema_link ∷ []))) ≡ has_rows file V
 schema_rows_told file V s =
     let errands = errands_at [] (Follow schema_link ∷ []) in

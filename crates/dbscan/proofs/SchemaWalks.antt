@@ -1,4 +1,4 @@
--- What the walk over the schema's tree has come by: its rows in the list, and whether there are any.
+-- What the walk over the schema's tree has found: its rows in the list, and whether there are any.
 use Rattle.std.proofs.Common.{◌≡◌, ℕ, Bool, false, List, [], ◌∷◌, length, map, take, Result, Ok, Err, refl, sym, ap, subst, ◌∙◌}
 use Rattle.std.specs.Prelude.{◌||◌, OnOk}
 use Rattle.std.specs.List.{list_any}
@@ -21,7 +21,7 @@ use Rattle.dbwalk.specs.Roots.{IsRootAfter}
 use Rattle.dbmarks.specs.declared.marks.Mark.{Mark}
 use Rattle.dbwalk.specs.declared.root.Root.{Root}
 use Rattle.dbwalk.specs.declared.root.RootKind.TheVariants.{Schema}
-use Rattle.dbowner.specs.Roots.{Listed, TakesRow}
+use Rattle.dbscan.specs.Roots.{Listed, TakesRow}
 use Rattle.dbscan.specs.Findings.{is_schema_row}
 use Rattle.dbscan.specs.Notices.{Notice}
 use Rattle.dbscan.specs.Starts.{IsSchemaOf, at_schema, schema_reference, schema_root}
@@ -39,7 +39,7 @@ schema_first file encoding marks h = record {
   marked = h;
 }
 
--- The walk over the schema's tree with a teller that was told nothing, and what it has come by.
+-- The walk over the schema's tree with a teller to which nothing was reported before, and what it has found.
 module _ {S : Type 0} (hears cuts : S → Notice → S → Type 0) (file : List ℕ) (marks : List Mark) (w t : Teller S) (old new : Listed) (start : w.start.now ≡ at_schema) (unseen : w.has_rows ≡ false) (empty : old.rows ≡ []) where
   by_result : (r : Result (Unit {0}) RunError) → IsWalkedOver {A = Unit {0}} hears cuts TakesRow file [] schema_reference r marks w t old new
       → IsTreeWalked {A = Unit {0}} hears cuts at_schema file [] schema_reference r marks w.sink.now t.sink.now × ((V : List Reference) → Survey file V → OnOk r (IsSchemaOf file V new.rows t.has_rows))

@@ -1,4 +1,4 @@
--- The rows of the schema have short names alone, so that a list of roots keeps them as they are.
+-- The rows of the schema have only short names, so that a list of roots keeps them as they are.
 use Rattle.std.proofs.Common.{◌≡◌, ℕ, Bool, true, false, cond, ◌&&◌, List, [], ◌∷◌, ◌++◌, length, map, Option, Some, None, Result, Ok, Err, ℤ, pos, negsuc, refl, sym, ap, ap₂, ◌∙◌}
 use Rattle.std.specs.Prelude.{flat_map, nat_le, ◌==◌}
 use Rattle.std.specs.List.{cons_option}
@@ -16,7 +16,7 @@ use Rattle.dbformat.specs.Text.{is_well_formed}
 use Rattle.dbformat.specs.declared.Encoding.{Encoding}
 use Rattle.dbformat.specs.declared.RowFault.{RowFault}
 use Rattle.dbformat.specs.declared.RowKind.{RowKind}
-use Rattle.dbowner.specs.Roots.{short_name, kept_row}
+use Rattle.dbscan.specs.Roots.{short_name, kept_row}
 
 -- what is read has a short name
 abbrev HasShortName : Result SchemaRow RowFault → Type 0

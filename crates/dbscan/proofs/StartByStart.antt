@@ -1,4 +1,4 @@
--- What holds of the notices of the starts behind the schema's, one start after another.
+-- What holds of the notices of the starts after the schema's, one start after another.
 use Rattle.std.proofs.Common.{ℕ, ◌+◌, List, [], ◌∷◌, ◌++◌, map}
 use Rattle.std.specs.List.{enumerate_from}
 use Rattle.dbsurvey.specs.Story.{Errand, Go}
@@ -9,8 +9,8 @@ use Rattle.dbtrace.specs.Finding.{told_below, visited_below}
 use Rattle.dbscan.specs.Notices.{Notice, found, errands_left, root_reference, tree_notices, later_notices}
 use Rattle.dbscan.specs.Starts.{at_freelist, at_row}
 
--- Behind the visits of W, of the rows from start k on: it holds of what is told along the freelist, and of the tree of a row and
--- what is told behind it, where it holds of that.
+-- After the visits of W, of the rows from start k on: it holds of what is reported along the freelist. It holds of the tree of
+-- a row and what is reported after it, if it holds of the latter.
 module _ (file : List ℕ) (Holds : ℕ → List SchemaRow → List Reference → List Notice → List (Errand Way Event) → Type 0)
     (of_freelist : (k : ℕ) (W : List Reference) → Holds k [] W (map (found at_freelist) (told_below file W (errands_left file []))) (errands_left file []))
     (of_tree : (k : ℕ) (row : SchemaRow) (rows : List SchemaRow) (W : List Reference) (ns : List Notice) (es : List (Errand Way Event))

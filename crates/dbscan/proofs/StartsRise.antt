@@ -1,4 +1,4 @@
--- What a sink is told at starts comes start by start, in their order.
+-- What is reported to a sink at starts comes start by start, in their order.
 use Rattle.std.proofs.Common.{◌≡◌, ℕ, ◌+◌, ◌≤◌, inl, inr, List, [], ◌∷◌, ◌++◌, length, map, take, sym, subst, arith}
 use Rattle.std.specs.Prelude.{filter_map}
 use Rattle.std.specs.List.{enumerate_from}
@@ -36,7 +36,7 @@ of_tree at file W c k i =
       | inr j ↦ (elim j [ inl e ↦ e | inr n ↦ absurd n ])
     ]
 
--- a tree, and what is told at later starts
+-- a tree, and what is reported at later starts
 tree_rises : (at : At) (file : List ℕ) (W : List Reference) (c : Reference) (ns : List Notice) → StartsRise ns → ((k : ℕ) → IsIn k (numbers ns) → at.number ≤ k)
     → StartsRise (tree_notices at file W c ++ ns)
 tree_rises at file W c ns rise later =

@@ -52,7 +52,7 @@ module _ {K : Type 0} (hears cuts : K → Notice → K → Type 0) where
   teller_stops OutOfMemory items s t h = teller_some items s t h
   teller_stops WriteFailed items s t h = teller_fails items s t h
 
--- ---- what its sink is lent, and what failed
+-- ---- what its sink borrows, and what failed
 
 abbrev pub first : List ℕ → ℕ
 first [] = 0

@@ -1,4 +1,4 @@
--- The walks from the starts, one after another: what a walk over the next tree leaves to be told.
+-- The walks from the starts, one after another: what a walk over the next tree leaves to be reported.
 use Rattle.std.proofs.Common.{◌≡◌, ℕ, suc, ◌+◌, ◌-◌, ◌<◌, Bool, false, cond, inl, List, [], ◌∷◌, ◌++◌, drop, length, map, Some, Result, Ok, Err, refl, sym, ap, subst, ◌∙◌, arith, append_assoc, append-nil}
 use Rattle.std.specs.Prelude.{slice_get, ◌==◌}
 use Rattle.std.specs.List.{enumerate_from}
@@ -50,7 +50,7 @@ at_end file V survey U marks h =
     subst (λ W. AreMarksOf file W marks) (all_visited file V survey) (left_none Any file [] (start_errands file V) tt U marks tt {A = Unit {0}} Any tt h).marked
 
 module _ {S : Type 0} (hears cuts : S → Notice → S → Type 0) where
-  -- ---- what a teller is told, as what its sink hears
+  -- ---- what is reported to a teller, as what its sink hears
 
   module _ (items : List Finding) (w t : Teller S) where
     moved : Moves (HandsOn hears) w items t → Moves hears w.sink.now (map (found w.start.now) items) t.sink.now
@@ -80,7 +80,7 @@ module _ {S : Type 0} (hears cuts : S → Notice → S → Type 0) where
       start_kept : m.start.now ≡ w.start.now
       start_kept = (teller_moves hears cuts items w m d.done.told).1
 
-      -- all was told, and then the tree ended
+      -- all was reported, and then the tree ended
       pub tree_ended : hears m.sink.now (ended m.start.now) t.sink.now → t.has_rows ≡ m.has_rows → IsWalkedOver {A = Unit {0}} hears cuts keeps file W c (Ok tt) marks w t first u
       tree_ended e rows = record {
         tree = record {
@@ -210,7 +210,7 @@ module _ {S : Type 0} (hears cuts : S → Notice → S → Type 0) where
   -- ---- all starts, and what is known of the schema
 
   module _ (file : List ℕ) (V : List Reference) (marks : List Mark) (rows : List SchemaRow) (s t : S) where
-    -- an error stopped the walk over the schema's tree, or those behind it
+    -- an error stopped the walk over the schema's tree, or those after it
     pub schema_stopped : (e : RunError) → IsTreeWalked {A = Bool} hears cuts at_schema file [] schema_reference (Err e) marks s t → AreWalked hears cuts file V (Err e) marks rows s t
     schema_stopped e d = record {
       all = record { marked = tt; told = stops_by_first hears cuts e s t (tree_notices at_schema file [] schema_reference) _ d.told };

@@ -13,7 +13,7 @@ use Rattle.dbsource.specs.declared.error.RunError.{RunError}
 use Rattle.dbmarks.specs.Marking.{AreMarksFor, marks_of}
 use Rattle.dbmarks.specs.Reads.{Reads}
 use Rattle.dbmarks.specs.declared.marks.Mark.{Mark}
-use Rattle.dbowner.specs.Roots.{Listed}
+use Rattle.dbscan.specs.Roots.{Listed}
 use Rattle.dbscan.specs.declared.desk.Desk.TheInside.{Inside}
 
 -- a desk as contracts see it
@@ -41,7 +41,7 @@ pub record IsFresh (d : Things) : Type 0 where
   pub marks : d.marks ≡ marks_of (shape_of d) []
   pub roots : d.roots.rows ≡ []
 
--- What walks over a desk asked for: pages of its file, none twice, each of which got its mark in between. What was left is so
--- of each file with its header that agrees with what was read; and the source failed exactly where that is answered.
+-- What walks over a desk asked for: pages of its file, none twice, each of which got its mark in between. What was left holds
+-- of each file with its header that agrees with what was read. The source failed exactly where that is answered.
 abbrev pub AsksOver : {A : Type 0} → Step → Things → Things → (List ℕ → Type 0) → Result A RunError → SourceState → SourceState → Type 0
 AsksOver step old new T r before after = Asks step (Reads (shape_of old).page_size old.marks new.marks) (λ file. IsHeaderOf old.header file → T file) is_read_failed r before after

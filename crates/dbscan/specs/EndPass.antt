@@ -1,4 +1,4 @@
--- What is told at the end of a run, by the header and the marks: of the whole, and then page by page.
+-- What is reported at the end of a run, by the header and the marks: of the whole, and then page by page.
 use Rattle.std.specs.Prelude.{ℕ, Bool, true, false, not, ◌&&◌, ◌||◌, ◌==◌, List, ◌++◌, map, flat_map, Option, pos}
 use Rattle.std.specs.List.{range_with_len}
 use Rattle.dbformat.specs.Faults.{fault}
@@ -26,10 +26,10 @@ abbrev pub is_fixed_mark : Mark → Bool
 is_fixed_mark Fixed = true
 is_fixed_mark _ = false
 
--- what is told of page p, by its mark and the least page that is no root
+-- what is reported of page p, by its mark and the least page that is no root
 abbrev pub page_items : List ℕ → Option ℕ → ℕ → Mark → List Notice
 page_items file least p mark = map whole (mark_fault p (map_entry file p) mark ++ late_fault (geometry file).has_map p mark least)
 
--- what is told of the first n pages, after the visits of V
+-- what is reported of the first n pages, after the visits of V
 abbrev pub pages_items : List ℕ → List Reference → Option ℕ → ℕ → List Notice
 pages_items file V least n = flat_map (λ p. page_items file least p (mark_of (geometry file) V p)) (range_with_len 1 n)

@@ -13,7 +13,7 @@ use Rattle.dbsource.specs.Sources.{Asks}
 use Rattle.dbsource.specs.declared.error.RunError.{RunError}
 use Rattle.dbsource.specs.declared.source.Source.{Ghosts as SourceWords}
 use Rattle.dbmarks.specs.Marking.{AreMarksOf}
-use Rattle.dbowner.specs.Roots.{AreListed}
+use Rattle.dbscan.specs.Roots.{AreListed}
 use Rattle.dbwalk.specs.Telling.{IsReadOrWrite, IsReadWriteOrMemory, SinkAfter, SinkState, StopsBy}
 use Rattle.dbscan.specs.Desks.{Things, shape_of}
 use Rattle.dbscan.specs.Looks.{IsUnmarked, ReadsRising}
@@ -26,14 +26,14 @@ pub record IsDeskOf (d : Things) (file : List ℕ) (V : List Reference) : Type 0
   pub marks : AreMarksOf file V d.marks
   pub rows : AreListed file V d.roots.rows
 
--- A reporter has heard all that is told of the file whose survey is on a desk.
+-- A reporter has heard all that is reported of the file whose survey is on a desk.
 pub record HasHeard {K : Type 0} (hears : K → Notice → K → Type 0) (d : Things) (file : List ℕ) (V : List Reference) (first now : K) : Type 0 where
   pub desk : IsDeskOf d file V
   pub heard : Moves hears first (run_notices file V) now
 
--- What the end of a report makes of a reporter, whatever the source answered. Pages that were not visited may be read, each once: of
--- each file that agrees with what was read, and whose notices were all that the reporter had heard, this is what a run leaves. Who
--- failed is what was answered.
+-- What the end of a report makes of a reporter, whatever the source answered. Pages that were not visited may be read, each
+-- once. Of each file that agrees with what was read, and whose notices were all that the reporter had heard, this is what a run
+-- leaves. The answer says who failed.
 pub record HasFinished {S K : Type 0} (source : SourceWords S) (hears : K → Notice → K → Type 0) (held : K → SinkState) (leaves : List ℕ → List Reference → Result Verdict RunError → K → K → Type 0)
     (r : Result Verdict RunError) (before after : Things) (old new : S × K) : Type 0 where
   pub kept : (after.header ≡ before.header) × (after.roots ≡ before.roots)
@@ -43,21 +43,21 @@ pub record HasFinished {S K : Type 0} (source : SourceWords S) (hears : K → No
   pub writes : SinkAfter is_write_failed r (held old.1) (held new.1)
   pub only : IfErr r IsReadOrWrite
 
--- What a run leaves of a reporter: what one leaves that came to the end of the file; or an error stopped it before, and it had heard a
--- beginning.
+-- What a run leaves of a reporter: what a reporter leaves at the end of the file; or, if an error stopped it before, what it is
+-- after a beginning of the notices.
 abbrev pub Leaves : {K : Type 0} → (K → Notice → K → Type 0) → (K → Notice → K → Type 0) → (List ℕ → List Reference → Result Verdict RunError → K → K → Type 0)
     → List ℕ → List Reference → Result Verdict RunError → K → K → Type 0
 Leaves hears cuts leaves file V r s t = leaves file V r s t ⊎ ((e : RunError) × (r ≡ Err e) × StopsBy hears cuts e s (run_notices file V) t)
 
--- A run over a desk, which keeps its header: its list of roots was refused memory, once, exactly where that is answered; and no
--- file is refused.
+-- A run over a desk, which keeps its header. Its list of roots was refused memory, once, exactly where that is answered, and
+-- the file is not refused.
 pub record HasUsed (r : Result Verdict RunError) (old new : Things) : Type 0 where
   pub header : new.header ≡ old.header
   pub memory : new.roots.refusals ≡ failures_after is_out_of_memory r old.roots.refusals
   pub only : IfErr r IsReadWriteOrMemory
 
--- What a run over a desk makes of a reporter, whatever the source answered: there is a file of the desk's header that agrees with
--- all that was read behind it, and of each such file, by any survey, this is what a run leaves. Who failed is what was answered.
+-- What a run over a desk makes of a reporter, whatever the source answered: there is a file of the desk's header that agrees
+-- with all that was read after it, and of each such file, by any survey, this is what a run leaves. The answer says who failed.
 pub record HasReported {S K : Type 0} (source : SourceWords S) (held : K → SinkState) (leaves : List ℕ → List Reference → Result Verdict RunError → K → K → Type 0)
     (r : Result Verdict RunError) (before after : Things) (old new : S × K) : Type 0 where
   pub read : HasReadBehind source.step (IsPageLog (shape_of before)) before.header (λ file. (V : List Reference) → Survey file V → leaves file V r old.1 new.1)

@@ -7,6 +7,7 @@ pub mod Looks
 pub mod MapReads
 pub mod Notices
 pub mod Placed
+pub mod Roots
 pub mod RunItems
 pub mod Scans
 pub mod Starts

@@ -1,4 +1,4 @@
--- What is read of a file behind the walks: pages by rising numbers.
+-- What is read of a file after the walks: pages by rising numbers.
 use Rattle.std.specs.Prelude.{◌≡◌, ◌⊎◌, ℕ, ◌<◌, true, false, List, [], ◌∷◌, map}
 use Rattle.dbsurvey.specs.Address.{IsIn, EachPair}
 use Rattle.dbformat.specs.Log.{page_range, IsPageLog}

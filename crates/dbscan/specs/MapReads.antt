@@ -7,7 +7,7 @@ use Rattle.dbformat.specs.declared.Geometry.{Geometry}
 use Rattle.dbformat.specs.declared.Fixed.TheVariants.{Map}
 use Rattle.dbscan.specs.Looks.{ReadsOrNot, ReadsRising, ReadsRisingBefore}
 
--- page p is a map page with pages behind it
+-- page p is a map page with pages after it
 abbrev pub IsMapInUse : Geometry → ℕ → Type 0
 IsMapInUse g p = (fixed_use g p ≡ Some Map) × (p < g.pages)
 
@@ -27,6 +27,6 @@ IsMapTurn g p log = ReadsOrNot g.page_size (IsMapInUse g) p log
 abbrev pub last_map : Geometry → ℕ → ℕ
 last_map g p = 2 + (p - 2) / (entries_per_map g + 1) * (entries_per_map g + 1)
 
--- where page p is behind a map page, the bytes are those of the last one before it
+-- where page p is after a map page, the bytes are those of the last one before it
 abbrev pub HasMapFor : List ℕ → Geometry → ℕ → List ℕ → Type 0
 HasMapFor file g p bytes = g.has_map ≡ true → 3 ≤ p → p ≤ g.pages → bytes ≡ page_bytes file (last_map g (p - 1))

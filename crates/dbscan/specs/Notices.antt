@@ -21,15 +21,15 @@ use Rattle.dbscan.specs.Starts.{At, at_schema, at_row, at_freelist, schema_refer
 use Rattle.dbscan.specs.declared.notice.Notice.{Notice as Lent}
 use Rattle.dbscan.specs.declared.notice.Notice.TheVariants as lent
 
--- A fault is found of the whole file; something is found at a start; the tree of a start has ended; or all starts have been walked
--- from, and then the pages of the file have these marks.
+-- A fault of the whole file; what is found at a start; the end of the tree of a start; or the end of all walks, and then these
+-- are the marks of the file's pages.
 pub data Notice : Type 0 where
   whole : Fault → Notice
   found : At → Finding → Notice
   ended : At → Notice
   walked : Geometry → List Mark → Notice
 
--- the notice that is lent
+-- the notice that is borrowed
 abbrev pub notice_of : Lent → Notice
 notice_of (lent.Whole f) = whole f.now
 notice_of (lent.Fault at f why) = found at.now (told_fault f.now why.now)
@@ -47,7 +47,7 @@ fault_of (walked g marks) = None
 abbrev pub faults_heard : List Notice → List Fault
 faults_heard notices = filter_map fault_of notices
 
--- A reporter to which faults alone are something: what a fault makes of it that it takes whole, and of one that it does not.
+-- A reporter on which only faults have an effect: its state after a fault that it takes whole, and after one that it does not.
 abbrev pub HearsFaults : {S : Type 0} → (S → Fault → S → Type 0) → S → Notice → S → Type 0
 HearsFaults takes s (whole f) t = takes s f t
 HearsFaults takes s (found at (told_fault f why)) t = takes s f t
@@ -70,7 +70,7 @@ root_reference file k r = record { address = k ∷ []; page = r.root; role = rec
 abbrev pub errands_left : List ℕ → List (ℕ × SchemaRow) → List (Errand Way Event)
 errands_left file left = errands_at [] (map Follow (map (root_start file) left ++ freelist_starts file))
 
--- what is told at a start below its root, after the visits of W
+-- what is reported at a start below its root, after the visits of W
 abbrev pub tree_notices : At → List ℕ → List Reference → Reference → List Notice
 tree_notices at file W c = map (found at) (told_below file W (Go c ∷ [])) ++ (ended at ∷ [])
 
@@ -81,16 +81,16 @@ later_notices file W ((k, row) ∷ left) =
     tree_notices (at_row k row) file W (root_reference file k row)
     ++ later_notices file (W ++ visited_below file W (Go (root_reference file k row) ∷ [])) left
 
--- all that is told at the starts of a file, where V is the survey: at the schema's, and at those that the schema names
+-- all that is reported at the starts of a file, where V is the survey: at the schema's, and at those that the schema names
 abbrev pub start_notices : List ℕ → List Reference → List Notice
 start_notices file V =
     tree_notices at_schema file [] schema_reference
     ++ later_notices file ([] ++ visited_below file [] (Go schema_reference ∷ [])) (enumerate_from 1 (take last_root_start (rooted_rows (schema file V))))
 
--- all that is told after the walks: the marks of the pages, and the faults at the end
+-- all that is reported after the walks: the marks of the pages, and the faults at the end
 abbrev pub end_notices : List ℕ → List Reference → List Notice
 end_notices file V = walked (geometry file) (marks_of (geometry file) V) ∷ map whole (end_faults file V)
 
--- all that is told of a file: the faults of its header, what is found at its starts, and what is told after the walks
+-- all that is reported of a file: the faults of its header, what is found at its starts, and what is reported after the walks
 abbrev pub run_notices : List ℕ → List Reference → List Notice
 run_notices file V = map whole (header_faults file (length file)) ++ (start_notices file V ++ end_notices file V)

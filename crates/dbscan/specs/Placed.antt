@@ -18,7 +18,7 @@ use Rattle.dbtrace.specs.declared.Part.{Part}
 use Rattle.dbtrace.specs.declared.Part.TheVariants as part
 use Rattle.dbtrace.specs.declared.Reported.{Reported}
 use Rattle.dbtrace.specs.declared.Cause.TheVariants.{Itself}
-use Rattle.dbowner.specs.Owners.{start_at}
+use Rattle.dbformat.specs.Starts.{start_at}
 use Rattle.dbscan.specs.Notices.{Notice, whole, found, ended}
 
 -- Faults with their causes.
@@ -31,7 +31,7 @@ at_start k f why = record { part = part.Start k; fault = f; cause = why }
 abbrev pub of_file : Part → Fault → Reported
 of_file where_told f = record { part = where_told; fault = f; cause = Itself }
 
--- the faults of the walk, each at the start of the address that it is told at
+-- the faults of the walk, each at the start of the address that it is reported at
 abbrev pub walk_told : List ℕ → List Reference → List Reported
 walk_told file V = flat_map (λ t. map (λ f. at_start (start_of t.key) f (cause_of file V t.event f.code)) (event_faults file V t.event)) (telling file V)
 

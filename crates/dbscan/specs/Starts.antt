@@ -1,5 +1,5 @@
--- The starts of a file: as a sink is told of them, and as a run comes by those behind the schema's, the roots of a list and the
--- first trunk.
+-- The starts of a file: as a reporter hears of them, and as a run finds those after the schema's, the roots of a list and the first
+-- trunk.
 use Rattle.std.specs.Prelude.{◌≡◌, ◌≢◌, ℕ, ◌≤◌, Bool, List, [], ◌∷◌, map, ◌++◌, Option, None}
 use Rattle.std.specs.List.{enumerate_from}
 use Rattle.std.specs.Option.{option_copied}
@@ -18,7 +18,7 @@ use Rattle.dbformat.specs.declared.RowKind.TheVariants as row
 use Rattle.dbwalk.specs.declared.root.Root.{Root}
 use Rattle.dbwalk.specs.declared.root.RootKind.{RootKind}
 use Rattle.dbwalk.specs.declared.root.RootKind.TheVariants as root
-use Rattle.dbowner.specs.Roots.{AreListed}
+use Rattle.dbscan.specs.Roots.{AreListed}
 use Rattle.dbscan.specs.declared.start.Start.TheInside.{Inside}
 
 -- a start as contracts see it: its number, and the name of its row of the schema
@@ -69,17 +69,17 @@ errands_from file k rows = errands_at [] (map Follow (starts_from file k rows))
 abbrev pub schema_reference : Reference
 schema_reference = record { address = schema_start ∷ []; page = 1; role = schema_link.role }
 
--- what there is to do behind it, by the rows of the schema
+-- what there is to do after it, by the rows of the schema
 abbrev pub later_errands : List ℕ → List Reference → List (Errand Way Event)
 later_errands file V = errands_at [] (map Follow (later_starts file V))
 
--- What the walk over the schema has come by: whether it has a row, and the roots of its rows, by which what is left to do
+-- What the walk over the schema has found: whether it has a row, and the roots of its rows, by which what is left to do
 -- is known.
 pub record IsSchemaOf (file : List ℕ) (V : List Reference) (rows : List SchemaRow) (any : Bool) : Type 0 where
   pub has_rows : any ≡ has_rows file V
   pub listed : AreListed file V rows
   pub left : errands_from file 1 rows ≡ later_errands file V
 
--- visits that all stand below starts
+-- visits that are all below starts
 abbrev pub AreBelowStarts : List Reference → Type 0
 AreBelowStarts V = (u : Reference) → IsIn u V → u.address ≢ []

@@ -1,4 +1,4 @@
--- Faults as they are told to a reporter.
+-- Faults as a reporter hears them.
 use Rattle.std.specs.Prelude.{List, map, flat_map, option_to_list, Option}
 use Rattle.dbformat.specs.declared.Fault.{Fault}
 use Rattle.dbscan.specs.Notices.{Notice, whole}

@@ -1,4 +1,4 @@
--- The walks from the starts, one after another, as a sink is told of them.
+-- The walks from the starts, one after another, as a reporter hears of them.
 use Rattle.std.specs.Prelude.{◌≡◌, ℕ, Bool, ◌||◌, List, [], ◌∷◌, ◌++◌, Result, Ok, Err, IfOk, OnOk}
 use Rattle.std.specs.List.{list_any}
 use Rattle.dbsurvey.specs.Moves.{Moves}
@@ -17,13 +17,13 @@ use Rattle.dbwalk.specs.Done.{IsLeft}
 use Rattle.dbwalk.specs.Taking.{gives, readable_rows}
 use Rattle.dbwalk.specs.Telling.{Tells}
 use Rattle.dbwalk.specs.declared.taker.Taken.{Taken}
-use Rattle.dbowner.specs.Roots.{AreListed}
+use Rattle.dbscan.specs.Roots.{AreListed}
 use Rattle.dbscan.specs.Findings.{is_schema_row}
 use Rattle.dbscan.specs.Notices.{Notice, errands_left, tree_notices, later_notices, start_notices}
 use Rattle.dbscan.specs.Starts.{At, IsSchemaOf, at_schema, schema_reference}
 use Rattle.dbscan.specs.declared.teller.Teller.{Teller}
 
--- whatever was told
+-- whatever was reported
 abbrev pub Any : Unit {0} → Finding → Unit {0} → Type 0
 Any s item t = Unit {0}
 
@@ -31,12 +31,12 @@ Any s item t = Unit {0}
 abbrev pub IsAt : List ℕ → List Reference → List Reference → List (Errand Way Event) → List Mark → Type 0
 IsAt file V U left marks = IsLeft Any file [] (start_errands file V) tt U left (marks, tt)
 
--- The walk over the tree of a root: what is below it is marked and told, and that it ended; or a beginning of it was told.
+-- The walk over the tree of a root: what is below it is marked and was heard, and that it ended; or a beginning of it was heard.
 pub record IsTreeWalked {S A : Type 0} (hears cuts : S → Notice → S → Type 0) (at : At) (file : List ℕ) (W : List Reference) (c : Reference) (r : Result A RunError) (marks : List Mark) (before after : S) : Type 0 where
   pub marked : OnOk r (AreMarksOf file (W ++ visited_below file W (Go c ∷ [])) marks)
   pub told : Tells hears cuts r before (tree_notices at file W c) after
 
--- So was the tree of a root with a teller, which knows then whether a row of the schema was told; and where the tree is the
+-- The same of the tree of a root with a teller, which then knows whether a row of the schema was reported. If the tree is the
 -- schema's, the taker was given the rows that can be read.
 pub record IsWalkedOver {S T A : Type 0} (hears cuts : S → Notice → S → Type 0) (keeps : T → SchemaRow → Taken → T → Type 0) (file : List ℕ) (W : List Reference) (c : Reference) (r : Result A RunError)
     (marks : List Mark) (before after : Teller S) (first t : T) : Type 0 where
@@ -44,12 +44,12 @@ pub record IsWalkedOver {S T A : Type 0} (hears cuts : S → Notice → S → Ty
   pub has_rows : OnOk r (after.has_rows ≡ (before.has_rows || list_any is_schema_row (told_below file W (Go c ∷ []))))
   pub given : start_of c.address ≡ schema_start → OnOk r (Moves (gives keeps) first (readable_rows file (W ++ visited_below file W (Go c ∷ []))) t)
 
--- The walk over the schema's tree, and what it has come by, of every survey.
+-- The walk over the schema's tree, and what it has found, of every survey.
 pub record IsSchemaWalked {S : Type 0} (hears cuts : S → Notice → S → Type 0) (file : List ℕ) (r : Result Bool RunError) (marks : List Mark) (rows : List SchemaRow) (before after : S) : Type 0 where
   pub tree : IsTreeWalked hears cuts at_schema file [] schema_reference r marks before after
   pub schema : (V : List Reference) → Survey file V → IfOk r (IsSchemaOf file V rows)
 
--- In the midst of the starts: what is still to be told, behind what was, is all that is to be told of them.
+-- Between two starts: what was heard, and then what is still to be heard, is all that there is to report of them.
 pub record IsTelling {S : Type 0} (hears cuts : S → Notice → S → Type 0) (file : List ℕ) (V : List Reference) (before : S) (left : List (ℕ × SchemaRow)) (marks : List Mark) (now : S) : Type 0 where
   pub visits : List Reference
   pub at : IsAt file V visits (errands_left file left) marks
@@ -62,12 +62,12 @@ abbrev pub StopsTelling : {S : Type 0} → (S → Notice → S → Type 0) → (
 StopsTelling hears cuts file V before left (Ok u) marks now = IsTelling hears cuts file V before left marks now
 StopsTelling hears cuts file V before left (Err e) marks now = Tells {A = Unit {0}} hears cuts (Err e) before (start_notices file V) now
 
--- The walks from all starts: the survey is marked, and what there is to tell of it was told; or after an error a beginning was.
+-- The walks from all starts: the survey is marked, and what there is to report of it was heard; or after an error a beginning was.
 pub record AreTold {S A : Type 0} (hears cuts : S → Notice → S → Type 0) (file : List ℕ) (V : List Reference) (r : Result A RunError) (marks : List Mark) (before after : S) : Type 0 where
   pub marked : OnOk r (AreMarksOf file V marks)
   pub told : Tells hears cuts r before (start_notices file V) after
 
--- And it is known whether the schema has a row, and a list has its rows with a root page.
+-- It is also known whether the schema has a row, and a list has its rows with a root page.
 pub record AreWalked {S : Type 0} (hears cuts : S → Notice → S → Type 0) (file : List ℕ) (V : List Reference) (r : Result Bool RunError) (marks : List Mark) (rows : List SchemaRow) (before after : S) : Type 0 where
   pub all : AreTold hears cuts file V r marks before after
   pub has_rows : IfOk r (λ any. any ≡ has_rows file V)

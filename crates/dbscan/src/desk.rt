@@ -4,7 +4,7 @@ ghost use Rattle.dbformat.specs.File.{refusal_of};
 ghost use Rattle.dbformat.specs.FixedPages.{geometry_of, IsInRange};
 ghost use Rattle.dbscan.specs.Desks.{IsFresh, shape_of};
 
-use dbowner::RootList;
+use crate::roots::RootList;
 use dbsource::{Bench, Geometry, Header};
 use dbwalk::Marks;
 use std::alloc::{AllocError, Allocator, Global};

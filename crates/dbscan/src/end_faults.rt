@@ -1,4 +1,4 @@
-// The faults that are told when all pages have been visited.
+// The faults that are reported when all pages have been visited.
 ghost use Rattle.std.specs.Prelude.{◌≡◌, flat_map, option_to_list, option_map};
 ghost use Rattle.dbmarks.specs.EndMarks.{entry_value, late_fault, mark_fault};
 ghost use Rattle.dbscan.specs.EndPass.{counted_faults};

@@ -1,4 +1,4 @@
-// What is told after the walks: the marks, and then the faults at the end, of the whole and of each page.
+// What is reported after the walks: the marks, and then the faults at the end, of the whole and of each page.
 ghost use Rattle.std.specs.Prelude.{◌≡◌, ◌↔◌, ℕ, ◌+◌, List, ◌≤◌, true, Some, None, length, option_map, IfErr, OnOk};
 ghost use Rattle.dbformat.specs.EndFaults.{has_rows};
 ghost use Rattle.dbformat.specs.File.{geometry, map_entry, refusal};
@@ -28,7 +28,7 @@ use dbsource::{Bench, Fixed, Geometry, RunError, Source};
 use dbwalk::{CHAIN, Mark, Marks};
 use std::alloc::Allocator;
 
-// Whether this is a map page with pages behind it.
+// Whether this is a map page with pages after it.
 fn is_map_in_use(geometry: Geometry, page: u32) -> bool
     requires { IsInRange geometry }
     ensures { result ≡ true ↔ IsMapInUse geometry page }
@@ -56,7 +56,7 @@ fn entry_of<A: Allocator>(bench: &Bench<A>, page: u32) -> Option<MapEntry>
     }
 }
 
-// Reads a page, where it is a map page with pages behind it, or tells what is to be told of it.
+// Reads a page, where it is a map page with pages after it, or reports its faults.
 fn end_page<S: Source, K: Reporter, A: Allocator, B: Allocator>(
     source: &mut S,
     bench: &mut Bench<A>,
@@ -115,14 +115,14 @@ fn end_pages<S: Source, K: Reporter, A: Allocator, B: Allocator>(
     Ok(())
 }
 
-/// Tells what is left when all pages have been visited: the marks, and then the faults at the end, by the header and the marks,
+/// Reports what is left when all pages have been visited: the marks, and then the faults at the end, by the header and the marks,
 /// first of the whole and then of each page. `any_rows` says whether the schema has rows. Each map page with pages after it is
 /// read once, to the chain buffer, when its number has its turn.
 ///
 /// # Errors
 ///
-/// [`RunError::ReadFailed`] exactly where the source failed, [`RunError::WriteFailed`] exactly where the reporter failed: it was
-/// told a beginning then.
+/// [`RunError::ReadFailed`] exactly where the source failed, [`RunError::WriteFailed`] exactly where the reporter failed: it
+/// heard a beginning then.
 pub fn tell_end<S: Source, K: Reporter, A: Allocator>(
     desk: &mut Desk<A>,
     source: &mut S,

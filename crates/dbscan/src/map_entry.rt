@@ -5,7 +5,7 @@ ghost use Rattle.dbformat.specs.Numbers.{u32_at};
 use dbformat::u32_at;
 use dbmarks::MapEntry;
 
-// The entry that a map page holds of the page so many behind it.
+// The entry that a map page holds of the page that is `behind` pages after it.
 pub(crate) fn stored_entry(map_page: &[u8], behind: u32) -> MapEntry
     requires first { 1 ≤ behind }
     requires room { (5 * behind ≤ length map_page.now) × (length map_page.now ≤ 65536) }

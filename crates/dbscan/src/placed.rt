@@ -1,4 +1,4 @@
-// The laws of the starts and the causes that faults are told with.
+// The laws of the starts and the causes that faults are reported with.
 ghost use Rattle.std.specs.Prelude.{◌≡◌, ℕ, List, length, true};
 ghost use Rattle.dbsurvey.specs.Address.{IsIn};
 ghost use Rattle.dbformat.specs.EndFaults.{end_faults};
@@ -13,7 +13,7 @@ ghost use Rattle.dbscan.specs.Notices.{run_notices, start_notices};
 ghost use Rattle.dbscan.specs.Placed.{AreStarts, IsOfStart, StartsRise, faults_of, is_end_code, is_header_code, is_walk_code};
 ghost use Rattle.dbscan.specs.Placed.{reported_in, told_faults, told_in, walk_told};
 
-/// What is told at the starts of a file is each fault of the walk, with the cause that it has by all pages of the survey, start
+/// What is reported at the starts of a file is each fault of the walk, with the cause that it has by all pages of the survey, start
 /// by start in their order. With the faults of the header before it and those at the end after it, which go back to nothing else,
 /// it is all faults of the file. The three differ in their codes.
 pub fn faults_are_told_with_their_causes()

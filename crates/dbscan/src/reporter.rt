@@ -44,7 +44,7 @@ pub trait Reporter {
     ghost hears: { Self → Heard → Self → Type 0 };
     // What one that is not taken, or not whole, makes of it.
     ghost cuts: { Self → Heard → Self → Type 0 };
-    // What it is lent, and how many calls of each Out failed.
+    // What it borrows, and how many calls of each Out failed.
     ghost held: { Self → SinkState };
 
     /// Takes a notice.

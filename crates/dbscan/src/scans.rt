@@ -1,4 +1,4 @@
-// A scan: all that is told of a file.
+// A scan: all that is found in a file.
 ghost use Rattle.std.specs.Prelude.{◌≡◌, List, IfErr};
 ghost use Rattle.dbformat.specs.Reference.{Reference};
 ghost use Rattle.dbformat.specs.Survey.{Survey};
@@ -19,12 +19,12 @@ use crate::walks::walk_starts;
 use dbsource::{RunError, Source};
 use std::alloc::Allocator;
 
-/// Tells all that is found in a file: the faults of its header, what is found at its starts, and the faults at the end.
+/// Reports all that is found in a file: the faults of its header, what is found at its starts, and the faults at the end.
 ///
 /// # Errors
 ///
-/// [`RunError::ReadFailed`] exactly where the source failed, [`RunError::WriteFailed`] exactly where the sink failed, and
-/// [`RunError::OutOfMemory`] exactly where the list of roots was refused memory. The sink was told a beginning then.
+/// [`RunError::ReadFailed`] exactly where the source failed, [`RunError::WriteFailed`] exactly where the reporter failed, and
+/// [`RunError::OutOfMemory`] exactly where the list of roots was refused memory. The reporter heard a beginning then.
 pub fn scan<A: Allocator, S: Source, K: Reporter>(
     desk: &mut Desk<A>,
     source: &mut S,

@@ -1,4 +1,4 @@
-// Telling faults to a sink, and those of the header.
+// Faults that are reported one after another, and those of the header.
 ghost use Rattle.std.specs.Prelude.{◌≡◌, IfErr, map};
 ghost use Rattle.dbformat.specs.HeaderFaults.{header_faults};
 ghost use Rattle.dbsource.specs.Errors.{is_write_failed};
@@ -13,7 +13,7 @@ use crate::reporter::Reporter;
 use dbformat::Fault;
 use dbsource::{Header, RunError};
 
-// Tells those that are faults.
+// Reports those that are faults.
 pub(crate) fn tell_all<K: Reporter>(faults: &[Option<Fault>], sink: &mut K) -> Result<(), RunError>
     ensures told { Tells K.hears K.cuts result sink.old (items_of faults.now) sink.new }
     ensures writes { SinkAfter is_write_failed result (K.held sink.old) (K.held sink.new) }
@@ -27,7 +27,7 @@ pub(crate) fn tell_all<K: Reporter>(faults: &[Option<Fault>], sink: &mut K) -> R
     Ok(())
 }
 
-/// Tells the faults of the header.
+/// Reports the faults of the header.
 ///
 /// # Errors
 ///

@@ -1,4 +1,4 @@
-// What a walk from a start tells, handed on with that start.
+// What a walk from a start reports, handed on with that start.
 ghost use Rattle.std.specs.Prelude.{◌≡◌, MatchResult, false};
 ghost use Rattle.dbsource.specs.Failures.{is_any};
 ghost use Rattle.dbwalk.specs.Rows.{row_of};
@@ -13,7 +13,7 @@ use dbformat::SCHEMA_START;
 use dbsource::WriteFailed;
 use dbwalk::{Cause, Fault, PageType, Row, Sink};
 
-// Hands on what it is told, and notes whether that shows a row of the schema.
+// Hands on what it hears, and notes whether the schema has a row.
 #[derive(Drop)]
 pub(crate) struct Teller<'a, K> {
     sink: &'a mut K,
@@ -22,7 +22,7 @@ pub(crate) struct Teller<'a, K> {
 }
 
 impl<'a, K: Reporter> Teller<'a, K> {
-    // One that was told nothing.
+    // One that heard nothing.
     pub(crate) fn new(sink: &'a mut K, start: &'a Start<'a>) -> Teller<'a, K>
         ensures same_sink { result.sink.ghost_name ≡ sink.entry.ghost_name }
         ensures sink { result.sink.now ≡ sink.old }
@@ -36,7 +36,7 @@ impl<'a, K: Reporter> Teller<'a, K> {
         }
     }
 
-    // Whether it was told a row of the schema.
+    // Whether the schema has a row.
     pub(crate) fn has_rows(&self) -> bool
         ensures { result ≡ self.now.has_rows }
     {

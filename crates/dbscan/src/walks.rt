@@ -23,11 +23,11 @@ ghost use Rattle.dbscan.specs.Walks.{AreTold, AreWalked, IsSchemaWalked, IsTelli
 use crate::Desk;
 use crate::no_rows::NoRows;
 use crate::reporter::Reporter;
+use crate::roots::RootList;
 use crate::start::Start;
 use crate::teller::Teller;
 use dbbytes::SchemaRow;
 use dbformat::{Encoding, RowKind};
-use dbowner::RootList;
 use dbsource::{Bench, RunError, Source};
 use dbwalk::{Marks, Root, RootKind, Taker, walk_freelist, walk_tree};
 use std::alloc::Allocator;
@@ -121,7 +121,7 @@ fn walk_schema<A: Allocator, S: Source, K: Reporter>(
     Ok(teller.has_rows())
 }
 
-// Walks over the tree of a row of a list, to its end. The sink is lent its name.
+// Walks over the tree of a row of a list, to its end. The sink borrows its name from the list.
 fn walk_row<A: Allocator, S: Source, K: Reporter>(
     source: &mut S,
     bench: &mut Bench<A>,
@@ -243,8 +243,8 @@ fn walk_later<A: Allocator, S: Source, K: Reporter>(
 }
 
 /// Walks from all starts: over the schema's tree and the trees that it names, and along the freelist. The list takes the
-/// rows of the schema; the answer is whether there are any. The sink is told of each tree, before the next page is read, that
-/// it has ended.
+/// rows of the schema; the answer is whether there are any. The sink hears that a tree has ended
+/// before the next page is read.
 ///
 /// # Errors
 ///

@@ -44,7 +44,7 @@ pub leaves_more : (d : Reference) (page : List ℕ) (j n : ℕ) → 0 < n → le
 leaves_more d page j zero h = absurd (omega arith)
 leaves_more d page j (suc n) h = let e : n ≡ suc n - 1 = omega arith in ap (λ k. Go (leaf_of d page j) ∷ leaves_from d page (j + 1) k) e
 
--- nothing is told of a free leaf
+-- nothing is reported of a free leaf
 told_free : (file : List ℕ) (V : List Reference) (c : Reference) → role_of c ≡ free_leaf → told_at file V (at_page c) ≡ []
 unfolding page_faults
 told_free file V c r = ap (λ role. map told_row (option_to_list (row_in role file c)) ++ told_by (cause_of file V (at_page c)) (role_faults role file V c)) r
@@ -54,7 +54,7 @@ module _ {S : Type 0} (takes drops : S → Finding → S → Type 0) (file : Lis
   next_of_left u f i (inl e) = left.past u f i (inl e)
   next_of_left u f i (inr n) = absurd n
 
-  -- a leaf is entered: nothing is told of it, or why it is refused
+  -- a leaf is entered: nothing is reported of it, or why it is refused
   pub leaf_entered : (b : Bool) → role_of c ≡ free_leaf → Enters takes drops file U c (Ok b) marks' s t → (T : List Reference) × IsLeft takes file W errands before T es (marks', t)
   leaf_entered false r e = (U, left_refused takes file W errands before U marks s t marks' c es left e.0 e.1 e.2)
   leaf_entered true r e =
@@ -66,7 +66,7 @@ module _ {S : Type 0} (takes drops : S → Finding → S → Type 0) (file : Lis
 
 -- The trunks of the freelist, one after another.
 
--- what is told of a trunk
+-- what is reported of a trunk
 pub told_trunk : (file : List ℕ) (V : List Reference) (d : Reference) → role_of d ≡ trunk → told_at file V (at_page d) ≡ told_by (cause_of file V (at_page d)) (trunk_fault (usable_size file) d.page (page_bytes file d.page))
 unfolding page_faults
 told_trunk file V d r = ap (λ role. map told_row (option_to_list (row_in role file d)) ++ told_by (cause_of file V (at_page d)) (role_faults role file V d)) r
@@ -126,14 +126,14 @@ module _ {S : Type 0} (takes drops : S → Finding → S → Type 0) (file : Lis
   opened_fitting l = subst (λ es. IsLeft takes file W (Go c ∷ []) before (U ++ d ∷ []) es (marks, s)) (append-nil (errands_of (story_of file) d) ∙ fitting_errands file d role l)
       (left_visit takes file W (Go c ∷ []) before U old s s marks d [] left followed (quiet_trunk file d role) marked (subst (λ L. Moves takes s L s) (sym (told_fitting file (U ++ d ∷ []) d role l)) refl))
 
-  -- one with too many, when that was told: the next trunk is left
+  -- a trunk with too many leaves, which was reported: the next trunk is left
   pub opened_crowded : (t : S) → most_leaves (usable_size file) < leaf_count (page_bytes file d.page)
       → Moves takes s (told_alone (fault L01 d.page 0 (pos (leaf_count (page_bytes file d.page)))) ∷ []) t
       → IsLeft takes file W (Go c ∷ []) before (U ++ d ∷ []) (map (go d) (next_trunk d.page (page_bytes file d.page) 0)) (marks, t)
   opened_crowded t l m = subst (λ es. IsLeft takes file W (Go c ∷ []) before (U ++ d ∷ []) es (marks, t)) (append-nil (errands_of (story_of file) d) ∙ crowded_errands file d role l)
       (left_visit takes file W (Go c ∷ []) before U old s t marks d [] left followed (quiet_trunk file d role) marked (subst (λ L. Moves takes s L t) (sym (told_too_many file (U ++ d ∷ []) d role l)) m))
 
-  -- and when that could not be told
+  -- and if it could not be reported
   pub opened_untold : (t : S) (x : RunError) → most_leaves (usable_size file) < leaf_count (page_bytes file d.page)
       → StopsBy takes drops x s (told_alone (fault L01 d.page 0 (pos (leaf_count (page_bytes file d.page)))) ∷ []) t
       → IsDone {A = Unit {0}} takes drops file W (Go c ∷ []) (Err x) marks before t

@@ -28,7 +28,7 @@ use Rattle.dbwalk.specs.declared.schema_row.RowPlace.{RowPlace}
 use Rattle.dbwalk.proofs.Underway.CellSteps.{row_items}
 use Rattle.dbwalk.specs.declared.taker.Taken.TheVariants as answer
 
--- it has room just where less than 65536 came
+-- it has room exactly if fewer than 65536 came
 has_room : (roots : ℕ) → nat_lt (held_of roots) last_root_start ≡ not (nat_le last_root_start roots)
 has_room roots = elim (cases_Bool (nat_le last_root_start roots)) [
   | inl e ↦ (let f : nat_lt 65536 65536 ≡ false = refl in
@@ -37,7 +37,7 @@ has_room roots = elim (cases_Bool (nat_le last_root_start roots)) [
       ap (λ b. nat_lt (cond b last_root_start roots) last_root_start) e ∙ f ∙ sym (ap not e))
 ]
 
--- Full is the answer to a root just where 65536 came before
+-- Full is the answer to a root exactly if 65536 came before
 pub full_is : (roots root : ℕ) → is_full (answer_to (held_of roots) root) ≡ (not (root == 0) && nat_le last_root_start roots)
 full_is roots root = by_root (root == 0)
   where
@@ -70,7 +70,7 @@ held_more roots root = by_root (root == 0)
     by_root true = let z : roots ≡ roots + 0 = omega arith in ap held_of z
     by_root false = ap (λ r. cond r (held_of roots + 1) (held_of roots)) (has_room roots) ∙ elim (cases_Bool (nat_le last_root_start roots)) [ inl e ↦ full e | inr e ↦ room e ]
 
--- What a taker answers to the row of a cell is what is told of it: S04 where it answers Full.
+-- What a taker answers to the row of a cell is what is reported of it: S04 if it answers Full.
 module _ {T : Type 0} (takes : T → SchemaRow → Taken → T → Type 0) (held : T → ℕ) (room : HasRootRoom takes held) (s t : T) (row : SchemaRow) (a : Taken) (taken : takes s row a t) (roots : ℕ) (at : held s ≡ held_of roots) where
   pub answer_full : is_full a ≡ (not (row.root == 0) && nat_le last_root_start roots)
   answer_full = ap is_full (room.answers s t row a taken ∙ ap (λ n. answer_to n row.root) at) ∙ full_is roots row.root
@@ -127,8 +127,8 @@ module _ {E : Type 0} (entry : SchemaRow → E) (rows : List SchemaRow) where
           ∙ ap (λ c. cond c (first_roots entry rows ++ entry row ∷ []) (first_roots entry rows)) (has_room (length rows))
           ∙ by_room (nat_le last_root_start (length rows)) refl
 
--- A taker with room for roots, where a walk over the schema's tree has come so far: it holds as many as the walk counts, 65536
--- at most.
+-- A taker with room for roots, at this point of the walk over the schema's tree: it holds as many as the walk counts, at most
+-- 65536.
 
 module _ {T : Type 0} (keeps : T → SchemaRow → Taken → T → Type 0) (held : T → ℕ) (room : HasRootRoom keeps held) where
   held_behind : (n : ℕ) (rows : List SchemaRow) (s t : T) → held s ≡ held_of n → Moves (gives keeps) s rows t → held t ≡ held_of (n + length (filter has_root rows))
@@ -158,14 +158,14 @@ pub room_after : {S T : Type 0} (takes : S → Finding → S → Type 0) (keeps 
     → roots ≡ roots_in items → StartsEmpty keeps held w.1 → Moves (watches takes keeps) w items x → HasRoom keeps held roots x.1
 room_after takes keeps held items w x roots are empty m = room_on takes keeps held items w x 0 roots (are ∙ (let z : roots_in items ≡ 0 + roots_in items = omega arith in z)) (empty_room keeps held w.1 empty) m
 
--- What telling a row of the schema leaves is what its walk hands out: the row goes to the taker, where it can be read, and then
--- its faults are told, with S04 where the roots before it are too many.
+-- What reporting a row of the schema leaves is what its walk hands out: the row goes to the taker, if it can be read, and then
+-- its faults are reported, with S04 if the roots before it are too many.
 
 module _ {S T : Type 0} (takes drops : S → Finding → S → Type 0) (keeps : T → SchemaRow → Taken → T → Type 0) (refuses : T → SchemaRow → T → Type 0) where
   abbrev Hands : Result (Unit {0}) RunError → (S × T) → List Item → (S × T) → Type 0
   Hands r w items x = Handed (watches takes keeps) (fails drops refuses) r w items x
 
-  -- findings that were all told, or not told whole
+  -- findings that were all reported, or not all
   tells_handed : (r : Result (Unit {0}) RunError) (fs : List Finding) (s s' : S) (t : T) → TellsOrStops takes drops r s fs s' → Hands r (s, t) (map found fs) (s', t)
   tells_handed (Ok a) fs s s' t h = found_moves takes drops keeps refuses fs s s' t h
   tells_handed (Err e) fs s s' t h = subst (λ e. Hands (Err e) (s, t) (map found fs) (s', t)) (sym h.0) (found_stops takes drops keeps refuses fs s s' t h.1)

@@ -1,3 +1,3 @@
--- What is told below some errands.
+-- What is reported below some errands.
 pub mod Belows
 pub mod Lefts

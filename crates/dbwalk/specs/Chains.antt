@@ -24,7 +24,7 @@ use Rattle.dbwalk.specs.Telling.{Tells}
 
 -- What a sieve is fed, where there is one.
 
--- A sieve that had taken some bytes has taken these behind them. There is one still where there was one.
+-- A sieve that had taken some bytes has then taken these after them. There is a sieve exactly if there was one.
 abbrev pub Feeds : Option RowSieve → List ℕ → Option RowSieve → Type 0
 Feeds None bytes None = Unit {0}
 Feeds None bytes (Some t) = ⊥
@@ -41,7 +41,7 @@ FeedsChain file W c old new = FeedsPages file old (visited_below file W (Go c �
 
 -- Overflow chains as a program walks them.
 
--- A place to go on from: its mark is that of a use, and names a page; and no payload has as many bytes as could follow.
+-- A place to go on from: its mark is that of a use and names a page, and number and bytes left stay within the greatest payload.
 pub record IsPlace (place : Place) : Type 0 where
   pub named : IsPageNumber (named_page place.step.mark)
   pub used : IsUse place.step.mark
@@ -61,25 +61,25 @@ pub record IsChainOf (chain : Chain) (c : Reference) : Type 0 where
   pub item : item_of c ≡ chain.cell
   pub place : IsOnChain chain 0 c
 
--- the reference of an overflow page to the next one, where so many bytes are left behind it
+-- the reference of an overflow page to the next one, where this many bytes are left after it
 abbrev pub next_of : Reference → ℕ → ℕ → Reference
 next_of c left page = record { address = then_step c.address 0; page = page; role = record { role = later_overflow left; from = c.page; item = 0 } }
 
--- By the visits of V the chain of a reference begins with one from the cell that it belongs to.
+-- By the visits of V, the chain of a reference begins with one from the cell that it belongs to.
 pub record HasHead (chain : Chain) (V : List Reference) (d : Reference) : Type 0 where
   pub head : Reference
   pub found : chain_head V d ≡ Some head
   pub from : from_of head ≡ chain.page
   pub item : item_of head ≡ chain.cell
 
--- What the visit of a page of a chain leaves: the number of the next page, what was told, and what a sieve was fed.
+-- What the visit of a page of a chain leaves: the number of the next page, what was reported, and what a sieve was fed.
 pub record IsOverflowVisited {S : Type 0} (takes drops : S → Finding → S → Type 0) (file : List ℕ) (chain : Chain) (number page left : ℕ) (r : Result ℕ RunError) (old new : Option RowSieve) (before after : S) : Type 0 where
   pub next : IfOk r (λ next. next ≡ overflow_next (page_bytes file page))
   pub told : (U : List Reference) (c : Reference) → c.page ≡ page → bytes_left (role_of c) ≡ Some left → IsOnChain chain number c
       → HasHead chain U c → Tells takes drops r before (told_at file U (at_page c)) after
   pub fed : OnOk r ((c : Reference) → c.page ≡ page → bytes_left (role_of c) ≡ Some left → Feeds old (held_bytes file c) new)
 
--- On the way along the chain below c: the reference at this place is left, and a sieve was fed the pages so far.
+-- Along the chain below c: the reference at this place is left, and a sieve was fed the pages so far.
 pub record IsOnWay {S : Type 0} (takes : S → Finding → S → Type 0) (file : List ℕ) (W : List Reference) (c : Reference) (before : S) (chain : Chain) (place : Place) (marks : List Mark) (now : S) (old new : Option RowSieve) : Type 0 where
   pub pages : List Reference
   pub fed : FeedsPages file old pages new

@@ -1,4 +1,4 @@
--- What a call has done below some errands, and what is left of a walk in its midst, for a loop.
+-- What a call has done below some errands, and what is left during a walk, for the invariant of a loop.
 use Rattle.std.specs.Prelude.{◌≡◌, ℕ, List, [], ◌∷◌, ◌++◌, Result, OnOk}
 use Rattle.dbsurvey.specs.Story.{Errand, Go, AreErrandsApart}
 use Rattle.dbformat.specs.Address.{start_of, schema_start}
@@ -15,21 +15,20 @@ use Rattle.dbwalk.specs.declared.taker.Taken.{Taken}
 use Rattle.dbsurvey.specs.Moves.{Moves}
 use Rattle.dbsurvey.specs.InOrder.{IsPast}
 
--- At Ok the marks are those of W and of all that is visited below the errands. The sink was told what is told below
--- them, or after an error a beginning of it.
+-- At Ok the marks are those of W and of all that is visited below the errands. What is reported below them was given to the
+-- sink: all of it at Ok, a beginning after an error.
 pub record IsDone {S A : Type 0} (takes drops : S → Finding → S → Type 0) (file : List ℕ) (W : List Reference) (errands : List (Errand Way Event)) (r : Result A RunError) (marks : List Mark) (before after : S) : Type 0 where
   pub marked : OnOk r (AreMarksOf file (W ++ visited_below file W errands) marks)
   pub told : Tells takes drops r before (told_below file W errands) after
 
--- What the walk over a whole tree leaves; and of the taker, where the tree is the schema's: it was given the rows that can
--- be read.
+-- What the walk over a whole tree leaves. If the tree is the schema's, the taker was given the rows that can be read.
 pub record IsTreeDone {S T : Type 0} (takes drops : S → Finding → S → Type 0) (keeps : T → SchemaRow → Taken → T → Type 0) (refuses : T → SchemaRow → T → Type 0) (file : List ℕ) (W : List Reference) (c : Reference) (r : Result (Unit {0}) RunError)
     (marks : List Mark) (before after : S) (first t : T) : Type 0 where
   pub done : IsDone takes drops file W (Go c ∷ []) r marks before after
   pub given : start_of c.address ≡ schema_start → Gives keeps refuses r first (readable_rows file (W ++ visited_below file W (Go c ∷ []))) t
 
--- Of all that is below the errands, after the visits of W, what is below the errands `left`, after those of U, is still
--- to be done: the rest was told, and the marks are those of U.
+-- Of all that is below the errands, after the visits of W, what is below the errands `left`, after those of U, is still to be
+-- done. The rest was reported, and the marks are those of U.
 pub record IsLeft {S : Type 0} (takes : S → Finding → S → Type 0) (file : List ℕ) (W : List Reference) (errands : List (Errand Way Event)) (before : S) (U : List Reference) (left : List (Errand Way Event)) (now : List Mark × S) : Type 0 where
   pub marked : AreMarksOf file U now.0
   pub past : IsPast U left

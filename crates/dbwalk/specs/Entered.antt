@@ -1,4 +1,4 @@
--- What it leaves to enter a candidate: its page is marked, or the reason against it is told.
+-- What entering a candidate leaves: its page is marked, or the reason against it is reported.
 use Rattle.std.specs.Prelude.{Bool, ◌≡◌, ℕ, true, false, List, [], ◌∷◌, ◌++◌, Result, Ok, Err}
 use Rattle.dbmarks.specs.declared.marks.Mark.{Mark}
 use Rattle.dbsurvey.specs.Moves.{Moves}
@@ -14,7 +14,7 @@ use Rattle.dbmarks.specs.Marking.{visit_mark, AreMarksOf}
 use Rattle.dbtrace.specs.Finding.{Finding, told_at}
 use Rattle.dbwalk.specs.Telling.{StopsBy}
 
--- all visits of W stand before a candidate
+-- all visits of W are before a candidate
 abbrev pub IsNext : List Reference → Reference → Type 0
 IsNext W c = IsPast {E = Event} W (Go c ∷ [])
 
@@ -26,7 +26,7 @@ pub record IsStepOf (step : Step) (c : Reference) : Type 0 where
   pub item : item_of c ≡ step.item
   pub deep : is_too_deep c ≡ step.is_too_deep
 
--- followed, and marked; or refused, which was told, or not told whole
+-- it was followed, and marked; or refused, which was reported, or not completely
 abbrev pub Enters : {S : Type 0} → (S → Finding → S → Type 0) → (S → Finding → S → Type 0) → List ℕ → List Reference → Reference → Result Bool RunError → List Mark → S → S → Type 0
 Enters takes drops file W c (Ok true) marks s t = (is_followed (rules_of file) W c ≡ true) × AreMarksOf file (W ++ (c ∷ [])) marks × (s ≡ t)
 Enters takes drops file W c (Ok false) marks s t = (is_followed (rules_of file) W c ≡ false) × AreMarksOf file W marks × Moves takes s (told_at file W (at_refused c)) t

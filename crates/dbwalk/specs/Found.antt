@@ -1,4 +1,4 @@
--- What a page of a tree was found to be, by the bytes at a level, and what is told of it.
+-- What a page of a tree is, by the bytes at a level, and what is reported of it.
 use Rattle.std.specs.Prelude.{◌≡◌, ℕ, false, pos, List, Option, Some, None, slice_get, IfSome, Bool, [], ◌∷◌, ◌++◌, length, map, option_to_list, fold, max, sum_by, if◌then◌else◌}
 use Rattle.dbformat.specs.Faults.{fault}
 use Rattle.dbformat.specs.Head.{View, undamaged, is_interior, content_start, type_byte}
@@ -30,7 +30,7 @@ use Rattle.dbformat.specs.declared.FaultCode.TheVariants.{P01, P02, P03, T05}
 use Rattle.dbwalk.specs.LeafCells.{leaf_cause}
 use Rattle.dbwalk.specs.Telling.{findings}
 
--- the bytes that stand at a level are those of a page
+-- the bytes at a level are those of a page
 abbrev pub StandsAt : List (List ℕ) → ℕ → List ℕ → Type 0
 StandsAt levels level page = (bytes : List ℕ) → slice_get levels level ≡ Some bytes → bytes ≡ page
 
@@ -48,7 +48,7 @@ pub record IsOpenLeaf (usable : ℕ) (kind : TreeKind) (levels : List (List ℕ)
   pub viewed : undamaged kind page usable bytes ≡ Some view
   pub leaf : is_interior view.kind ≡ false
 
--- an undamaged leaf, with the span of its keys where nothing else of its cells is left to look at
+-- an undamaged leaf, with the span of its keys if its cells have nothing else to look at
 pub record IsLeafFound (usable : ℕ) (kind : TreeKind) (levels : List (List ℕ)) (level page : ℕ) (keys : Option KeySpan) : Type 0 where
   pub leaf : IsOpenLeaf usable kind levels level page
   pub span : IfSome keys (HasSpan leaf.view)
@@ -80,7 +80,7 @@ damaged_row start path page = record {
   counts = no_counts;
 }
 
--- what is told of an undamaged page: its row, and then the faults within it
+-- what is reported of an undamaged page: its row, and then the faults within it
 abbrev pub undamaged_findings : ℕ → List ℕ → View → Bool → List Finding
 undamaged_findings start path v is_child = told_row (view_row start path v) ∷ findings (inner_faults v is_child)
 
@@ -96,11 +96,11 @@ damage_fault p page damage.UnknownType = fault P01 p 0 (pos (type_byte p page))
 damage_fault p page damage.OtherTree = fault P02 p 0 (pos (type_byte p page))
 damage_fault p page damage.ContentStart = fault P03 p 0 (pos (content_start p page))
 
--- and of a damaged one: its row, and its one fault, by what it looks like
+-- what is reported of a damaged page: its row, and its one fault, by what it looks like
 abbrev pub damaged_findings : ℕ → List ℕ → ℕ → Look → Fault → List Finding
 damaged_findings start path page look damage = told_row (damaged_row start path page) ∷ told_by (page_cause look None) (damage ∷ [])
 
--- what is told of the visit of a page of a tree: its row, and its faults, by the first leaf before it
+-- what is reported of the visit of a page of a tree: its row, and its faults, by the first leaf before it
 abbrev pub page_findings : List ℕ → Option TreeLeaf → Reference → List Finding
 page_findings file leaf c = map told_row (option_to_list (event_row file (at_page c)))
     ++ told_by (page_cause (look_at file c.page) leaf) (page_faults file [] c ++ depth_faults file leaf c)

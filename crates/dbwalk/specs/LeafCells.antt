@@ -1,5 +1,5 @@
--- What is read off the leaf at a level: its cells; its keys, where nothing else of its cells is left to look at; and the
--- greatest key so far.
+-- What is read of the leaf at a level: its cells; its keys, if the cells have nothing else to look at; and the greatest key so
+-- far.
 use Rattle.std.specs.Prelude.{◌≡◌, ℕ, zero, suc, ◌+◌, ◌-◌, ◌<◌, ◌≤◌, List, Option, Some, None, ℤ, slice_get, Bool, false, int_lt, int_le, if◌then◌else◌, ◌==◌, not, pos, true, [], ◌∷◌, IfSome, option_map, option_and_then}
 use Rattle.std.specs.Option.{option_or, option_map_or}
 use Rattle.dbformat.specs.Head.{View, undamaged}
@@ -38,62 +38,62 @@ pub record HasSpan (v : View) (keys : KeySpan) : Type 0 where
 abbrev pub placed : ℕ → ℕ → Option ℤ → Option CellKey
 placed page item key = option_map (λ value. record { page = page; item = item; value = value }) key
 
--- Below a start that is not the schema's the keys of such a leaf come behind the greatest so far; the last of them is the
+-- In a tree that is not the schema's, the keys of such a leaf come after the greatest so far, and the last of them is the
 -- greatest then.
 pub record ArePassed (page start : ℕ) (greatest : Option CellKey) (keys : KeySpan) (after : Option CellKey) : Type 0 where
   pub other : 1 ≤ start
   pub above : IsAbove (value_of greatest) keys.first
   pub after_is : after ≡ option_or (placed page (keys.cells - 1) keys.last) greatest
 
--- So many cells from one on are readable and have no overflow pages, and their keys rise from above the greatest before
--- them; the greatest behind them is the last of these keys, where there is one.
+-- This many cells from one on are readable and have no overflow pages, and their keys rise from above the greatest before them.
+-- The greatest after them is the last of these keys, if there is one.
 abbrev pub AreRisingFrom : ℕ → View → ℕ → ℕ → Option CellKey → Option CellKey → Type 0
 AreRisingFrom page v from zero greatest after = after ≡ greatest
 AreRisingFrom page v from (suc n) greatest after = (before : Option CellKey) × AreRisingFrom page v from n greatest before × IsAllLocal v (from + n)
     × IsAbove (value_of before) (key_at v (from + n)) × (after ≡ option_or (placed page (from + n) (key_at v (from + n))) before)
 
--- the same of the page at a level: the cells from one on to another
+-- the same of the page at a level: its cells from `from` up to `end`
 pub record ArePassedAt (usable : ℕ) (kind : TreeKind) (levels : List (List ℕ)) (level page from end : ℕ) (greatest after : Option CellKey) : Type 0 where
   pub ahead : from ≤ end
   pub rising : (bytes : List ℕ) (v : View) → slice_get levels level ≡ Some bytes → undamaged kind page usable bytes ≡ Some v → from ≤ count v
       → (end ≤ count v) × AreRisingFrom page v from (end - from) greatest after
 
--- The greatest key of a walk so far, and visits that stand before a place.
+-- The greatest key of a walk so far, and visits before a place.
 
--- all visits so far stand before the place
+-- all visits so far are before the place
 abbrev pub AreBefore : List Reference → Address → Type 0
 AreBefore W p = (u : Reference) → IsIn u W → IsBefore u.address p
 
--- whether a key is out of order behind keys of which this is the greatest
+-- whether a key is out of order after keys of which this is the greatest
 abbrev pub is_late : Bool → Option ℤ → ℤ → Bool
 is_late is_rowid None value = false
 is_late is_rowid (Some top) value = if is_rowid then int_le value top else int_lt value top
 
--- What is read off the leaf at a level.
+-- What is read of the leaf at a level.
 
 -- the number of its cells
 pub record HasCells (usable : ℕ) (kind : TreeKind) (levels : List (List ℕ)) (level page n : ℕ) : Type 0 where
   pub count_is : (bytes : List ℕ) (v : View) → slice_get levels level ≡ Some bytes → undamaged kind page usable bytes ≡ Some v → n ≡ count v
 
--- the first overflow page of cell i, with the bytes that stand on overflow pages, and its key
+-- the first overflow page of cell i, with the number of payload bytes on overflow pages, and its key
 pub record HasCell (usable : ℕ) (kind : TreeKind) (levels : List (List ℕ)) (level page i : ℕ) (overflow : Option (ℕ × ℕ)) (key : Option ℤ) : Type 0 where
   pub most : IfSome overflow (λ o. o.1 ≤ most_payload)
   pub chain : (bytes : List ℕ) (v : View) → slice_get levels level ≡ Some bytes → undamaged kind page usable bytes ≡ Some v → i < count v → overflow ≡ option_and_then (λ c. option_map (λ p. (p, overflow_size c)) c.overflow) (result_ok (cell v i))
   pub key_is : (bytes : List ℕ) (v : View) → slice_get levels level ≡ Some bytes → undamaged kind page usable bytes ≡ Some v → i < count v → key ≡ option_and_then (λ c. c.key) (result_ok (cell v i))
 
--- what a cell's first overflow page, with the bytes that stand on overflow pages, leads to
+-- what a cell's first overflow page, with the number of payload bytes on overflow pages, leads to
 abbrev pub overflow_errands : Reference → ℕ → Option (ℕ × ℕ) → List (Errand Way Event)
 overflow_errands c i None = []
 overflow_errands c i (Some o) = go c (link c.page (overflow_step i) i (first_overflow o.1) o.0) ∷ []
 
--- what a key out of order goes back to, and a leaf at another depth: the greatest key so far, and the first leaf
+-- the cause of a key out of order, the greatest key so far; and that of a leaf at another depth, the first leaf
 abbrev pub key_cause : Option CellKey → Cause
 key_cause top = option_map_or cause.Key top cause.Itself
 
 abbrev pub leaf_cause : Option TreeLeaf → Cause
 leaf_cause leaf = option_map_or (λ l. cause.Leaf l.page) leaf cause.Itself
 
--- the fault of a key, or of a rowid, behind keys of which this is the greatest, with its cause
+-- the fault of a key, or of a rowid, after keys of which this is the greatest, with its cause
 abbrev pub order_told : Bool → Option CellKey → ℕ → ℕ → ℤ → List Finding
 order_told is_rowid top page item key = told_if (is_late is_rowid (value_of top) key) (told_fault (fault T06 page item key) (key_cause top))
 
@@ -102,11 +102,11 @@ abbrev pub late_told : Option CellKey → ℕ → ℕ → Option ℤ → List Fi
 late_told top page item None = []
 late_told top page item (Some key) = order_told true top page item key
 
--- the first leaf, once one of this page and depth was come to
+-- the first leaf of a tree, after a leaf with this page and depth
 abbrev pub first_of : Option TreeLeaf → ℕ → ℕ → TreeLeaf
 first_of leaf page depth = option_map_or (λ l. l) leaf (record { page = page; depth = depth })
 
--- the fault of a leaf whose depth is another one, with its cause
+-- the fault of a leaf whose depth differs from that of the first leaf, with its cause
 abbrev pub depth_told : Option TreeLeaf → ℕ → ℕ → List Finding
 depth_told leaf page depth = told_if (not (depth == depth_of leaf depth)) (told_fault (fault T05 page 0 (pos depth)) (leaf_cause leaf))
 

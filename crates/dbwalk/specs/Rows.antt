@@ -1,4 +1,4 @@
--- Rows as they are lent.
+-- Rows as the sink and the taker borrow them.
 use Rattle.std.specs.Option.{option_copied}
 use Rattle.dbformat.specs.Rows.{StatRow}
 use Rattle.dbformat.specs.SchemaRow as format

@@ -1,5 +1,5 @@
--- Where a walk stands as a part of it begins, by the state that a program keeps. What the part leaves is said of all visits
--- and references that stand so.
+-- The point of a walk at which a part of it begins, by the state that the program keeps. What the part leaves is stated for all
+-- visits and references at that point.
 use Rattle.std.specs.Prelude.{◌≡◌, ℕ, ◌<◌, true, false, List, [], ◌∷◌, ◌++◌, length, Option, Some}
 use Rattle.dbsurvey.specs.InOrder.{IsPast}
 use Rattle.dbsurvey.specs.Traverse.{is_followed}
@@ -26,7 +26,7 @@ use Rattle.dbwalk.specs.declared.state.Tree.{Tree}
 use Rattle.dbwalk.specs.declared.taker.Taken.{Taken}
 use Rattle.dbwalk.specs.declared.tree_walk.TreeWalk.{TreeWalk}
 
--- in the tree of the schema, with a taker that holds what it would behind the rows so far
+-- in the tree of the schema, with a taker that holds what it should after the rows so far
 abbrev pub WithRoom : {A S K T : Type 0} → (T → SchemaRow → Taken → T → Type 0) → Walk → TreeWalk A S K T → Type 0 → Type 0
 WithRoom {T = T} takes from walk leaves = (held : T → ℕ) → (walk.tree.start ≡ schema_start → HasRoom takes held from.state.roots walk.taker.now) → leaves
 
@@ -47,7 +47,7 @@ AtLeaf takes file levels page walk leaves = (from : Walk) (c : Reference) (v : V
     → tree_view file c ≡ Some v → is_interior v.kind ≡ false → AreBefore from.visits (then_step c.address 0)
     → IsAt file from walk.marks.now walk.tree → WithRoom takes from walk (leaves from c)
 
--- at a page of a tree that was read, as far as what is told of it asks
+-- at a page of a tree that was read, as far as what is reported of it requires
 abbrev pub AtRead : Geometry → Tree → List (List ℕ) → ℕ → (List ℕ → Reference → Type 0) → Type 0
 AtRead g tree levels page leaves = (file : List ℕ) (c : Reference) (from item : ℕ) → g ≡ geometry file → IsCandidate tree.kind tree.start tree.path.items page from item c
     → StandsAt levels (length tree.path.items) (page_bytes file page) → leaves file c
@@ -63,22 +63,22 @@ abbrev pub AtReference : {A S K T : Type 0} → (T → SchemaRow → Taken → T
 AtReference takes file page above item walk leaves = (from : Walk) (c : Reference) → IsCandidate walk.tree.kind walk.tree.start walk.tree.path.items page above item c
     → IsNext from.visits c → IsAt file from walk.marks.now walk.tree → WithRoom takes from walk (leaves from c)
 
--- at the next step of the last of some frames, with a sink and a taker that were as `before`
+-- at the next step of the last of some frames, where the sink and the taker were `before` at first
 abbrev pub AtStep : {A S K T : Type 0} → ((K × T) → Item → (K × T) → Type 0) → (T → SchemaRow → Taken → T → Type 0) → List ℕ → List (List ℕ) → List Frame → TreeWalk A S K T → (List Reference → Reference → (K × T) → Type 0) → Type 0
 AtStep {K = K} {T = T} moves takes file levels frames walk leaves = (W : List Reference) (c : Reference) (before : K × T) → IsCandidate walk.tree.kind walk.tree.start [] c.page 0 walk.tree.start c
     → IsWalkingOn moves file W c before (frames, levels) (walk.marks.now, walk.tree) (walk.sink.now, walk.taker.now)
     → (held : T → ℕ) → (walk.tree.start ≡ schema_start → StartsEmpty takes held before.1) → leaves W c before
 
--- at the root of a tree of which nothing was visited, once it was marked, and read
+-- at the root of a tree that was marked, and read; no page of the tree was visited before
 abbrev pub AtRoot : {A S K T : Type 0} → (T → SchemaRow → Taken → T → Type 0) → List ℕ → List (List ℕ) → ℕ → TreeWalk A S K T → (List Reference → Reference → Type 0) → Type 0
 AtRoot {T = T} takes file levels page walk leaves = (W : List Reference) (c : Reference) → IsCandidate walk.tree.kind walk.tree.start [] page 0 walk.tree.start c
     → StandsAt levels 0 (page_bytes file page) → is_followed (rules_of file) W c ≡ true → IsNext W c → AreMarksOf file (W ++ (c ∷ [])) walk.marks.now
     → (held : T → ℕ) → (walk.tree.start ≡ schema_start → StartsEmpty takes held walk.taker.now) → leaves W c
 
--- a tree's state, of which nothing but the greatest key may have changed
+-- only the greatest key of a tree's state may have changed
 abbrev pub IsSameButGreatest : Tree → Tree → Type 0
 IsSameButGreatest old new = (new.start ≡ old.start) × (new.kind ≡ old.kind) × (new.leaf ≡ old.leaf) × (new.path ≡ old.path)
 
--- nothing but the depth of its first leaf
+-- only its first leaf may have changed
 abbrev pub IsSameButLeaf : Tree → Tree → Type 0
 IsSameButLeaf old new = (new.start ≡ old.start) × (new.kind ≡ old.kind) × (new.greatest ≡ old.greatest) × (new.path ≡ old.path)

@@ -8,7 +8,7 @@ use Rattle.dbformat.specs.declared.TreeKind.{TreeKind}
 use Rattle.dbwalk.specs.declared.steps.Next.{Next}
 use Rattle.dbwalk.specs.declared.steps.Next.TheVariants.{Behind, Nothing, Key, Chain, Child}
 
--- the overflow chain of cell n: its first page, with the bytes that stand on overflow pages
+-- the overflow chain of cell n: its first page, with the number of payload bytes on overflow pages
 pub record IsChainAt (v : View) (s first left : ℕ) : Type 0 where
   pub n : ℕ
   pub step : s ≡ overflow_step n
@@ -41,7 +41,7 @@ pub data IsEmptyAt (v : View) (s : ℕ) : Type 0 where
   unreadable : (n : ℕ) (f : CellFault) → s ≡ key_step n → n < count v → cell v n ≡ Err f → IsEmptyAt v s
   without_key : (n : ℕ) (x : Cell) → s ≡ key_step n → n < count v → cell v n ≡ Ok x → x.key ≡ None → IsEmptyAt v s
 
--- what stands at the step
+-- what the page has at the step
 abbrev pub IsNextStep : View → ℕ → Next → Type 0
 IsNextStep v s Behind = child_step (count v) < s
 IsNextStep v s Nothing = IsEmptyAt v s

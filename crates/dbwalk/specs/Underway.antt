@@ -19,27 +19,27 @@ use Rattle.dbwalk.specs.declared.state.Tree.{Tree}
 use Rattle.dbtrace.specs.Steps.{roots_in}
 use Rattle.dbwalk.specs.declared.steps.Frame.{Frame}
 
--- marks and a tree's state are those of a walk that has come so far
+-- marks and a tree's state are those of a walk up to this point
 abbrev pub IsAt : List ℕ → Walk → List Mark → Tree → Type 0
 IsAt file now marks tree = AreMarksOf file now.visits marks × (tree.greatest ≡ now.state.greatest) × (tree.leaf ≡ now.state.leaf)
 
--- the walk on from a point by all that is below some errands, with the items of this part alone
+-- the walk from a point on, by all that is below some errands, with the items of this part only
 abbrev pub done_below : List ℕ → Walk → List (Errand Way Event) → Walk
 done_below file from errands = run_below file (bare from) errands
 
--- What a call has done, where `done` is the part of the walk that is its own: at Ok marks and state are those behind it, and
--- all its items were handed out; after an error, a beginning of them.
+-- What a call has done, where `done` is the call's own part of the walk. At Ok marks and state are those after it, and all its
+-- items were handed out; after an error, a beginning of them.
 pub record HasDone {P A : Type 0} (moves : P → Item → P → Type 0) (stops : RunError → P → Item → P → Type 0) (file : List ℕ) (done : Walk) (r : Result A RunError) (now : List Mark × Tree) (before after : P) : Type 0 where
   pub at : OnOk r (IsAt file done now.0 now.1)
   pub handed : Handed moves stops r before done.items after
 
--- the part of the walk that is done once a reference was looked at: the page alone, or all that is below the reference
+-- the part of the walk that is done when a reference was looked at: only the page, or all that is below the reference
 abbrev pub entered : List ℕ → Walk → Reference → Result Bool RunError → Walk
 entered file from c (Ok true) = advance file (bare from) (at_page c)
 entered file from c (Ok false) = done_below file from (Go c ∷ [])
 entered file from c (Err e) = done_below file from (Go c ∷ [])
 
--- where the answer is true, it was followed to an undamaged interior page, which stands at its level
+-- if the answer is true, it was followed to an undamaged interior page, whose bytes are at its level
 pub record IsInterior (file : List ℕ) (from : Walk) (c : Reference) (levels : List (List ℕ)) : Type 0 where
   pub followed : is_followed (rules_of file) from.visits c ≡ true
   pub frame : IsOpenFrame file c (record { page = c.page; next = 0 })
@@ -48,8 +48,8 @@ pub record IsInterior (file : List ℕ) (from : Walk) (c : Reference) (levels : 
 abbrev pub IsEntered : List ℕ → Walk → Reference → Result Bool RunError → List (List ℕ) → Type 0
 IsEntered file from c r levels = IfOk r (λ yes. IsTrue yes → IsInterior file from c levels)
 
--- A walk has come to a point, where what is left, gone on with, makes it whole: marks and state are those of the point, and the
--- items so far were handed out.
+-- A walk is at a point from which what is left completes it: marks and state are those of the point, and the items so far were
+-- handed out.
 pub record IsUnderway {P : Type 0} (moves : P → Item → P → Type 0) (file : List ℕ) (whole : Walk) (before : P) (now : Walk) (left : List (Errand Way Event)) (state : List Mark × Tree) (w : P) : Type 0 where
   pub rest : run_below file now left ≡ whole
   pub at : IsAt file now state.0 state.1
@@ -61,8 +61,8 @@ pub record IsUnderway {P : Type 0} (moves : P → Item → P → Type 0) (file :
 abbrev pub tree_walk : List ℕ → List Reference → Reference → Walk
 tree_walk file W c = run_below file (begin W) (Go c ∷ [])
 
--- The walk over the tree of a start is under way, of which only what the frames still have to do is left; their pages stand
--- at their levels.
+-- The walk over the tree of a start is under way, and only what the frames still have to do is left. Their pages are at their
+-- levels.
 pub record IsWalkingOn {P : Type 0} (moves : P → Item → P → Type 0) (file : List ℕ) (W : List Reference) (c : Reference) (before : P) (stack : List Frame × List (List ℕ)) (state : List Mark × Tree) (w : P) : Type 0 where
   pub now : Walk
   pub under : IsUnderway moves file (tree_walk file W c) before now (left_over file state.1.kind c stack.0) state w
@@ -71,6 +71,6 @@ pub record IsWalkingOn {P : Type 0} (moves : P → Item → P → Type 0) (file 
   pub calls : AreCalls stack.0
   pub read : AreRead file stack.1 0 stack.0
 
--- What a turn of the loop leaves: the walk is under way still, or an error stopped it.
+-- What a turn of the loop leaves: the walk is still under way, or an error stopped it.
 abbrev pub HasTurned : {P : Type 0} → (P → Item → P → Type 0) → (RunError → P → Item → P → Type 0) → List ℕ → (List Reference × Reference × P) → Result (Unit {0}) RunError → (List Frame × List (List ℕ)) → (List Mark × Tree) → P → Type 0
 HasTurned moves stops file of r stack state w = OnOk r (IsWalkingOn moves file of.0 of.1 of.2 stack state w) × IfErr r (λ e. StopsAt moves stops e of.2 (tree_walk file of.0 of.1).items w)

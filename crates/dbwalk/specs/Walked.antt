@@ -17,12 +17,12 @@ use Rattle.dbmarks.specs.Reads.{Reads}
 use Rattle.dbwalk.specs.Underway.{HasDone}
 use Rattle.dbwalk.specs.declared.tree_walk.TreeWalk.{TreeWalk}
 
--- the errors of the walk over the tree of a start: memory is wanted for the rows of the schema alone
+-- the errors of the walk over the tree of a start: only the rows of the schema take memory
 abbrev pub IsTreeError : ℕ → RunError → Type 0
 IsTreeError start e = IsReadOrWrite e ⊎ ((e ≡ OutOfMemory) × (start ≡ schema_start))
 
--- It lends the same source, marks, taker and sink, of the same tree and file; each call of a source, a sink or a taker that
--- failed is counted, and is the answer's error; and only the tree of the schema calls the taker.
+-- It borrows the same source, marks, taker and sink, of the same tree and file. Each failed call of a source, a sink or a taker
+-- is counted, and is the answer's error. Only the tree of the schema calls the taker.
 pub record Walked {A S K T R : Type 0} (told : S → SourceState) (held : K → SinkState) (refusals : T → ℕ) (r : Result R RunError) (g g' : Geometry) (old new : TreeWalk A S K T) : Type 0 where
   pub source : new.source.ghost_name ≡ old.source.ghost_name
   pub marks : new.marks.ghost_name ≡ old.marks.ghost_name
@@ -38,7 +38,7 @@ pub record Walked {A S K T R : Type 0} (told : S → SourceState) (held : K → 
   pub only : IfErr r (IsTreeError old.tree.start)
   pub others : 1 ≤ old.tree.start → new.taker.now ≡ old.taker.now
 
--- There is a log of what it asked for, each page once; and of each file that agrees with the answers this holds.
+-- There is a log of the reads, each page once, and this holds of each file that agrees with the answers.
 abbrev pub SaysOfFiles : {A S K T : Type 0} → Step → (S → SourceState) → Geometry → TreeWalk A S K T → TreeWalk A S K T → (List ℕ → Type 0) → Type 0
 SaysOfFiles step told g old new says = HasLog step (Reads g.page_size old.marks.now new.marks.now) (λ file. g ≡ geometry file → old.encoding ≡ encoding file → says file) (told old.source.now) (told new.source.now)
 

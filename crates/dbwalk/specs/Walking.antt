@@ -28,16 +28,16 @@ pub record IsCandidate (kind : TreeKind) (k : ℕ) (children : List ℕ) (p from
   pub path : child_path c.address ≡ children
   pub chain : chain_place c.address ≡ None
 
--- the numbers of the children on the way to the page behind the last of some frames
+-- the numbers of the children on the way to the page after the last of some frames
 abbrev pub path_of : List Frame → List ℕ
 path_of frames = map (λ f. cell_of_step (f.next - 1)) frames
 
--- the pages of the frames stand at their levels
+-- the pages of the frames are at their levels
 abbrev pub AreRead : List ℕ → List (List ℕ) → ℕ → List Frame → Type 0
 AreRead file levels level [] = Unit {0}
 AreRead file levels level (f ∷ fs) = (slice_get levels level ≡ Some (page_bytes file f.page)) × AreRead file levels (level + 1) fs
 
--- A page has at most 32768 cells, so that a frame has at most 98306 steps. What frames still may take:
+-- A page has at most 32768 cells, so a frame has at most 98306 steps. A bound on the turns that the frames still take:
 abbrev pub frames_cost : List Frame → ℕ
 frames_cost [] = 0
 frames_cost (f ∷ fs) = (98310 - f.next) + frames_cost fs
@@ -46,8 +46,8 @@ frames_cost (f ∷ fs) = (98310 - f.next) + frames_cost fs
 abbrev pub cost : List Mark → List Frame → ℕ
 cost marks frames = unmarked_pages marks * 98312 + frames_cost frames
 
--- On any source: the bytes at a frame's level are those of an undamaged interior page, and the frame is at one of its
--- steps, or behind them.
+-- On any source: the bytes at a frame's level are those of an undamaged interior page, and the frame is at one of its steps, or
+-- after them.
 pub record IsOpen (usable : ℕ) (kind : TreeKind) (levels : List (List ℕ)) (level : ℕ) (f : Frame) : Type 0 where
   pub low : IsPageNumber f.page
   pub bytes : List ℕ
@@ -57,12 +57,12 @@ pub record IsOpen (usable : ℕ) (kind : TreeKind) (levels : List (List ℕ)) (l
   pub interior : is_interior view.kind ≡ true
   pub within : f.next ≤ 3 * count view + 2
 
--- all of them
+-- the same of each frame
 abbrev pub AreOpen : ℕ → TreeKind → List (List ℕ) → ℕ → List Frame → Type 0
 AreOpen usable kind levels level [] = Unit {0}
 AreOpen usable kind levels level (f ∷ fs) = IsOpen usable kind levels level f × AreOpen usable kind levels (level + 1) fs
 
--- the visit of a page of a tree whose bytes stand at its level
+-- the visit of a page of a tree whose bytes are at its level
 pub record IsLeafAt (file : List ℕ) (kind : TreeKind) (k : ℕ) (children : List ℕ) (c : Reference) (levels : List (List ℕ)) (p : ℕ) : Type 0 where
   pub page : c.page ≡ p
   pub kind_is : tree_kind (role_of c) ≡ Some kind
@@ -90,8 +90,8 @@ child_at file kind r s = record {
   role = record { role = child kind; from = r.page; item = cell_of_step s };
 }
 
--- Frames from the root's on, where r is the visit of the first. Each but the last is behind the step of the child whose
--- frame comes next. This is the visit of a frame that is put on them.
+-- Frames from the root's on, where r is the visit of the first. Each but the last is after the step of the child whose frame
+-- comes next. This is the visit of a frame that is put on them.
 abbrev pub top_visit : List ℕ → TreeKind → Reference → List Frame → Reference
 top_visit file kind r [] = r
 top_visit file kind r (f ∷ fs) = top_visit file kind (child_at file kind r (f.next - 1)) fs
@@ -101,7 +101,7 @@ abbrev pub left_over : List ℕ → TreeKind → Reference → List Frame → Li
 left_over file kind r [] = []
 left_over file kind r (f ∷ fs) = left_over file kind (child_at file kind r (f.next - 1)) fs ++ errands_from file r f.next
 
--- the frame of an undamaged interior page, at one of its steps or behind them
+-- the frame of an undamaged interior page, at one of its steps or after them
 pub record IsOpenFrame (file : List ℕ) (r : Reference) (f : Frame) : Type 0 where
   pub page : f.page ≡ r.page
   pub view : View
@@ -109,12 +109,12 @@ pub record IsOpenFrame (file : List ℕ) (r : Reference) (f : Frame) : Type 0 wh
   pub interior : is_interior view.kind ≡ true
   pub within : f.next ≤ 3 * count view + 2
 
--- all of them
+-- the same of each frame
 abbrev pub AreOpenFrames : List ℕ → TreeKind → Reference → List Frame → Type 0
 AreOpenFrames file kind r [] = Unit {0}
 AreOpenFrames file kind r (f ∷ fs) = IsOpenFrame file r f × AreOpenFrames file kind (child_at file kind r (f.next - 1)) fs
 
--- each but the last is behind the step of a child
+-- each frame but the last is after the step of a child
 abbrev pub AreCalls : List Frame → Type 0
 AreCalls [] = Unit {0}
 AreCalls (f ∷ []) = Unit {0}

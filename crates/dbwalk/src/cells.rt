@@ -1,4 +1,4 @@
-// What is read off the cells of a leaf that stands at a level.
+// What is read of the cells of the leaf at a level of the bench.
 ghost use Rattle.std.specs.Prelude.{◌≡◌, ◌-◌, ◌<◌, ◌≤◌, length};
 ghost use Rattle.dbformat.specs.Cell.{count};
 ghost use Rattle.dbwalk.specs.LeafCells.{ArePassedAt, AreRisingFrom, HasCell, HasCells};
@@ -12,15 +12,15 @@ use dbpage::{PageView, is_rising};
 use dbsource::Bench;
 use std::alloc::Allocator;
 
-/// A cell of a leaf, as far as a walk needs it: its first overflow page with the bytes that stand on overflow pages, and its
-/// key.
+/// A cell of a leaf, as far as a walk needs it: its first overflow page with the number of payload bytes on overflow pages, and
+/// its key.
 #[derive(Clone, Copy)]
 pub(crate) struct LeafCell {
     pub(crate) overflow: Option<(u32, u32)>,
     pub(crate) key: Option<i64>,
 }
 
-/// How many cells the leaf at a level has; 0 where there is no undamaged page.
+/// The number of cells of the leaf at a level; 0 if there is no undamaged page.
 pub(crate) fn leaf_cells<A: Allocator>(
     bench: &Bench<A>,
     kind: TreeKind,
@@ -36,7 +36,7 @@ pub(crate) fn leaf_cells<A: Allocator>(
     }
 }
 
-/// Cell `i` of the leaf at a level; one that cannot be read has nothing.
+/// Cell `i` of the leaf at a level. A cell that cannot be read has neither an overflow page nor a key.
 pub(crate) fn leaf_cell<A: Allocator>(
     bench: &Bench<A>,
     kind: TreeKind,
@@ -72,7 +72,7 @@ pub(crate) fn leaf_cell<A: Allocator>(
     }
 }
 
-/// How many bytes of a payload of this size stand on overflow pages, where these stand in the cell.
+/// The number of payload bytes on overflow pages, for a payload of `size` bytes in all and these bytes of it in the cell.
 pub(crate) fn overflow_size(size: u32, local: &[u8]) -> u32
     ensures value { result ≡ size - length local.now }
     ensures most { result ≤ size }
@@ -80,9 +80,9 @@ pub(crate) fn overflow_size(size: u32, local: &[u8]) -> u32
     u64::from(size).saturating_sub(local.len() as u64) as u32
 }
 
-/// Passes over the cells of the leaf at the level of the tree's path, from cell `from` on, of which nothing but the key is left
-/// to look at, as long as their keys rise from above the greatest so far; and answers with the number of the first other
-/// cell, or of all. In the tree of the schema, whose rows are wanted, it passes over none.
+/// Passes over cells of the leaf at the level of the tree's path, from cell `from` on, while they have nothing but their keys
+/// to look at and the keys rise from above the greatest so far. Answers with the number of the first other cell, or of all
+/// cells if there is none. In the tree of the schema, whose rows are wanted, it passes over no cell.
 pub(crate) fn pass_cells<A: Allocator>(
     bench: &Bench<A>,
     tree: &mut Tree,
@@ -110,15 +110,15 @@ pub(crate) fn pass_cells<A: Allocator>(
     rise.end
 }
 
-// Cells whose keys rise: the number of the first behind them, and the greatest key there.
+// Cells whose keys rise: the number of the first cell after them, and the greatest key up to there.
 #[derive(Clone, Copy)]
 struct Rise {
     end: u32,
     greatest: Option<CellKey>,
 }
 
-// The cells from one on that are readable and without overflow pages, as long as their keys rise from above the greatest
-// before them.
+// The cells from one on that are readable and without overflow pages, while their keys rise from above the greatest before
+// them.
 fn rise_from(view: &PageView<'_>, page: u32, from: u32, mut greatest: Option<CellKey>) -> Rise
     requires { from ≤ count view.now }
     ensures within { (from ≤ result.end) × (result.end ≤ count view.now) }

@@ -24,27 +24,27 @@ use dbbytes::RowSieve;
 use dbsource::{Bench, RunError, Source};
 use std::alloc::Allocator;
 
-/// The level of a bench that pages are read to which are no page of a tree: those of chains, trunks, and map pages.
+/// The level of a bench for pages that are not of a tree: overflow pages, trunks, and map pages.
 pub const CHAIN: usize = 20;
 
-/// Where an overflow chain begins.
+/// The head of an overflow chain: its cell, and its first page.
 #[derive(Clone, Copy, Drop)]
 pub(crate) struct Chain<'a> {
-    /// The start of the tree.
+    /// The number of the tree's start.
     pub(crate) start: u32,
     /// The children on the way to the page of the cell.
     pub(crate) path: &'a [u32],
-    /// That page.
+    /// The page of the cell.
     pub(crate) page: u32,
-    /// The cell.
+    /// The number of the cell, from 0.
     pub(crate) cell: u32,
     /// The first overflow page, as the cell names it.
     pub(crate) first: u32,
-    /// The bytes of the payload that do not stand in the cell.
+    /// The number of payload bytes on overflow pages.
     pub(crate) left: u32,
 }
 
-// A place on the way along a chain: the number of the next page, the bytes that are left, and the reference to it.
+// A place along a chain: the number of the next page in it, the bytes that are left, and the reference to that page.
 #[derive(Clone, Copy)]
 struct Place {
     number: u32,
@@ -52,7 +52,8 @@ struct Place {
     step: Step,
 }
 
-// Reads a page of a chain, feeds its payload bytes to a sieve, tells its row and its fault, and answers the next page that it names.
+// Reads a page of a chain, feeds its payload bytes to a sieve, reports its row and its fault, and answers the next page that it
+// names.
 fn visit_overflow<S: Source, K: Sink, A: Allocator>(
     source: &mut S,
     bench: &mut Bench<A>,
@@ -140,13 +141,13 @@ fn turn<S: Source, K: Sink, A: Allocator>(
     }))
 }
 
-/// Walks along the overflow chain of a cell: marks its pages and then reads them, each once, and tells their rows and
-/// faults. If there is a sieve, it is fed the payload bytes on them.
+/// Walks along the overflow chain of a cell: marks its pages and then reads them, each once, and reports their rows and faults.
+/// If there is a sieve, it is fed the payload bytes on them.
 ///
 /// # Errors
 ///
-/// [`RunError::ReadFailed`] exactly where the source failed, [`RunError::WriteFailed`] exactly where the sink failed. The
-/// sink was told a beginning then of what it is told else.
+/// [`RunError::ReadFailed`] exactly where the source failed, [`RunError::WriteFailed`] exactly where the sink failed. The sink
+/// was then given a beginning of what is reported otherwise.
 pub(crate) fn walk_chain<S: Source, K: Sink, A: Allocator>(
     source: &mut S,
     bench: &mut Bench<A>,
@@ -185,8 +186,8 @@ pub(crate) fn walk_chain<S: Source, K: Sink, A: Allocator>(
     Ok(())
 }
 
-/// Walks along the overflow chain of a cell as [`walk_chain`] does, for a caller that has no sieve. It is a function of its own so
-/// that only a chain costs the room of one.
+/// Walks along the overflow chain of a cell as [`walk_chain`] does, for a caller that has no sieve. It is a function of its own
+/// so that only a chain costs the room of a sieve.
 ///
 /// # Errors
 ///

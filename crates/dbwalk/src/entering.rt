@@ -1,4 +1,4 @@
-// How a page is entered: it is marked, where its reference may be followed.
+// Entering a page: it is marked, if its reference may be followed.
 ghost use Rattle.std.specs.Prelude.{◌≡◌, ◌-◌, ◌≤◌, ℕ, List, IfOk, IfErr, IsTrue, false, true, Some, slice_set};
 ghost use Rattle.dbformat.specs.FixedPages.{most_pages, IsPageNumber};
 ghost use Rattle.dbformat.specs.Reference.{Reference};
@@ -20,17 +20,17 @@ use std::alloc::Allocator;
 pub(crate) struct Step {
     /// The page that it names.
     pub(crate) page: u32,
-    /// The mark of that page, if it is followed.
+    /// The mark that the page gets, if the reference is followed.
     pub(crate) mark: Mark,
-    /// The page on which it stands, or 0.
+    /// The page with the reference, or 0 for a start.
     pub(crate) from: u32,
     /// The item of that page.
     pub(crate) item: u32,
-    /// Whether it leads too deep into a tree.
+    /// Whether the reference leads too deep into a tree.
     pub(crate) is_too_deep: bool,
 }
 
-/// Marks the page of a reference that may be followed, or tells why it may not, and what that goes back to.
+/// Marks the page of a reference that may be followed, or reports why it may not, with the cause. True if the page was marked.
 ///
 /// # Errors
 ///

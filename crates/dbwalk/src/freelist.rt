@@ -29,7 +29,8 @@ use dbformat::{FREELIST_START, FaultCode, u32_at};
 use dbsource::{Bench, RunError, Source};
 use std::alloc::Allocator;
 
-/// Enters the leaves of a trunk, one after another, by the bytes of its page.
+/// Enters the leaves of a trunk, one after another, by the bytes of its page: marks each, or reports why it may not be
+/// followed.
 ///
 /// # Errors
 ///
@@ -65,7 +66,7 @@ pub(crate) fn walk_leaves<K: Sink, A: Allocator>(
     Ok(())
 }
 
-// Enters the leaves of a trunk, or tells that they are too many, and answers the item of the next trunk.
+// Enters the leaves of a trunk, or reports that they are too many, and answers the item of the next trunk.
 fn open_trunk<K: Sink, A: Allocator>(
     bytes: &[u8],
     usable: u32,
@@ -143,13 +144,13 @@ fn turn<S: Source, K: Sink, A: Allocator>(
     Ok(next_trunk(bytes, step.page, item))
 }
 
-/// Walks along the freelist from its first trunk: marks each trunk and then reads it, and marks its leaves, none of which
-/// is read. Tells the faults on the way.
+/// Walks along the freelist from its first trunk: marks each trunk and then reads it, and marks its leaves, which are not read.
+/// Reports the faults on the way.
 ///
 /// # Errors
 ///
-/// [`RunError::ReadFailed`] exactly where the source failed, [`RunError::WriteFailed`] exactly where the sink failed. The
-/// sink was told a beginning then of what it is told else.
+/// [`RunError::ReadFailed`] exactly where the source failed, [`RunError::WriteFailed`] exactly where the sink failed. The sink
+/// was then given a beginning of what is reported otherwise.
 pub fn walk_freelist<S: Source, K: Sink, A: Allocator>(
     source: &mut S,
     bench: &mut Bench<A>,

@@ -30,8 +30,8 @@ use dbsource::{Bench, RunError, Source, WriteFailed};
 use std::alloc::Allocator;
 
 impl<A: Allocator, S: Source, K: Sink, T: Taker> TreeWalk<'_, '_, '_, '_, A, S, K, T> {
-    /// Walks over the cells of an undamaged leaf that was read at the level of the tree's path: the overflow chain of each; in
-    /// the tree of the schema its row, which goes to the taker; and its key.
+    /// Walks over the cells of an undamaged leaf that was read at the level of the tree's path. Of each cell it takes the
+    /// overflow chain, then the row, which goes to the taker, if this is the tree of the schema, and then the key.
     ///
     /// # Errors
     ///
@@ -58,7 +58,7 @@ impl<A: Allocator, S: Source, K: Sink, T: Taker> TreeWalk<'_, '_, '_, '_, A, S, 
     }
 
     /// Walks over cell `i` of the leaf at the level of the tree's path: its overflow chain; in the tree of the schema its row,
-    /// which goes to the taker; and its key. The place of a sieve is lent, which the tree of the schema alone fills.
+    /// which goes to the taker; and its key. `sieve` is room for a sieve, which only the tree of the schema fills.
     ///
     /// # Errors
     ///
@@ -145,7 +145,7 @@ pub(crate) fn walk_overflow<A: Allocator, S: Source, K: Sink>(
     }
 }
 
-/// Tells that the key of a cell of a leaf is out of order, where it is, and keeps it if it is the greatest.
+/// Reports a key of a leaf's cell that is out of order, and keeps the key if it is the greatest so far.
 pub(crate) fn tell_rowid<K: Sink>(
     tree: &mut Tree,
     page: u32,

@@ -1,34 +1,34 @@
-//! The walk over the pages of a database: what each page is used as, and what is told on the way.
+//! The walk over the pages of a database: what each page is used as, and what is reported on the way.
 //!
-//! `dbformat` says what the survey of a file visits, and what is told of each visit. Here the pages are walked over in that
-//! order. A call takes one start, [`walk_tree`] a root and [`walk_freelist`] the first trunk, so that a caller can go through
-//! the starts one after another. It lends a source, a bench of page buffers, the marks of all pages, a [`Sink`] for what is
-//! told and a [`Taker`] for the rows of the schema. At both traits stands an `impl` of which nothing is claimed, to copy.
+//! `dbformat` defines what the survey of a file visits, and what is reported of each visit. Here the pages are walked over in
+//! that order. A call takes one start, [`walk_tree`] a root and [`walk_freelist`] the first trunk, so that a caller can go
+//! through the starts one after another. The caller passes a source, a bench of page buffers, the marks of all pages, a
+//! [`Sink`] for what is reported and a [`Taker`] for the rows of the schema. Both traits show an `impl` of which nothing is
+//! claimed, to copy.
 //!
-//! **Marks** (`dbmarks`) are what is left of all visits so far, so that whether a reference may be followed is seen from one mark.
-//! A page is marked before it is read, and is not read where that is refused: hence no page is read twice, whatever the source
-//! answers (`Reads`).
+//! **Marks** (`dbmarks`) record all visits so far: one mark shows whether a reference may be followed. A page is marked before
+//! it is read, and is not read where the mark is refused. Hence no page is read twice, whatever the source answers (`Reads`).
 //!
-//! **What a call has done** (specs/Underway, Watching and Done). A walk goes along the events of a trace; `dbtrace` says what it
-//! keeps of them, its progress, and which items it hands out: findings to the sink, rows of the schema to the taker. Of each
-//! file a call of the walk over a tree says one thing, `HasDone`: the marks and the tree's state are those behind its part of
-//! the walk, and all items of this part were handed out; or at an error, a beginning of them. Parts that follow one another are
-//! one part, so that the contract of a tree is made from those of its pages, theirs from those of their cells. Of an overflow
-//! chain and the freelist, which leave the progress, `IsDone` says the same by the visits.
+//! **What a call has done** (specs/Underway, Watching and Done). A walk follows the events of a trace. `dbtrace` defines what
+//! it keeps of them, its progress, and which items it hands out: findings to the sink, rows of the schema to the taker. For
+//! each file a call of the walk over a tree states one thing, `HasDone`: the marks and the tree's state are those after its
+//! part of the walk, and all items of this part were handed out; or, at an error, a beginning of them. Parts that follow one
+//! another are one part, so the contract of a tree is made from those of its pages, and theirs from those of their cells. For
+//! an overflow chain and for the freelist, which do not change the progress, `IsDone` states the same by the visits.
 //!
-//! **What a call keeps** (specs/Walked). A walk over a tree is one struct, `TreeWalk`, of all that it borrows but the page buffers.
-//! One clause of each of its methods, `Walked`, says that it still lends the same, that each failure of a source, a sink or a
-//! taker is counted and answered, and that no tree but the schema's calls the taker. `SaysOfFiles` has what was asked for.
+//! **What a call keeps** (specs/Walked). A walk over a tree is one struct, `TreeWalk`, of all that it borrows but the page
+//! buffers. One clause of each of its methods, `Walked`, says that it still borrows the same, that each failure of a source, a
+//! sink or a taker is counted and answered, and that no tree but the schema's calls the taker. `SaysOfFiles` has the reads.
 //!
-//! **Where a walk stands** (specs/Walking and Underway; Standing has it for clauses). The loop over interior pages keeps
-//! one equation: what its frames still have to do, gone on with from here, makes the walk whole (`IsUnderway`). Pages on the path
-//! stay in the bench, a level each, and at most 20 are held; behind a chain the path is taken up where it was left.
+//! **How far a walk is** (specs/Walking and Underway; Standing has it for clauses). The loop over interior pages keeps one
+//! equation: the walk so far, continued by what its frames still have to do, is the whole walk (`IsUnderway`). Pages on the
+//! path stay in the bench, one level each, at most 20. After a chain the walk goes on where it left the path.
 //!
-//! **Pages told at once** (specs/LeafCells). Where one reading of a page tells all of its cells, the row and the faults are told
-//! from that; and of a leaf of which nothing but the keys is left to look at, the first key and the last stand for all cells.
+//! **Pages reported at once** (specs/LeafCells). If one reading of a page shows all of its cells, the row and the faults come
+//! from that reading. For a leaf whose cells have nothing but their keys to look at, the first and the last key are enough.
 //!
-//! **Rows of the schema** (specs/Taking) go to the taker where they stand; what it answers decides S04. The walk over a leaf lends
-//! its cells the place of the sieve that takes a row's payload, which other trees leave empty.
+//! **Rows of the schema** (specs/Taking) go to the taker in the order of their cells; its answer decides S04. The walk over a
+//! leaf passes its cells a place for the sieve that takes a row's payload. Other trees leave the place empty.
 #![tactic(auto)]
 
 mod cells;

@@ -1,4 +1,4 @@
-// An overflow page: what it holds, and what is told of it (Database File Format, 1.7).
+// An overflow page: what it holds, and what is reported of it (Database File Format, 1.7).
 ghost use Rattle.std.specs.Prelude.{◌≡◌, ◌+◌, ◌-◌, ◌≤◌, ◌&&◌, ◌==◌, ◌∷◌, length, map, not, nat_le, option_to_list, pos, Some, IfErr, is_some};
 ghost use Rattle.dbformat.specs.Counts.{overflow_counts};
 ghost use Rattle.dbformat.specs.Faults.{fault};
@@ -21,7 +21,7 @@ use dbbytes::RowSieve;
 use dbformat::{Counts, FaultCode, u32_at};
 use dbsource::RunError;
 
-// The number at the start of an overflow page.
+// The number of the next page, at the start of an overflow page.
 pub(crate) fn next_page(bytes: &[u8]) -> u32
     requires { 4 ≤ length bytes.now }
     ensures { result ≡ overflow_next bytes.now }
@@ -29,7 +29,7 @@ pub(crate) fn next_page(bytes: &[u8]) -> u32
     u32_at(bytes, 0)
 }
 
-// The row of an overflow page.
+// The row of an overflow page in the statistics.
 pub(crate) fn overflow_row<'a>(
     chain: &Chain<'a>,
     number: u32,
@@ -72,7 +72,7 @@ pub(crate) fn last_fault(usable: u32, left: u32, page: u32, next: u32) -> Option
     }
 }
 
-// What a fault at page `number` of a chain goes back to, where so many bytes are left there and so many pages were found.
+// What a fault at page `number` of a chain goes back to, where `left` bytes are left and `found` pages were found.
 #[inline(always)]
 pub(crate) fn chain_cause(
     chain: &Chain<'_>,
@@ -94,7 +94,7 @@ pub(crate) fn chain_cause(
     })
 }
 
-// Tells a row, and then a fault, if there is one, with its cause.
+// Reports a row, and then a fault with its cause, if there is one.
 pub(crate) fn tell<K: Sink>(
     row: &Row<'_>,
     fault: Option<Fault>,

@@ -1,4 +1,4 @@
-// The faults of one page of a tree, apart from other pages (Database File Format, 1.6).
+// The faults within one page of a tree (Database File Format, 1.6).
 ghost use Rattle.std.specs.Prelude.{◌≡◌, ℕ, ◌≤◌, ◌<◌, ◌==◌, length, None, Some, [], ◌∷◌, Bool, IsOk, IfOk, MatchResult};
 ghost use Rattle.std.specs.List.{flat_map};
 ghost use Rattle.std.specs.Option.{option_to_list};
@@ -27,7 +27,7 @@ pub(crate) enum Damage {
     ContentStart,
 }
 
-/// Page `number` as a page of a tree of this kind. It is an error where it is damaged.
+/// Page `number` as a page of a tree of this kind, or why it is damaged.
 #[tactic(auto, unfolding(dbformat::specs::PageFaults::tree_page_faults))]
 pub(crate) fn undamaged<'a>(
     page: &'a [u8],
@@ -81,7 +81,7 @@ pub(crate) fn damage_fault(page: &[u8], number: u32, damage: Damage) -> Fault
     }
 }
 
-/// What this fault goes back to: a page of an unknown type has what it looks like.
+/// What this fault goes back to: for a page of an unknown type it is what the page looks like.
 pub(crate) fn damage_cause(page: &[u8], number: u32, usable: u32, damage: Damage) -> Cause
     requires whole { usable ≤ length page.now }
     requires least { 480 ≤ usable }
@@ -94,7 +94,7 @@ pub(crate) fn damage_cause(page: &[u8], number: u32, usable: u32, damage: Damage
     }
 }
 
-// Whether pages of this kind stand in trees of that kind.
+// Whether pages of this kind belong to trees of that kind.
 fn is_of_tree(page: PageKind, tree: TreeKind) -> bool
     ensures { result ≡ is_same_tree (tree_of page) tree }
 {
@@ -104,12 +104,12 @@ fn is_of_tree(page: PageKind, tree: TreeKind) -> bool
     }
 }
 
-/// Tells the faults within an undamaged page. `uses` is room to work in, a byte for each usable byte of the page.
+/// Reports the faults within an undamaged page. `uses` is room to work in, a byte for each usable byte of the page.
 ///
 /// # Errors
 ///
-/// [`WriteFailed`] where the sink failed: it was told the faults up to the one that it did not take.
-// Most pages are packed, and do not come here.
+/// [`WriteFailed`] where the sink failed: it was given the faults up to the one that it did not take.
+// Most pages are packed and do not reach this call.
 #[inline(never)]
 pub(crate) fn tell_inner<K: Sink>(
     view: &PageView<'_>,
@@ -131,12 +131,12 @@ pub(crate) fn tell_inner<K: Sink>(
     tell_each(&[freeblock, coverage, empty], sink)
 }
 
-/// Tells the faults within an undamaged page whose cells are all readable, and so have none, and of which nothing holds a byte
-/// twice. `unheld` is how many bytes nothing holds.
+/// Reports the faults within an undamaged page whose cells are all readable and of which no byte is held twice. `unheld` is the
+/// number of bytes that no item holds.
 ///
 /// # Errors
 ///
-/// [`WriteFailed`] where the sink failed: it was told the faults up to the one that it did not take.
+/// [`WriteFailed`] where the sink failed: it was given the faults up to the one that it did not take.
 pub(crate) fn tell_readable<K: Sink>(
     view: &PageView<'_>,
     number: u32,
@@ -158,7 +158,7 @@ pub(crate) fn tell_readable<K: Sink>(
     )
 }
 
-// Tells the faults that are there.
+// Reports those of these faults that are there.
 fn tell_each<K: Sink>(faults: &[Option<Fault>], sink: &mut K) -> Result<(), WriteFailed>
     ensures { IsTold K.takes K.drops K.held result sink.old (findings (flat_map option_to_list faults.now)) sink.new }
 {
@@ -168,7 +168,7 @@ fn tell_each<K: Sink>(faults: &[Option<Fault>], sink: &mut K) -> Result<(), Writ
     Ok(())
 }
 
-// Tells a fault, where there is one.
+// Reports a fault, if there is one.
 fn tell_found<K: Sink>(found: Option<Fault>, sink: &mut K) -> Result<(), WriteFailed>
     ensures { IsTold K.takes K.drops K.held result sink.old (findings (option_to_list found)) sink.new }
 {
@@ -178,7 +178,7 @@ fn tell_found<K: Sink>(found: Option<Fault>, sink: &mut K) -> Result<(), WriteFa
     }
 }
 
-// That there are more than 60 fragmented bytes, where there are.
+// The fault of more than 60 fragmented bytes, if there are more.
 fn fragment_fault(view: &PageView<'_>, number: u32) -> Option<Fault>
     requires { number ≡ view.now.number }
     ensures { option_to_list result ≡ fragment_fault view.now }
@@ -190,7 +190,7 @@ fn fragment_fault(view: &PageView<'_>, number: u32) -> Option<Fault>
     Some(Fault::new(FaultCode::P04, number, 0, u32::from(fragments)))
 }
 
-// Tells of each cell that is not readable; true where none is.
+// Reports each cell that is not readable; true if all are.
 fn tell_cells<K: Sink>(view: &PageView<'_>, number: u32, sink: &mut K) -> Result<bool, WriteFailed>
     requires { number ≡ view.now.number }
     ensures told { IsTold K.takes K.drops K.held result sink.old (findings (cell_faults view.now)) sink.new }
@@ -203,7 +203,7 @@ fn tell_cells<K: Sink>(view: &PageView<'_>, number: u32, sink: &mut K) -> Result
     Ok(good)
 }
 
-// Tells of cell `i`, where it is not readable; true where it is.
+// Reports cell `i` if it is not readable; true if it is.
 fn tell_cell<K: Sink>(
     view: &PageView<'_>,
     number: u32,
@@ -227,7 +227,7 @@ fn tell_cell<K: Sink>(
     Ok(false)
 }
 
-// The first freeblock that is not good.
+// The fault of the first freeblock that is not good.
 fn freeblock_fault(view: &PageView<'_>, number: u32) -> Option<Fault>
     requires { number ≡ view.now.number }
     ensures { option_to_list result ≡ freeblock_fault view.now }
@@ -236,7 +236,8 @@ fn freeblock_fault(view: &PageView<'_>, number: u32) -> Option<Fault>
     Some(Fault::new(FaultCode::P07, number, item, offset))
 }
 
-// The first item that shares a byte with one before it, or that the free bytes of a good page are not as many as it says.
+// The fault of the first item that shares a byte with one before it. If there is none, that of a good page with a wrong count
+// of fragmented bytes.
 fn coverage_fault(view: &PageView<'_>, number: u32, is_good: bool, uses: &mut [u8]) -> Option<Fault>
     requires number { number ≡ view.now.number }
     requires room { view.now.usable ≤ length uses.old }
@@ -253,7 +254,7 @@ fn coverage_fault(view: &PageView<'_>, number: u32, is_good: bool, uses: &mut [u
     }
 }
 
-// That the bytes that nothing holds are not as many as a good page says.
+// The fault of a good page whose count of fragmented bytes is not the number of bytes that no item holds.
 fn unheld_fault(view: &PageView<'_>, number: u32, is_good: bool, unheld: u32) -> Option<Fault>
     requires number { number ≡ view.now.number }
     requires unheld { coverage view.now ≡ Coverage.Unheld unheld }
@@ -265,7 +266,7 @@ fn unheld_fault(view: &PageView<'_>, number: u32, is_good: bool, unheld: u32) ->
     Some(Fault::new(FaultCode::P09, number, 0, unheld))
 }
 
-// That a child has no cells, where it has none.
+// The fault of a child without cells.
 fn empty_fault(view: &PageView<'_>, number: u32, is_child: bool) -> Option<Fault>
     requires { number ≡ view.now.number }
     ensures { option_to_list result ≡ empty_fault view.now is_child }

@@ -1,4 +1,4 @@
-// How a page of a tree is entered.
+// Entering a page of a tree: it is marked, read and reported.
 ghost use Rattle.std.specs.Prelude.{◌≡◌, ℕ, ◌<◌, ◌≤◌, List, length, false, IfOk, IsTrue, slice_get};
 ghost use Rattle.dbformat.specs.FixedPages.{IsPageNumber};
 ghost use Rattle.dbformat.specs.Reference.{Reference};
@@ -18,7 +18,7 @@ use crate::{Cause, Mark, Sink, Taker};
 use dbsource::{Bench, RunError, Source};
 use std::alloc::Allocator;
 
-/// The reference from item `item` of page `from` to a page of a tree that stands below so many others.
+/// The reference from item `item` of page `from` to a page of a tree; `level` pages of the tree are above that page.
 pub(crate) fn tree_step(level: usize, page: u32, from: u32, item: u32) -> Step
     requires { IsPageNumber from }
     ensures page { result.page ≡ page }
@@ -43,8 +43,8 @@ pub(crate) fn tree_step(level: usize, page: u32, from: u32, item: u32) -> Step
 }
 
 impl<A: Allocator, S: Source, K: Sink, T: Taker> TreeWalk<'_, '_, '_, '_, A, S, K, T> {
-    /// Tells a page of a tree that was marked, and read at the level of the tree's path, and, where it is a leaf, walks over its
-    /// cells. True where it is an undamaged interior page.
+    /// Reports a page of a tree that was marked, and read at the level of the tree's path. If it is a leaf, walks over its
+    /// cells. True if it is an undamaged interior page.
     ///
     /// # Errors
     ///
@@ -75,9 +75,9 @@ impl<A: Allocator, S: Source, K: Sink, T: Taker> TreeWalk<'_, '_, '_, '_, A, S, 
         }
     }
 
-    /// Looks at the reference from item `item` of page `from` to page `page`, below as many pages as the tree's path has steps:
-    /// tells that it is refused, or marks, reads and tells the page, and, where it is a leaf, all that it leads to. True where
-    /// it is an undamaged interior page: its steps are to follow.
+    /// Looks at the reference from item `item` of page `from` to page `page`, whose depth is the length of the tree's path.
+    /// Reports that the reference is refused, or marks, reads and reports the page, and, if it is a leaf, all that it leads to.
+    /// True if it is an undamaged interior page: its steps come next.
     ///
     /// # Errors
     ///

@@ -8,19 +8,19 @@ use dbpage::type_byte;
 use dbsource::Bench;
 use std::alloc::Allocator;
 
-/// What names a root, and with it of which kind its tree is.
+/// What names a root, which also decides the kind of its tree.
 #[derive(Clone, Copy, Debug, PartialEq, Eq)]
 pub enum RootKind {
     /// The root of the schema, which is a table.
     Schema,
     /// The root of an index.
     Index,
-    /// The root of a table: its tree is of the kind that the page names.
+    /// The root of a table: the kind of its tree is that of the page.
     Own,
 }
 
-/// The root of a tree: the number of the start that names it, 0 for the schema's and from 1 on for the others; its page;
-/// and the encoding of the file's texts.
+/// The root of a tree: the number of the start that names it, 0 for the schema's and from 1 on for the others; its page; and
+/// the encoding of the file's texts.
 #[derive(Clone, Copy, Debug, PartialEq, Eq)]
 pub struct Root {
     pub start: u32,
@@ -56,7 +56,7 @@ pub(crate) fn root_kind<A: Allocator>(bench: &Bench<A>, root: Root) -> TreeKind
     ensures there { slice_get bench.now.levels 0 ≡ Some (bytes_at bench.now 0) }
     ensures kind { result ≡ kind_of root.kind root.page (bytes_at bench.now 0) }
 {
-    // A page has 512 bytes at least, which the geometry tells.
+    // By the geometry a page has at least 512 bytes.
     let _geometry = bench.geometry();
     root.tree_kind(bench.page(0))
 }

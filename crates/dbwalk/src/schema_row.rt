@@ -1,4 +1,4 @@
-// A row of the schema: who takes it, and what is told of it (Database File Format, 2.6).
+// A row of the schema: who takes it, and what is reported of it (Database File Format, 2.6).
 ghost use Rattle.std.specs.Prelude.{◌≡◌, ℕ, List, None, Ok, IfErr, ◌<◌, ◌≤◌, length};
 ghost use Rattle.dbformat.specs.Faults.{fault};
 ghost use Rattle.dbformat.specs.SchemaRow.{schema_row};
@@ -20,7 +20,7 @@ use dbformat::{Encoding, Fault, FaultCode, RowFault, SCHEMA_START};
 use dbsource::{Bench, RunError, WriteFailed};
 use std::alloc::Allocator;
 
-/// Where a row of the schema stands: its page, the number of its cell, and its rowid.
+/// The place of a row of the schema: its page, the number of its cell, and its rowid.
 #[derive(Clone, Copy, Drop)]
 pub(crate) struct RowPlace {
     pub(crate) page: u32,
@@ -29,7 +29,7 @@ pub(crate) struct RowPlace {
 }
 
 impl RowPlace {
-    /// The place of the row of cell `item` of a page, whose key is the rowid; 0 where it has none.
+    /// The place of the row of cell `item` of a page. The key is the rowid; 0 if the cell has none.
     pub(crate) fn new(page: u32, item: u32, key: Option<i64>) -> RowPlace
         ensures { result ≡ place_of page item key }
     {
@@ -40,7 +40,7 @@ impl RowPlace {
         }
     }
 
-    // A fault of the row.
+    // A fault at the place of the row.
     fn fault(self, code: FaultCode, value: i64) -> Fault
         ensures { result ≡ fault code self.page self.item value }
     {
@@ -63,7 +63,7 @@ impl RowPlace {
     }
 }
 
-// Tells a fault, where it is one.
+// Reports a fault, if there is one.
 fn tell_if<K: Sink>(is_fault: bool, fault: &Fault, sink: &mut K) -> Result<(), WriteFailed>
     ensures { IsTold K.takes K.drops K.held result sink.old (findings (told_if is_fault fault.now)) sink.new }
 {
@@ -74,7 +74,7 @@ fn tell_if<K: Sink>(is_fault: bool, fault: &Fault, sink: &mut K) -> Result<(), W
     }
 }
 
-// Tells what is wrong with a row that was taken.
+// Reports what is wrong with a row that was taken.
 fn tell_taken<K: Sink>(
     row: &SchemaRow<'_>,
     taken: Taken,
@@ -89,7 +89,7 @@ fn tell_taken<K: Sink>(
     tell_if(taken == Taken::Full, &left_out, sink)
 }
 
-// Hands a row to the taker, and then tells what is wrong with it; of one that cannot be read the fault alone is told.
+// Hands a row to the taker, and then reports what is wrong with it. Of a row that cannot be read, only the fault is reported.
 fn take_row<K: Sink, T: Taker>(
     row: Result<SchemaRow<'_>, RowFault>,
     place: RowPlace,
@@ -111,12 +111,11 @@ fn take_row<K: Sink, T: Taker>(
     Ok(())
 }
 
-/// Hands the row that a sieve has taken to the taker, and then tells what is wrong with it. Where there is no sieve,
-/// nothing is done.
+/// Hands the row that a sieve has taken to the taker, and then reports what is wrong with it. Without a sieve it does nothing.
 ///
 /// # Errors
 ///
-/// [`RunError::OutOfMemory`] exactly where the taker was refused memory: nothing was told then. [`RunError::WriteFailed`]
+/// [`RunError::OutOfMemory`] exactly where the taker was refused memory: nothing was reported then. [`RunError::WriteFailed`]
 /// exactly where the sink failed.
 pub(crate) fn tell_row<K: Sink, T: Taker>(
     sieve: &Option<RowSieve>,
@@ -137,8 +136,8 @@ pub(crate) fn tell_row<K: Sink, T: Taker>(
     }
 }
 
-// A sieve that has taken what stands of the payload in cell `i` of the leaf at the level of the tree's path; none for a cell
-// that cannot be read.
+// A sieve that has taken the payload bytes in cell `i` of the leaf at the level of the tree's path; none for a cell that cannot
+// be read.
 fn row_sieve<A: Allocator>(
     bench: &Bench<A>,
     tree: &Tree,
@@ -166,7 +165,7 @@ fn row_sieve<A: Allocator>(
     }
 }
 
-// Puts that sieve where one is kept. It is a function of its own so that only a row of the schema costs the room of one more.
+// Puts that sieve into its place. It is a function of its own so that only a row of the schema costs the room of one more.
 #[inline(never)]
 fn put_sieve<A: Allocator>(
     bench: &Bench<A>,
@@ -182,8 +181,8 @@ fn put_sieve<A: Allocator>(
     *sieve = row_sieve(bench, tree, page, i, encoding);
 }
 
-/// Where this is the tree of the schema: the sieve is one then that has taken what stands of the payload in cell `i` of the
-/// leaf at the level of the tree's path, or none for a cell that cannot be read. In other trees it stays.
+/// In the tree of the schema, sets the sieve to one that has taken the payload bytes in cell `i` of the leaf at the level of
+/// the tree's path, or to none for a cell that cannot be read. In other trees the sieve does not change.
 pub(crate) fn begin_row<A: Allocator>(
     bench: &Bench<A>,
     tree: &Tree,

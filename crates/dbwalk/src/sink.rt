@@ -1,4 +1,4 @@
-// Who is told of rows and faults.
+// The sink of rows and faults.
 ghost use Rattle.std.specs.Prelude.{MatchResult};
 ghost use Rattle.dbtrace.specs.Finding.{Finding, told_row, told_fault};
 ghost use Rattle.dbwalk.specs.Rows.{row_of};
@@ -20,13 +20,13 @@ pub struct Row<'a> {
     pub chain: Option<(u32, u32)>,
     /// The page.
     pub page: u32,
-    /// What it is.
+    /// The type of the page.
     pub pagetype: PageType,
-    /// What it counts.
+    /// What is counted of the page: cells, payload and unused bytes.
     pub counts: Counts,
 }
 
-/// What rows and faults are told to, one after another.
+/// Takes the rows and faults that a walk reports, one after another.
 ///
 /// # A quiet sink
 ///
@@ -60,28 +60,28 @@ pub trait Sink {
     ghost use Rattle.dbtrace.specs.Finding.{Finding};
     ghost use Rattle.dbwalk.specs.Telling.{SinkState};
 
-    // What an item that is taken makes of it.
+    // The state after an item that was taken.
     ghost takes: { Self → Finding → Self → Type 0 };
-    // What an item that is not taken, or not whole, makes of it.
+    // The state after an item that was not taken, or only in part.
     ghost drops: { Self → Finding → Self → Type 0 };
-    // What it is lent, and how many calls of each Out failed, in 64 bits.
+    // What it borrows, and how many calls of each Out failed, in 64 bits.
     ghost held: { Self → SinkState };
 
-    /// Takes a fault, and what it goes back to.
+    /// Takes a fault, with its cause.
     ///
     /// # Errors
     ///
-    /// [`WriteFailed`] where it was not taken whole; one failure is counted then.
+    /// [`WriteFailed`] where the fault was not taken whole; this counts as one failure.
     fn fault(&mut self, fault: &Fault, cause: &Cause) -> Result<(), WriteFailed>
         ensures item { MatchResult result (λ _. takes self.old (told_fault fault.now cause.now) self.new)
             (λ _. drops self.old (told_fault fault.now cause.now) self.new) }
         ensures count { SinkAfter is_any result (held self.old) (held self.new) };
 
-    /// Takes a row.
+    /// Takes a row of the statistics.
     ///
     /// # Errors
     ///
-    /// [`WriteFailed`] where it was not taken whole; one failure is counted then.
+    /// [`WriteFailed`] where the row was not taken whole; this counts as one failure.
     fn row(&mut self, row: &Row<'_>) -> Result<(), WriteFailed>
         ensures item { MatchResult result (λ _. takes self.old (told_row (row_of row.now)) self.new)
             (λ _. drops self.old (told_row (row_of row.now)) self.new) }

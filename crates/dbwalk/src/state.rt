@@ -15,8 +15,8 @@ use dbformat::{Fault, FaultCode, SCHEMA_START, TreeKind};
 use dbpage::is_rising;
 use dbsource::WriteFailed;
 
-/// The keys of a leaf whose cells are all readable, without overflow pages and in the order of their keys: how many cells there
-/// are, and the key of the first and that of the last, where there are cells and they have keys.
+/// The keys of a leaf whose cells are all readable, have no overflow pages and are in the order of their keys: the number of
+/// cells, and the first and the last key, where there are cells and they have keys.
 #[derive(Clone, Copy)]
 pub(crate) struct KeySpan {
     pub(crate) cells: u32,
@@ -24,8 +24,8 @@ pub(crate) struct KeySpan {
     pub(crate) last: Option<i64>,
 }
 
-/// The number of the tree's start, its kind, the greatest key so far, at the first cell that has it, its first leaf, and the numbers of the
-/// children on the way to the page at which the walk is.
+/// The number of the tree's start, its kind, the greatest key so far with the first cell that has it, its first leaf, and the
+/// numbers of the children on the way to the page at which the walk is.
 #[derive(Drop)]
 pub(crate) struct Tree {
     pub(crate) start: u32,
@@ -46,8 +46,7 @@ pub(crate) fn key_value(key: Option<CellKey>) -> Option<i64>
     }
 }
 
-// Tells that a key is out of order, behind the greatest before it.
-// Most keys are in order, and do not come here.
+// Reports that a key is out of order, after the greatest key before it. Most keys are in order and do not reach this call.
 #[inline(never)]
 fn tell_late<K: Sink>(
     top: CellKey,
@@ -68,7 +67,7 @@ fn tell_late<K: Sink>(
 }
 
 impl Tree {
-    /// A tree of which nothing was visited.
+    /// A tree of which no page has been visited.
     pub(crate) fn new(start: u32, kind: TreeKind) -> Tree
         ensures names { (result.start ≡ start) × (result.kind ≡ kind) }
         ensures nothing { (result.greatest ≡ None) × (result.leaf ≡ None) × (result.path.items ≡ []) }
@@ -82,7 +81,7 @@ impl Tree {
         }
     }
 
-    /// Tells that a key is out of order, where it is, and keeps it if it is the greatest.
+    /// Reports a key that is out of order, and keeps the key if it is the greatest so far.
     pub(crate) fn tell_key<K: Sink>(
         &mut self,
         page: u32,
@@ -119,9 +118,9 @@ impl Tree {
         Ok(())
     }
 
-    /// Passes over a leaf of whose cells nothing but the keys is left to look at, where it has these keys, they come behind the
-    /// greatest so far, and the tree is not the schema's, whose rows are wanted. Where it answers false, the cells have to be
-    /// walked over one by one.
+    /// Passes over a leaf whose cells have nothing but their keys to look at: it has such keys, they come after the greatest so
+    /// far, and the tree is not the schema's, whose rows are wanted. Where it answers false, the cells have to be walked over
+    /// one by one.
     pub(crate) fn pass_over(&mut self, keys: Option<KeySpan>, page: u32) -> bool
         ensures passed { IsTrue result → IsSomeAnd keys (λ span. ArePassed page self.old.start self.old.greatest span self.new.greatest) }
         ensures kept { result ≡ false → self.new.greatest ≡ self.old.greatest }
@@ -143,7 +142,7 @@ impl Tree {
         true
     }
 
-    /// Tells that a leaf has another depth than the first leaf of the tree, where it has.
+    /// Reports a leaf whose depth differs from that of the first leaf of the tree.
     pub(crate) fn tell_depth<K: Sink>(
         &mut self,
         page: u32,

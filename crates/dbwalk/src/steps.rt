@@ -1,5 +1,5 @@
-// The steps of an interior page: at each cell its overflow chain, its left child and its key, and behind the cells the
-// right child.
+// The steps of an interior page: at each cell its overflow chain, its left child and its key, and after the cells the right
+// child.
 ghost use Rattle.std.specs.Prelude.{◌≡◌, ◌<◌, suc};
 ghost use Rattle.dbformat.specs.Address.{overflow_step, child_step, key_step};
 ghost use Rattle.dbformat.specs.Cell.{count};
@@ -12,7 +12,7 @@ use dbpage::PageView;
 use dbsource::Bench;
 use std::alloc::Allocator;
 
-/// An interior page that was visited, and the step of it that comes next.
+/// An interior page that was visited, and its next step.
 #[derive(Clone, Copy, Default)]
 pub(crate) struct Frame {
     pub(crate) page: u32,
@@ -36,19 +36,19 @@ impl Frame {
 /// What an interior page has at a step.
 #[derive(Clone, Copy)]
 pub(crate) enum Next {
-    /// The step is behind the last one.
+    /// The step is after the last one.
     Behind,
-    /// Nothing stands there.
+    /// There is nothing at this step.
     Nothing,
     /// The key of a cell.
     Key(i64),
-    /// The first page of the overflow chain of a cell, and how many bytes stand on overflow pages.
+    /// The first page of the overflow chain of a cell, and the number of payload bytes on overflow pages.
     Chain { first: u32, left: u32 },
     /// The page of a child.
     Child(u32),
 }
 
-/// What the page at a level has at the step of its frame; a damaged page has nothing more.
+/// What the page at a level has at the step of its frame; a damaged page has no more steps.
 pub(crate) fn step_of<A: Allocator>(
     bench: &Bench<A>,
     kind: TreeKind,
@@ -71,7 +71,7 @@ pub(crate) fn step_of<A: Allocator>(
     }
 }
 
-// The overflow chain of cell `i`.
+// The overflow chain of cell `i`, if it has one.
 fn chain_at(view: &PageView<'_>, cells: u32, i: u32) -> Next
     requires { cells ≡ count view.now }
     ensures { IsNextStep view.now (overflow_step i) result }
@@ -94,7 +94,7 @@ fn chain_at(view: &PageView<'_>, cells: u32, i: u32) -> Next
     }
 }
 
-// Child `i`.
+// The page of child `i`, if there is one.
 fn child_at(view: &PageView<'_>, cells: u32, i: u32) -> Next
     requires { cells ≡ count view.now }
     ensures { IsNextStep view.now (child_step i) result }
@@ -108,7 +108,7 @@ fn child_at(view: &PageView<'_>, cells: u32, i: u32) -> Next
     }
 }
 
-// The key of cell `i`.
+// The key of cell `i`, if it has one.
 fn key_at(view: &PageView<'_>, cells: u32, i: u32) -> Next
     requires { cells ≡ count view.now }
     ensures { IsNextStep view.now (key_step i) result }

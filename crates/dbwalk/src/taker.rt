@@ -1,4 +1,4 @@
-// Who takes the rows of the schema.
+// The taker of the rows of the schema.
 ghost use Rattle.std.specs.Prelude.{◌≡◌, ℕ, MatchResult};
 ghost use Rattle.dbwalk.specs.Rows.{schema_row_of};
 ghost use Rattle.dbsource.specs.Failures.{failures_after, is_any};
@@ -6,18 +6,18 @@ ghost use Rattle.dbsource.specs.Failures.{failures_after, is_any};
 use dbbytes::SchemaRow;
 use std::alloc::AllocError;
 
-/// What became of a row of the schema.
+/// What the taker did with a row of the schema.
 #[derive(Clone, Copy, Debug, PartialEq, Eq)]
 pub enum Taken {
     /// Its root page was taken.
     Taken,
     /// It has no root page.
     NoRoot,
-    /// It has a root page, for which there is no room.
+    /// It has a root page, but there is no room for it.
     Full,
 }
 
-/// What takes the rows of the schema, one after another.
+/// Takes the rows of the schema, one after another.
 ///
 /// # A quiet taker
 ///
@@ -49,18 +49,18 @@ pub trait Taker {
     ghost use Rattle.dbformat.specs.SchemaRow.{SchemaRow};
     ghost use Rattle.dbwalk.specs.declared.taker.Taken.{Taken};
 
-    // What a row, with this answer, makes of it.
+    // The state after a row, with this answer.
     ghost takes: { Self → SchemaRow → Taken → Self → Type 0 };
-    // What a row for which memory was refused makes of it.
+    // The state after a row for which memory was refused.
     ghost refuses: { Self → SchemaRow → Self → Type 0 };
     // How many calls were refused memory, in 64 bits.
     ghost refusals: { Self → ℕ };
 
-    /// Takes a row.
+    /// Takes a row, and answers what was done with its root page.
     ///
     /// # Errors
     ///
-    /// [`AllocError`] where memory was refused; one refusal is counted then.
+    /// [`AllocError`] where memory was refused; this counts as one refusal.
     fn take(&mut self, row: &SchemaRow<'_>) -> Result<Taken, AllocError>
         ensures row { MatchResult result (λ answer. takes self.old (schema_row_of row.now) answer self.new)
             (λ _. refuses self.old (schema_row_of row.now) self.new) }

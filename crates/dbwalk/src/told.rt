@@ -1,4 +1,4 @@
-// What is told of one page of a tree: its row, and its faults.
+// What is reported of one page of a tree: its row, and its faults.
 ghost use Rattle.std.specs.Prelude.{◌≡◌, ◌≤◌, length, IfOk, IfSome};
 ghost use Rattle.dbwalk.specs.LeafCells.{HasSpan};
 ghost use Rattle.dbwalk.specs.Found.{damage_fault, undamaged_findings, damaged_findings};
@@ -22,12 +22,12 @@ pub(crate) struct PagePlace<'a> {
     pub(crate) page: u32,
 }
 
-/// Tells the row of an undamaged page, and then the faults within it; and answers with the span of its keys, where these rise
-/// and no cell has an overflow page. `uses` is room to work in, a byte for each usable byte of the page.
+/// Reports the row of an undamaged page, and then the faults within it. Answers with the span of its keys, if these rise and no
+/// cell has an overflow page. `uses` is room to work in, a byte for each usable byte of the page.
 ///
 /// # Errors
 ///
-/// [`WriteFailed`] where the sink failed: it was told a beginning of this.
+/// [`WriteFailed`] where the sink failed: it was given only a beginning of this.
 pub(crate) fn tell_undamaged<K: Sink>(
     view: &PageView<'_>,
     place: &PagePlace<'_>,
@@ -82,11 +82,11 @@ pub(crate) fn tell_undamaged<K: Sink>(
     }))
 }
 
-/// Tells the row of a damaged page of these bytes, and then its one fault.
+/// Reports the row of a damaged page of these bytes, and then its one fault.
 ///
 /// # Errors
 ///
-/// [`WriteFailed`] where the sink failed: it was told a beginning of this.
+/// [`WriteFailed`] where the sink failed: it was given only a beginning of this.
 pub(crate) fn tell_damaged<K: Sink>(
     place: &PagePlace<'_>,
     bytes: &[u8],
@@ -113,7 +113,7 @@ pub(crate) fn tell_damaged<K: Sink>(
     sink.fault(&fault, &cause)
 }
 
-/// The payload of the readable cells of a page: its bytes in the cells, and the greatest of one cell.
+/// The payload of the readable cells of a page, in bytes: the sum of what is in the cells, and the greatest of one cell.
 #[derive(Clone, Copy)]
 pub(crate) struct PayloadSums {
     pub(crate) all: u64,
@@ -121,7 +121,7 @@ pub(crate) struct PayloadSums {
 }
 
 /// The payload of the readable cells of a page.
-// Most pages are packed, and are not asked for this.
+// Most pages are packed and do not need this call.
 #[inline(never)]
 pub(crate) fn payload_sums(view: &PageView<'_>) -> PayloadSums
     requires { view.now.usable ≤ 65536 }

@@ -31,7 +31,7 @@ use dbsource::{Bench, RunError, Source};
 use std::alloc::Allocator;
 
 impl<A: Allocator, S: Source, K: Sink, T: Taker> TreeWalk<'_, '_, '_, '_, A, S, K, T> {
-    // Walks over the pages of a tree of which nothing was visited, and whose root was marked, and read at level 0.
+    // Walks over the pages of a tree whose root was marked, and read at level 0. No page of the tree was visited before.
     fn walk_pages(&mut self, bench: &mut Bench<A>, page: u32) -> Result<(), RunError>
         requires page { IsPageNumber page }
         requires fresh { (self.old.tree.greatest ≡ None) × (self.old.tree.leaf ≡ None) × (self.old.tree.path.items ≡ []) }
@@ -51,15 +51,15 @@ impl<A: Allocator, S: Source, K: Sink, T: Taker> TreeWalk<'_, '_, '_, '_, A, S, 
     }
 }
 
-/// Walks over the tree of a root, and marks and tells all that is below it. Each page is marked, and then read, once; a
-/// root that may not be followed is told. The rows of the schema that can be read go to the taker, in their order; no other
-/// tree calls it.
+/// Walks over the tree of a root, and marks and reports all that is below it. Each page is marked and then read, once. A root
+/// that may not be followed is reported. The rows of the schema that can be read go to the taker, in their order; no other tree
+/// calls it.
 ///
 /// # Errors
 ///
 /// [`RunError::ReadFailed`] exactly where the source failed, [`RunError::WriteFailed`] exactly where the sink failed,
-/// [`RunError::OutOfMemory`] exactly where the taker was refused memory. The sink was told a beginning then, and the taker
-/// was given one; which pages are marked is open.
+/// [`RunError::OutOfMemory`] exactly where the taker was refused memory. The sink and the taker were each given a beginning
+/// then; which pages are marked is not specified.
 pub fn walk_tree<A: Allocator, S: Source, K: Sink, T: Taker>(
     source: &mut S,
     bench: &mut Bench<A>,

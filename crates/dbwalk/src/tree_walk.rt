@@ -19,7 +19,7 @@ use dbformat::Encoding;
 use dbsource::{Bench, RunError, Source};
 use std::alloc::Allocator;
 
-/// What a walk over one tree borrows, and where it stands. The bench of page buffers goes beside it from call to call.
+/// What a walk over one tree borrows, and its state. The bench of page buffers is passed beside it from call to call.
 #[derive(Drop)]
 pub(crate) struct TreeWalk<'s, 'm, 't, 'k, A: Allocator, S: Source, K: Sink, T: Taker> {
     pub(crate) source: &'s mut S,
@@ -32,8 +32,8 @@ pub(crate) struct TreeWalk<'s, 'm, 't, 'k, A: Allocator, S: Source, K: Sink, T: 
 }
 
 impl<A: Allocator, S: Source, K: Sink, T: Taker> TreeWalk<'_, '_, '_, '_, A, S, K, T> {
-    // Enters the child at the step of a frame that was taken from the stack: the frame goes back a step on, and an undamaged
-    // interior page gets a frame of its own.
+    // Enters the child at the step of a frame that was taken from the stack. The frame goes back with its next step, and an
+    // undamaged interior page gets a frame of its own.
     fn enter_child(
         &mut self,
         bench: &mut Bench<A>,

@@ -1,4 +1,4 @@
-// What is told of a page of a tree that was read.
+// What is reported of a page of a tree that was read.
 ghost use Rattle.std.specs.Prelude.{◌≡◌, ◌<◌, length, IfOk, OnOk};
 ghost use Rattle.dbformat.specs.FixedPages.{IsPageNumber};
 ghost use Rattle.dbwalk.specs.Found.{IsFound, page_findings};
@@ -14,17 +14,17 @@ use crate::told::{PagePlace, tell_damaged, tell_undamaged};
 use dbsource::{Bench, WriteFailed};
 use std::alloc::Allocator;
 
-/// What a page of a tree was found to be.
+/// What a page of a tree is: damaged, an interior page, or a leaf.
 #[derive(Clone, Copy)]
 pub(crate) enum PageFound {
     Damaged,
     Interior,
-    /// A leaf, with the span of its keys where nothing else of its cells is left to look at.
+    /// A leaf, with the span of its keys if its cells have nothing else to look at.
     Leaf(Option<KeySpan>),
 }
 
-/// Tells the row of a page that was read at the level of the tree's path, and its faults, and of a leaf that its depth is
-/// another one.
+/// Reports the row of a page that was read at the level of the tree's path, and its faults. Of a leaf it also reports that its
+/// depth differs from that of the first leaf.
 ///
 /// # Errors
 ///
@@ -41,7 +41,7 @@ pub(crate) fn tell_page<A: Allocator, K: Sink>(
     ensures tree { IsSameButLeaf tree.old tree.new }
     ensures open { IfOk result (λ found. IsFound bench.new.geometry.usable tree.new.kind bench.new.levels (length tree.old.path.items) page found) }
     ensures writes { SinkAfter is_any result (K.held sink.old) (K.held sink.new) }
-    // Where the bytes at the level are those of the page.
+    // For each file in which the bytes at the level are those of the page.
     ensures told { AtRead bench.old.geometry tree.old bench.old.levels page (λ file c.
         IsTold K.takes K.drops K.held result sink.old (page_findings file tree.old.leaf c) sink.new
         × OnOk result (tree.new.leaf ≡ leaf_after file tree.old.leaf c)) }

@@ -77,7 +77,7 @@ fn overfull(alloc: Global) -> Result<Vec<u8>, AllocError> {
     Ok(file.into_bytes())
 }
 
-// Whether an overflow page behind its end leaves a file empty.
+// Whether an overflow page past its end leaves a file empty.
 fn is_emptied(alloc: Global) -> Result<bool, AllocError> {
     let mut file = TestFile::new(alloc, 512, 1)?;
     file.overflow(2, 0, b"");

@@ -1,6 +1,6 @@
-//! Tests of the walk over trees, chains and the freelist, on whole files: who is told and who takes rows fails at any item; and of
-//! what stands above these walks: the list of roots, owners and places, and tallies. Those of whole runs stand in `dbck_tests`.
-//! Beside them stand those of the builder of test files.
+//! Tests of the walk over trees, chains and the freelist, on whole files, where the sink and the taker of rows fail at
+//! any item; and of what rests on these walks: the list of roots, owners and places, and tallies. Those of whole runs
+//! are in `dbck_tests`. The tests of the builder of test files are here too.
 #![tactic(auto)]
 
 // One call where `assert!` has a branch, which would be proved at each place. The text says what did not hold, and of what.

@@ -6,7 +6,7 @@ pub(crate) mod walk;
 use arrayvec::ArrayString;
 use std::process::Abort;
 
-/// What was told or answered. What has no room is left out, so that a test over it fails.
+/// What was reported or answered. What has no room is left out, so that a test over it fails.
 pub(crate) type Text = ArrayString<2048>;
 
 /// Stops a test whose text is not what was wanted.

@@ -11,7 +11,7 @@ use std::alloc::Global;
 use std::process::Abort;
 use std::test::Fail;
 
-/// A walk in five texts: a name, the file, what fails, what is asked for, and what is told.
+/// A walk in five texts: a name, the file, what fails, what is asked for, and what is reported.
 pub(crate) type Case = [&'static str; 5];
 
 /// Does what some cases ask for.

@@ -1,4 +1,4 @@
-// Columns of a row of the statistics, each behind a tab.
+// Columns of a row of the statistics, each after a tab.
 ghost use Rattle.arrayvec.specs.ArrayVec.{array_vec_len};
 ghost use Rattle.std.specs.Prelude.{◌≡◌, ◌+◌, ◌-◌, ◌*◌, ◌≤◌, ◌∷◌, ◌++◌, length, decimal};
 ghost use Rattle.dbformat.specs.Lines.{tab, chain_text};

@@ -58,7 +58,7 @@ fn child_text(child: u32) -> ArrayVec<u8, 16>
     text
 }
 
-// What stands behind the children.
+// What comes after the children.
 fn page_end(row: &Row<'_>, page_size: u32) -> ArrayVec<u8, 192>
     ensures { result.items ≡ page_end page_size (row_of row.now) }
 {
@@ -86,7 +86,7 @@ pub(crate) fn put_tree_row<O: Out>(
     out.put(end.as_slice())
 }
 
-// What stands behind the name of a tree.
+// What comes after the name of a tree.
 fn tree_end(sums: &Sums, page_size: u32) -> ArrayVec<u8, 160>
     ensures { result.items ≡ tree_end page_size sums.now }
 {

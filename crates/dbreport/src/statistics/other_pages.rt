@@ -54,7 +54,7 @@ fn put_marked<O: Out>(
     }
 }
 
-// Puts the rows of the pages that are in no tree and in no overflow chain, by number, as the marks after a walk tell them.
+// Puts the rows of the pages that are in no tree and in no overflow chain, by number, by the marks after a walk.
 pub(crate) fn put_others<A: Allocator, O: Out>(
     shape: Geometry,
     marks: &Marks<A>,

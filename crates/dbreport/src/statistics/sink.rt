@@ -1,12 +1,13 @@
-// What the statistics write of what they are told.
+// What the statistics write of the notices that they hear.
 ghost use Rattle.std.specs.Prelude.{◌≡◌, [], List, true, MatchResult};
 ghost use Rattle.dbformat.specs.FixedPages.{IsInRange};
+ghost use Rattle.dbformat.specs.Report.{verdict_of};
 ghost use Rattle.dbformat.specs.Rows.{StatRow};
 ghost use Rattle.dbsource.specs.Failures.{CountsAfter, failures_after, is_any};
 ghost use Rattle.dbsource.specs.Outs.{Puts};
 ghost use Rattle.dbwalk.specs.Rows.{row_of};
 ghost use Rattle.dbreport.specs.StatSink.{AreSameOuts, CutsEnd, CutsFault, CutsOthers, CutsRow, EndsTree, PutsOthers, TakesFault, TakesRow};
-ghost use Rattle.dbreport.specs.StatSink.{end_text, failures_of_each, found_verdict};
+ghost use Rattle.dbreport.specs.StatSink.{end_text, failures_of_each};
 ghost use Rattle.dbreport.specs.Sums.{sums_of};
 ghost use Rattle.dbreport.specs.TreeNames.{label_text};
 
@@ -23,7 +24,7 @@ use dbwalk::{Fault, Marks, Row};
 use std::alloc::Allocator;
 
 // Writes rows to the one Out and the lines of faults to the other, as they come. In the aggregate form it adds up the rows
-// of a tree, and writes their sums when it has ended. Before it puts to one Out it flushes the other, so that both stand in
+// of a tree, and writes their sums when it has ended. Before it puts to one Out it flushes the other, so that both come in
 // the order of the report where both lead to one place.
 #[derive(Drop)]
 pub(crate) struct StatSink<'a, O, E> {
@@ -37,7 +38,7 @@ pub(crate) struct StatSink<'a, O, E> {
 }
 
 impl<'a, O: Out, E: Out> StatSink<'a, O, E> {
-    // One that was told nothing.
+    // One that heard nothing.
     pub(crate) fn new(
         out: &'a mut O,
         err: &'a mut E,
@@ -148,12 +149,9 @@ impl<'a, O: Out, E: Out> StatSink<'a, O, E> {
 
     // What was found.
     pub(crate) fn verdict(&self) -> Verdict
-        ensures { result ≡ found_verdict self.now.found }
+        ensures { result ≡ verdict_of self.now.found }
     {
-        match self.found {
-            0 => Verdict::Clean,
-            count => Verdict::Faulty(count),
-        }
+        Verdict::of(self.found)
     }
 }
 

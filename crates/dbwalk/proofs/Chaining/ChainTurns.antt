@@ -46,7 +46,7 @@ module _ {S : Type 0} (takes drops : S → Finding → S → Type 0) (file : Lis
     fed_refused file W c on.d first old on.pages on.visited on.fed on.since e.0 on.rest.visits,
   )
 
-  -- it is followed, but its page could not be read or told
+  -- it is followed, but its page could not be read or reported
   pub turn_stopped : (x : RunError) (marks' : List Mark) (m t : S) → Enters takes drops file on.visited on.d (Ok true) marks' s m
       → StopsBy takes drops x m (told_at file (on.visited ++ (on.d ∷ [])) (at_page on.d)) t → IsDone {A = Unit {0}} takes drops file W (Go c ∷ []) (Err x) marks' before t
   turn_stopped x marks' m t e h = left_stop takes file W (Go c ∷ []) before on.visited marks s drops t marks' x (Go on.d ∷ [])
@@ -74,7 +74,7 @@ module _ {S : Type 0} (takes drops : S → Finding → S → Type 0) (file : Lis
         fed_whole file W c first new (on.pages ++ on.d ∷ []) (on.visited ++ on.d ∷ []) (feeds_page file first old new on.pages on.d on.fed f) since_more n.visits,
       )
 
-  -- the next one is behind it
+  -- the next one is after it
   pub turn_more : (marks' : List Mark) (m t : S) (next : ℕ) → Enters takes drops file on.visited on.d (Ok true) marks' s m
       → Moves takes m (told_at file (on.visited ++ (on.d ∷ [])) (at_page on.d)) t → usable_size file - 4 < place.left → next ≡ overflow_next (page_bytes file place.step.page)
       → (new : Option RowSieve) → Feeds old (held_bytes file on.d) new

@@ -37,7 +37,7 @@ begins : (a s : Address) → starts_with nat_eq (a ++ s) a ≡ true
 begins [] s = refl
 begins (x ∷ a) s = ap (λ b. b && starts_with nat_eq (a ++ s) a) (eq-eqb x x refl) ∙ begins a s
 
--- and what stands before it does not
+-- and what is before it does not
 begins_not : (a b : Address) → IsBefore b a → starts_with nat_eq b a ≡ true → ⊥
 begins_not [] b h e = absurd h
 begins_not (x ∷ a) [] h e = cc
@@ -59,7 +59,7 @@ filter_all p (x ∷ xs) h = ap (λ b. cond b (x ∷ filter p xs) (filter p xs)) 
 pub chain_before : (W : List Reference) (a : Address) (i : ℕ) → ((u : Reference) → IsIn u W → IsBefore u.address (then_step a (overflow_step i))) → chain W a i ≡ []
 chain_before W a i h = filter_none (λ r. starts_with nat_eq r.address (then_step a (overflow_step i))) W (λ u j e. begins_not (then_step a (overflow_step i)) u.address (h u j) e)
 
--- so its payload is what stands in the cell
+-- so its payload is that in the cell
 pub payload_before : (file : List ℕ) (W : List Reference) (a : Address) (i : ℕ) (cell : Cell) → ((u : Reference) → IsIn u W → IsBefore u.address (then_step a (overflow_step i))) → payload file W a i cell ≡ cell.local
 unfolding payload
 payload_before file W a i cell h = ap (λ rs. cell.local ++ flat_map (held_bytes file) rs) (chain_before W a i h) ∙ append-nil cell.local
@@ -80,12 +80,12 @@ module _ (file : List ℕ) (W : List Reference) (c : Reference) (a : Address) (i
       ∙ ap (λ l. l ++ filter test (visited_below file W (Go c ∷ []))) (chain_before W a i (λ u j. subst (λ b. IsBefore u.address b) at (next u (Go c) j (inl refl))))
       ∙ filter_all test (visited_below file W (Go c ∷ [])) below_begins
 
-  -- the payload of the cell: what stands in it, and what the pages of its chain hold
+  -- the payload of the cell: the bytes in it, and then those on the pages of its chain
   pub payload_below : (cell : Cell) → payload file (W ++ visited_below file W (Go c ∷ [])) a i cell ≡ cell.local ++ flat_map (held_bytes file) (visited_below file W (Go c ∷ []))
   unfolding payload
   payload_below cell = ap (λ rs. cell.local ++ flat_map (held_bytes file) rs) chain_below
 
-  -- a sieve that had taken what stands in the cell has taken the payload
+  -- a sieve that had taken the payload bytes in the cell has taken the payload
   pub sieve_payload : (old new : RowSieve) (cell : Cell) (size : ℕ) (e : Encoding) → FeedsChain file W c (Some old) (Some new) → HasTaken old size e cell.local
       → HasTaken new size e (payload file (W ++ visited_below file W (Go c ∷ [])) a i cell)
   sieve_payload old new cell size e fed taken = subst (λ l. HasTaken new size e l) (sym (payload_below cell)) (fed size e cell.local taken)
@@ -130,7 +130,7 @@ pub fed_refused : (file : List ℕ) (W : List Reference) (c d : Reference) (old 
     → U ++ visited_below file U (Go d ∷ []) ≡ W ++ visited_below file W (Go c ∷ []) → FeedsChain file W c old new
 fed_refused file W c d old new pages U h e f v = fed_whole file W c old new pages U h e (ap (λ l. U ++ l) (sym (visited_refused file U d [] f)) ∙ v)
 
--- The payload of a cell of the schema, as a sieve takes it: what stands in the cell, and then what its chain holds.
+-- The payload of a cell of the schema, as a sieve takes it: the bytes in the cell, and then those of its chain.
 
 pub on_ok : {A E : Type 0} {P Q : Type 0} (r : Result A E) → OnOk r P → (P → Q) → OnOk r Q
 on_ok (Ok a) p f = f p

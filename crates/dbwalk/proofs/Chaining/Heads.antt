@@ -69,7 +69,7 @@ head_start chain V c h = record {
   item = h.item;
 }
 
--- one address is the same as itself, and none that is before it
+-- an address equals itself, and no address before it
 same_itself : (a : Address) → is_same a a ≡ true
 same_itself a = ap (λ b. not b && not b) (is_before-itself a)
 
@@ -80,12 +80,12 @@ none_same : (V : List Reference) (a : Address) → ((u : Reference) → IsIn u V
 none_same [] a h = refl
 none_same (u ∷ V) a h = ap (λ b. cond b (Some u) (find (λ u. is_same u.address a) V)) (same_before u.address a (h u (inl refl))) ∙ none_same V a (λ w i. h w (inr i))
 
--- behind the visit of the page
+-- after the visit of the page
 module _ (chain : Chain) (V : List Reference) (number : ℕ) (d : Reference) (on : IsOnChain chain number d) (head : HasHead chain V d) where
   abbrev searched : List Reference → Address → Option Reference
   searched W a = find (λ u. is_same u.address a) W
 
-  -- where it is found among the visits, it is found still
+  -- a head that is found among the visits is still found
   found_still : (a : Address) (c : Reference) → searched V a ≡ Some c → searched (V ++ d ∷ []) a ≡ Some c
   found_still a c e = find-append (λ u. is_same u.address a) V (d ∷ []) ∙ ap (λ o. option_or o (searched (d ∷ []) a)) e
 

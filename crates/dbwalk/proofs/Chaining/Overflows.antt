@@ -1,4 +1,4 @@
--- What is told of an overflow page, and what it leads to.
+-- What is reported of an overflow page, and what it leads to.
 use Rattle.std.proofs.Common.{◌≡◌, ℕ, ◌+◌, ◌-◌, ◌*◌, ◌≤◌, ◌<◌, Bool, true, false, cond, not, ◌&&◌, List, [], ◌∷◌, ◌++◌, length, map, take, drop, Option, Some, None, refl, sym, ap, ◌∙◌, arith, inl}
 use Rattle.std.specs.Prelude.{option_to_list, nat_le, nat_lt, ◌==◌, pos}
 use Rattle.std.proofs.lemmas.Bool.Decides.{nat_tests}
@@ -44,7 +44,7 @@ unfolding page_bytes
 page_read file bytes size p l h e =
     h.1 ∙ ap (λ n. take n (drop ((p - 1) * size) file)) l ∙ ap (λ n. take n (drop ((p - 1) * n) file)) (sym e)
 
--- what is told of it
+-- what is reported of it
 pub told_overflow : (file : List ℕ) (U : List Reference) (c : Reference) (left : ℕ) → bytes_left (role_of c) ≡ Some left
     → told_at file U (at_page c) ≡ told_row (overflow_page_row c (usable_size file) left) ∷ told_by (cause_of file U (at_page c)) (overflow_fault (usable_size file) left c.page (page_bytes file c.page))
 unfolding page_faults
@@ -69,7 +69,7 @@ pub row_is : (start start' : ℕ) (path path' : List ℕ) (chain chain' : Option
     ≡ record { start = start'; path = path'; chain = chain'; page = page'; pagetype = type'; counts = counts' }
 row_is start start' path path' chain chain' page page' type type' counts counts' a b c d e f = cc
 
--- a row and a fault that were made of these numbers are what is told of the page
+-- a row and a fault that were made of these numbers are what is reported of the page
 pub told_is : (file : List ℕ) (U : List Reference) (d : Reference) (chain : Chain) (number page usable left next : ℕ) (row : Row) (f : Option Fault)
     → usable ≡ usable_size file → next ≡ overflow_next (page_bytes file page) → d.page ≡ page → bytes_left (role_of d) ≡ Some left → IsOnChain chain number d
     → row.start ≡ chain.start → row.path.now ≡ chain.path.now → row.chain ≡ Some (chain.cell, number)
@@ -107,7 +107,7 @@ overflow_shallow c left h = by_role (role_of c) h
     by_role trunk e = cc
     by_role free_leaf e = cc
 
--- what it leads to: the next page, where something is left behind it
+-- what it leads to: the next page, if bytes are left after it
 pub more_errands : (file : List ℕ) (c : Reference) (left : ℕ) → bytes_left (role_of c) ≡ Some left → usable_size file - 4 < left
     → errands_of (story_of file) c ≡ Go (next_of c (left - (usable_size file - 4)) (overflow_next (page_bytes file c.page))) ∷ []
 more_errands file c left h l =

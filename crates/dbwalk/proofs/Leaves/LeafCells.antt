@@ -1,4 +1,4 @@
--- What is read off the cells of a leaf at a level.
+-- What is read of the cells of a leaf at a level.
 use Rattle.std.proofs.Common.{◌≡◌, ℕ, ◌+◌, ◌-◌, ◌<◌, ◌≤◌, Bool, true, false, cond, ◌&&◌, List, [], take, drop, Option, Some, None, Ok, Err, ℤ, refl, sym, ap, arith, ◌∙◌, subst, ◌*◌}
 use Rattle.std.specs.Prelude.{option_map, option_and_then, nat_le, nat_lt, ok_or, slice_get, slice_index_or, IfSome}
 use Rattle.std.specs.Result.{result_ok}
@@ -156,7 +156,7 @@ module _ (w v : View) (same : Some w ≡ Some v) (i : ℕ) (e : Encoding) where
   pub holds_none : (sieve : Option RowSieve) (f : CellFault) → cell w i ≡ Err f → sieve ≡ None → HoldsCell sieve e (result_ok (cell v i))
   holds_none sieve f read h = subst (λ r. HoldsCell sieve e (result_ok r)) (sym read ∙ ap (λ w. cell w i) (same_view w v same)) h
 
--- What is read off an interior page at a step.
+-- What is read of an interior page at a step.
 
 pub no_overflow : (v : View) (n : ℕ) (x : Cell) → cell v n ≡ Ok x → x.overflow ≡ None → (y : Cell) → n < count v → cell v n ≡ Ok y → y.overflow ≡ None
 no_overflow v n x e f y l g = let h : Ok x ≡ Ok y = sym e ∙ g in let i : x ≡ y = cc in ap (λ z. z.overflow) (sym i) ∙ f

@@ -172,7 +172,7 @@ chain_start chain file kind k children c levels p i first left at start path pag
         none m e = omega arith
     by_address (x ∷ a) s d q n = let f = chain_first a i n in record { start = s ∙ sym start; path = f.0 ∙ q ∙ sym path; place = f.1 ∙ ap (λ j. Some (j, 0)) (sym item) }
 
--- what a program reads off the leaf at its level: its page, the number of its cells, and a cell
+-- what a program reads of the leaf at its level: its page, the number of its cells, and a cell
 module _ (file : List ℕ) {kind : TreeKind} {k : ℕ} {children : List ℕ} {c : Reference} {levels : List (List ℕ)} {p : ℕ} {v : View} (at : IsLeafAt file kind k children c levels p) (viewed : tree_view file c ≡ Some v) {usable : ℕ} (usables : usable ≡ usable_size file) where
   pub seen_here : undamaged kind p usable (page_bytes file p) ≡ Some v
   seen_here = ap (λ u. undamaged kind p u (page_bytes file p)) usables ∙ ap (λ q. undamaged kind q (usable_size file) (page_bytes file q)) (sym at.page) ∙ sym (view_is file c kind at.kind_is) ∙ viewed
@@ -186,13 +186,13 @@ module _ (file : List ℕ) {kind : TreeKind} {k : ℕ} {children : List ℕ} {c 
       let there = ap (slice_get levels) deep ∙ at.bytes in
       (has.chain (page_bytes file p) v there seen_here low, has.key_is (page_bytes file p) v there seen_here low)
 
--- visits that all stand before the place of its chain stand before all that it leads to
+-- visits that are all before the place of its chain are before all that it leads to
 pub past_cell : (U : List Reference) (c : Reference) (i : ℕ) (overflow : Option (ℕ × ℕ)) → AreBefore U (then_step c.address (overflow_step i)) → IsPast U (overflow_errands c i overflow)
 past_cell U c i None before u f m j = absurd j
 past_cell U c i (Some o) before u f m (inl e) = subst (λ f. IsBefore u.address (errand_key f)) (sym e) (before u m)
 past_cell U c i (Some o) before u f m (inr j) = absurd j
 
--- a leaf leads to its cells alone
+-- a leaf leads only to its cells
 pub leaf_errands_are : (file : List ℕ) (c : Reference) (kind : TreeKind) (v : View) → tree_kind (role_of c) ≡ Some kind → tree_view file c ≡ Some v → is_interior v.kind ≡ false → errands_of (story_of file) c ≡ errands_before c kind v (count v)
 leaf_errands_are file c kind v tree viewed leaf = by_cell file c kind v tree viewed ∙ ap (λ ls. errands_before c kind v (count v) ++ map (go c) ls) (none leaf) ∙ append-nil (errands_before c kind v (count v))
   where

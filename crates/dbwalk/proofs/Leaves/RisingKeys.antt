@@ -144,7 +144,7 @@ module _ (page : ℕ) (v : View) (keys : KeySpan) (span : HasSpan v keys) (great
           let last : n ≡ keys.cells - 1 = omega arith in
           ap (λ o. option_or (placed page n o) greatest) (span.last_is n i) ∙ ap (λ m. option_or (placed page m keys.last) greatest) last
 
-  -- so many cells from the first on
+  -- the first n cells
   rising_to : (n : ℕ) → n ≤ count v → AreRisingFrom page v 0 n greatest (top_at n)
   unfolding top_at
   rising_to zero low = refl

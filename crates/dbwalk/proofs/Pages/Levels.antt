@@ -1,4 +1,4 @@
--- What stands at the levels of a bench after a page was read, and how many pages are left without a mark.
+-- The bytes at the levels of a bench after a page was read, and the number of pages that are left without a mark.
 use Rattle.std.proofs.Common.{◌≡◌, ℕ, zero, suc, ◌+◌, ◌-◌, ◌<◌, ◌≤◌, Bool, true, false, cond, List, [], ◌∷◌, length, set, Some, None, Result, Ok, Err, refl, sym, ap, subst, arith, ◌∙◌}
 use Rattle.std.specs.Prelude.{slice_get, nat_lt, count_by, ◌==◌, IfOk}
 use Rattle.std.specs.Option.{option_map_or}

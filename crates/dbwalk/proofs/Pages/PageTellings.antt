@@ -1,4 +1,4 @@
--- What is told of a page.
+-- What is reported of a page, as the program reports it.
 use Rattle.std.proofs.Common.{◌≡◌, ℕ, Bool, true, false, List, [], ◌∷◌, ◌++◌, map, Option, Some, None, refl, ap, ◌∙◌, zero, suc, ◌+◌, ◌-◌, ◌<◌, ◌&&◌, length, Result, Ok, Err, sym, subst, arith, append_assoc, inl, inr, max, fold, sum_by, cond, append-nil, Less, Equal, Greater, ◌≤◌}
 use Rattle.std.specs.Prelude.{option_to_list, option_and_then, flat_map, ◌==◌, filter_map, option_map, IsSomeAnd, IfSome, IsOk}
 use Rattle.std.proofs.lemmas.List.{map-append}
@@ -42,7 +42,7 @@ use Rattle.dbformat.specs.declared.CellFault.{CellFault}
 use Rattle.dbpage.specs.Packed.{first_cells, payload_of, greatest_of}
 use Rattle.dbwalk.specs.declared.state.KeySpan.{KeySpan}
 
--- What is told of a page that is visited: its row, the faults within it, and that its depth is another one.
+-- What is reported of a visited page: its row, the faults within it, and a depth that differs from the first leaf's.
 
 -- whether a page of a tree is a child
 abbrev pub is_child : Role → Bool
@@ -127,7 +127,7 @@ row_of_view c v start path a b n p = rw (← a, ← b, n, p) refl
 pub row_of_damage : (c : Reference) (page start : ℕ) (path : List ℕ) → start_of c.address ≡ start → child_path c.address ≡ path → chain_place c.address ≡ None → c.page ≡ page → damaged_row start path page ≡ tree_page_row c None
 row_of_damage c page start path a b n p = rw (← a, ← b, n, ← p) refl
 
--- What was told to a sink, call after call.
+-- What was reported to a sink, call after call.
 
 -- some items, and then others
 pub told_then : {S I A B E : Type 0} {takes drops : S → I → S → Type 0} {held : S → SinkState} {a : A} (r0 : Result A E) (r : Result B E) {s m t : S} (L M : List I) → r0 ≡ Ok a → IsTold takes drops held r0 s L m → IsTold takes drops held r m M t → IsTold takes drops held r s (L ++ M) t
@@ -236,7 +236,7 @@ ord_max-max a b = elim (cases_order a b) [
   ])
 ]
 
--- A page of which one reading told that its cells are readable and apart.
+-- A page of which one reading shows that its cells are readable and apart.
 
 -- no cell has a fault
 pub no_cell_faults : (v : View) → ((i : ℕ) → i < count v → IsOk (cell v i)) → cell_faults v ≡ []

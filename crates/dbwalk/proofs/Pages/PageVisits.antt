@@ -1,4 +1,4 @@
--- What is told of a page, by what a program finds of it.
+-- What is reported of a page, by what a program finds of it.
 use Rattle.std.proofs.Common.{◌≡◌, ℕ, ◌+◌, true, false, not, ◌&&◌, cond, List, [], ◌∷◌, ◌++◌, length, Option, Some, None, refl, sym, ap, arith, ◌∙◌, Bool, Result, Ok, Err, subst, ◌-◌}
 use Rattle.std.specs.Prelude.{nat_lt, pos, ◌==◌, OnOk, slice_get}
 use Rattle.std.specs.Option.{option_map_or}
@@ -43,18 +43,19 @@ no_leaf file leaf c e = (ap (λ b. told_if (b && not (depth c.address == depth_o
     by_first (Some d) = refl
     by_first None = ap (λ b. cond b (Some (leaf_at c)) None) e
 
--- a leaf has one where its depth is not that of the first, which is its own where there is none yet
+-- a fault that is reported, where a test holds
+pub told_once : (why : FaultCode → Cause) (b : Bool) (f : Fault) → told_by why (told_if b f) ≡ told_if b (told_fault f (why f.code))
+told_once why true f = refl
+told_once why false f = refl
+
+-- a leaf has one if its depth is not that of the first leaf; if there is none yet, it is the first itself
 at_leaf : (file : List ℕ) (look : Look) (leaf : Option TreeLeaf) (c : Reference) (n : ℕ) → is_leaf_of file (start_of c.address) c ≡ true → depth c.address ≡ n
     → (told_by (page_cause look leaf) (depth_faults file leaf c) ≡ depth_told leaf c.page n) × (leaf_after file leaf c ≡ Some (first_of leaf c.page n))
 at_leaf file look leaf c n e d = by_first leaf
   where
-    one : (why : FaultCode → Cause) (b : Bool) (f : Fault) → told_by why (told_if b f) ≡ told_if b (told_fault f (why f.code))
-    one why true f = refl
-    one why false f = refl
-
     by_first : (leaf : Option TreeLeaf) → (told_by (page_cause look leaf) (depth_faults file leaf c) ≡ depth_told leaf c.page n) × (leaf_after file leaf c ≡ Some (first_of leaf c.page n))
-    by_first (Some m) = (one (page_cause look (Some m)) _ _ ∙ rw (e, d) refl, refl)
-    by_first None = (one (page_cause look None) _ _ ∙ rw (e, d) refl, rw (e, d) refl)
+    by_first (Some m) = (told_once (page_cause look (Some m)) _ _ ∙ rw (e, d) refl, refl)
+    by_first None = (told_once (page_cause look None) _ _ ∙ rw (e, d) refl, rw (e, d) refl)
 
 module _ (file : List ℕ) (kind : TreeKind) (k : ℕ) (path : List ℕ) (p from item : ℕ) (c : Reference) (candidate : IsCandidate kind k path p from item c) where
   role_is : role_of c ≡ role_at kind path
@@ -144,7 +145,7 @@ module _ (file : List ℕ) (kind : TreeKind) (k : ℕ) (path : List ℕ) (p from
       pub leaf_after_leaf : is_interior v.kind ≡ false → leaf_after file leaf c ≡ Some (first_of leaf p (length path + 1))
       leaf_after_leaf e = (at_leaf file (look_at file c.page) leaf c (length path + 1) (leaf_is (Some v) viewed ∙ ap not e) candidate.depth).1 ∙ ap (λ q. Some (first_of leaf q (length path + 1))) candidate.page
 
--- How the telling of a page ends.
+-- How the report of a page ends.
 
 pub on_err : {A E : Type 0} (P : Type 0) {e : E} (r : Result A E) → r ≡ Err e → OnOk r P
 on_err P (Ok a) e = cc
@@ -230,7 +231,7 @@ module _ {S : Type 0} (A E : Type 0) (takes drops : S → Finding → S → Type
       pub exit_leaf_stop : (new : Option TreeLeaf) (r : Result A E) {e x : E} → r1 ≡ Err e → r ≡ Err x → Exit r t1 new
       exit_leaf_stop new r e f = (told_same r1 r e f both_told, on_err _ r f)
 
--- A page of a tree that was read, by what it was found to be.
+-- A page of a tree that was read, by what it is.
 
 module _ (file : List ℕ) {kind : TreeKind} {k : ℕ} {children : List ℕ} {p from item : ℕ} {c : Reference} (candidate : IsCandidate kind k children p from item c)
     {levels levels' : List (List ℕ)} (there : StandsAt levels (length children) (page_bytes file p)) (same : levels' ≡ levels) {kind' : TreeKind} (kinds : kind' ≡ kind) {usable : ℕ} (usables : usable ≡ usable_size file) where
@@ -256,7 +257,7 @@ module _ (file : List ℕ) {kind : TreeKind} {k : ℕ} {children : List ℕ} {p 
   pub found_view : (found : IsOpenLeaf usable kind' levels' (length children) p) → tree_view file c ≡ Some found.view
   found_view found = view_of found.bytes (Some found.view) found.there found.viewed
 
-  -- a leaf, for the state that has come to its cells
+  -- a leaf, for the state at its cells
   module _ {kind'' : TreeKind} (now_is : kind'' ≡ kind) {k' : ℕ} (starts : k' ≡ k) {children' : List ℕ} (ways : children' ≡ children) (found : IsOpenLeaf usable kind' levels' (length children) p) where
     pub found_leaf : IsLeafAt file kind'' k' children' c levels' p
     found_leaf = record {

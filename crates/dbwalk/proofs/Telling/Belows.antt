@@ -1,4 +1,4 @@
--- What is told and visited below some errands, errand by errand, and call after call.
+-- What is reported and visited below some errands, errand by errand, and call after call.
 use Rattle.std.proofs.Common.{◌≡◌, ℕ, true, false, inl, inr, List, [], ◌∷◌, ◌++◌, refl, sym, ap, ◌∙◌, append_assoc}
 use Rattle.std.proofs.lemmas.List.{append-nil}
 use Rattle.dbsurvey.specs.Address.{Address, IsIn}
@@ -60,7 +60,7 @@ module _ (file : List ℕ) where
       ∙ ap (λ V. W ++ V) (rest_join (rules_of file) pages (are_rules file) W (goes es) (goes fs))
       ∙ sym (append_assoc W (visited_below file W es) (visited_below file (W ++ visited_below file W es) fs))
 
-  -- what is told
+  -- what is reported
 
   pub told_none : (W : List Reference) → told_below file W [] ≡ []
   told_none W = below_none (rules_of file) (story_of file) pages (are_rules file) own_visit (told_at file) W

@@ -38,7 +38,7 @@ use Rattle.dbmarks.proofs.Markings.{refused-by_mark, followed-unrefused, followe
 past_rest : (U : List Reference) (e : Errand Way Event) (es : List (Errand Way Event)) → IsPast U (e ∷ es) → IsPast U es
 past_rest U e es h u f i j = h u f i (inr j)
 
--- the errands of a visited candidate are apart, and left of those behind it
+-- the errands of a visited candidate are apart, and left of those after it
 pub visit_apart : (file : List ℕ) (c : Reference) (es : List (Errand Way Event)) → AreErrandsApart (Go c ∷ es) → AreErrandsApart (errands_of (story_of file) c ++ es)
 visit_apart file c es h = EachPair-append (λ e f. IsLeftOf (errand_key e) (errand_key f)) (errands_of (story_of file) c) es
     (errands_apart (rules_of file) (story_of file) (is_story file) c) h.1
@@ -64,7 +64,7 @@ module _ {S : Type 0} (takes : S → Finding → S → Type 0) (file : List ℕ)
   left_start marks m p a = record { marked = m; past = p; apart = a; visits = refl; items = []; told = refl; rest = refl }
 
   module _ (U : List Reference) (marks : List Mark) (s : S) where
-    -- a candidate is refused, and that is told
+    -- a candidate is refused, and that is reported
     pub left_refused : (t : S) (marks' : List Mark) (c : Reference) (es : List (Errand Way Event)) → IsLeft takes file W errands before U (Go c ∷ es) (marks, s) → is_followed (rules_of file) U c ≡ false
         → AreMarksOf file U marks' → Moves takes s (told_at file U (at_refused c)) t → IsLeft takes file W errands before U es (marks', t)
     left_refused t marks' c es h f marked m = record {
@@ -77,7 +77,7 @@ module _ {S : Type 0} (takes : S → Finding → S → Type 0) (file : List ℕ)
       rest = append_assoc h.items (told_at file U (at_refused c)) (told_below file U es) ∙ ap (λ L. h.items ++ L) (sym (told_refused file U c es f)) ∙ h.rest;
     }
 
-    -- a candidate is visited: it is marked, and its own event is told
+    -- a candidate is visited: it is marked, and its own event is reported
     pub left_visit : (t : S) (marks' : List Mark) (c : Reference) (es : List (Errand Way Event)) → IsLeft takes file W errands before U (Go c ∷ es) (marks, s) → is_followed (rules_of file) U c ≡ true
         → AreQuiet own_visit (errands_of (story_of file) c) → AreMarksOf file (U ++ (c ∷ [])) marks'
         → Moves takes s (told_at file (U ++ (c ∷ [])) (at_page c)) t → IsLeft takes file W errands before (U ++ (c ∷ [])) (errands_of (story_of file) c ++ es) (marks', t)
@@ -112,7 +112,7 @@ module _ {S : Type 0} (takes : S → Finding → S → Type 0) (file : List ℕ)
       told = subst (λ L. Moves takes before L s) (sym (append-nil h.items) ∙ ap (λ L. h.items ++ L) (sym (told_none file U)) ∙ h.rest) h.told;
     }
 
-    -- an error, while the first items of what is left are told
+    -- an error, while the first items of what is left are reported
     pub left_stop : {A : Type 0} (drops : S → Finding → S → Type 0) (t : S) (marks' : List Mark) (e : RunError) (left : List (Errand Way Event)) (part rest : List Finding)
         → IsLeft takes file W errands before U left (marks, s) → part ++ rest ≡ told_below file U left
         → StopsBy takes drops e s part t → IsDone {A = A} takes drops file W errands (Err e) marks' before t
@@ -122,7 +122,7 @@ module _ {S : Type 0} (takes : S → Finding → S → Type 0) (file : List ℕ)
           (stops_by_after takes drops e before s t h.items (part ++ rest) h.told (stops_by_first takes drops e s t part rest k));
     }
 
-    -- an error, while it is told that a reference is refused
+    -- an error, while the refusal of a reference is reported
     pub left_untold : (drops : S → Finding → S → Type 0) (t : S) (marks' : List Mark) (e : RunError) (c : Reference) (es : List (Errand Way Event))
         → IsLeft takes file W errands before U (Go c ∷ es) (marks, s) → Enters takes drops file U c (Err e) marks' s t → IsDone {A = Unit {0}} takes drops file W errands (Err e) marks' before t
     left_untold drops t marks' e c es h n = left_stop drops t marks' e (Go c ∷ es) _ (told_below file U es) h (sym (told_refused file U c es n.0)) n.2

@@ -1,4 +1,5 @@
--- Frames: the pages at their levels, on any source and of a file, what frames may still take, the way to the page behind them, and a step of the last.
+-- Frames: the pages at their levels, on any source and of a file, a bound on the turns that they still take, the way to the
+-- page after them, and a step of the last.
 use Rattle.std.proofs.Common.{◌≡◌, ℕ, suc, ◌+◌, ◌<◌, List, [], ◌∷◌, ◌++◌, length, Some, refl, ap, arith, ◌∙◌, ◌-◌, ◌*◌, ◌≤◌, Result, Ok, Err, sym, subst}
 use Rattle.dbformat.specs.Address.{child_step, cell_of_step}
 use Rattle.dbformat.specs.File.{page_bytes}
@@ -54,7 +55,7 @@ pub read_kept : (file : List ℕ) (old new : List (List ℕ)) (level : ℕ) (fs 
 read_kept file old new level [] same r = tt
 read_kept file old new level (f ∷ fs) same r = (same level (omega arith) ∙ r.0, read_kept file old new (level + 1) fs (λ n l. same n (omega arith)) r.1)
 
--- frames below others are behind the step of a child
+-- frames below others are after the step of a child
 
 pub calls_front : (fs : List Frame) (f : Frame) → AreCalls (fs ++ (f ∷ [])) → AreCalls fs
 calls_front [] f a = tt
@@ -71,7 +72,8 @@ calls_push [] g h n e a = ((n, e), tt)
 calls_push (i ∷ []) g h n e a = (a.0, ((n, e), tt))
 calls_push (i ∷ j ∷ fs) g h n e a = (a.0, calls_push (j ∷ fs) g h n e a.1)
 
--- Frames, on any source: what stands at their levels, what they may still take, and the way to the page behind them.
+-- Frames, on any source: the bytes at their levels, a bound on the turns that they still take, and the way to the page after
+-- them.
 
 pub on_ok_all : {A E : Type 0} (r : Result A E) {Q : Type 0} → Q → OnOk r Q
 on_ok_all (Ok x) q = q
@@ -154,7 +156,7 @@ pub read_last : (file : List ℕ) (levels : List (List ℕ)) (level : ℕ) (fs :
 read_last file levels level [] f r = ap (slice_get levels) (let e : level + 0 ≡ level = omega arith in e) ∙ r.0
 read_last file levels level (g ∷ fs) f r = ap (slice_get levels) (let e : level + suc (length fs) ≡ level + 1 + length fs = omega arith in e) ∙ read_last file levels (level + 1) fs f r.1
 
--- each step of a page but those behind it
+-- each step of a page but those after it
 pub step_within : (v : View) (s : ℕ) (next : Next) → (next ≡ Behind → ⊥) → IsNextStep v s next → suc s ≤ 3 * count v + 2
 step_within v s Behind other h = absurd (other refl)
 step_within v s Nothing other h = by_case h
@@ -170,7 +172,7 @@ step_within v s (Child page) other h = let e = h.step in let l = h.low in omega 
 
 -- The last frame of a turn, on any source.
 
--- it stands at a step of its page, and this has something there
+-- the frame is at a step of its page, and the page has something there
 pub record IsAtStep (usable : ℕ) (kind : TreeKind) (levels : List (List ℕ)) (fs : List Frame) (f : Frame) (next : Next) : Type 0 where
   pub low : IsPageNumber f.page
   pub most : f.next ≤ 98306

@@ -125,7 +125,7 @@ module _ (file : List ℕ) (r : Reference) (kind : TreeKind) (v : View) (role : 
   rising : AreRising (page_items r kind (Some v))
   rising = subst (λ is. AreRising is) items_are ((is_story file).rising r)
 
-  -- at which step an item stands
+  -- at which step an item is
   data IsItem (i : Item Way Event) : Type 0 where
     of_overflow : (n : ℕ) (x : Cell) (p : ℕ) → n < count v → cell v n ≡ Ok x → x.overflow ≡ Some p → i ≡ Follow (link r.page (overflow_step n) n (first_overflow (overflow_size x)) p) → IsItem i
     of_left : (n : ℕ) (x : Cell) (p : ℕ) → n < count v → cell v n ≡ Ok x → x.left ≡ Some p → i ≡ Follow (link r.page (child_step n) n (child kind) p) → IsItem i
@@ -209,7 +209,7 @@ module _ (file : List ℕ) (r : Reference) (kind : TreeKind) (v : View) (role : 
       (is_listed (option_map (link r.page (child_step (count v)) (count v) (child kind)) (right_child v)) k (ap (option_map (link r.page (child_step (count v)) (count v) (child kind))) f)))) refl
       ∙ ap (λ es. go r k ∷ es) (behind (suc (child_step (count v))))
 
-  -- behind the right child is nothing
+  -- after the right child there is nothing
   pub step_end : (s : ℕ) → child_step (count v) < s → errands_from file r s ≡ []
   step_end s l = ap (λ is. errands_at r.address (from s is)) items_are ∙ ap (λ is. errands_at r.address is) (from_end s (page_items r kind (Some v)) (λ i h. low i (item_from i h)))
     where

@@ -1,6 +1,6 @@
--- The step at the place of a cell's key: of an interior page or a leaf, with a key or without, and of the schema's rows; and
--- cells of a leaf of which nothing but the keys is left to look at, as long as the keys rise: they hand out nothing, and the
--- greatest key behind them is all that they change.
+-- The step at the place of a cell's key: of an interior page or a leaf, with a key or without, and of the schema's rows. And
+-- cells of a leaf that have nothing but their keys to look at, while the keys rise: they hand out nothing, and change only the
+-- greatest key.
 use Rattle.std.proofs.Common.{◌≡◌, ℕ, ℤ, int_lt, Bool, true, false, cond, not, ◌&&◌, List, [], ◌∷◌, ◌++◌, map, Option, Some, None, refl, sym, ap, ◌∙◌, append_assoc, zero, suc, ◌+◌, ◌<◌, ◌≤◌, ◌<ℤ◌, arith, Ok, Err, Result, subst}
 use Rattle.std.specs.Prelude.{flat_map, nat_le, int_le, ◌==◌, option_and_then}
 use Rattle.std.proofs.lemmas.List.{append-nil, map-append}
@@ -14,7 +14,6 @@ use Rattle.dbformat.specs.Story.{at_key, own_visit, story_of}
 use Rattle.dbformat.specs.Tests.{told_if}
 use Rattle.dbformat.specs.Faults.{fault}
 use Rattle.dbformat.specs.declared.FaultCode.TheVariants.{T06}
-use Rattle.dbformat.specs.declared.Fault.{Fault}
 use Rattle.dbformat.proofs.Places.{cell_key}
 use Rattle.dbformat.specs.declared.FaultCode.{FaultCode}
 use Rattle.dbtrace.specs.Finding.{Finding, told_fault, told_by}
@@ -44,6 +43,7 @@ use Rattle.dbformat.proofs.Cells.{is_of_kind}
 use Rattle.dbformat.proofs.Looping.{range-more, all_quiet}
 use Rattle.dbpage.specs.Packed.{IsAbove, IsAllLocal, key_at}
 use Rattle.dbtrace.proofs.Stepping.{has_steps}
+use Rattle.dbwalk.proofs.Pages.PageVisits.{told_once}
 use Rattle.dbwalk.proofs.Trees.Stacking.{cells_in}
 use Rattle.std.proofs.lemmas.Bool.Decides.{nat_tests}
 use Rattle.dbsource.specs.declared.error.RunError.{RunError}
@@ -52,19 +52,15 @@ use Rattle.dbmarks.specs.declared.marks.Mark.{Mark}
 use Rattle.dbwalk.specs.declared.state.Tree.{Tree}
 use Rattle.dbwalk.proofs.Leaves.LeafErrands.{leaf_errands_are}
 
--- what rows of the schema hand out, behind so many rows with a root: those that can be read go to the taker, and then their
--- faults are told
+-- what rows of the schema hand out, after this many rows with a root: those that can be read go to the taker, and then their
+-- faults are reported
 abbrev pub row_items : ℕ → List SchemaCell → List Item
 row_items roots rows = map given (readable rows) ++ map found (findings (flat_map (row_faults_if (nat_le last_root_start roots)) rows))
 
--- the fault of a cell's key, if it has one, as the program tells it
+-- the fault of a cell's key, if it has one, as the program reports it
 abbrev pub order_told_of : Bool → Option CellKey → ℕ → ℕ → Option ℤ → List Finding
 order_told_of is_rowid top page item None = []
 order_told_of is_rowid top page item (Some value) = order_told is_rowid top page item value
-
-told_once : (why : FaultCode → Cause) (b : Bool) (f : Fault) → told_by why (told_if b f) ≡ told_if b (told_fault f (why f.code))
-told_once why true f = refl
-told_once why false f = refl
 
 module _ (file : List ℕ) (r : Reference) (v : View) (n : ℕ) (x : Cell) where
   key_faults_are : (why : FaultCode → Cause) (top : Option CellKey) → why T06 ≡ key_cause top → told_by why (flat_map (late_faults top) (key_of r v (n, x))) ≡ order_told_of (not (is_interior v.kind)) top r.page n x.key
@@ -88,7 +84,8 @@ module _ (file : List ℕ) (r : Reference) (v : View) (n : ℕ) (x : Cell) where
       by_key None top = refl
       by_key (Some value) top = refl
 
-  -- what the cell hands out, where these are its rows of the schema: they go to the taker, and then their faults and that of the key are told
+  -- what the cell hands out, where these are its rows of the schema: they go to the taker, and then their faults and that of
+  -- the key are reported
   pub cell_items : (U : List Reference) (p : Progress) (rows : List SchemaCell) → rows_of file U r v (n, x) ≡ rows
       → items_at file U p (at_key r v (n, x)) ≡ row_items p.roots rows ++ map found (order_told_of (not (is_interior v.kind)) p.greatest r.page n x.key)
   cell_items U p rows are =
@@ -103,7 +100,7 @@ module _ (file : List ℕ) (r : Reference) (v : View) (n : ℕ) (x : Cell) where
       ∙ ap (λ l. map given (readable rows) ++ l) (map-append found (findings L) told)
       ∙ sym (append_assoc (map given (readable rows)) (map found (findings L)) (map found told))
 
-  -- the greatest key behind it
+  -- the greatest key after it
   pub greatest_behind : (now : Walk) → (advance file now (at_key r v (n, x))).state.greatest ≡ top_after now.state.greatest r.page n x.key
   greatest_behind now = greatest_is now.state.greatest
 
@@ -130,7 +127,7 @@ module _ (file : List ℕ) (r : Reference) (kind : TreeKind) (v : View) (leaf : 
       by_cell i (Ok c) h = all_quiet.0 r kind v i c e h
       by_cell i (Err f) h = absurd h
 
-  -- a key that is greater than the last one is told nothing of, and is the greatest
+  -- of a key that is greater than the last one nothing is reported, and it is the greatest
   rises : (top : Option CellKey) (i : ℕ) (x : Cell) → IsAbove (value_of top) x.key → (flat_map (late_faults top) (key_of r v (i, x)) ≡ []) × (greatest_after top (key_of r v (i, x)) ≡ option_or (placed r.page i x.key) top)
   rises top i x h = by_key x.key top h
     where
@@ -159,7 +156,7 @@ module _ (file : List ℕ) (r : Reference) (kind : TreeKind) (v : View) (leaf : 
           → flat_map (late_faults now.state.greatest) (key_of r v (i, w.whole)) ≡ [] → advance file now (at_key r v (i, w.whole)) ≡ with_greatest now (option_or (placed r.page i (key_at v i)) now.state.greatest)
       walk_is a b c d = let z : now.state.roots + 0 ≡ now.state.roots = omega arith in rw (b, c, d, a, append-nil now.items, z) refl
 
-  -- and so many
+  -- and several cells
   pub passed : (n from : ℕ) (now : Walk) (after : Option CellKey) → from + n ≤ count v → AreRisingFrom r.page v from n now.state.greatest after
       → run_below file now (flat_map (cell_errands r kind v) (range_with_len from n)) ≡ with_greatest now after
   passed zero from now after l h = (has_steps file).none now ∙ ap (with_greatest now) (sym h)
@@ -171,7 +168,7 @@ module _ (file : List ℕ) (r : Reference) (kind : TreeKind) (v : View) (leaf : 
       ∙ one (with_greatest now h.0) (from + n) (omega arith) h.2 h.3
       ∙ ap (with_greatest now) (sym h.4)
 
--- A leaf of which nothing but the keys is left to look at, where they come behind the greatest so far.
+-- A leaf whose cells have nothing but their keys to look at, where the keys come after the greatest so far.
 
 -- a start after the first is not the schema's
 pub other_start : (a : Address) (k : ℕ) → start_of a ≡ k → 1 ≤ k → (start_of a == schema_start) ≡ false

@@ -57,7 +57,7 @@ module _ (file : List ℕ) (from : Walk) (c : Reference) (kind : TreeKind) (v : 
   abbrev own : List (Errand Way Event)
   own = own_errands c v i (result_ok (cell v i))
 
-  -- the walk behind the chain, and that behind the cell
+  -- the walk after the chain, and that after the cell
   abbrev m : Walk
   m = done_below file from chain
 
@@ -117,7 +117,7 @@ module _ (file : List ℕ) (from : Walk) (c : Reference) (kind : TreeKind) (v : 
   split : cell_errands c kind v i ≡ chain ++ own
   split = errands_split c kind v i overflow leaf overflow_is
 
-  -- the visits behind the cell are those of its chain
+  -- the visits after the cell are those of its chain
   pub cell_visits : (done_below file from (cell_errands c kind v i)).visits ≡ from.visits ++ visited_below file from.visits chain
   cell_visits = ap (λ es. (done_below file from es).visits) split ∙ ap (λ w. w.visits) ((has_steps file).join (bare from) chain own (quiet_overflow c i overflow)) ∙ bare_visits file m own ∙ behind.visits ∙ visited
 
@@ -209,12 +209,12 @@ module _ (file : List ℕ) (from : Walk) (c : Reference) (kind : TreeKind) (v : 
           later : start_of c.address ≡ k → (start_of c.address == schema_start) ≡ false → 1 ≤ k
           later e f = grind (arith, nat_tests)
 
-    -- the row could not be taken, or not all was told of it
+    -- the row could not be taken, or not all was reported of it
     pub row_stops : (e : RunError) (marks : List Mark) (old new : Tree) (s s' : S) (t : T) (x : S × T) → old.greatest ≡ from.state.greatest → old.leaf ≡ from.state.leaf → IsDone {A = Unit {0}} takes drops file from.visits chain (Ok tt) marks s s'
         → StopsAt (watches takes keeps) (fails drops refuses) e (s', t) (row_items from.state.roots rows) x → Whole (Err e) (marks, new) (s, t) x
     row_stops e marks old new s s' t x top depth done stops = own_done (Err e) marks old new s s' t x top depth done (stop_first (watches takes keeps) (fails drops refuses) e (s', t) x (row_items from.state.roots rows) key_items stops) tt
 
-    -- the key's fault was told, or not told whole
+    -- the key's fault was reported, or not completely
     pub key_done : (r : Result (Unit {0}) RunError) (marks : List Mark) (old new : Tree) (s s' s'' : S) (t t' : T) (x : S × T) → old.greatest ≡ from.state.greatest → old.leaf ≡ from.state.leaf → IsDone {A = Unit {0}} takes drops file from.visits chain (Ok tt) marks s s'
         → Moves (watches takes keeps) (s', t) (row_items from.state.roots rows) (s'', t') → Handed (watches takes keeps) (fails drops refuses) r (s'', t') key_items x
         → OnOk r ((new.greatest ≡ top_after old.greatest c.page i key) × (new.leaf ≡ old.leaf)) → Whole r (marks, new) (s, t) x

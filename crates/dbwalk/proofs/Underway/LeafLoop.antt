@@ -55,7 +55,7 @@ passed_same usable' usable kind' kind levels' levels level' level page from end 
     subst (λ u. ArePassedAt u kind levels level page from end greatest after) a (subst (λ k. ArePassedAt usable' k levels level page from end greatest after) b
     (subst (λ ls. ArePassedAt usable' kind' ls level page from end greatest after) c (subst (λ l. ArePassedAt usable' kind' levels' l page from end greatest after) d passed)))
 
--- cells from one on, behind those before it
+-- cells from one on, after those before it
 pub cells_after : (c : Reference) (kind : TreeKind) (v : View) (i n : ℕ) → errands_before c kind v (i + n) ≡ errands_before c kind v i ++ flat_map (cell_errands c kind v) (range_with_len i n)
 cells_after c kind v i n = let e : 0 + i ≡ i = omega arith in
     ap (flat_map (cell_errands c kind v)) (range-parts 0 i n ∙ ap (λ a. range_with_len 0 i ++ range_with_len a n) e) ∙ flat_map-append (cell_errands c kind v) (range_with_len 0 i) (range_with_len i n)
@@ -67,7 +67,7 @@ module _ (file : List ℕ) (from : Walk) (c : Reference) (kind : TreeKind) (v : 
   quiet_before : (i : ℕ) → AreQuiet own_visit (errands_before c kind v i)
   quiet_before i = all_quiet.1 c kind v i
 
-  -- all visits so far stand before the next cell
+  -- all visits so far are before the next cell
   chain_before : (i : ℕ) (U : List Reference) (o : Option (ℕ × ℕ)) → AreBefore U (then_step c.address (overflow_step i)) → AreBefore (U ++ visited_below file U (overflow_errands c i o)) (then_step c.address (overflow_step (i + 1)))
   chain_before i U o before u m = elim (IsIn-cases u U (visited_below file U (overflow_errands c i o)) m) [
     | inl j ↦ before_later U (then_step c.address (overflow_step i)) (then_step c.address (overflow_step (i + 1))) (before_next c.address (overflow_step i) (overflow_step (i + 1)) [] (omega arith)) before u j
@@ -115,7 +115,7 @@ module _ (file : List ℕ) (from : Walk) (c : Reference) (kind : TreeKind) (v : 
         let roots = ap (λ es. (done_below file from es).state.roots) (one_cell_more c kind v i) ∙ ap (λ w. w.state.roots) ((has_steps file).join (bare from) (errands_before c kind v i) (cell_errands c kind v i) (quiet_before i)) ∙ (has_steps file).roots (D i) (cell_errands c kind v i) in
         room_on takes keeps held (done_below file (D i) (cell_errands c kind v i)).items x y (D i).state.roots (D (i + 1)).state.roots roots room k.handed
 
-    -- The first cells are done, all visits stand before the next, and the taker of the schema's tree has its room.
+    -- The first cells are done, all visits are before the next, and the taker of the schema's tree has its room.
     module _ (held : T → ℕ) (k : ℕ) where
       abbrev OnCells : ℕ → List Mark × Tree → (S × T) → Type 0
       OnCells i now x = HasEnded (watches takes keeps) stops file (D i) (Ok tt) now w x × AreBefore (D i).visits (then_step c.address (overflow_step i)) × (k ≡ schema_start → HasRoom keeps held (D i).state.roots x.1) × (i ≤ count v)

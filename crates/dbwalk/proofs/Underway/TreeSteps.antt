@@ -53,7 +53,7 @@ read_on : (file : List ℕ) (levels : List (List ℕ)) (f g : Frame) → g.page 
 read_on file levels f g page level [] r = (r.0 ∙ ap (λ p. Some (page_bytes file p)) (sym page), tt)
 read_on file levels f g page level (h ∷ hs) r = (r.0, read_on file levels f g page (level + 1) hs r.1)
 
--- the roots so far are those of the items so far, behind an event and behind a call
+-- the roots so far are those of the items so far, after an event and after a call
 
 pub roots_on : (file : List ℕ) (now : Walk) (e : Event) → now.state.roots ≡ roots_in now.items → (advance file now e).state.roots ≡ roots_in (advance file now e).items
 roots_on file now e h = roots_at file now e ∙ ap (λ n. n + roots_in (items_of file now e)) h ∙ sym (more_roots now.items (items_of file now e))
@@ -93,7 +93,7 @@ module _ {P : Type 0} {moves : P → Item → P → Type 0} {file : List ℕ} {W
   abbrev Left : List (Errand Way Event) → Type 0
   Left es = IsUnderway moves file (tree_walk file W c) before on.now es (marks, tree) w
 
-  -- behind the last step of a frame
+  -- after the last step of a frame
   pub on_end : errands_from file top f.next ≡ [] → IsWalkingOn moves file W c before (fs, levels) (marks, tree) w
   on_end e = record {
     now = on.now;
@@ -162,14 +162,14 @@ module _ {P : Type 0} {moves : P → Item → P → Type 0} {file : List ℕ} {W
           (subst (λ l. Moves moves w l x) (sym items_are) m))
           (roots_on file on.now event on.roots)
 
-      -- and its fault could not be told
+      -- and its fault could not be reported
       pub cell_stopped : (stops : RunError → P → Item → P → Type 0) (x_error : RunError) → StopsAt moves stops x_error w told x → StopsAt moves stops x_error before (tree_walk file W c).items x
       cell_stopped stops x_error k = stop_event moves file (tree_walk file W c) before on.now (marks, tree) (marks, tree) w x stops x_error (record { key = _; event = event }) rest
           (first_errands (tell_cell top frames.1.view n cell ∷ []) e) refl (subst (λ l. StopsAt moves stops x_error w l x) (sym items_are) k)
 
     -- a reference
     module _ (d : Reference) (e : errands_from file top f.next ≡ Go d ∷ errands_from file top (suc f.next)) where
-      -- all visits so far stand before it
+      -- all visits so far are before it
       pub next_is : IsNext on.now.visits d
       next_is u h i (inl j) = (first_errands (Go d ∷ []) e).past u h i (inl j)
       next_is u h i (inr j) = absurd j

@@ -131,7 +131,7 @@ module _ {P : Type 0} {moves : P → Item → P → Type 0} {file : List ℕ} {W
       turned_key tree' kinds tops leafs m = steps.on_cell fs f on g page next within_key h.n h.x x key_errand tree' kinds (tops ∙ ap (λ p. top_after tree.greatest p (f.next / 3) (Some value)) on_page ∙ ap (λ i. top_after tree.greatest top.page i (Some value)) at_cell ∙ ap (top_after tree.greatest top.page h.n) (sym h.key)) leafs
           (subst (λ l. Moves moves w (map found l) x) told_key m)
 
-      -- its fault could not be told
+      -- its fault could not be reported
       pub stopped_key : (stops : RunError → P → Item → P → Type 0) (e : RunError) → StopsAt moves stops e w (map found (order_told false tree.greatest f.page (f.next / 3) value)) x
           → StopsAt moves stops e before (tree_walk file W c).items x
       stopped_key stops e k = steps.cell_stopped fs f on g page next within_key h.n h.x x key_errand stops e
@@ -153,7 +153,7 @@ module _ {P : Type 0} {moves : P → Item → P → Type 0} {file : List ℕ} {W
           other : step.Chain first left ≡ Behind → ⊥
           other e = cc
 
-      -- it is the one that a call is given, and all visits so far stand before it
+      -- it is the one that a call is given, and all visits so far are before it
       pub chain_is : (chain : Chain) → chain.start ≡ tree.start → chain.path.now ≡ path_of fs → chain.page ≡ f.page → chain.cell ≡ f.next / 3 → chain.first ≡ first → chain.left ≡ left → IsChainOf chain chained
       chain_is chain starts ways pages items ones rests = chain_start chain file tree.kind tree.start (path_of fs) top levels f.page h.n first left top_at starts ways pages (items ∙ ap (λ s. s / 3) h.step ∙ third h.n) ones rests
         where
@@ -163,7 +163,7 @@ module _ {P : Type 0} {moves : P → Item → P → Type 0} {file : List ℕ} {W
       pub chain_next : IsNext on.now.visits chained
       chain_next = steps.next_is fs f on g page next within_chain chained chain_errand
 
-      -- a call walks along it: the walk goes on behind it, or not all of it could be done
+      -- a call walks along it: the walk goes on after it, or not all of it could be done
       module _ (stops : RunError → P → Item → P → Type 0) (marks' : List Mark) (x : P) {items : List Frame} {levels' : List (List ℕ)} (are : items ≡ fs ++ (g ∷ [])) (same : levels' ≡ levels) where
         pub turned_chain : (r : Result (Unit {0}) RunError) → HasDone moves stops file (done_below file on.now (Go chained ∷ [])) r (marks', tree) w x → HasTurned moves stops file (W, c, before) r (items, levels') (marks', tree) x
         turned_chain (Ok a) done = (by_other (steps.on_call fs f on g page next within_chain chained chain_errand stops marks' tree x a refl done) are refl refl refl (λ n l. ap (λ ls. slice_get ls n) same), tt)
@@ -211,7 +211,7 @@ module _ {P : Type 0} {moves : P → Item → P → Type 0} {file : List ℕ} {W
         pub child_passed : {levels' : List (List ℕ)} {yes : Bool} → yes ≡ false → Entered stops levels' (marks', tree') x (Ok yes) → IsWalkingOn moves file W c before (fs ++ (g ∷ []), levels) (marks', tree') x
         child_passed {levels' = levels'} is done = steps.on_call fs f on g page next within_child d child_errand stops marks' tree' x false kinds (subst (λ y. Entered stops levels' (marks', tree') x (Ok y)) is done).0
 
-        -- not all of it could be read and told
+        -- not all of it could be read and reported
         pub child_stopped : (e : RunError) → HasDone {A = Bool} moves stops file (entered file on.now d (Err e)) (Err e) (marks', tree') w x → StopsAt moves stops e before (tree_walk file W c).items x
         child_stopped e done = steps.call_stopped fs f on g page next within_child d child_errand stops marks' tree' x e done
 

@@ -27,7 +27,7 @@ use Rattle.dbwalk.specs.declared.state.Tree.{Tree}
 use Rattle.dbwalk.proofs.Telling.Lefts.{visit_apart, past_visit_all}
 use Rattle.dbwalk.proofs.Underway.Handing.{stop_first, stop_after}
 
--- the items of an event, behind the visits and the state so far
+-- the items of an event, after the visits and the state so far
 abbrev pub items_of : List ℕ → Walk → Event → List Item
 items_of file now event = items_at file (advance file now event).visits now.state event
 

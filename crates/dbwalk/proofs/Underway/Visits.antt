@@ -38,7 +38,7 @@ use Rattle.dbwalk.proofs.Underway.Handing.{done_none, done_on, stops_on, found_m
 
 -- Places between the steps of a page.
 
--- places that begin with a step stand before the next one
+-- places that begin with a step are before the next one
 pub before_next : (a : Address) (s t : ℕ) (b : Address) → s < t → IsBefore (a ++ (s ∷ b)) (a ++ (t ∷ []))
 before_next [] s t b l = inl l
 before_next (x ∷ a) s t b l = inr (refl, before_next a s t b l)
@@ -55,7 +55,7 @@ before_more W d q l h u i = elim (IsIn-cases u W (d ∷ []) i) [
 
 -- A reference that is looked at: refused, or visited, where what its page leads to is done next.
 
--- the walk behind the event of a refused reference, or of a visited page, with its items alone
+-- the walk after the event of a refused reference, or of a visited page, with only its items
 abbrev pub refused : List ℕ → Walk → Reference → Walk
 refused file from c = advance file (bare from) (at_refused c)
 
@@ -125,7 +125,7 @@ refused_handed takes drops keeps refuses file from c r s s' t quiet h = subst (�
     are : (refused file from c).items ≡ map found (told_at file from.visits (at_refused c))
     are = ap (λ U. map found (told_at file U (at_refused c))) (append-nil from.visits)
 
--- what stood before a page stands before what it leads to, and so does the page
+-- what was before a page is before what it leads to, and so is the page
 pub visited_before : (file : List ℕ) (from : Walk) (c : Reference) → IsNext from.visits c → AreBefore (visited file from c).visits (then_step c.address 0)
 visited_before file from c next = before_more from.visits c (then_step c.address 0) (IsBefore-beginning c.address 0 []) (λ u i. next u (Go c) i (inl refl))
 
@@ -145,6 +145,6 @@ module _ (file : List ℕ) (from : Walk) (c : Reference) {leaf : Option TreeLeaf
       → Stops (watches takes keeps) (fails drops refuses WriteFailed) (s, t) (visited file from c).items (s', t)
   page_stops role takes drops keeps refuses s s' t h = subst (λ items. Stops (watches takes keeps) (fails drops refuses WriteFailed) (s, t) items (s', t)) (sym (page_items role)) (found_stops takes drops keeps refuses (page_findings file leaf c) s s' t h)
 
-  -- and this is where the walk stands behind it
+  -- and this is the point of the walk after it
   pub visited_at : {marks : List Mark} (tree : Tree) → AreMarksOf file (from.visits ++ (c ∷ [])) marks → tree.greatest ≡ from.state.greatest → tree.leaf ≡ leaf_after file leaf c → IsAt file (visited file from c) marks tree
   visited_at tree m top first = (m, top, first ∙ ap (λ l. leaf_after file l c) leaf_is)

@@ -39,7 +39,7 @@ use Rattle.dbwalk.proofs.Underway.Handing.{found_handed, handed_both, no_memory}
 use Rattle.dbwalk.proofs.Underway.TreeSteps.{roots_on}
 use Rattle.dbwalk.proofs.Underway.Underways.{under_visit, under_end}
 
--- What a page of a tree leads to, and where its root stands.
+-- What a page of a tree leads to, and where its root is.
 
 pub root_address : (a : Address) (k : ℕ) → length a ≡ 1 → start_of a ≡ k → a ≡ k ∷ []
 root_address [] k l s = absurd (none l)
@@ -107,7 +107,7 @@ module _ {S T : Type 0} (takes drops : S → Finding → S → Type 0) (keeps : 
       marked (Ok u) h = h.0
       marked (Err e) h = tt
 
-  -- the root is refused, and that was told, or not told whole
+  -- the root is refused, and that was reported, or not completely
   pub tree_refused : (r : Result (Unit {0}) RunError) (marks : List Mark) (s s' : S) (t : T) → IfErr r IsReadOrWrite → is_followed (rules_of file) W c ≡ false → AreMarksOf file W marks
       → Tells takes drops r s (told_at file W (at_refused c)) s' → IsTreeDone takes drops keeps refuses file W c r marks s s' t t
   tree_refused r marks s s' t only refused m told =

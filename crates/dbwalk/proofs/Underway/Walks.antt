@@ -36,7 +36,7 @@ without_memory start (Ok a) l h = tt
 without_memory start (Err e) l (inl h) = h
 without_memory start (Err e) l (inr h) = let z = h.1 in absurd (omega arith)
 
--- a walk that lends the same, over the same tree
+-- a walk that borrows the same, over the same tree
 abbrev pub IsSame : {A S K T : Type 0} → TreeWalk A S K T → TreeWalk A S K T → Type 0
 IsSame old new = (new.source.ghost_name ≡ old.source.ghost_name) × (new.marks.ghost_name ≡ old.marks.ghost_name) × (new.taker.ghost_name ≡ old.taker.ghost_name) × (new.sink.ghost_name ≡ old.sink.ghost_name)
     × (new.encoding ≡ old.encoding) × (new.tree.start ≡ old.tree.start) × (new.tree.kind ≡ old.tree.kind)
@@ -61,7 +61,7 @@ module _ {A S K T : Type 0} (told : S → SourceState) (held : K → SinkState) 
     others = others;
   }
 
-  -- it lends the same
+  -- it borrows the same
   same_of : {R : Type 0} {r : Result R RunError} {g h : Geometry} {old new : TreeWalk A S K T} → Walked told held refusals r g h old new → IsSame old new
   same_of w = (w.source, w.marks, w.taker, w.sink, w.coded, w.start, w.kind)
 
@@ -73,7 +73,7 @@ module _ {A S K T : Type 0} (told : S → SourceState) (held : K → SinkState) 
   pub walked_as_ok : {R Q : Type 0} {a : R} {b : Q} {g g' : Geometry} {old new : TreeWalk A S K T} → Walked told held refusals (Ok a) g g' old new → Walked told held refusals (Ok b) g g' old new
   walked_as_ok w = walked_by (same_of w) w.shape w.reads w.writes w.refused tt w.others
 
-  -- a call behind another
+  -- a call after another
   pub walked_behind : {R Q : Type 0} {a : R} {r : Result Q RunError} {g h k : Geometry} {old mid new : TreeWalk A S K T} → Walked told held refusals r h k mid new → Walked told held refusals (Ok a) g h old mid → Walked told held refusals r g k old new
   walked_behind {r = r} {new = new} v w = record {
     source = v.source ∙ w.source;

@@ -2,7 +2,7 @@
 ghost use Rattle.std.specs.Prelude.{◌≤◌};
 
 use dbformat::RowKind;
-use dbowner::RootList;
+use dbscan::RootList;
 use dbwalk::{SchemaRow, Taken, Taker};
 use linked_list_allocator::LocalHeap;
 use std::process::Abort;

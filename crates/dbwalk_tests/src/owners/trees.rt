@@ -11,7 +11,7 @@ use std::fmt::Write;
 use std::process::Abort;
 use std::test::Fail;
 
-// The pages of two_trees, from 0 on, and one behind the last.
+// The pages of two_trees, from 0 on, and one past the last.
 const OWNED: [&str; 14] = [
     "None Nowhere",
     "Some(0) Root",
@@ -29,7 +29,7 @@ const OWNED: [&str; 14] = [
     "None Nowhere",
 ];
 
-// A table behind a pointer map: its root is page 3, and page 4 an overflow page.
+// A table in a file with a pointer map: its root is page 3, and page 4 an overflow page.
 const BEHIND_A_MAP: [&str; 5] = [
     "None Nowhere",
     "Some(0) Root",

@@ -6,7 +6,7 @@ use crate::support::quiet::Quiet;
 use crate::support::walk::SCHEMA;
 use dbfiles::{TestFile, schema_row};
 use dbformat::{Encoding, RowKind};
-use dbowner::RootList;
+use dbscan::RootList;
 use dbsource::{Bench, Header, MemSource, RunError};
 use dbwalk::{Marks, Root, RootKind, SchemaRow, walk_freelist, walk_tree};
 use std::alloc::{AllocError, Global};

@@ -1,4 +1,4 @@
-// Who is told and who takes rows in the tests: each may fail or answer as a test asks for.
+// The sink and the taker of rows of the tests: each may fail or answer as a test asks for.
 ghost use Rattle.std.specs.Prelude.{◌≡◌};
 
 use crate::support::Text;
@@ -9,7 +9,7 @@ use std::alloc::AllocError;
 use std::fmt;
 use std::fmt::Write;
 
-/// Keeps what it is told, a line an item. Its item number `fails_at`, from 0, is not taken.
+/// Keeps what is reported to it, a line an item. It does not take item number `fails_at`, from 0.
 #[derive(Drop)]
 pub(crate) struct Told {
     pub(crate) text: Text,

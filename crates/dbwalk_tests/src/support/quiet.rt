@@ -4,7 +4,7 @@ use dbsource::WriteFailed;
 use dbwalk::{Cause, Fault, Row, Sink, Taken, Taker};
 use std::alloc::AllocError;
 
-/// Counts what it is told and what it takes.
+/// Counts what is reported to it and what it takes.
 #[derive(Default, Drop)]
 pub(crate) struct Quiet {
     pub(crate) rows: u64,

@@ -21,7 +21,7 @@ pub(crate) const SCHEMA: Root = Root {
     encoding: Encoding::Utf8,
 };
 
-/// All that the walks over one file use, and what is told by and by.
+/// All that the walks over one file use, and the sink and the taker that they report to.
 #[derive(Drop)]
 pub(crate) struct Walk<'a> {
     source: StatedSource<'a>,
@@ -32,15 +32,15 @@ pub(crate) struct Walk<'a> {
     first_trunk: u32,
 }
 
-// The number behind a word where it is what fails, and else one that is never reached.
+// The number after a word where it is what fails, and else one that is never reached.
 fn number_behind(fails: &str, word: &str) -> u64 {
     let number = fails.strip_prefix(word).unwrap_or("");
     number.parse::<u64>().unwrap_or(u64::MAX)
 }
 
 impl<'a> Walk<'a> {
-    /// Of `read N`, `item N`, `full N` and `refused N` one may fail: a read, what is told, the room for a row of the schema, or
-    /// the memory for it.
+    /// Of `read N`, `item N`, `full N` and `refused N` one may fail: a read, a report, the room for a row of the
+    /// schema, or the memory for it.
     pub(crate) fn new(alloc: Global, file: &'a [u8], fails: &str) -> Result<Walk<'a>, Fail> {
         let header = Header::read(&mut MemSource::new(file))?;
         let geometry = header.geometry();
@@ -59,8 +59,8 @@ impl<'a> Walk<'a> {
         })
     }
 
-    /// Does what each word asks for: a walk over the `schema`, over the tree of a root, as `tree 2`, or along the `freelist`, all
-    /// `marks` in their order, or to `clear` them. What was taken of the schema stands at the end.
+    /// Does what each word asks for: a walk over the `schema`, over the tree of a root, as `tree 2`, or along the
+    /// `freelist`, all `marks` in their order, or to `clear` them. What was taken of the schema comes last.
     pub(crate) fn follow(&mut self, words: &str) {
         for word in words.split(", ") {
             self.step(word);
@@ -113,7 +113,7 @@ impl<'a> Walk<'a> {
         write_answer(&mut self.told.text, answer, self.source.calls());
     }
 
-    /// Stops a test where something else was told.
+    /// Stops a test where something else was reported.
     pub(crate) fn expect(&self, rt: &impl Abort, told: &str, of: &impl std::fmt::Debug) {
         expect_text(rt, &self.told.text, told, of);
     }

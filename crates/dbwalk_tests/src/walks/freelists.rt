@@ -1,4 +1,4 @@
-// The freelist: what is told of it, and what is marked and asked for.
+// The freelist: what is reported of it, and what is marked and asked for.
 use super::{Case, check, check_all};
 use crate::support::Text;
 use dbfiles::{TestFile, patch};
@@ -130,7 +130,7 @@ fn marks_trunks_and_leaves(rt: HostRuntime) -> Result<(), Fail> {
     check_leaves(&rt, rt.alloc(), 127, "L01 2 0 127\n", "Unmarked")
 }
 
-// What is told of a trunk that states so many leaves, and the marks of all pages, of which 126 are alike.
+// What is reported of a trunk that states `leaves` leaves, and the marks of all pages, of which 126 are alike.
 fn check_leaves(
     rt: &impl Abort,
     alloc: Global,
@@ -149,7 +149,7 @@ fn check_leaves(
     check(rt, alloc, file.as_slice(), &case)
 }
 
-// A trunk on page 2 that states so many leaves, and the leaves 3 to 128.
+// A trunk on page 2 that states `leaves` leaves, and the leaves 3 to 128.
 fn trunk_file(alloc: Global, leaves: u8) -> Result<Vec<u8>, AllocError> {
     let mut pages = [0u32; 126];
     for (place, page) in pages.iter_mut().zip(3..129u32) {

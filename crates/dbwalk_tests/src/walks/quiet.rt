@@ -10,8 +10,8 @@ use std::fmt::Write;
 use std::process::Abort;
 use std::test::Fail;
 
-// Files, how many rows and faults are told and how many roots taken, and the ranges that are asked for: the header's, and then
-// each page's once, in the order of the walk.
+// Files, how many rows and faults are reported and how many roots taken, and the ranges that are asked for: the
+// header's, and then each page's once, in the order of the walk.
 const CASES: [[&str; 2]; 2] = [
     // Two rows of the schema, of which the second has a number for a name and the rowid of the first.
     [

@@ -1,4 +1,4 @@
-// The tree of the schema: its rows go to the taker, and what is wrong with them is told.
+// The tree of the schema: its rows go to the taker, and what is wrong with them is reported.
 use super::{Case, check_all};
 use std::test::Fail;
 
@@ -90,7 +90,7 @@ const CASES: [Case; 11] = [
             S01 1 0 1\n\
             Ok(()) reads 1\n",
     ],
-    // Memory is refused for each row in turn: what is told before it stays, and nothing comes behind it.
+    // Memory is refused for each row in turn: what was reported before it stays, and nothing comes after it.
     [
         "memory is refused for the first row",
         "SharedRoot 3",

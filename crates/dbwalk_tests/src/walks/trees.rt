@@ -1,4 +1,4 @@
-// The tree of one root: what is told of it, and what is asked for.
+// The tree of one root: what is reported of it, and what is asked for.
 use super::{Case, check, check_all};
 use crate::support::Text;
 use dbfiles::TestFile;
@@ -151,7 +151,7 @@ const CASES: [Case; 20] = [
             R02 0 1 2\n\
             Ok(()) reads 0\n",
     ],
-    // Each read fails in turn, and each item is not taken in turn: a beginning is told.
+    // Each read fails in turn, and each item is not taken in turn: a beginning is reported.
     [
         "the first read fails",
         "LongRow 3",
@@ -229,9 +229,9 @@ fn tells_of_each_page_in_its_place(rt: HostRuntime) -> Result<(), Fail> {
 // The way to the 20th page, which is 19 times the first child.
 const FIRST_CHILDREN: &str = "0/0/0/0/0/0/0/0/0/0/0/0/0/0/0/0/0/0/0/";
 
-// What is told of so many pages without cells, each but the last the only child of the one before: their rows, and of all but
-// the first that they are empty. Free on a page is what lies between its head, which ends at byte 112 of page 1, at 12 of an
-// interior page and at 8 of a leaf, and byte 512. A page below the 20th is too deep.
+// What is reported of `pages` pages without cells, each but the last the only child of the one before: their rows, and
+// of all but the first that they are empty. Free on a page are the bytes from its head, which ends at byte 112 of page
+// 1, at 12 of an interior page and at 8 of a leaf, to byte 512. A page below the 20th is too deep.
 fn told_of_ladder(told: &mut Text, pages: u32) {
     for page in 1..21u32 {
         let path = FIRST_CHILDREN.get(..page.wrapping_sub(1).wrapping_mul(2) as usize);

@@ -6,11 +6,12 @@ use Rattle.dbsource.specs.Errors.{is_write_failed}
 use Rattle.dbsource.specs.HeaderBytes.{HeaderBytes}
 use Rattle.dbsource.specs.Headers.{IsHeaderOf}
 use Rattle.dbsource.proofs.Logs.{asks_then, asks_weaker}
-use Rattle.dbowner.specs.Roots.{Listed}
+use Rattle.dbscan.specs.Roots.{Listed}
 use Rattle.dbwalk.specs.Telling.{SinkAfter}
+use Rattle.dbwalk.proofs.Underway.Walks.{none_refused}
 use Rattle.dbscan.specs.Looks.{IsUnmarked, ReadsMarked, ReadsRising}
 use Rattle.dbscan.proofs.MapLogs.{looks_log}
-use Rattle.dbscan.proofs.Refusals.{memory_kept, read_or_write}
+use Rattle.dbscan.proofs.Refusals.{read_or_write}
 use Rattle.dbscan.proofs.finish.report.Goals as goal
 
 pub returns-in_err-scan-clause-asks : goal.returns-in_err-scan-clause-asks
@@ -44,7 +45,7 @@ returns-clause-asks g c =
 pub returns-clause-desk : goal.returns-clause-desk
 returns-clause-desk g c = record {
   header = c.finish.ensures.kept.0 ∙ c.in_ok-scan.ensures.header;
-  memory = ap (λ (l : Listed). l.refusals) c.finish.ensures.kept.1 ∙ c.in_ok-scan.ensures.refusals ∙ memory_kept c.finish.result c.args.desk.now.roots.refusals c.finish.ensures.only;
+  memory = ap (λ (l : Listed). l.refusals) c.finish.ensures.kept.1 ∙ c.in_ok-scan.ensures.refusals ∙ none_refused c.finish.result c.args.desk.now.roots.refusals c.finish.ensures.only;
   only = read_or_write c.finish.result c.finish.ensures.only;
 }
 

@@ -7,10 +7,10 @@ use Rattle.dbsource.proofs.Logs.{asks_then, asks_weaker}
 use Rattle.dbmarks.specs.Reads.{Reads}
 use Rattle.dbmarks.proofs.FirstMarks.{fresh_marks}
 use Rattle.dbscan.specs.Desks.{Things}
+use Rattle.dbwalk.proofs.Underway.Walks.{none_refused}
 use Rattle.dbscan.specs.Looks.{ReadsMarked}
 use Rattle.dbscan.specs.MapReads.{MapReads}
 use Rattle.dbscan.proofs.MapLogs.{asks_nothing, no_log, walk_log, walk_then_map_log}
-use Rattle.dbscan.proofs.Refusals.{memory_kept}
 use Rattle.dbscan.proofs.Scanned.{header_stopped, starts_stopped, scan_ended}
 use Rattle.dbscan.proofs.scans.scan.Goals as goal
 
@@ -57,4 +57,4 @@ returns-clause-asks g c =
 
 pub returns-clause-refusals : goal.returns-clause-refusals
 returns-clause-refusals g c =
-    ap (λ (d : Things). d.roots.refusals) c.tell_end.ensures.desk ∙ c.in_ok-any_rows.ensures.refusals ∙ memory_kept c.tell_end.result c.args.desk.now.roots.refusals c.tell_end.ensures.only
+    ap (λ (d : Things). d.roots.refusals) c.tell_end.ensures.desk ∙ c.in_ok-any_rows.ensures.refusals ∙ none_refused c.tell_end.result c.args.desk.now.roots.refusals c.tell_end.ensures.only

@@ -7,7 +7,7 @@ use Rattle.dbsource.proofs.Logs.{asks_weaker}
 use Rattle.dbsource.specs.HeaderBytes.{HeaderBytes}
 use Rattle.dbsource.specs.Headers.{IsHeaderOf}
 use Rattle.dbmarks.proofs.Readings.{asks_then, log_none}
-use Rattle.dbowner.specs.Roots.{Listed}
+use Rattle.dbscan.specs.Roots.{Listed}
 use Rattle.dbscan.specs.Walks.{IsTelling}
 use Rattle.dbscan.proofs.Starts.{drop_none}
 use Rattle.dbscan.proofs.TreeWalks.{root_told}

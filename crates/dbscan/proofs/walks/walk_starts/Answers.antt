@@ -6,7 +6,7 @@ use Rattle.dbsource.specs.HeaderBytes.{HeaderBytes}
 use Rattle.dbsource.specs.Headers.{IsHeaderOf}
 use Rattle.dbmarks.specs.Marking.{marks_of}
 use Rattle.dbmarks.proofs.Readings.{asks_then}
-use Rattle.dbowner.specs.Roots.{Listed}
+use Rattle.dbscan.specs.Roots.{Listed}
 use Rattle.dbscan.specs.Starts.{IsSchemaOf}
 use Rattle.dbscan.proofs.TreeWalks.{schema_stopped, schema_told, all_walked, later_stopped}
 use Rattle.dbscan.proofs.walks.walk_starts.Goals as goal

@@ -4,11 +4,11 @@ use Rattle.std.specs.List.{All}
 use Rattle.std.proofs.lemmas.List.Elements.{All-head, All-tail}
 use Rattle.std.proofs.lemmas.List.{take-append-le, drop-append-le, map-append}
 use Rattle.dbformat.specs.SchemaRow.{SchemaRow}
-use Rattle.dbowner.specs.declared.roots.Span.{Span}
-use Rattle.dbowner.specs.declared.roots.Entry.{Entry}
-use Rattle.dbowner.specs.Roots.{Listed, name_in, entry_row, kept_row, IsWithin, Grows}
+use Rattle.dbscan.specs.declared.roots.Span.{Span}
+use Rattle.dbscan.specs.declared.roots.Entry.{Entry}
+use Rattle.dbscan.specs.Roots.{Listed, name_in, entry_row, kept_row, IsWithin, Grows}
 
--- a name stays where more bytes come behind it
+-- a name stays the same if more bytes come after it
 name_kept : (names more : List ℕ) (span : Option Span) → IsWithin (length names) span → name_in (names ++ more) span ≡ name_in names span
 name_kept names more None h = refl
 name_kept names more (Some s) h =

@@ -7,9 +7,9 @@ use Rattle.dbformat.specs.SchemaRow.{SchemaRow}
 use Rattle.dbsource.specs.Failures.{one_more}
 use Rattle.dbwalk.specs.Taking.{ListTakes}
 use Rattle.dbwalk.specs.declared.taker.Taken.{Taken}
-use Rattle.dbowner.specs.declared.roots.Span.{Span}
-use Rattle.dbowner.specs.declared.roots.Entry.{Entry}
-use Rattle.dbowner.specs.declared.roots.RootList.TheInside.{Inside}
+use Rattle.dbscan.specs.declared.roots.Span.{Span}
+use Rattle.dbscan.specs.declared.roots.Entry.{Entry}
+use Rattle.dbscan.specs.declared.roots.RootList.TheInside.{Inside}
 
 -- a list of roots as contracts see it: its rows, and how many calls were refused memory
 pub record Listed : Type 0 where
@@ -50,7 +50,7 @@ entry_row names e = record { kind = e.kind; root = e.page; name = name_in names 
 abbrev pub listed : {A : Type 0} → Inside A → Listed
 listed l = record { rows = map (entry_row l.names.items) l.entries.items; refusals = l.refusals }
 
--- a name lies within so many bytes, and has 1000 at most
+-- a name is within the first n bytes, and has 1000 at most
 abbrev pub IsWithin : ℕ → Option Span → Type 0
 IsWithin n None = Unit {0}
 IsWithin n (Some span) = (span.start + span.len ≤ n) × (span.len ≤ 1000)
@@ -61,7 +61,7 @@ pub record AreRoots {A : Type 0} (l : Inside A) : Type 0 where
   pub names : vec_len l.names ≤ 1000 * vec_len l.entries
   pub within : All (λ e. IsWithin (vec_len l.names) e.name) l.entries.items
 
--- bytes, and then others
+-- the old bytes, and then others
 pub record Grows (old new : List ℕ) : Type 0 where
   pub added : List ℕ
   pub is : new ≡ old ++ added

@@ -2,7 +2,7 @@
 ghost use Rattle.std.specs.Prelude.{◌≡◌, ◌+◌, ◌-◌, ◌<◌, ◌≤◌, [], ◌∷◌, ◌++◌, length, option_map, slice_get, vec_len, IfOk, IfErr, OnOk, OnErr};
 ghost use Rattle.std.specs.Option.{option_copied};
 ghost use Rattle.dbwalk.specs.Rows.{schema_row_of};
-ghost use Rattle.dbowner.specs.Roots.{kept_row, short_name, name_in, IsWithin, Grows};
+ghost use Rattle.dbscan.specs.Roots.{kept_row, short_name, name_in, IsWithin, Grows};
 
 use dbbytes::SchemaRow;
 use dbformat::{MOST_ROOTS, RowKind};
@@ -14,7 +14,7 @@ use std::marker::Model;
 // How many bytes of a name are kept: a limit of our own.
 const MAX_NAME: usize = 1000;
 
-// Where the bytes of a name stand.
+// The place of a name among the bytes of all names.
 #[derive(Clone, Copy)]
 struct Span {
     start: u32,
@@ -39,11 +39,11 @@ pub struct RootList<A: Allocator = Global> {
 }
 
 impl<A: Allocator> Model for RootList<A> {
-    ghost use Rattle.dbowner.specs.Roots.{Listed};
+    ghost use Rattle.dbscan.specs.Roots.{Listed};
 
     ghost Value = { Listed };
 
-    ghost use Rattle.dbowner.specs.Roots.{listed, AreRoots};
+    ghost use Rattle.dbscan.specs.Roots.{listed, AreRoots};
 
     ghost view = { listed };
 
@@ -135,7 +135,7 @@ impl<A: Allocator> RootList<A> {
 }
 
 impl<A: Allocator> Taker for RootList<A> {
-    ghost use Rattle.dbowner.specs.Roots.{TakesRow, RefusesRow};
+    ghost use Rattle.dbscan.specs.Roots.{TakesRow, RefusesRow};
 
     ghost takes = { TakesRow };
 
@@ -160,7 +160,7 @@ impl<A: Allocator> Taker for RootList<A> {
     }
 }
 
-// Adds the bytes of a name behind those of others, where there are 1000 at most.
+// Adds the bytes of a name after those of others, where there are 1000 at most.
 fn keep_name<A: Allocator>(
     names: &mut Vec<u8, A>,
     name: Option<&[u8]>,

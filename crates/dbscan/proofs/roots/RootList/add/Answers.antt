@@ -1,9 +1,9 @@
 use Rattle.std.proofs.Common.{rules, ◌≡◌, [], ◌++◌, ◌∷◌, length, vec_len, ap, ◌∙◌, subst}
 use Rattle.std.specs.List.{All}
 use Rattle.dbwalk.specs.Rows.{schema_row_of}
-use Rattle.dbowner.specs.Roots.{Listed, kept_row, IsWithin}
-use Rattle.dbowner.proofs.RootLists.{row_added}
-use Rattle.dbowner.proofs.roots.RootList.add.Goals as goal
+use Rattle.dbscan.specs.Roots.{Listed, kept_row, IsWithin}
+use Rattle.dbscan.proofs.RootLists.{row_added}
+use Rattle.dbscan.proofs.roots.RootList.add.Goals as goal
 
 pub returns-clause-added : goal.returns-clause-added
 returns-clause-added g c =
