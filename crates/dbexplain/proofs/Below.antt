@@ -21,7 +21,7 @@ use Rattle.dbmarks.specs.EndMarks.{entry_value}
 use Rattle.dbmarks.specs.declared.entry.MapEntry.{MapEntry}
 use Rattle.dbmarks.specs.declared.marks.Mark.{Mark}
 use Rattle.dbmarks.proofs.EndMarking.{found_in}
-use Rattle.dbowner.specs.Roots.{AreListed}
+use Rattle.dbscan.specs.Roots.{AreListed}
 use Rattle.dbformat.proofs.HeaderPrefix.{encoding_within}
 use Rattle.dbowner.specs.Texts.{tree_of_row, tree_text}
 use Rattle.dbexplain.specs.Below.{own_line, both_lines, header_line, line_of_entry, entry_line, lines_below}

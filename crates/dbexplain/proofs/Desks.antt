@@ -4,7 +4,7 @@ use Rattle.dbformat.specs.Reference.{Reference}
 use Rattle.dbsource.specs.HeaderBytes.{HeaderBytes}
 use Rattle.dbsource.specs.Headers.{IsHeaderOf}
 use Rattle.dbexplain.specs.Notes.{IsOf}
-use Rattle.dbowner.specs.Roots.{Listed}
+use Rattle.dbscan.specs.Roots.{Listed}
 use Rattle.dbexplain.specs.declared.owners.Owners.{Owners}
 use Rattle.dbscan.specs.Desks.{Things}
 use Rattle.dbscan.specs.Finishes.{IsDeskOf}

@@ -48,7 +48,3 @@ of_all file V x i =
 -- of the first lost pages at most six lead
 pub few_first_lost : (file : List ℕ) (V : List Reference) (xs : List Reported) → IsBeginning xs (lost_faults file V) → length (entries xs) ≤ 6
 few_first_lost file V xs h = few_entries N01 (rank part.End) xs (λ x i. of_all file V x (subst (λ l. IsIn x l) h.1 (IsIn-left x xs h.0 i)))
-
--- and of all
-pub few_lost : (file : List ℕ) (V : List Reference) → length (entries (lost_faults file V)) ≤ 6
-few_lost file V = few_entries N01 (rank part.End) (lost_faults file V) (of_all file V)

@@ -19,7 +19,7 @@ use Rattle.dbexplain.specs.declared.reporter.ExplainReporter.{ExplainReporter}
 use Rattle.dbexplain.proofs.Heard.{HasHeardFaults, all_heard, listed_of, some_heard}
 use Rattle.dbexplain.proofs.PartsRise.{PartsRise, parts_rise}
 
--- a fault that is not of a lost page goes back to what it is told with
+-- a fault that is not of a lost page goes back to the cause that it is reported with
 pub others_are : (file : List ℕ) (ts : List Reported) → filter (λ x. not (is_lost x)) (map (looked_at file) ts) ≡ listed_of ts
 others_are file [] = refl
 others_are file (x ∷ ts) = by_case (is_lost x) refl (others_are file ts)

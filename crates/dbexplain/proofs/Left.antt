@@ -128,16 +128,13 @@ never_stops (n ∷ ns) s t (inr (m, k, h)) = never_stops ns m t h
 
 module _ {A O : Type 0} (held : O → OutState) (file : List ℕ) (V : List Reference) (survey : Survey file V) (first now : ExplainReporter A O)
     (empty : IsEmpty first.kept.now.entries.limit (geometry file) first.kept.now) where
-  begun : MovesBySome Hears first (run_notices file V) now → (now.out.now ≡ first.out.now) × (now.kept.now.entries.limit ≡ first.kept.now.entries.limit)
-  begun m = begun_out file V survey first now first.kept.now.entries.limit (geometry file) empty m
-
   nothing_put : MovesBySome Hears first (run_notices file V) now
       → Begins (held first.out.now).bytes (held now.out.now).bytes (explain_text first.kept.now.entries.limit file V (listed file V))
-  nothing_put m = subst (λ o. Begins (held first.out.now).bytes (held o).bytes (explain_text first.kept.now.entries.limit file V (listed file V))) (sym (begun m).0)
+  nothing_put m = subst (λ o. Begins (held first.out.now).bytes (held o).bytes (explain_text first.kept.now.entries.limit file V (listed file V))) (sym (begun_out file V survey first now first.kept.now.entries.limit (geometry file) empty m).0)
       (begins_nothing (held first.out.now).bytes (explain_text first.kept.now.entries.limit file V (listed file V)))
 
   stopped : (e : RunError) → StopsBy Hears Never e first (run_notices file V) now → IsLeft held file V (Err e) first now
-  stopped ReadFailed m = let k = begun m in (k.0, file_begun file V survey first now first.kept.now.entries.limit (geometry file) empty m, k.1)
+  stopped ReadFailed m = let k = begun_out file V survey first now first.kept.now.entries.limit (geometry file) empty m in (k.0, file_begun file V survey first now first.kept.now.entries.limit (geometry file) empty m, k.1)
   stopped WriteFailed m = absurd (never_stops (run_notices file V) first now m)
   stopped OutOfMemory m = nothing_put m
   stopped (Refused r) m = nothing_put m

@@ -209,7 +209,7 @@ lost_first file V n h =
     taken : (a m n : ℕ) → n ≤ m → take n (range_with_len a m) ≡ range_with_len a n
     taken a m n h = sym (ap (take n) (map-same (range_with_len a m))) ∙ take-map-range_with_len (λ k. k) a m n h ∙ map-same (range_with_len a n)
 
--- ---- where the loop over the pages stands
+-- ---- how far the loop over the pages has come
 
 pub fits : {a b : Geometry} {pages i : ℕ} → a ≡ b → pages ≡ a.pages → i < pages → i + 1 ≤ b.pages
 fits e n h = let k = ap (λ (g : Geometry). g.pages) e in omega (arith, k, n, h)

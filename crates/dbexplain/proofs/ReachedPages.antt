@@ -14,7 +14,7 @@ use Rattle.dbformat.specs.FixedPages.{most_pages}
 use Rattle.dbformat.specs.Lines.{counted}
 use Rattle.dbformat.specs.Reference.{Reference}
 use Rattle.dbtrace.specs.declared.Reported.{Reported}
-use Rattle.dbowner.specs.Owners.{start_at}
+use Rattle.dbformat.specs.Starts.{start_at}
 use Rattle.dbowner.proofs.Slots.{get_set, get_set_other}
 use Rattle.dbexplain.specs.Summary.{start_count, is_reached}
 use Rattle.dbexplain.specs.Tallies.{Tallied, IsTallyOf, IsTallyTo, HasRoom, counted_start, has_bit, is_told, no_count, one_page}
@@ -120,10 +120,6 @@ module _ (V : List Reference) (ts : List Reported) (n : ℕ) (few : n < most_pag
               get_set_other t.starts j k new (λ e. let d : (j == k) ≡ true = grind (arith, nat_tests) in cc)
               ∙ is.starts k l
               ∙ ap Some (same_start k (reached_is k ∙ h))
-
--- no page is counted yet
-pub no_page : (V : List Reference) (ts : List Reported) (t : Tallied) → IsTallyOf ts t → IsTallyTo V ts 0 t
-no_page V ts t is = record { all = is.all; codes = is.codes; starts = is.starts; whole = is.whole; pages = is.pages }
 
 -- there is room for the pages before the last
 pub room_before : (words : List ℕ) (p q : ℕ) → HasRoom words q → p ≤ q → HasRoom words p

@@ -52,7 +52,7 @@ all_woven file V s survey = subst (λ es. KeepsFirst es s) (sym (weaving_is_list
 pub rest_line : (es : List listing.Entry) (s : Stored) (limit : ℕ) → KeepsFirst es s → s.limit ≡ limit → more_text s.rest ≡ more_text (sum_by size (drop limit es))
 rest_line es s limit k e = ap more_text k.rest ∙ more_counted (sum_by size (drop s.limit es)) ∙ ap (λ n. more_text (sum_by size (drop n es))) e
 
--- where faults were told, there are entries
+-- where faults were reported, there are entries
 pub none_told : (file : List ℕ) (V : List Reference) → listed file V ≡ [] → told_faults file V ≡ []
 none_told file V h = unmapped (told_faults file V) (some_listed (reported file V) h)
   where

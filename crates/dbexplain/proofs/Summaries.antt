@@ -29,13 +29,13 @@ use Rattle.dbformat.specs.declared.Encoding.{Encoding}
 use Rattle.dbformat.proofs.HeaderPrefix.{encoding_within}
 use Rattle.dbsource.specs.HeaderBytes.{HeaderBytes}
 use Rattle.dbsource.specs.Headers.{IsHeaderOf}
-use Rattle.dbowner.specs.Roots.{AreListed}
+use Rattle.dbscan.specs.Roots.{AreListed}
 use Rattle.dbtrace.specs.declared.Part.{Part}
 use Rattle.dbtrace.specs.declared.Part.TheVariants as part
 use Rattle.dbtrace.specs.declared.Reported.{Reported}
-use Rattle.dbowner.specs.Owners.{start_at}
+use Rattle.dbformat.specs.Starts.{start_at}
 use Rattle.dbowner.proofs.RootPages.{starts_are}
-use Rattle.dbowner.proofs.Starts.{length_taken, rows_start}
+use Rattle.dbformat.proofs.BelowStarts.{length_taken, rows_start}
 use Rattle.dbscan.specs.Placed.{told_faults}
 use Rattle.dbscan.proofs.Reached.{of_starts}
 use Rattle.dbexplain.specs.Summary.{aligned, code_count, code_line, count_text, faulty_pages, indented, is_faulty, is_reached, is_start, is_whole, listed_rows, pages_text, reached_pages, start_count, start_line, start_name, sum_line, summary, tree_count, trees_text, whole_count, whole_line, whole_trees}

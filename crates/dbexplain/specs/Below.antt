@@ -12,7 +12,8 @@ use Rattle.dbformat.specs.declared.FaultCode.{FaultCode}
 use Rattle.dbformat.specs.declared.FaultCode.TheVariants.{H01, H02, H03, H04, H05, H06, H07, H08, H09, H10, R02, R03, T04, O01, M01, M02}
 use Rattle.dbformat.specs.declared.Geometry.{Geometry}
 use Rattle.dbentries.specs.Lines.{indented}
-use Rattle.dbowner.specs.Owners.{start_at, place_of}
+use Rattle.dbformat.specs.Starts.{start_at}
+use Rattle.dbowner.specs.Owners.{place_of}
 use Rattle.dbowner.specs.Texts.{place_text, tree_text}
 use Rattle.dbowner.specs.declared.place.Place.{Place}
 

@@ -16,7 +16,7 @@ use Rattle.dbmarks.specs.Marking.{AreMarksOf}
 use Rattle.dbmarks.specs.declared.marks.Mark.{Mark}
 use Rattle.dbmarks.specs.declared.marks.Mark.TheVariants.{Unmarked}
 use Rattle.dbmarks.specs.declared.marks.Mark.TheVariants as mark
-use Rattle.dbowner.specs.Roots.{AreListed}
+use Rattle.dbscan.specs.Roots.{AreListed}
 use Rattle.dbowner.specs.Texts.{place_from, place_front, place_words}
 use Rattle.dbexplain.specs.Below.{page_line, line_of_start, header_line, line_of_entry, value_page}
 use Rattle.dbowner.specs.declared.place.Place.{Place}

@@ -55,7 +55,7 @@ module _ {A O : Type 0} where
   Never s notice t = ⊥
 
   module _ (held : O → OutState) where
-    -- it is lent its Out, whose failures are counted
+    -- it borrows its Out, whose failures are counted
     abbrev pub explain_held : ExplainReporter A O → SinkState
     explain_held s = record { lent = s.out.ghost_name ∷ []; failures = (held s.out.now).failures ∷ [] }
 

@@ -10,7 +10,9 @@ use Rattle.dbformat.specs.declared.Verdict.TheVariants.{Clean}
 use Rattle.dbsource.specs.Errors.{is_read_failed, is_write_failed}
 use Rattle.dbsource.specs.Failures.{failures_after, one_more}
 use Rattle.dbsource.specs.Outs.{OutState, Puts, Writes}
-use Rattle.dbsource.specs.Snapshots.{HasRead}
+use Rattle.dbsource.specs.Answers.{Lengths, Step}
+use Rattle.dbsource.specs.Snapshots.{HasRead, ToldFileIsRead}
+use Rattle.dbsource.specs.Sources.{SourceState}
 use Rattle.dbsource.specs.declared.error.RunError.{RunError}
 use Rattle.dbsource.specs.declared.error.RunError.TheVariants.{ReadFailed}
 use Rattle.dbsource.specs.declared.out.WriteFailed.{WriteFailed}
@@ -44,6 +46,11 @@ pub record IsExplained (limit : ℕ) (file : List ℕ) (r : Result Verdict RunEr
 abbrev pub OutFailures : Result Verdict RunError → ℕ → ℕ → Type 0
 OutFailures (Err ReadFailed) old new = (new ≡ old) ⊎ (new ≡ one_more old)
 OutFailures r old new = new ≡ failures_after is_write_failed r old
+
+-- What a run says of each file that agrees with what was read, it says of the bytes that a source tells.
+abbrev pub ToldFilesAreExplained : Step → Lengths → Type 0
+ToldFilesAreExplained step lengths = (limit : ℕ) (r : Result Verdict RunError) (out_old out_new : OutState) (old new : SourceState)
+    → ToldFileIsRead step lengths IsSomeRunLog (λ file ranges. IsRunLog (geometry file) ranges × IsExplained limit file r out_old out_new) old new
 
 -- ---- a run from a source and an Out to what these have become, by what their traits say of them
 

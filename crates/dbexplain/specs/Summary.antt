@@ -18,7 +18,7 @@ use Rattle.dbtrace.specs.declared.Part.{Part}
 use Rattle.dbtrace.specs.declared.Part.TheVariants as part
 use Rattle.dbtrace.specs.declared.Reported.{Reported}
 use Rattle.dbowner.specs.Texts.{tree_of_row}
-use Rattle.dbowner.specs.Owners.{start_at}
+use Rattle.dbformat.specs.Starts.{start_at}
 use Rattle.dbscan.specs.Placed.{told_faults}
 
 -- Faults.

@@ -27,5 +27,7 @@ mod summary;
 mod sums;
 mod tally;
 
-pub use laws::summary_counts_all_faults;
+pub use dbformat::Verdict;
+pub use dbsource::{Out, RunError, Source};
+pub use laws::{summary_counts_all_faults, told_files_are_explained};
 pub use runs::{explain, explain_in};

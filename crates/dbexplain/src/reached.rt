@@ -6,7 +6,7 @@ ghost use Rattle.dbformat.specs.Survey.{Survey};
 ghost use Rattle.dbtrace.specs.declared.Reported.{Reported};
 ghost use Rattle.dbmarks.specs.Marking.{AreMarksOf};
 ghost use Rattle.dbowner.specs.Climbs.{AreTrees};
-ghost use Rattle.dbowner.specs.Owners.{start_at};
+ghost use Rattle.dbformat.specs.Starts.{start_at};
 ghost use Rattle.dbexplain.specs.Tallies.{HasRoom, IsTallyOf, IsTallyTo};
 ghost use Rattle.dbexplain.specs.TallySteps.{reached_counted};
 

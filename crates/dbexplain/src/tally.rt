@@ -195,7 +195,7 @@ impl<A: Allocator> Tally<A> {
         &self.codes
     }
 
-    /// What is counted of each tree, from the schema's on, where the list of roots has so many rows.
+    /// What is counted of each tree, from the schema's on, where the list of roots has `rows` rows.
     pub(crate) fn trees(&self, rows: u32) -> &[StartCount]
         requires { rows ≤ 65536 }
         ensures counts { result.now ≡ take (suc rows) self.now.starts }

@@ -2,7 +2,7 @@ use Rattle.std.proofs.Common.{◌≡◌, ◌+◌, ◌<◌, ◌≤◌, length, sy
 use Rattle.dbformat.specs.File.{geometry}
 use Rattle.dbformat.specs.FixedPages.{most_pages}
 use Rattle.dbmarks.proofs.Markings.{marks_of-length}
-use Rattle.dbowner.specs.Owners.{start_at}
+use Rattle.dbformat.specs.Starts.{start_at}
 use Rattle.dbexplain.specs.Tallies.{Tallied, HasRoom, IsTallyTo}
 use Rattle.dbexplain.proofs.ReachedPages.{page_more, room_before, same_words}
 use Rattle.dbexplain.proofs.reached.count_pages.Goals as goal

@@ -1,7 +1,7 @@
 use Rattle.std.proofs.Common.{ap, ◌∙◌}
 use Rattle.dbentries.specs.Listing.{entries}
 use Rattle.dbentries.proofs.Weaving.{keeps_first}
-use Rattle.dbowner.specs.Roots.{Listed}
+use Rattle.dbscan.specs.Roots.{Listed}
 use Rattle.dbexplain.specs.Explained.{lost_faults, other_faults}
 use Rattle.dbexplain.proofs.Reports.{all_woven, every_lost, marks_fit}
 use Rattle.dbexplain.proofs.report.make_ready.Goals as goal
