@@ -1,5 +1,5 @@
 //! Tests of the crates below the program, on whole files: [`check`], [`stat`], [`explain`] and [`map`], what is refused to a run,
-//! a slow checker beside it, and the parts of a run. Those of the walk alone stand in `dbwalk_tests`.
+//! a slow checker beside it, and the parts of a run. Those of the walk alone are in `dbwalk_tests`.
 #![tactic(auto)]
 
 // One call where `assert!` has a branch, which would be proved at each place. The text says what did not hold, and of what.

@@ -3,7 +3,7 @@ use dbreport::{Command, Verdict, run};
 use dbsource::{MemOut, RunError, Source};
 use std::alloc::Global;
 
-/// A check that shows so many faults.
+/// A check that shows this many faults.
 pub(crate) fn check_of(limit: u32) -> Command {
     Command::Check { limit }
 }
@@ -13,7 +13,7 @@ pub(crate) fn stat_of(aggregate: bool, all: bool) -> Command {
     Command::Stat { aggregate, all }
 }
 
-/// What a run answers, and what stands in its outs.
+/// What a run answers, and what is in its outs.
 #[derive(Drop)]
 pub(crate) struct Found {
     pub(crate) answer: Result<Verdict, RunError>,

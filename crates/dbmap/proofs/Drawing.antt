@@ -6,9 +6,6 @@ use Rattle.dbsource.proofs.Puts.{appends_nothing, puts_then, puts_stop}
 use Rattle.dbmap.specs.Canvas.{Draws, IsDrawn, answer, answer_of}
 use Rattle.dbmap.specs.declared.canvas.Canvas.{Canvas}
 
-same_failed : (f : Bool) (o n m : OutState) (a : List ℕ) → n ≡ m → IsDrawn false f o m a → IsDrawn false f o n a
-same_failed f o n m a e h = rw e h
-
 drawn_then : (f g h : Bool) (o m n : OutState) (a b : List ℕ) → IsDrawn f g o m a → IsDrawn g h m n b → IsDrawn f h o n (a ++ b)
 drawn_then true true h o m n a b p q = (q.0 ∙ p.0, q.1)
 drawn_then true false h o m n a b p q = absurd (false≢true p.1)

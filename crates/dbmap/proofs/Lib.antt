@@ -1,6 +1,16 @@
 pub mod Counting
 pub mod Drawing
+pub mod Heard
+pub mod Largest
+pub mod LegendLines
 pub mod MapAnswers
+pub mod Owning
+pub mod PageSets
+pub mod PartsRise
 pub mod Pictured
+pub mod Shares
+pub mod ShownFaults
 pub mod SquareSteps
 pub mod Steps
+pub mod Tallying
+pub mod Trees

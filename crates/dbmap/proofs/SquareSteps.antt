@@ -1,11 +1,21 @@
 -- Squares and rows, one after another.
-use Rattle.std.proofs.Common.{◌≡◌, ℕ, suc, ◌+◌, Bool, List, [], ◌∷◌, ◌++◌, length, Option, refl, sym, ap, ◌∙◌, subst, arith, append_assoc, append-nil, length-append}
+use Rattle.std.proofs.Common.{◌≡◌, ℕ, suc, ◌+◌, ◌-◌, Bool, List, [], ◌∷◌, ◌++◌, length, Option, None, refl, sym, ap, ap₂, ◌∙◌, subst, arith, append_assoc, append-nil, length-append}
+use Rattle.std.specs.Prelude.{codes}
+use Rattle.dbformat.specs.Reference.{Reference}
 use Rattle.dbsource.specs.Outs.{OutState}
 use Rattle.dbmap.specs.Canvas.{Draws}
 use Rattle.dbmap.specs.Drawings.{DrawsRow, DrawsSquare, DrawsSquares}
-use Rattle.dbmap.specs.Squares.{AreRows, AreSquares, Ground, IsRow, IsSquare, Square, before_text, group_after, last_group, row_text, rows_text, square_text, squares_text}
+use Rattle.dbmap.specs.Grids.{rows, top_of}
+use Rattle.dbmap.specs.Legends.{height, legend_text}
+use Rattle.dbmap.specs.Outlines.{outlines_text}
+use Rattle.dbmap.specs.Owners.{IsOf, StaysOf}
+use Rattle.dbmap.specs.Pens.{end_text}
+use Rattle.dbmap.specs.Pictures.{head_text, heading_text, picture_text, row_names}
+use Rattle.dbmap.specs.Squares.{AreRows, AreSquares, Ground, IsRow, IsSquare, Square, of_one, of_page, of_several, before_text, front_text, group_after, last_group, row_text, rows_text, square_text, squares_text, surveyed}
 use Rattle.dbmap.specs.declared.canvas.Canvas.{Canvas}
 use Rattle.dbmap.specs.declared.cell.Owner.{Owner}
+use Rattle.dbmap.specs.declared.legend.Line.{Line}
+use Rattle.dbmap.specs.declared.picture.Heading.{Heading}
 use Rattle.dbmap.proofs.Drawing.{draws_nothing, draws_then}
 
 -- ---- squares
@@ -32,20 +42,21 @@ text_more g group (q ∷ ss) s =
 count_more : {X : Type 0} (xs : List X) (x : X) (n : ℕ) → length xs ≡ n → length (xs ++ x ∷ []) ≡ n + 1
 count_more xs x n e = length-append xs (x ∷ []) ∙ ap (λ m. m + 1) e
 
-module _ {O : Type 0} {held : O → OutState} {g : Ground} where
-  pub no_squares : (cell : ℕ) (group : Option (Owner × Bool)) (s : Canvas O) → DrawsSquares held g cell 0 group group s s
-  no_squares cell group s = record { squares = []; many = refl; are = tt; group = refl; draws = draws_nothing s }
+module _ {O : Type 0} {held : O → OutState} {g : Ground} {known : List (Option (Option ℕ))} where
+  pub no_squares : (cell : ℕ) (group : Option (Owner × Bool)) (s : Canvas O) → DrawsSquares held g known cell 0 group group s s
+  no_squares cell group s = record { squares = []; many = refl; are = λ file V of. tt; group = refl; draws = draws_nothing s }
 
-  pub squares_more : {cell count : ℕ} {before mid after : Option (Owner × Bool)} {s m t : Canvas O}
-      → DrawsSquares held g cell count before mid s m → DrawsSquare held g (cell + count) mid after m t → DrawsSquares held g cell (count + 1) before after s t
-  squares_more {cell = cell} {count = count} {before = before} {mid = mid} {after = after} {s = s} {m = m} {t = t} h k =
+  pub squares_more : {cell count : ℕ} {before mid after : Option (Owner × Bool)} {s m t : Canvas O} {now : List (Option (Option ℕ))} → StaysOf g.marks known now
+      → DrawsSquares held g known cell count before mid s m → DrawsSquare held g now (cell + count) mid after m t → DrawsSquares held g known cell (count + 1) before after s t
+  squares_more {cell = cell} {count = count} {before = before} {mid = mid} {after = after} {s = s} {m = m} {t = t} stays h k =
       let at : cell + count ≡ cell + length h.squares = ap (λ n. cell + n) (sym h.many) in
       let more : Draws held m (before_text (last_group before h.squares) k.square ++ square_text g k.square) t =
       subst (λ (o : Option (Owner × Bool)). Draws held m (before_text o k.square ++ square_text g k.square) t) h.group k.draws in
       record {
         squares = h.squares ++ k.square ∷ [];
         many = count_more h.squares k.square count h.many;
-        are = are_more g cell h.squares k.square h.are (subst (λ (n : ℕ). IsSquare g n k.square) at k.is);
+        are = λ file V of. are_more (surveyed g V) cell h.squares k.square (h.are file V of)
+            (subst (λ (n : ℕ). IsSquare (surveyed g V) n k.square) at (k.is file V (stays file V of)));
         group = k.group ∙ ap (λ o. group_after o k.square) h.group ∙ sym (last_more before h.squares k.square);
         draws = subst (λ (l : List ℕ). Draws held s l t) (sym (text_more g before h.squares k.square)) (draws_then h.draws more);
       }
@@ -70,23 +81,52 @@ rows_text_more g row (q ∷ rs) r =
     ∙ sym (append_assoc (row_text g row q) (rows_text g (row + 1) rs) (row_text g (row + suc (length rs)) r))
 
 -- so many rows have been drawn
-pub record HasRows {O : Type 0} (held : O → OutState) (g : Ground) (count : ℕ) (s t : Canvas O) : Type 0 where
+pub record HasRows {O : Type 0} (held : O → OutState) (g : Ground) (known : List (Option (Option ℕ))) (count : ℕ) (s t : Canvas O) : Type 0 where
   pub all : List (List Square)
   pub many : length all ≡ count
-  pub are : AreRows g 0 all
+  pub are : (file : List ℕ) (V : List Reference) → IsOf g.marks known file V → AreRows (surveyed g V) 0 all
   pub draws : Draws held s (rows_text g 0 all) t
 
-module _ {O : Type 0} {held : O → OutState} {g : Ground} where
-  pub no_rows : (s : Canvas O) → HasRows held g 0 s s
-  no_rows s = record { all = []; many = refl; are = tt; draws = draws_nothing s }
+module _ {O : Type 0} {held : O → OutState} {g : Ground} {known : List (Option (Option ℕ))} where
+  pub no_rows : (s : Canvas O) → HasRows held g known 0 s s
+  no_rows s = record { all = []; many = refl; are = λ file V of. tt; draws = draws_nothing s }
 
-  pub rows_more : {count : ℕ} {s m t : Canvas O} → HasRows held g count s m → DrawsRow held g count m t → HasRows held g (count + 1) s t
-  rows_more {count = count} {s = s} {m = m} {t = t} h k =
+  pub rows_more : {count : ℕ} {s m t : Canvas O} {now : List (Option (Option ℕ))} → StaysOf g.marks known now
+      → HasRows held g known count s m → DrawsRow held g now count m t → HasRows held g known (count + 1) s t
+  rows_more {count = count} {s = s} {m = m} {t = t} stays h k =
       let at : count ≡ 0 + length h.all = omega (arith, h.many) in
       record {
         all = h.all ++ k.squares ∷ [];
         many = count_more h.all k.squares count h.many;
-        are = rows_are_more g 0 h.all k.squares h.are (subst (λ (n : ℕ). IsRow g n k.squares) at k.is);
+        are = λ file V of. rows_are_more (surveyed g V) 0 h.all k.squares (h.are file V of)
+            (subst (λ (n : ℕ). IsRow (surveyed g V) n k.squares) at (k.is file V (stays file V of)));
         draws = subst (λ (l : List ℕ). Draws held s l t) (sym (rows_text_more g 0 h.all k.squares))
             (draws_then h.draws (subst (λ (n : ℕ). Draws held m (row_text g n k.squares) t) at k.draws));
       }
+
+-- ---- the text is the same whatever the survey
+
+module _ (g : Ground) (V : List Reference) where
+  same_square : (s : Square) → square_text g s ≡ square_text (surveyed g V) s
+  same_square (of_page shade s tree) = refl
+  same_square (of_one shade r) = refl
+  same_square (of_several r bands) = refl
+
+  same_squares : (group : Option (Owner × Bool)) (ss : List Square) → squares_text g group ss ≡ squares_text (surveyed g V) group ss
+  same_squares group [] = refl
+  same_squares group (s ∷ ss) = ap₂ (λ a b. (before_text group s ++ a) ++ b) (same_square s) (same_squares (group_after group s) ss)
+
+  same_row : (row : ℕ) (ss : List Square) → row_text g row ss ≡ row_text (surveyed g V) row ss
+  unfolding row_text
+  same_row row ss = ap (λ l. front_text g.grid row ++ (l ++ (end_text (last_group None ss) ++ (outlines_text g.grid row ++ codes "</g>\n")))) (same_squares None ss)
+
+  same_rows : (row : ℕ) (rs : List (List Square)) → rows_text g row rs ≡ rows_text (surveyed g V) row rs
+  same_rows row [] = refl
+  same_rows row (r ∷ rs) = ap₂ (λ a b. a ++ b) (same_row row r) (same_rows (row + 1) rs)
+
+  pub same_picture : (h : Heading) (all : List (List Square)) (lines : List Line) → picture_text h g all lines ≡ picture_text h (surveyed g V) all lines
+  unfolding picture_text
+  same_picture h all lines =
+      ap (λ l. head_text h.file (top_of g.grid (rows g.grid) + height lines (g.grid.stated - g.grid.pages))
+      ++ (heading_text h g.grid.run ++ (row_names g.grid ++ (l
+      ++ (legend_text lines g.names h.geometry g.grid (top_of g.grid (rows g.grid)) ++ codes "</svg>\n"))))) (same_rows 0 all)

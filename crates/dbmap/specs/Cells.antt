@@ -1,5 +1,5 @@
 -- Whose the pages of a square are.
-use Rattle.std.specs.Prelude.{ℕ, ◌/◌, Bool, not, nat_lt, nat_le, get_or, ◌==◌, if◌then◌else◌}
+use Rattle.std.specs.Prelude.{ℕ, ◌/◌, min, Bool, not, nat_lt, nat_le, get_or, ◌==◌, if◌then◌else◌}
 use Rattle.dbmap.specs.declared.cell.Cell.{Cell}
 use Rattle.dbmap.specs.declared.cell.Owner.{Owner}
 use Rattle.dbmap.specs.declared.cell.Owner.TheVariants.{Fixed, Freelist, Nobody, Tree}
@@ -25,3 +25,10 @@ is_shaded s = nat_lt (s.pages / 2) s.overflow
 abbrev pub owner_numbered : ℕ → Owner
 owner_numbered number =
     if nat_le number 12 then Tree number else (if number == 13 then Freelist else (if number == 14 then Fixed else Nobody))
+
+-- the number of an owner
+abbrev pub number_of : Owner → ℕ
+number_of (Tree rank) = min rank 12
+number_of Freelist = 13
+number_of Fixed = 14
+number_of Nobody = 15

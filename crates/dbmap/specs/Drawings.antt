@@ -2,22 +2,29 @@
 use Rattle.std.specs.Prelude.{◌≡◌, ℕ, ◌≤◌, Bool, List, ◌++◌, length, Option, Result, if◌then◌else◌}
 use Rattle.std.specs.Int.{div_ceil}
 use Rattle.dbformat.specs.Header.{is_size_valid, stated_pages}
+use Rattle.dbformat.specs.Reference.{Reference}
 use Rattle.dbscan.specs.Desks.{Things, shape_of}
+use Rattle.dbscan.specs.Finishes.{IsDeskOf}
 use Rattle.dbsource.specs.Outs.{OutState, Puts}
 use Rattle.dbmap.specs.Canvas.{Draws}
 use Rattle.dbmap.specs.Grids.{rows}
-use Rattle.dbmap.specs.Squares.{AreRows, AreSquares, Ground, IsRow, IsSquare, Square, before_text, group_after, last_group, row_text, rows_text, square_text, squares_text}
+use Rattle.dbmap.specs.KeptFaults.{HasRoom, IsKeptGround, noted_pages}
+use Rattle.dbmap.specs.Legends.{HasFaultyLine}
+use Rattle.dbmap.specs.Owners.{IsOf}
+use Rattle.dbmap.specs.Squares.{AreRows, AreSquares, Ground, IsRow, IsSquare, Square, before_text, group_after, last_group, row_text, rows_text, square_text, squares_text, surveyed}
 use Rattle.dbmap.specs.Pictures.{picture_text}
+use Rattle.dbmap.specs.Tallies.{AreLargestOf}
 use Rattle.dbmap.specs.declared.canvas.Canvas.{Canvas}
 use Rattle.dbmap.specs.declared.cell.Owner.{Owner}
+use Rattle.dbmap.specs.declared.kept.Kept.{Kept}
 use Rattle.dbmap.specs.declared.legend.Line.{Line}
 use Rattle.dbmap.specs.declared.picture.Heading.{Heading}
 
-module _ {O : Type 0} (held : O → OutState) (g : Ground) where
-  -- the square of a place was drawn, after one group and before another
+module _ {O : Type 0} (held : O → OutState) (g : Ground) (known : List (Option (Option ℕ))) where
+  -- the square of a place was drawn, after one group and before another: by a file that is remembered, it is that of this place
   pub record DrawsSquare (cell : ℕ) (before after : Option (Owner × Bool)) (s t : Canvas O) : Type 0 where
     pub square : Square
-    pub is : IsSquare g cell square
+    pub is : (file : List ℕ) (V : List Reference) → IsOf g.marks known file V → IsSquare (surveyed g V) cell square
     pub group : after ≡ group_after before square
     pub draws : Draws held s (before_text before square ++ square_text g square) t
 
@@ -25,36 +32,37 @@ module _ {O : Type 0} (held : O → OutState) (g : Ground) where
   pub record DrawsSquares (cell count : ℕ) (before after : Option (Owner × Bool)) (s t : Canvas O) : Type 0 where
     pub squares : List Square
     pub many : length squares ≡ count
-    pub are : AreSquares g cell squares
+    pub are : (file : List ℕ) (V : List Reference) → IsOf g.marks known file V → AreSquares (surveyed g V) cell squares
     pub group : after ≡ last_group before squares
     pub draws : Draws held s (squares_text g before squares) t
 
   -- a row was
   pub record DrawsRow (row : ℕ) (s t : Canvas O) : Type 0 where
     pub squares : List Square
-    pub is : IsRow g row squares
+    pub is : (file : List ℕ) (V : List Reference) → IsOf g.marks known file V → IsRow (surveyed g V) row squares
     pub draws : Draws held s (row_text g row squares) t
 
   -- all rows were
   pub record DrawsRows (s t : Canvas O) : Type 0 where
     pub all : List (List Square)
     pub many : length all ≡ rows g.grid
-    pub are : AreRows g 0 all
+    pub are : (file : List ℕ) (V : List Reference) → IsOf g.marks known file V → AreRows (surveyed g V) 0 all
     pub draws : Draws held s (rows_text g 0 all) t
 
 -- all of the picture was, by what is said above the squares and the lines of the legend
-pub record DrawsPicture {O : Type 0} (held : O → OutState) (h : Heading) (g : Ground) (lines : List Line) (s t : Canvas O) : Type 0 where
+pub record DrawsPicture {O : Type 0} (held : O → OutState) (h : Heading) (g : Ground) (known : List (Option (Option ℕ))) (lines : List Line) (s t : Canvas O) : Type 0 where
   pub all : List (List Square)
   pub many : length all ≡ rows g.grid
-  pub are : AreRows g 0 all
+  pub are : (file : List ℕ) (V : List Reference) → IsOf g.marks known file V → AreRows (surveyed g V) 0 all
   pub draws : Draws held s (picture_text h g all lines) t
 
 -- the number of pages that a header states, where it counts
 abbrev pub stated_of : List ℕ → ℕ
 stated_of header = if is_size_valid header then stated_pages header else 0
 
--- A picture of the file of a desk: how large it is, how many faults were found, and the squares of all its pages, row by row.
-pub record IsPicture (d : Things) (faults : ℕ) (h : Heading) (g : Ground) (all : List (List Square)) : Type 0 where
+-- A picture of the file of a desk, and of what was kept of its faults, where there was room to know the trees of its pages: how large it
+-- is, how many faults were found, and the squares of all its pages, row by row.
+pub record IsPicture {K : Type 0} (d : Things) (k : Kept K) (faults : ℕ) (h : Heading) (g : Ground) (all : List (List Square)) : Type 0 where
   pub geometry : h.geometry ≡ shape_of d
   pub found : h.faults ≡ faults
   pub pages : g.grid.pages ≡ (shape_of d).pages
@@ -63,13 +71,17 @@ pub record IsPicture (d : Things) (faults : ℕ) (h : Heading) (g : Ground) (all
   pub cells : g.grid.cells ≡ div_ceil (shape_of d).pages g.grid.run
   pub marks : g.marks ≡ d.marks
   pub many : length all ≡ rows g.grid
-  pub are : AreRows g 0 all
+  pub are : (file : List ℕ) (V : List Reference) → IsDeskOf d file V → HasRoom (shape_of d).pages k.walk.trees.known → AreRows (surveyed g V) 0 all
+  pub largest : (file : List ℕ) (V : List Reference) → IsDeskOf d file V → HasRoom (shape_of d).pages k.walk.trees.known
+      → AreLargestOf file V g.owners.largest
+  pub faulty : IsKeptGround k g.faults
 
 -- such a picture was put
-pub record PutsPicture {A E : Type 0} (r : Result A E) (old new : OutState) (d : Things) (faults : ℕ) : Type 0 where
+pub record PutsPicture {A E K : Type 0} (r : Result A E) (old new : OutState) (d : Things) (k : Kept K) (faults : ℕ) : Type 0 where
   pub heading : Heading
   pub ground : Ground
   pub all : List (List Square)
   pub lines : List Line
-  pub is : IsPicture d faults heading ground all
+  pub is : IsPicture d k faults heading ground all
+  pub faulty_line : HasFaultyLine (noted_pages k) lines
   pub puts : Puts r old new (picture_text heading ground all lines)

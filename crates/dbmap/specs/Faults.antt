@@ -1,14 +1,11 @@
 -- What the title of a square says of the faults of its pages.
-use Rattle.std.specs.Prelude.{ℕ, ◌^◌, Bool, not, List, [], ◌++◌, flat_map, codes, bit_and, ◌==◌, if◌then◌else◌}
-use Rattle.dbformat.specs.Codes.{all_codes, code_index}
+use Rattle.std.specs.Prelude.{ℕ, List, [], ◌++◌, flat_map, codes, ◌==◌, if◌then◌else◌}
+use Rattle.dbformat.specs.Codes.{all_codes}
 use Rattle.dbformat.specs.Lines.{code_text}
 use Rattle.dbformat.specs.declared.FaultCode.{FaultCode}
+use Rattle.dbmap.specs.CodeSets.{has_code}
 use Rattle.dbmap.specs.declared.faulty.Faulty.{Faulty}
 use Rattle.dbmap.specs.declared.page_set.Codes.{Codes}
-
--- whether a code is one of some
-abbrev pub has_code : Codes → FaultCode → Bool
-has_code codes code = not (bit_and codes.bits (2 ^ code_index code) == 0)
 
 -- a code, where it is one of some, after a space
 abbrev pub code_if : Codes → FaultCode → List ℕ

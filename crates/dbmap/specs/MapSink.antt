@@ -1,25 +1,39 @@
 -- The reporter of a map: what a fault makes of it, and what it answers at the end.
-use Rattle.std.specs.Prelude.{◌≡◌, ℕ, ◌+◌, ◌==◌, List, [], ◌∷◌, Result, IfOk, if◌then◌else◌}
+use Rattle.std.specs.Prelude.{◌≡◌, ℕ, ◌+◌, List, [], ◌∷◌, Result, IfOk}
+use Rattle.dbformat.specs.File.{geometry}
 use Rattle.dbformat.specs.Lines.{counted}
 use Rattle.dbformat.specs.Reference.{Reference}
 use Rattle.dbformat.specs.Report.{faults, verdict}
-use Rattle.dbformat.specs.declared.Fault.{Fault}
 use Rattle.dbformat.specs.declared.Verdict.{Verdict}
-use Rattle.dbformat.specs.declared.Verdict.TheVariants.{Clean, Faulty}
+use Rattle.dbtrace.specs.Finding.{told_row, told_fault}
+use Rattle.dbtrace.specs.declared.Reported.{Reported}
 use Rattle.dbsource.specs.Outs.{OutState}
 use Rattle.dbsource.specs.declared.error.RunError.{RunError}
 use Rattle.dbwalk.specs.Telling.{SinkState}
+use Rattle.dbscan.specs.Notices.{Notice, whole, found, ended, walked}
+use Rattle.dbscan.specs.Placed.{at_start, of_file, part_of}
+use Rattle.dbmap.specs.KeptFaults.{HearsNone, Keeps}
 use Rattle.dbmap.specs.Maps.{DrawsMap}
 use Rattle.dbmap.specs.declared.map_sink.MapSink.{MapSink}
 
--- a fault is counted, and nothing is put
-pub record Notes {A O : Type 0} (s : MapSink A O) (f : Fault) (t : MapSink A O) : Type 0 where
-  pub count : t.faults ≡ counted (s.faults + 1)
-  pub out : t.out.now ≡ s.out.now
+module _ {A O : Type 0} where
+  -- a fault is counted and kept, and nothing is put
+  pub record Adds (x : Reported) (s t : MapSink A O) : Type 0 where
+    pub count : t.faults ≡ counted (s.faults + 1)
+    pub kept : Keeps x s.kept.now t.kept.now
+    pub out : t.out.now ≡ s.out.now
 
--- what was found, where so many faults were told
-abbrev pub verdict_of : ℕ → Verdict
-verdict_of faults = if faults == 0 then Clean else Faulty faults
+  -- a notice was taken: a fault was added, and nothing else changes it
+  abbrev pub Hears : MapSink A O → Notice → MapSink A O → Type 0
+  Hears s (whole f) t = Adds (of_file (part_of f.code) f) s t
+  Hears s (found at (told_fault f why)) t = Adds (at_start at.number f why) s t
+  Hears s (found at (told_row r)) t = t ≡ s
+  Hears s (ended at) t = t ≡ s
+  Hears s (walked g marks) t = t ≡ s
+
+  -- none is ever refused
+  abbrev pub Never : MapSink A O → Notice → MapSink A O → Type 0
+  Never s notice t = ⊥
 
 -- it is lent its Out, whose failures are counted
 abbrev pub map_held : {A O : Type 0} → (O → OutState) → MapSink A O → SinkState
@@ -27,4 +41,6 @@ map_held held s = record { lent = s.out.ghost_name ∷ []; failures = (held s.ou
 
 -- What a run leaves that had heard nothing before: the verdict, and a picture.
 abbrev pub LeavesMap : {A O : Type 0} → (O → OutState) → List ℕ → List Reference → Result Verdict RunError → MapSink A O → MapSink A O → Type 0
-LeavesMap held file V r s t = s.faults ≡ 0 → IfOk r (λ v. v ≡ verdict (faults file V)) × DrawsMap r (held s.out.now).bytes (held t.out.now).bytes file V
+LeavesMap held file V r s t =
+    s.faults ≡ 0 → HearsNone (geometry file).pages s.kept.now
+    → IfOk r (λ v. v ≡ verdict (faults file V)) × DrawsMap r (held s.out.now).bytes (held t.out.now).bytes file V

@@ -11,24 +11,31 @@ use Rattle.dbformat.specs.Sound.{Sound}
 use Rattle.dbformat.specs.Survey.{Survey, survey}
 use Rattle.dbformat.specs.declared.Verdict.{Verdict}
 use Rattle.dbformat.specs.declared.Verdict.TheVariants.{Clean}
+use Rattle.dbsource.specs.Answers.{Lengths, Step}
 use Rattle.dbsource.specs.Outs.{Begins}
-use Rattle.dbsource.specs.Snapshots.{HasRead}
+use Rattle.dbsource.specs.Snapshots.{HasRead, ToldFileIsRead}
+use Rattle.dbsource.specs.Sources.{SourceState}
 use Rattle.dbsource.specs.declared.error.RunError.{RunError}
 use Rattle.dbsource.specs.declared.out.Out.{Ghosts as OutWords}
 use Rattle.dbsource.specs.declared.source.Source.{Ghosts as SourceWords}
 use Rattle.dbmarks.specs.Marking.{page_mark}
 use Rattle.dbowner.specs.Climbs.{place_by}
+use Rattle.dbformat.specs.Starts.{start_at}
 use Rattle.dbowner.specs.Owners.{place_of}
 use Rattle.dbreport.specs.Runs.{IsAnswerOf}
 use Rattle.dbmap.specs.Drawings.{stated_of}
+use Rattle.dbmap.specs.FaultyPages.{AreFaultsOf, faulty_pages}
 use Rattle.dbmap.specs.Grids.{rows}
+use Rattle.dbmap.specs.Legends.{HasFaultyLine}
 use Rattle.dbmap.specs.Pictures.{picture_text}
 use Rattle.dbmap.specs.Squares.{AreRows, Ground, Square}
+use Rattle.dbmap.specs.Tallies.{AreLargestOf}
 use Rattle.dbmap.specs.declared.legend.Line.{Line}
 use Rattle.dbmap.specs.declared.picture.Heading.{Heading}
 
 -- A picture of a file with survey V: of its size, with the number of its faults; with one square for each page, or for each run of
--- so many pages, row by row; and what is remembered of a page is what the page is.
+-- so many pages, row by row; what is remembered of a page is what the page is, the faults that are shown of it are its own, it belongs to
+-- the start of its visit, and the largest trees are those of the file.
 pub record IsPictureOf (file : List ℕ) (V : List Reference) (h : Heading) (g : Ground) (all : List (List Square)) : Type 0 where
   pub shape : h.geometry ≡ geometry file
   pub found : h.faults ≡ counted (length (faults file V))
@@ -39,14 +46,18 @@ pub record IsPictureOf (file : List ℕ) (V : List Reference) (h : Heading) (g :
   pub many : length all ≡ rows g.grid
   pub are : AreRows g 0 all
   pub places : (p : ℕ) → place_by (page_mark g.marks p) ≡ place_of file V p
+  pub faulty : AreFaultsOf file V g.faults
+  pub starts : (p : ℕ) → g.owners.start p ≡ start_at V p
+  pub largest : AreLargestOf file V g.owners.largest
 
--- there is such a picture, and of its bytes P holds
+-- there is such a picture, whose legend says how many pages have a fault, and of its bytes P holds
 pub record HasPicture (P : List ℕ → Type 0) (file : List ℕ) (V : List Reference) : Type 0 where
   pub heading : Heading
   pub ground : Ground
   pub all : List (List Square)
   pub lines : List Line
   pub is : IsPictureOf file V heading ground all
+  pub faulty_line : HasFaultyLine (faulty_pages file V) lines
   pub holds : P (picture_text heading ground all lines)
 
 -- what told bytes become: at Ok a picture was put, and at Err nothing, or a beginning of one
@@ -63,6 +74,11 @@ pub record IsMapOf (file : List ℕ) (r : Result Verdict RunError) (old new : Op
   pub picture : (V : List Reference) → Survey file V → DrawsMap r old new file V
   pub answer : IsAnswerOf r file
   pub sound : IfOk r (λ v. v ≡ Clean ↔ Sound file)
+
+-- What a map says of each file that agrees with what was read, it says of the bytes that a source tells.
+abbrev pub ToldFilesAreDrawn : Step → Lengths → Type 0
+ToldFilesAreDrawn step lengths = (r : Result Verdict RunError) (out_old out_new : Option (List ℕ)) (old new : SourceState)
+    → ToldFileIsRead step lengths IsSomeRunLog (λ file ranges. IsRunLog (geometry file) ranges × IsMapOf file r out_old out_new) old new
 
 -- ---- a map from a source and an Out to what these have become, by what their traits say of them
 

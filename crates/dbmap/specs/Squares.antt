@@ -1,14 +1,19 @@
 -- The squares of a picture, and their text, row by row.
-use Rattle.std.specs.Prelude.{◌≡◌, ℕ, ◌+◌, ◌-◌, Bool, List, [], ◌∷◌, ◌++◌, length, Option, Some, None, codes, decimal}
+use Rattle.std.specs.Prelude.{◌≡◌, ℕ, ◌+◌, ◌-◌, ◌≤◌, Bool, List, [], ◌∷◌, ◌++◌, length, Option, Some, None, codes, decimal}
 use Rattle.std.specs.List.{concat}
+use Rattle.dbformat.specs.Reference.{Reference}
 use Rattle.dbmarks.specs.Marking.{page_mark}
 use Rattle.dbmarks.specs.declared.marks.Mark.{Mark}
 use Rattle.dbowner.specs.Climbs.{place_by}
+use Rattle.dbmap.specs.FaultyPages.{FaultsGround, IsFaulty}
 use Rattle.dbmap.specs.Grids.{cells_of_row, run_of, top_of, x_of}
 use Rattle.dbmap.specs.Outlines.{outlines_text}
+use Rattle.dbmap.specs.Owners.{OwnersGround, owners_by, shade_at, starts_of}
 use Rattle.dbmap.specs.Pages.{page_text}
+use Rattle.dbmap.specs.PageSets.{has_page, pages_between, shown_codes}
 use Rattle.dbmap.specs.Pens.{change_text, end_text}
 use Rattle.dbmap.specs.Runs.{mixed_text, plain_text}
+use Rattle.dbmap.specs.Shares.{AreShares, IsOfOne, IsOfSeveral}
 use Rattle.dbmap.specs.declared.bands.Bands.{Bands}
 use Rattle.dbmap.specs.declared.cell.Owner.{Owner}
 use Rattle.dbmap.specs.declared.grid.Grid.{Grid}
@@ -17,15 +22,31 @@ use Rattle.dbmap.specs.declared.page.PageSquare.{PageSquare}
 use Rattle.dbmap.specs.declared.run.Run.{Run}
 use Rattle.dbmap.specs.declared.squares.Squares.{Squares}
 
--- What squares are drawn by: where they are, the names of the largest trees, and what is remembered of the pages.
+-- What squares are drawn by: where they are, the names of the largest trees, what is remembered of the pages, and their faults.
 pub record Ground : Type 0 where
   pub grid : Grid
   pub names : List (List ℕ)
   pub marks : List Mark
+  pub faults : FaultsGround
+  pub owners : OwnersGround
 
--- that of a file
+-- what is known of the faults
+abbrev pub faults_ground : {A : Type 0} → Squares A → FaultsGround
+faults_ground s = record { has = has_page s.faulty.now; codes = shown_codes s.faulty.now; strong = has_page s.strong.now }
+
+-- that of a file, where no start is known
 abbrev pub ground_of : {A : Type 0} → Squares A → Layout → Ground
-ground_of s layout = record { grid = layout.grid; names = layout.labels.names.items; marks = s.marks.now }
+ground_of s layout = record {
+  grid = layout.grid;
+  names = layout.labels.names.items;
+  marks = s.marks.now;
+  faults = faults_ground s;
+  owners = record { start = λ p. None; largest = starts_of s.largest.items };
+}
+
+-- the same where V is the survey of the file: each page belongs to the start of its visit
+abbrev pub surveyed : Ground → List Reference → Ground
+surveyed g V = record g { owners = owners_by V g.owners.largest }
 
 -- A square: of a page, whose tree has this name, filled for its owner; of a run of pages that all have one owner; or of one that have
 -- several, divided in bands.
@@ -76,24 +97,29 @@ abbrev pub rows_text : Ground → ℕ → List (List Square) → List ℕ
 rows_text g row [] = []
 rows_text g row (squares ∷ rows) = row_text g row squares ++ rows_text g (row + 1) rows
 
--- What a square of a page is at a place of the grid: it stands there, is of the page of this place, and says of it what is
--- remembered.
-pub record IsPage (g : Ground) (cell : ℕ) (s : PageSquare) : Type 0 where
+-- What a square of a page is at a place of the grid: it is there, is of the page of this place, says of it what is remembered, is filled
+-- for its owner, and says which faults it has.
+pub record IsPage (g : Ground) (cell : ℕ) (s : PageSquare) (fill : Owner × Bool) : Type 0 where
   pub x : s.x ≡ x_of g.grid cell
   pub page : s.page ≡ (run_of g.grid cell g.grid.pages).0
   pub place : s.place ≡ place_by (page_mark g.marks s.page)
+  pub faulty : IsFaulty g.faults s.page s.page s.faulty
+  pub shade : fill ≡ shade_at g.marks g.owners s.page
 
--- and a square of a run of pages: it is of the pages of this place
+-- and a square of a run of pages: it is of the pages of this place, of which it has what each owner has, and says which faults they have
 pub record IsRun (g : Ground) (cell : ℕ) (r : Run) : Type 0 where
   pub x : r.x ≡ x_of g.grid cell
   pub first : r.first ≡ (run_of g.grid cell g.grid.pages).0
   pub last : r.last ≡ (run_of g.grid cell g.grid.pages).1
+  pub faulty : IsFaulty g.faults r.first r.last r.faulty
+  pub shares : AreShares g.marks g.owners (pages_between r.first r.last) r.cell
 
--- a square is that of a place: of a page, where a square is a page, and else of a run
+-- A square is that of a place: of a page, where a square is a page, and else of a run, in one fill where all its pages have one owner,
+-- and in bands where they have several.
 abbrev pub IsSquare : Ground → ℕ → Square → Type 0
-IsSquare g cell (of_page shade s tree) = (g.grid.run ≡ 1) × IsPage g cell s
-IsSquare g cell (of_one shade r) = IsRun g cell r
-IsSquare g cell (of_several r bands) = IsRun g cell r
+IsSquare g cell (of_page shade s tree) = (g.grid.run ≡ 1) × IsPage g cell s shade
+IsSquare g cell (of_one shade r) = (2 ≤ g.grid.run) × IsRun g cell r × IsOfOne g.marks g.owners r shade
+IsSquare g cell (of_several r bands) = (2 ≤ g.grid.run) × IsRun g cell r × IsOfSeveral g.marks g.owners r
 
 -- squares are those of the places from one on
 abbrev pub AreSquares : Ground → ℕ → List Square → Type 0

@@ -1,6 +1,8 @@
 // Whose the pages of a square are.
-ghost use Rattle.std.specs.Prelude.{◌≡◌, ◌≤◌, ◌<◌, IfSome};
-ghost use Rattle.dbmap.specs.Cells.{has_pages, is_shaded, owner_numbered, share_of};
+ghost use Rattle.std.specs.Prelude.{◌≡◌, ◌≤◌, ◌<◌, ◌⊎◌, ◌==◌, ℕ, IfSome, if◌then◌else◌};
+ghost use Rattle.dbmap.specs.Cells.{has_pages, is_shaded, no_share, number_of, owner_numbered, share_of};
+ghost use Rattle.dbmap.specs.Owners.{is_overflow};
+ghost use Rattle.dbmap.specs.Shares.{HasNone, HasTwo, IsOnly, one_page};
 
 use dbowner::Place;
 
@@ -21,7 +23,8 @@ pub(crate) const OWNERS: usize = 16;
 impl Owner {
     /// Its number, from 0: the order in which the owners of a square are drawn and named.
     pub(crate) fn number(self) -> usize
-        ensures { result ≤ 15 }
+        ensures number { result ≡ number_of self }
+        ensures most { result ≤ 15 }
     {
         match self {
             Owner::Tree(rank) => rank.min(12),
@@ -53,7 +56,9 @@ pub(crate) struct Share {
 
 impl Share {
     /// Counts a page.
-    pub(crate) fn add(&mut self, is_overflow: bool) {
+    pub(crate) fn add(&mut self, is_overflow: bool)
+        ensures { self.new ≡ one_page is_overflow self.old }
+    {
         self.pages = self.pages.saturating_add(1);
         self.overflow = self.overflow.saturating_add(u32::from(is_overflow));
     }
@@ -73,7 +78,9 @@ impl Share {
 }
 
 /// Whether a page of a tree is an overflow page.
-pub(crate) fn is_overflow(place: Place) -> bool {
+pub(crate) fn is_overflow(place: Place) -> bool
+    ensures { result ≡ is_overflow place }
+{
     matches!(&place, Place::OverflowOf(_) | Place::OverflowAfter(_))
 }
 
@@ -85,14 +92,19 @@ pub(crate) struct Cell {
 
 impl Cell {
     /// One without pages.
-    pub(crate) fn new() -> Cell {
+    pub(crate) fn new() -> Cell
+        ensures { (number : ℕ) → number < 16 → share_of result number ≡ no_share }
+    {
         Cell {
             shares: [Share::default(); OWNERS],
         }
     }
 
     /// Counts a page.
-    pub(crate) fn add(&mut self, owner: Owner, is_overflow: bool) {
+    pub(crate) fn add(&mut self, owner: Owner, is_overflow: bool)
+        ensures { (number : ℕ) → number < 16
+            → share_of self.new number ≡ (if number_of owner == number then one_page is_overflow (share_of self.old number) else share_of self.old number) }
+    {
         let share = &mut self.shares[owner.number()];
         share.add(is_overflow);
     }
@@ -115,7 +127,8 @@ impl Cell {
 
     /// The first owner, if all pages are its own.
     pub(crate) fn only(&self) -> Option<usize>
-        ensures { IfSome result (λ number. number < 16) }
+        ensures one { IfSome result (IsOnly self.now) }
+        ensures several { result ≡ None → HasTwo self.now ⊎ HasNone self.now }
     {
         let mut only = None;
         for number in 0..OWNERS {

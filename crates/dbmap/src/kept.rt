@@ -1,5 +1,10 @@
 // What a map keeps of a file beside what a check keeps.
+ghost use Rattle.std.specs.Prelude.{◌≡◌, ℕ, ◌++◌, List, IfOk, vec_len};
 ghost use Rattle.dbformat.specs.FixedPages.{IsInRange};
+ghost use Rattle.dbformat.specs.declared.FaultCode.{FaultCode};
+ghost use Rattle.dbmap.specs.FramedPages.{framed, leading};
+ghost use Rattle.dbmap.specs.KeptFaults.{HearsNone, Keeps};
+ghost use Rattle.dbmap.specs.PageSets.{AreNoted};
 
 use crate::listed::note_listed;
 use crate::page_set::PageSet;
@@ -37,6 +42,7 @@ impl<A: Allocator + Copy> Kept<A> {
     /// [`AllocError`] where a growth was refused.
     pub(crate) fn new_in(alloc: A, geometry: &Geometry) -> Result<Kept<A>, AllocError>
         requires { IsInRange geometry.now }
+        ensures { IfOk result (HearsNone geometry.now.pages) }
     {
         let trees = PageTrees::new_in(alloc, geometry)?;
         let tally = Tally::new_in(alloc)?;
@@ -55,7 +61,9 @@ impl<A: Allocator + Copy> Kept<A> {
 
 impl<A: Allocator> Kept<A> {
     /// Notes the page of a fault, and lists the fault, but for that of a lost page.
-    pub(crate) fn note(&mut self, told: &Reported) {
+    pub(crate) fn note(&mut self, told: &Reported)
+        ensures { Keeps told.now self.old self.new }
+    {
         self.faulty.note(told.fault.page, told.fault.code);
         if told.fault.code != FaultCode::N01 {
             self.entries.add(told);
@@ -63,7 +71,13 @@ impl<A: Allocator> Kept<A> {
     }
 
     /// Notes the pages of the entries that are listed, and of their causes.
-    pub(crate) fn note_listed(&mut self) {
+    pub(crate) fn note_listed(&mut self)
+        ensures strong { (fs : List (ℕ × FaultCode)) → AreNoted fs self.old.strong
+            → AreNoted (fs ++ framed (leading self.old.entries.listed)) self.new.strong }
+        ensures pages { vec_len self.new.strong.noted ≡ vec_len self.old.strong.noted }
+        ensures faulty { self.new.faulty ≡ self.old.faulty }
+        ensures walk { self.new.walk ≡ self.old.walk }
+    {
         note_listed(&mut self.strong, self.entries.listed());
     }
 }

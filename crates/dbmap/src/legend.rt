@@ -1,5 +1,5 @@
 // The legend of the picture.
-ghost use Rattle.std.specs.Prelude.{◌≡◌, ◌≤◌, [], length};
+ghost use Rattle.std.specs.Prelude.{◌≡◌, ◌+◌, ◌≤◌, ◌<◌, [], filter, length};
 ghost use Rattle.dbxml.specs.Pieces.{piece_text};
 ghost use Rattle.dbmap.specs.Canvas.{Draws};
 ghost use Rattle.dbmap.specs.Legends as legends;
@@ -67,7 +67,26 @@ impl Legend {
         names: &TreeNames<'_, B>,
         labels: &Labels,
         faulty: u32,
-    ) -> Legend {
+    ) -> Legend
+        requires { length largest.now ≤ 12 }
+        ensures { legends.HasFaultyLine faulty result.lines.items }
+    {
+        let mut legend = Legend::of_owners(tally, largest, names, labels);
+        legend.add(Label::Faulty, no_overflow(faulty));
+        legend
+    }
+
+    // The lines of owners.
+    fn of_owners<A: Allocator, B: Allocator>(
+        tally: &Tally<A>,
+        largest: &[Tree],
+        names: &TreeNames<'_, B>,
+        labels: &Labels,
+    ) -> Legend
+        requires { length largest.now ≤ 12 }
+        ensures none { filter legends.is_of_faulty result.lines.items ≡ [] }
+        ensures room { length result.lines.items ≤ 16 }
+    {
         let mut legend = Legend {
             lines: ArrayVec::new(),
         };
@@ -78,14 +97,16 @@ impl Legend {
         let (count, others) = tally.others(largest);
         legend.add(Label::Others(count), others);
         legend.add(Label::Freelist, tally.share(FREELIST_START));
-        legend.add(Label::Fixed, no_overflow(tally.fixed));
-        legend.add(Label::Nobody, no_overflow(tally.nobody));
-        legend.add(Label::Faulty, no_overflow(faulty));
+        legend.add(Label::Fixed, no_overflow(tally.fixed()));
+        legend.add(Label::Nobody, no_overflow(tally.nobody()));
         legend
     }
 
     // Adds a line, if there is a page of it.
-    fn add(&mut self, label: Label, share: Share) {
+    fn add(&mut self, label: Label, share: Share)
+        ensures line { length self.old.lines.items < 17 → self.new.lines.items ≡ legends.with_line self.old.lines.items label share }
+        ensures room { length self.new.lines.items ≤ length self.old.lines.items + 1 }
+    {
         if share.pages != 0 {
             let _ = self.lines.try_push(Line { label, share });
         }

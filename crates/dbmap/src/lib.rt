@@ -14,9 +14,10 @@
 //! fault.
 //!
 //! What is proved is that the file is read as a check reads it, that the verdict is the check's, and that a picture of the file is put
-//! (specs/Maps): its bytes are those of specs/Pictures, in which each page, or run of pages, has one square, in their order, and the
-//! square of a page says what the page is. No text of the file or of the command line comes into it but escaped (`dbxml`). Colours,
-//! frames and the legend's numbers are tested.
+//! (specs/Maps): its bytes are those of specs/Pictures, in which each page, or run of pages, has one square, in their order. The square of
+//! a page says what the page is, each square is filled for the owners of its pages, and has the frame and the codes of the faults that the
+//! file's report has of its pages. No text of the file or of the command line comes into it but escaped (`dbxml`). Names of trees, heights
+//! of bands and the legend's numbers are tested, but for that of the pages with a fault, which is proved.
 #![tactic(auto)]
 
 mod bands;
@@ -44,4 +45,6 @@ mod squares;
 mod tally;
 mod walk;
 
-pub use maps::{map, map_in};
+pub use dbformat::Verdict;
+pub use dbsource::{Out, RunError, Source};
+pub use maps::{map, map_in, told_files_are_drawn};

@@ -1,21 +1,41 @@
 // The pages of the entries that are listed, and of their causes.
+ghost use Rattle.std.specs.Prelude.{◌≡◌, ℕ, ◌++◌, List, vec_len};
+ghost use Rattle.dbformat.specs.declared.FaultCode.{FaultCode};
+ghost use Rattle.dbmap.specs.FramedPages.{cause_page, framed, framed_of, leading, page_of_value, value_page};
+ghost use Rattle.dbmap.specs.PageSets.{AreNoted};
+
 use crate::page_set::PageSet;
-use dbentries::{Cause, Entry};
+use dbentries::{Cause, Entry, Reported};
 use dbformat::{Fault, FaultCode};
 use std::alloc::Allocator;
 
+// The page that a value is the number of, or 0.
+fn page_of_value(value: i64) -> u32
+    ensures { result ≡ page_of_value value }
+{
+    if value >= 0 && value <= i64::from(u32::MAX) {
+        value as u32
+    } else {
+        0
+    }
+}
+
 // The page that the value of a fault names, or 0.
-fn value_page(fault: &Fault) -> u32 {
+fn value_page(fault: &Fault) -> u32
+    ensures { result ≡ value_page fault.now }
+{
     match fault.code {
         FaultCode::R02 | FaultCode::R03 | FaultCode::T04 | FaultCode::O01 | FaultCode::M02 => {
-            u32::try_from(fault.value).unwrap_or(0)
+            page_of_value(fault.value)
         }
         _ => 0,
     }
 }
 
 // The page of a cause, or 0 where it is that of the fault.
-fn cause_page(cause: Cause) -> u32 {
+fn cause_page(cause: Cause) -> u32
+    ensures { result ≡ cause_page cause }
+{
     match cause {
         Cause::Key(key) => key.page,
         Cause::Leaf(page) => page,
@@ -24,12 +44,23 @@ fn cause_page(cause: Cause) -> u32 {
     }
 }
 
+// Notes the pages of a fault that leads: its own, the page that its value names, and that of its cause.
+fn note_pages<A: Allocator>(pages: &mut PageSet<A>, first: &Reported)
+    ensures noted { (fs : List (ℕ × FaultCode)) → AreNoted fs pages.old → AreNoted (fs ++ framed_of first.now) pages.new }
+    ensures pages { vec_len pages.new.noted ≡ vec_len pages.old.noted }
+{
+    let fault = &first.fault;
+    pages.note(fault.page, fault.code);
+    pages.note(value_page(fault), fault.code);
+    pages.note(cause_page(first.cause), fault.code);
+}
+
 /// Notes the pages of some entries: that of the fault, the page that it names, and that of its cause.
-pub(crate) fn note_listed<A: Allocator>(pages: &mut PageSet<A>, listed: &[Entry]) {
+pub(crate) fn note_listed<A: Allocator>(pages: &mut PageSet<A>, listed: &[Entry])
+    ensures noted { (fs : List (ℕ × FaultCode)) → AreNoted fs pages.old → AreNoted (fs ++ framed (leading listed.now)) pages.new }
+    ensures pages { vec_len pages.new.noted ≡ vec_len pages.old.noted }
+{
     for entry in listed {
-        let fault = &entry.first.fault;
-        pages.note(fault.page, fault.code);
-        pages.note(value_page(fault), fault.code);
-        pages.note(cause_page(entry.first.cause), fault.code);
+        note_pages(pages, &entry.first);
     }
 }

@@ -1,6 +1,8 @@
 // The reporter of a map.
 ghost use Rattle.std.specs.Prelude.{◌≡◌};
-ghost use Rattle.dbmap.specs.MapSink.{Notes, map_held, verdict_of};
+ghost use Rattle.dbformat.specs.Report.{verdict_of};
+ghost use Rattle.dbscan.specs.Placed.{is_header_code, of_file, part_of};
+ghost use Rattle.dbmap.specs.MapSink.{Adds, map_held};
 
 use crate::kept::Kept;
 use crate::maps::put_map;
@@ -20,28 +22,34 @@ pub(crate) struct MapSink<'a, A: Allocator, O> {
     faults: u64,
 }
 
-// A fault of the whole file.
-fn of_file(fault: &Fault) -> Reported
-    ensures { result.fault ≡ fault.now }
+// Whether faults with this code are found in the header alone.
+fn is_header_code(code: FaultCode) -> bool
+    ensures { result ≡ is_header_code code }
 {
-    Reported {
-        part: part_of(fault.code),
-        fault: *fault,
-        cause: Cause::Itself,
-    }
+    matches!(
+        code,
+        FaultCode::H01
+            | FaultCode::H02
+            | FaultCode::H03
+            | FaultCode::H04
+            | FaultCode::H05
+            | FaultCode::H06
+            | FaultCode::H07
+    )
 }
 
-// The part that a fault of the whole file is of.
-fn part_of(code: FaultCode) -> Part {
-    match code {
-        FaultCode::H01
-        | FaultCode::H02
-        | FaultCode::H03
-        | FaultCode::H04
-        | FaultCode::H05
-        | FaultCode::H06
-        | FaultCode::H07 => Part::Header,
-        _ => Part::End,
+// A fault of the whole file.
+fn of_file(fault: &Fault) -> Reported
+    ensures { result ≡ of_file (part_of fault.now.code) fault.now }
+{
+    Reported {
+        part: if is_header_code(fault.code) {
+            Part::Header
+        } else {
+            Part::End
+        },
+        fault: *fault,
+        cause: Cause::Itself,
     }
 }
 
@@ -50,6 +58,7 @@ impl<'a, A: Allocator, O: Out> MapSink<'a, A, O> {
     pub(crate) fn new(name: &'a str, kept: &'a mut Kept<A>, out: &'a mut O) -> MapSink<'a, A, O>
         ensures same_out { result.out.ghost_name ≡ out.entry.ghost_name }
         ensures out { result.out.now ≡ out.old }
+        ensures kept { result.kept.now ≡ kept.old }
         ensures faults { result.faults ≡ 0 }
     {
         MapSink {
@@ -62,7 +71,7 @@ impl<'a, A: Allocator, O: Out> MapSink<'a, A, O> {
 
     // Counts a fault, notes its page, and lists it.
     fn note(&mut self, told: &Reported)
-        ensures counted { Notes self.old told.now.fault self.new }
+        ensures added { Adds told.now self.old self.new }
         ensures held { map_held O.held self.new ≡ map_held O.held self.old }
     {
         self.faults = self.faults.saturating_add(1);
@@ -73,20 +82,16 @@ impl<'a, A: Allocator, O: Out> MapSink<'a, A, O> {
     fn verdict(&self) -> Verdict
         ensures { result ≡ verdict_of self.now.faults }
     {
-        match self.faults {
-            0 => Verdict::Clean,
-            count => Verdict::Faulty(count),
-        }
+        Verdict::of(self.faults)
     }
 }
 
 impl<A: Allocator, O: Out> Reporter for MapSink<'_, A, O> {
-    ghost use Rattle.dbscan.specs.Notices.{CutsFaults, HearsFaults};
-    ghost use Rattle.dbmap.specs.MapSink.{Notes, map_held};
+    ghost use Rattle.dbmap.specs.MapSink.{Hears, Never, map_held};
 
-    ghost hears = { HearsFaults Notes };
+    ghost hears = { Hears };
 
-    ghost cuts = { CutsFaults (λ s f t. ⊥) };
+    ghost cuts = { Never };
 
     ghost held = { map_held O.held };
 

@@ -11,7 +11,8 @@ ghost use Rattle.dbwalk.specs.Telling.{IsReadWriteOrMemory};
 ghost use Rattle.dbscan.specs.DeskSizes.{DeskFitsInMemory};
 ghost use Rattle.dbscan.specs.Desks.{shape_of};
 ghost use Rattle.dbreport.specs.Runs.{FailsOnce, IsUntouched};
-ghost use Rattle.dbmap.specs.Maps.{DrawsMap, HasMap};
+ghost use Rattle.dbmap.specs.KeptFaults.{HearsNone};
+ghost use Rattle.dbmap.specs.Maps.{DrawsMap, HasMap, ToldFilesAreDrawn};
 ghost use Rattle.dbmap.specs.Drawings.{PutsPicture, stated_of};
 
 use crate::canvas::Canvas;
@@ -54,7 +55,7 @@ pub(crate) fn put_map<A: Allocator, O: Out>(
     faults: u64,
     out: &mut O,
 ) -> Result<(), WriteFailed>
-    ensures { PutsPicture result (O.held out.old) (O.held out.new) desk.now faults }
+    ensures { PutsPicture result (O.held out.old) (O.held out.new) desk.now kept.old faults }
 {
     kept.note_listed();
     kept.walk.begin(desk.marks(), desk.roots());
@@ -109,6 +110,7 @@ fn map_on<A: Allocator, S: Source, O: Out>(
     source: &mut S,
     out: &mut O,
 ) -> Result<Verdict, RunError>
+    requires { HearsNone (shape_of desk.old).pages kept.old }
     ensures read { HasReadBehind S.step (IsPageLog (shape_of desk.old)) desk.old.header
         (λ file. (V : List Reference) → Survey file V → IfOk result (λ v. v ≡ verdict (faults file V))
         × DrawsMap result (O.held out.old).bytes (O.held out.new).bytes file V)
@@ -168,3 +170,9 @@ pub fn map<S: Source, O: Out>(
 {
     map_in(alloc, name, source, out)
 }
+
+/// What [`map`] says of each file that agrees with what was read is so of the bytes that a source tells, as memory does: the picture is
+/// theirs, and `Clean` is the answer exactly where they are sound.
+pub fn told_files_are_drawn<S: Source>()
+    ensures { ToldFilesAreDrawn S.step S.lengths }
+{}

@@ -1,7 +1,9 @@
 // Pages with a fault, and the codes of their faults.
-ghost use Rattle.std.specs.Prelude.{◌≡◌, ◌≤◌, ◌^◌, ◌==◌};
+ghost use Rattle.std.specs.Prelude.{◌≡◌, ℕ, ◌^◌, ◌==◌, [], ◌∷◌, ◌++◌, List, IfOk, count_by, min, vec_len};
 ghost use Rattle.dbformat.specs.Codes.{code_index};
-ghost use Rattle.dbmap.specs.Faults.{has_code};
+ghost use Rattle.dbformat.specs.declared.FaultCode.{FaultCode};
+ghost use Rattle.dbmap.specs.CodeSets.{both, has_code, with_code};
+ghost use Rattle.dbmap.specs.PageSets.{any_page, codes_of_pages, has_page, is_noted, number_at, set_numbered, shown_codes, AreNoted, IsFound, IsKept, Numbers};
 
 use arrayvec::ArrayVec;
 use dbformat::FaultCode;
@@ -18,6 +20,8 @@ const UNKNOWN: u8 = 255;
 pub(crate) struct Codes {
     bits: u64,
 }
+
+const NO_CODES: Codes = Codes { bits: 0 };
 
 // The bit of a code.
 fn bit(code: FaultCode) -> u64
@@ -42,14 +46,18 @@ impl Codes {
     }
 
     /// These and a code more.
-    fn with(self, code: FaultCode) -> Codes {
+    fn with(self, code: FaultCode) -> Codes
+        ensures { result ≡ with_code self code }
+    {
         Codes {
             bits: self.bits | bit(code),
         }
     }
 
     /// These and others.
-    pub(crate) fn and(self, others: Codes) -> Codes {
+    pub(crate) fn and(self, others: Codes) -> Codes
+        ensures { result ≡ both self others }
+    {
         Codes {
             bits: self.bits | others.bits,
         }
@@ -69,7 +77,10 @@ impl<A: Allocator> PageSet<A> {
     /// # Errors
     ///
     /// [`AllocError`] where the growth was refused.
-    pub(crate) fn new_in(alloc: A, pages: u32) -> Result<PageSet<A>, AllocError> {
+    pub(crate) fn new_in(alloc: A, pages: u32) -> Result<PageSet<A>, AllocError>
+        ensures noted { IfOk result (AreNoted []) }
+        ensures pages { IfOk result (λ set. vec_len set.noted ≡ pages) }
+    {
         let noted = Vec::from_elem(alloc, 0u8, pages as usize)?;
         Ok(PageSet {
             noted,
@@ -77,21 +88,43 @@ impl<A: Allocator> PageSet<A> {
         })
     }
 
-    // The number of a set, from 1.
-    fn number(&mut self, codes: Codes) -> u8 {
-        for (index, set) in self.sets.iter().enumerate() {
+    // The number of a set that is kept.
+    fn find(&self, codes: Codes) -> Option<u8>
+        ensures { IsFound self.now.sets.items codes result }
+    {
+        for (index, set) in self.sets.as_slice().iter().enumerate() {
             if *set == codes {
-                return (index as u8).saturating_add(1);
+                return Some(index as u8 + 1);
             }
         }
+        None
+    }
+
+    // Keeps a set, where there is room, and answers its number.
+    fn keep(&mut self, codes: Codes) -> u8
+        ensures noted { self.new.noted ≡ self.old.noted }
+        ensures kept { IsKept self.old.sets.items codes result self.new.sets.items }
+    {
         if self.sets.try_push(codes).is_err() {
             return UNKNOWN;
         }
         self.sets.len() as u8
     }
 
+    // The number of a set, from 1.
+    fn number(&mut self, codes: Codes) -> u8
+        ensures { Numbers codes self.old result self.new }
+    {
+        match self.find(codes) {
+            Some(number) => number,
+            None => self.keep(codes),
+        }
+    }
+
     // What is noted of a page.
-    fn get(&self, page: u32) -> u8 {
+    fn get(&self, page: u32) -> u8
+        ensures { result ≡ number_at self.now.noted.items page }
+    {
         if page == 0 {
             return 0;
         }
@@ -101,34 +134,43 @@ impl<A: Allocator> PageSet<A> {
         }
     }
 
-    /// Notes a fault of a page; one of a number that no page has is not noted.
-    pub(crate) fn note(&mut self, page: u32, code: FaultCode) {
-        let number = self.number(self.codes(page).with(code));
-        if page == 0 {
-            return;
-        }
-        if let Some(noted) = self.noted.get_mut(page as usize - 1) {
-            if number != UNKNOWN || *noted == 0 {
-                *noted = number;
-            }
-        }
-    }
-
-    /// The codes of the faults of a page, where they are known.
-    pub(crate) fn codes(&self, page: u32) -> Codes {
-        let number = self.get(page);
+    // The codes of a set.
+    fn set(&self, number: u8) -> Codes
+        ensures { result ≡ set_numbered self.now.sets.items number }
+    {
         if number == 0 {
-            return Codes::default();
+            return NO_CODES;
         }
         match self.sets.get(number as usize - 1) {
             Some(codes) => *codes,
-            None => Codes::default(),
+            None => NO_CODES,
         }
     }
 
+    /// Notes a fault of a page; one of a number that no page has is not noted. A page whose set of codes is not known stays so.
+    pub(crate) fn note(&mut self, page: u32, code: FaultCode)
+        ensures noted { (fs : List (ℕ × FaultCode)) → AreNoted fs self.old → AreNoted (fs ++ (page, code) ∷ []) self.new }
+        ensures pages { vec_len self.new.noted ≡ vec_len self.old.noted }
+    {
+        if page == 0 || page as usize > self.noted.len() || self.get(page) == UNKNOWN {
+            return;
+        }
+        let number = self.number(self.codes(page).with(code));
+        self.noted[page as usize - 1] = number;
+    }
+
+    /// The codes of the faults of a page, where they are known.
+    pub(crate) fn codes(&self, page: u32) -> Codes
+        ensures { result ≡ shown_codes self.now page }
+    {
+        self.set(self.get(page))
+    }
+
     /// The codes of the faults of these pages, where they are known.
-    pub(crate) fn codes_of(&self, first: u32, last: u32) -> Codes {
-        let mut codes = Codes::default();
+    pub(crate) fn codes_of(&self, first: u32, last: u32) -> Codes
+        ensures { result ≡ codes_of_pages (shown_codes self.now) first last }
+    {
+        let mut codes = NO_CODES;
         for page in first..=last {
             codes = codes.and(self.codes(page));
         }
@@ -136,17 +178,28 @@ impl<A: Allocator> PageSet<A> {
     }
 
     /// Whether one of these pages has a fault.
-    pub(crate) fn any(&self, first: u32, last: u32) -> bool {
-        (first..=last).any(|page| self.has(page))
+    pub(crate) fn any(&self, first: u32, last: u32) -> bool
+        ensures { result ≡ any_page (has_page self.now) first last }
+    {
+        for page in first..=last {
+            if self.has(page) {
+                return true;
+            }
+        }
+        false
     }
 
     /// Whether a page has a fault.
-    pub(crate) fn has(&self, page: u32) -> bool {
+    pub(crate) fn has(&self, page: u32) -> bool
+        ensures { result ≡ has_page self.now page }
+    {
         self.get(page) != 0
     }
 
     /// How many pages have one.
-    pub(crate) fn count(&self) -> u32 {
+    pub(crate) fn count(&self) -> u32
+        ensures { result ≡ min (count_by is_noted self.now.noted.items) 4294967295 }
+    {
         let mut count = 0u32;
         for number in self.noted.iter() {
             count = count.saturating_add(u32::from(*number != 0));

@@ -1,5 +1,5 @@
 // The picture as a whole.
-ghost use Rattle.std.specs.Prelude.{◌≡◌, None};
+ghost use Rattle.std.specs.Prelude.{◌≡◌, ◌≤◌, None};
 ghost use Rattle.dbmap.specs.Canvas.{Draws};
 ghost use Rattle.dbmap.specs.Drawings.{DrawsPicture};
 ghost use Rattle.dbmap.specs.Pictures as pictures;
@@ -172,8 +172,9 @@ pub(crate) fn draw_picture<A: Allocator, O: Out>(
     walk: &mut Walk<A>,
     legend: &Legend,
 )
-    requires { walk.old.pen.group ≡ None }
-    ensures { DrawsPicture O.held heading.now (ground_of squares.now layout.now) legend.now.lines.items canvas.old canvas.new }
+    requires group { walk.old.pen.group ≡ None }
+    requires run { 1 ≤ layout.now.grid.run }
+    ensures { DrawsPicture O.held heading.now (ground_of squares.now layout.now) walk.old.trees.known legend.now.lines.items canvas.old canvas.new }
 {
     let grid = &layout.grid;
     let bottom = grid.top_of(grid.rows());

@@ -1,8 +1,13 @@
 // The squares of the picture, row by row.
-ghost use Rattle.std.specs.Prelude.{◌≡◌, ◌-◌, ◌≤◌, None};
+ghost use Rattle.std.specs.Prelude.{◌≡◌, ◌-◌, ◌≤◌, ℕ, List, None};
+ghost use Rattle.dbformat.specs.Reference.{Reference};
 ghost use Rattle.dbmap.specs.Canvas.{Draws};
 ghost use Rattle.dbmap.specs.Drawings.{DrawsRow, DrawsRows, DrawsSquare, DrawsSquares};
-ghost use Rattle.dbmap.specs.Squares.{front_text, ground_of};
+ghost use Rattle.dbmap.specs.FaultyPages.{IsFaulty, frame_of};
+ghost use Rattle.dbmap.specs.Owners.{IsOf, StaysOf, owner_by, owners_by, starts_of};
+ghost use Rattle.dbmap.specs.PageSets.{any_page, has_page, pages_between};
+ghost use Rattle.dbmap.specs.Shares.{AreShares};
+ghost use Rattle.dbmap.specs.Squares.{faults_ground, front_text, ground_of};
 
 use crate::canvas::Canvas;
 use crate::cell::{Cell, Owner, is_overflow};
@@ -41,7 +46,9 @@ pub(crate) struct Squares<'a, A: Allocator> {
 
 impl<'a, A: Allocator> Squares<'a, A> {
     // Whose a page is that is this and belongs to this start.
-    fn owner(&self, place: Place, start: Option<u32>) -> Owner {
+    fn owner(&self, place: Place, start: Option<u32>) -> Owner
+        ensures { result ≡ owner_by (starts_of self.now.largest.items) place start }
+    {
         match place {
             Place::Fixed => Owner::Fixed,
             Place::Nowhere => Owner::Nobody,
@@ -54,7 +61,10 @@ impl<'a, A: Allocator> Squares<'a, A> {
 
     // Whose some pages are.
     fn cell(&self, walk: &mut Walk<A>, first: u32, last: u32) -> Cell
-        ensures { walk.new.pen ≡ walk.old.pen }
+        ensures shares { (file : List ℕ) (V : List Reference) → IsOf self.now.marks.now walk.old.trees.known file V
+            → AreShares self.now.marks.now (owners_by V (starts_of self.now.largest.items)) (pages_between first last) result }
+        ensures pen { walk.new.pen ≡ walk.old.pen }
+        ensures trees { StaysOf self.now.marks.now walk.old.trees.known walk.new.trees.known }
     {
         let mut cell = Cell::new();
         for page in first..=last {
@@ -66,7 +76,9 @@ impl<'a, A: Allocator> Squares<'a, A> {
     }
 
     // The frame of some pages, one of which may have a fault.
-    fn frame(&self, first: u32, last: u32, has_fault: bool) -> Frame {
+    fn frame(&self, first: u32, last: u32, has_fault: bool) -> Frame
+        ensures { result ≡ frame_of (any_page (has_page self.now.strong.now) first last) has_fault }
+    {
         if self.strong.any(first, last) {
             Frame::Strong
         } else if has_fault {
@@ -77,7 +89,9 @@ impl<'a, A: Allocator> Squares<'a, A> {
     }
 
     // What is shown of the faults of some pages.
-    fn faulty(&self, first: u32, last: u32) -> Faulty {
+    fn faulty(&self, first: u32, last: u32) -> Faulty
+        ensures { IsFaulty (faults_ground self.now) first last result }
+    {
         let has_fault = self.faulty.any(first, last);
         Faulty {
             frame: self.frame(first, last, has_fault),
@@ -93,8 +107,9 @@ impl<'a, A: Allocator> Squares<'a, A> {
         layout: &Layout,
         walk: &mut Walk<A>,
     )
-        requires { walk.old.pen.group ≡ None }
-        ensures { DrawsRows O.held (ground_of self.now layout.now) canvas.old canvas.new }
+        requires group { walk.old.pen.group ≡ None }
+        requires run { 1 ≤ layout.now.grid.run }
+        ensures { DrawsRows O.held (ground_of self.now layout.now) walk.old.trees.known canvas.old canvas.new }
     {
         for row in 0..layout.grid.rows() {
             self.draw_row(canvas, layout, walk, row);
@@ -109,9 +124,11 @@ impl<'a, A: Allocator> Squares<'a, A> {
         walk: &mut Walk<A>,
         row: u32,
     )
-        requires { walk.old.pen.group ≡ None }
-        ensures draws { DrawsRow O.held (ground_of self.now layout.now) row canvas.old canvas.new }
+        requires group { walk.old.pen.group ≡ None }
+        requires run { 1 ≤ layout.now.grid.run }
+        ensures draws { DrawsRow O.held (ground_of self.now layout.now) walk.old.trees.known row canvas.old canvas.new }
         ensures group { walk.new.pen.group ≡ None }
+        ensures trees { StaysOf self.now.marks.now walk.old.trees.known walk.new.trees.known }
     {
         let grid = &layout.grid;
         draw_row_front(canvas, grid, row);
@@ -131,8 +148,11 @@ impl<'a, A: Allocator> Squares<'a, A> {
         first: u32,
         end: u32,
     )
-        requires { first ≤ end }
-        ensures { DrawsSquares O.held (ground_of self.now layout.now) first (end - first) walk.old.pen.group walk.new.pen.group canvas.old canvas.new }
+        requires order { first ≤ end }
+        requires run { 1 ≤ layout.now.grid.run }
+        ensures draws { DrawsSquares O.held (ground_of self.now layout.now) walk.old.trees.known first (end - first)
+            walk.old.pen.group walk.new.pen.group canvas.old canvas.new }
+        ensures trees { StaysOf self.now.marks.now walk.old.trees.known walk.new.trees.known }
     {
         for cell in first..end {
             self.draw_square(canvas, layout, walk, cell);
@@ -147,7 +167,10 @@ impl<'a, A: Allocator> Squares<'a, A> {
         walk: &mut Walk<A>,
         cell: u32,
     )
-        ensures { DrawsSquare O.held (ground_of self.now layout.now) cell walk.old.pen.group walk.new.pen.group canvas.old canvas.new }
+        requires { 1 ≤ layout.now.grid.run }
+        ensures draws { DrawsSquare O.held (ground_of self.now layout.now) walk.old.trees.known cell
+            walk.old.pen.group walk.new.pen.group canvas.old canvas.new }
+        ensures trees { StaysOf self.now.marks.now walk.old.trees.known walk.new.trees.known }
     {
         if layout.grid.run == 1 {
             self.draw_page(canvas, layout, walk, cell);
@@ -164,7 +187,10 @@ impl<'a, A: Allocator> Squares<'a, A> {
         walk: &mut Walk<A>,
         cell: u32,
     )
-        ensures { DrawsSquare O.held (ground_of self.now layout.now) cell walk.old.pen.group walk.new.pen.group canvas.old canvas.new }
+        requires { 2 ≤ layout.now.grid.run }
+        ensures draws { DrawsSquare O.held (ground_of self.now layout.now) walk.old.trees.known cell
+            walk.old.pen.group walk.new.pen.group canvas.old canvas.new }
+        ensures trees { StaysOf self.now.marks.now walk.old.trees.known walk.new.trees.known }
     {
         let grid = &layout.grid;
         let (first, last) = grid.pages_of(cell);
@@ -200,7 +226,9 @@ impl<'a, A: Allocator> Squares<'a, A> {
         cell: u32,
     )
         requires { layout.now.grid.run ≡ 1 }
-        ensures { DrawsSquare O.held (ground_of self.now layout.now) cell walk.old.pen.group walk.new.pen.group canvas.old canvas.new }
+        ensures draws { DrawsSquare O.held (ground_of self.now layout.now) walk.old.trees.known cell
+            walk.old.pen.group walk.new.pen.group canvas.old canvas.new }
+        ensures trees { StaysOf self.now.marks.now walk.old.trees.known walk.new.trees.known }
     {
         let grid = &layout.grid;
         let (page, _) = grid.pages_of(cell);

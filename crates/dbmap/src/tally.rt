@@ -1,5 +1,10 @@
 // How many pages each tree has.
-ghost use Rattle.std.specs.Prelude.{◌≤◌};
+ghost use Rattle.std.specs.Prelude.{◌≡◌, ◌↔◌, ◌≤◌, ℕ, List, IfOk, IfSome, IsTrue, map, option_map, replicate, vec_len};
+ghost use Rattle.dbformat.specs.Reference.{Reference};
+ghost use Rattle.dbmap.specs.Cells.{no_share};
+ghost use Rattle.dbmap.specs.Owners.{IsOf, StaysOf, rank_of, starts_of};
+ghost use Rattle.dbmap.specs.Tallies.{AreLargest, IsNext, IsNone, IsTallyOf, page_counted, pages_at, share_at, start_counted, used_counted};
+ghost use Rattle.dbmap.specs.TreeLists.{IsAfterTree, IsBeforeTree, IsFirstTree, IsOfTally, tree_at};
 
 use crate::cell::{Share, is_overflow};
 use arrayvec::ArrayVec;
@@ -7,9 +12,13 @@ use dbformat::FREELIST_START;
 use dbowner::{PageTrees, Place, place_of};
 use dbwalk::Marks;
 use std::alloc::{AllocError, Allocator, Global};
+use std::marker::Model;
 
 /// How many trees have a colour of their own.
 pub(crate) const COLOURED: usize = 12;
+
+// How many starts there are.
+const STARTS: usize = FREELIST_START as usize + 1;
 
 /// A tree, by its start.
 #[derive(Clone, Copy, Default)]
@@ -20,20 +29,64 @@ pub(crate) struct Tree {
 
 impl Tree {
     // Whether it comes before another: it has more pages, or as many and a lesser start.
-    fn is_before(&self, other: &Tree) -> bool {
+    fn is_before(&self, other: &Tree) -> bool
+        ensures { IsTrue result ↔ IsBeforeTree self.now other.now }
+    {
         let (pages, others) = (self.share.pages, other.share.pages);
         pages > others || (pages == others && self.start < other.start)
     }
 }
 
+// Whether a tree comes after another one, if there is one.
+fn is_after(tree: &Tree, other: Option<Tree>) -> bool
+    ensures { IsTrue result ↔ IsAfterTree other tree.now }
+{
+    match other {
+        Some(other) => other.is_before(tree),
+        None => true,
+    }
+}
+
+// Whether a tree comes before another one, if there is one.
+fn is_first(tree: &Tree, other: Option<Tree>) -> bool
+    ensures { IsTrue result ↔ IsFirstTree tree.now other }
+{
+    match other {
+        Some(other) => tree.is_before(&other),
+        None => true,
+    }
+}
+
 /// How many pages each start has, how many have a fixed use, and how many are nobody's.
 #[derive(Drop)]
-pub(crate) struct Tally<A: Allocator = Global> {
+pub struct Tally<A: Allocator = Global> {
     starts: Vec<Share, A>,
     // One more than the greatest start of a tree that has a page.
     trees: u32,
-    pub(crate) fixed: u32,
-    pub(crate) nobody: u32,
+    fixed: u32,
+    nobody: u32,
+}
+
+impl<A: Allocator> Model for Tally<A> {
+    ghost use Rattle.dbmap.specs.Tallies.{Tallied};
+
+    ghost Value = { Tallied };
+
+    ghost use Rattle.dbmap.specs.Tallies.{tallied, IsRoomy};
+
+    ghost view = { tallied };
+
+    ghost invariant = { IsRoomy };
+}
+
+// Makes all shares empty.
+fn zero<A: Allocator>(starts: &mut Vec<Share, A>)
+    ensures starts { starts.new.items ≡ replicate (vec_len starts.old) no_share }
+    ensures len { vec_len starts.new ≡ vec_len starts.old }
+{
+    for index in 0..starts.len() {
+        starts[index] = Share::default();
+    }
 }
 
 impl<A: Allocator> Tally<A> {
@@ -43,7 +96,7 @@ impl<A: Allocator> Tally<A> {
     ///
     /// [`AllocError`] where the growth was refused.
     pub(crate) fn new_in(alloc: A) -> Result<Tally<A>, AllocError> {
-        let starts = Vec::from_elem(alloc, Share::default(), FREELIST_START as usize + 1)?;
+        let starts = Vec::from_elem(alloc, Share::default(), STARTS)?;
         Ok(Tally {
             starts,
             trees: 0,
@@ -53,35 +106,57 @@ impl<A: Allocator> Tally<A> {
     }
 
     // Forgets all.
-    fn clear(&mut self) {
-        self.starts.as_mut_slice().fill(Share::default());
+    fn clear(&mut self)
+        ensures { IsNone self.new }
+    {
+        zero(&mut self.starts);
         self.trees = 0;
         self.fixed = 0;
         self.nobody = 0;
     }
 
     /// Counts all pages, and none that was counted before.
-    pub(crate) fn count<B: Allocator>(&mut self, marks: &Marks<B>, trees: &mut PageTrees<B>) {
+    pub(crate) fn count<B: Allocator>(&mut self, marks: &Marks<B>, trees: &mut PageTrees<B>)
+        ensures tally { (file : List ℕ) (V : List Reference) → IsOf marks.now trees.old.known file V → IsTallyOf file V self.new }
+        ensures trees { StaysOf marks.now trees.old.known trees.new.known }
+    {
         self.clear();
         for index in 0..marks.pages() {
             let page = index + 1;
-            self.add(place_of(marks, page), trees.start_of(marks, page));
+            let start = trees.start_of(marks, page);
+            self.add(place_of(marks, page), start);
         }
     }
 
     // Counts a page.
-    fn add(&mut self, place: Place, start: Option<u32>) {
-        match (place, start) {
-            (Place::Fixed, _) => self.fixed = self.fixed.saturating_add(1),
-            (_, Some(start)) => self.add_to(start, is_overflow(place)),
-            (_, None) => self.nobody = self.nobody.saturating_add(1),
+    fn add(&mut self, place: Place, start: Option<u32>)
+        ensures { self.new ≡ page_counted place start self.old }
+    {
+        match place {
+            Place::Fixed => self.fixed = self.fixed.saturating_add(1),
+            _ => self.add_used(start, is_overflow(place)),
+        }
+    }
+
+    // Counts a page that has no fixed use.
+    fn add_used(&mut self, start: Option<u32>, is_overflow: bool)
+        ensures { self.new ≡ used_counted start is_overflow self.old }
+    {
+        match start {
+            Some(start) => self.add_to(start, is_overflow),
+            None => self.nobody = self.nobody.saturating_add(1),
         }
     }
 
     // Counts a page of a start.
-    fn add_to(&mut self, start: u32, is_overflow: bool) {
-        if let Some(share) = self.starts.get_mut(start as usize) {
+    fn add_to(&mut self, start: u32, is_overflow: bool)
+        ensures { self.new ≡ start_counted start is_overflow self.old }
+    {
+        let index = start as usize;
+        if index < STARTS {
+            let mut share = self.starts[index];
             share.add(is_overflow);
+            self.starts[index] = share;
         }
         if start < FREELIST_START {
             self.trees = self.trees.max(start + 1);
@@ -89,24 +164,49 @@ impl<A: Allocator> Tally<A> {
     }
 
     /// What a start has.
-    pub(crate) fn share(&self, start: u32) -> Share {
+    pub(crate) fn share(&self, start: u32) -> Share
+        ensures { result ≡ share_at self.now.starts start }
+    {
         match self.starts.get(start as usize) {
             Some(share) => *share,
             None => Share::default(),
         }
     }
 
-    // The tree that comes next behind another one, or the first.
-    fn next(&self, behind: Option<Tree>) -> Option<Tree> {
+    /// How many pages have a fixed use.
+    pub(crate) fn fixed(&self) -> u32
+        ensures { result ≡ self.now.fixed }
+    {
+        self.fixed
+    }
+
+    /// How many pages are nobody's.
+    pub(crate) fn nobody(&self) -> u32
+        ensures { result ≡ self.now.nobody }
+    {
+        self.nobody
+    }
+
+    // The tree of a start.
+    fn tree(&self, start: u32) -> Tree
+        ensures { result ≡ tree_at self.now.starts start }
+    {
+        Tree {
+            start,
+            share: self.share(start),
+        }
+    }
+
+    // The tree that comes next after another one, or the first.
+    fn next(&self, behind: Option<Tree>) -> Option<Tree>
+        requires { IsOfTally self.now.starts behind }
+        ensures next { IsNext self.now.trees (pages_at self.now.starts) (option_map (λ t. t.start) behind) (option_map (λ t. t.start) result) }
+        ensures share { IsOfTally self.now.starts result }
+    {
         let mut next: Option<Tree> = None;
         for start in 0..self.trees {
-            let tree = Tree {
-                start,
-                share: self.share(start),
-            };
-            let is_behind = behind.is_none_or(|other| other.is_before(&tree));
-            let is_first = next.is_none_or(|other| tree.is_before(&other));
-            if tree.share.pages != 0 && is_behind && is_first {
+            let tree = self.tree(start);
+            if tree.share.pages != 0 && is_after(&tree, behind) && is_first(&tree, next) {
                 next = Some(tree);
             }
         }
@@ -114,7 +214,10 @@ impl<A: Allocator> Tally<A> {
     }
 
     /// The largest trees, by how many pages they have, and then by their starts.
-    pub(crate) fn largest(&self) -> ArrayVec<Tree, COLOURED> {
+    pub(crate) fn largest(&self) -> ArrayVec<Tree, COLOURED>
+        ensures largest { AreLargest self.now.trees (pages_at self.now.starts) (starts_of result.items) }
+        ensures shares { result.items ≡ map (tree_at self.now.starts) (starts_of result.items) }
+    {
         let mut largest = ArrayVec::new();
         let mut last = None;
         for _ in 0..COLOURED {
@@ -146,7 +249,8 @@ impl<A: Allocator> Tally<A> {
 
 /// The rank of a start among the largest trees, or that of all others.
 pub(crate) fn rank_of(largest: &[Tree], start: Option<u32>) -> usize
-    ensures { result ≤ 12 }
+    ensures rank { result ≡ rank_of (starts_of largest.now) start }
+    ensures most { result ≤ 12 }
 {
     for (rank, tree) in largest.iter().enumerate() {
         if Some(tree.start) == start && rank < COLOURED {

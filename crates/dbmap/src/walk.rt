@@ -1,5 +1,10 @@
 // What changes from one square to the next.
-ghost use Rattle.std.specs.Prelude.{◌≡◌, None};
+ghost use Rattle.std.specs.Prelude.{◌≡◌, ◌≤◌, None, List, ℕ, length};
+ghost use Rattle.dbformat.specs.Reference.{Reference};
+ghost use Rattle.dbformat.specs.Survey.{Survey};
+ghost use Rattle.dbmarks.specs.Marking.{AreMarksOf};
+ghost use Rattle.dbowner.specs.Climbs.{AreTrees};
+ghost use Rattle.dbscan.specs.Roots.{AreListed};
 
 use crate::pen::Pen;
 use dbowner::{PageTrees, RootList, TreeNames};
@@ -19,7 +24,9 @@ pub(crate) struct Walk<A: Allocator = Global> {
 
 impl<A: Allocator> Walk<A> {
     /// One that has come to no square.
-    pub(crate) fn new(trees: PageTrees<A>) -> Walk<A> {
+    pub(crate) fn new(trees: PageTrees<A>) -> Walk<A>
+        ensures { result.trees ≡ trees }
+    {
         Walk {
             trees,
             pen: Pen::new(),
@@ -34,7 +41,9 @@ impl<A: Allocator> Walk<A> {
         marks: &Marks<B>,
         roots: &RootList<C>,
     )
-        ensures { self.new.pen.group ≡ None }
+        ensures group { self.new.pen.group ≡ None }
+        ensures trees { (file : List ℕ) (V : List Reference) → Survey file V → AreMarksOf file V marks.now → AreListed file V roots.now.rows
+            → length marks.now ≤ length self.old.trees.known → AreTrees file V self.new.trees.known }
     {
         self.trees.enter_roots(marks, roots);
         self.pen = Pen::new();
@@ -44,7 +53,8 @@ impl<A: Allocator> Walk<A> {
 
     /// Makes the name that of the tree of a start, or nothing. Pages that follow one another are mostly of one tree.
     pub(crate) fn name<B: Allocator>(&mut self, names: &TreeNames<'_, B>, start: Option<u32>)
-        ensures { self.new.pen ≡ self.old.pen }
+        ensures pen { self.new.pen ≡ self.old.pen }
+        ensures trees { self.new.trees ≡ self.old.trees }
     {
         if start == self.named {
             return;

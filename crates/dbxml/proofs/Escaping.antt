@@ -14,6 +14,6 @@ next_plain text i none h plain rest =
     let cut : drop i text ≡ get_or text i none ∷ drop (i + 1) text = rw add-one (drop-cons text i none h) in
     next_byte text i none h ∙ ap₂ (λ a b. a ++ b) plain rest ∙ sym cut
 
--- and behind the last byte nothing is left
+-- and after the last byte nothing is left
 pub none_left : (text : List ℕ) (i : ℕ) → length text ≤ i → escaped (drop i text) ≡ drop i text
 none_left text i h = rw (drop_all i text h) refl

@@ -10,13 +10,6 @@ use Rattle.dbxml.specs.Pieces.{piece_text, pieces_text}
 use Rattle.dbxml.specs.Puts.{Leaves, Takes}
 use Rattle.dbxml.specs.declared.pieces.Piece.{Piece}
 
--- what wants to be put is put later
-pub takes_waiting : {A E : Type 0} (x : A) (o : OutState) (w b : List ℕ) → Takes {A = A} {E = E} (Ok x) o o w (w ++ b) b
-takes_waiting x o w b = record {
-  held = record { done = []; whole = refl; added = appends_nothing o.bytes };
-  count = refl;
-}
-
 -- all of it was put
 pub takes_put : {A E : Type 0} (r : Result A E) {o n : OutState} {w b : List ℕ} → Puts r o n (w ++ b) → Takes r o n w [] b
 takes_put (Ok x) {w = w} {b = b} h = record {
@@ -63,9 +56,6 @@ pub record HasTaken (old now : OutState) (waiting rest whole : List ℕ) : Type 
   pub done : List ℕ
   pub split : done ++ (waiting ++ rest) ≡ whole
   pub put : Puts {E = WriteFailed} (Ok (tt {0})) old now done
-
-pub taken_none : (o : OutState) (whole : List ℕ) → HasTaken o o [] whole whole
-taken_none o whole = record { done = []; split = refl; put = record { held = appends_nothing o.bytes; count = refl } }
 
 pub taken_more : {o m n : OutState} {w v rest whole : List ℕ} {s : Result (Unit {0}) WriteFailed} {x : Unit {0}} (a left : List ℕ)
     → HasTaken o m w rest whole → s ≡ Ok x → Takes s m n w v a → rest ≡ a ++ left → HasTaken o n v left whole

@@ -9,7 +9,7 @@ use Rattle.dbxml.specs.declared.pieces.Piece.TheVariants.{Markup, Number, Tenths
 abbrev pub ellipsis : List ℕ
 ellipsis = 226 ∷ 128 ∷ 166 ∷ []
 
--- a text in so many columns at most, escaped: a longer one is cut at a character, and ends with an ellipsis
+-- a text in at most `width` columns, escaped: a longer one is cut at a character, and ends with an ellipsis
 abbrev pub shown_text : List ℕ → ℕ → List ℕ
 shown_text text width = if fitting width text == length text then escaped text else escaped (take (fitting width text) text ++ ellipsis)
 

@@ -6,7 +6,7 @@ use Rattle.std.specs.Prelude.{ℕ, suc, ◌-◌, List, [], ◌∷◌, nat_lt, if
 abbrev pub columns : ℕ → ℕ
 columns byte = if nat_lt byte 128 then 1 else (if nat_lt byte 192 then 0 else (if nat_lt byte 224 then 1 else 2))
 
--- how many bytes of a text fit in so many columns
+-- how many bytes of a text fit in `width` columns
 abbrev pub fitting : ℕ → List ℕ → ℕ
 fitting width [] = 0
 fitting width (byte ∷ text) = if nat_lt width (columns byte) then 0 else suc (fitting (width - columns byte) text)

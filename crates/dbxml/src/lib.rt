@@ -12,5 +12,7 @@ mod pieces;
 mod shown;
 mod xml;
 
+pub use dbowner::TreeNames;
+pub use dbsource::{Out, WriteFailed};
 pub use pieces::{Piece, put_all};
 pub use shown::{Shown, shown_file, shown_tree};

@@ -18,7 +18,7 @@ pub enum Piece<'a> {
     Number(u64),
     /// A number of tenths, with one decimal.
     Tenths(u64),
-    /// A text that is not of this crate, in so many columns at most.
+    /// A text that is not of this crate, in at most this many columns.
     Shown(&'a Shown, u32),
 }
 

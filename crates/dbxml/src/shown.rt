@@ -46,7 +46,7 @@ impl Shown {
         }
     }
 
-    /// The text as it is, where it fits in so many columns and nothing of it is markup.
+    /// The text as it is, where it fits in `width` columns and nothing of it is markup.
     pub(crate) fn plain(&self, width: u32) -> Option<&[u8]>
         ensures { IfSome result (λ text. text.now ≡ shown_text self.now width) }
     {
@@ -125,7 +125,7 @@ fn columns(byte: u8) -> u32
     }
 }
 
-// How many bytes of a text fit in so many columns.
+// How many bytes of a text fit in `width` columns.
 fn fitting(text: &[u8], width: u32) -> usize
     ensures fit { result ≡ widths.fitting width text.now }
     ensures bound { result ≤ length text.now }
@@ -141,7 +141,7 @@ fn fitting(text: &[u8], width: u32) -> usize
     text.len()
 }
 
-/// Puts a text, in so many columns at most: a longer one is cut at a character, and ends with an ellipsis.
+/// Puts a text, in at most `width` columns: a longer one is cut at a character, and ends with an ellipsis.
 ///
 /// # Errors
 ///

@@ -77,7 +77,7 @@ const FILES: [[&str; 2]; 17] = [
     ],
 ];
 
-// Whether a check that shows so many faults answers this and writes this.
+// Whether a check that shows this many faults answers this and writes this.
 fn is_checked(
     alloc: Global,
     limit: u32,
@@ -136,7 +136,7 @@ const CUT: [(u32, u32, usize, Result<Verdict, RunError>, &str, usize); 7] = [
     (512, 1, 511, NO_PAGE, "", 1),
 ];
 
-// Whether a check of some bytes answers this, writes this, and asks for the first ranges, so many, of header and page 1.
+// Whether a check of some bytes answers this, writes this, and asks for the first ranges of header and page 1, this many.
 fn asks(
     alloc: Global,
     bytes: &[u8],

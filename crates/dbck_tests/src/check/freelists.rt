@@ -80,7 +80,7 @@ fn tells_the_faults_of_freelists_and_maps(rt: HostRuntime) -> Result<(), Fail> {
     are_checked(&rt, rt.alloc(), &ROWS)
 }
 
-// These lines, that so many pages from this one on are not in use, and how many faults more there are.
+// These lines, that this many pages from this one on are not in use, and how many faults more there are.
 fn unused_pages(
     alloc: Global,
     before: &str,
@@ -101,7 +101,7 @@ fn unused_pages(
 const TOO_MANY_LEAVES: &str = "L01 page 2 item 0 value 127: trunk holds too many leaves\n\
     H10 page 1 item 0 value 1: freelist count differs from the header\n";
 
-// Whether a check that shows so many faults finds so many in all, writes this, and asks for these pages.
+// Whether a check that shows this many faults finds this many in all, writes this, and asks for these pages.
 fn is_checked(
     alloc: Global,
     limit: u32,
@@ -120,7 +120,7 @@ fn is_checked(
     is_found(&found, Ok(verdict), report.as_bytes(), b"") && are_asked(source.ranges(), asked)
 }
 
-// A trunk has room for so many leaves and no more.
+// A trunk has room for this many leaves and no more.
 #[test]
 fn counts_the_leaves_of_a_trunk(rt: HostRuntime) -> Result<(), Fail> {
     let full = file_of(rt.alloc(), "trunk 126")?;
@@ -131,7 +131,7 @@ fn counts_the_leaves_of_a_trunk(rt: HostRuntime) -> Result<(), Fail> {
     Ok(())
 }
 
-// A page that nothing refers to is told, and a limit is of the lines alone.
+// A page that nothing refers to is reported, and a limit is of the lines alone.
 #[test]
 fn counts_all_faults_and_shows_some(rt: HostRuntime) -> Result<(), Fail> {
     let file = file_of(rt.alloc(), "Smallest 102")?;

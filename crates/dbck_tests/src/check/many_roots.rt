@@ -6,10 +6,10 @@ use dbsource::MemSource;
 use std::alloc::{AllocError, Global};
 use std::test::Fail;
 
-// How many rows of the schema stand on each of its leaves but the last.
+// How many rows of the schema are on each of its leaves but the last.
 const ROWS_A_LEAF: u32 = 2848;
 
-// A schema of so many rows, each of a table whose root is page 65537. Its leaves are the pages behind page 1, of 65536 bytes.
+// A schema of this many rows, each of a table whose root is page 65537. Its leaves are the pages after page 1, of 65536 bytes.
 fn many_roots(alloc: Global, rows: u32) -> Result<Vec<u8>, AllocError> {
     let row = Record::new()
         .text(b"table")
@@ -43,7 +43,7 @@ fn many_roots(alloc: Global, rows: u32) -> Result<Vec<u8>, AllocError> {
 const TOO_MANY_ROOTS: &[u8] =
     b"S04 page 25 item 32 value 65537: more than 65536 root pages\nmore 65536\n";
 
-// All roots are past the end of the file. Row 65537 is no start: it is told as the schema is walked, before the starts.
+// All roots are past the end of the file. Row 65537 is no start: it is reported as the schema is walked, before the starts.
 #[test]
 fn tells_of_the_65537th_root(rt: HostRuntime) -> Result<(), Fail> {
     let file = many_roots(rt.alloc(), 65537)?;

@@ -85,7 +85,7 @@ const TOO_DEEP: &str = "T04 page 20 item 0 value 21: tree is deeper than 20 page
 
 const ASKED: &str = "1 2 3 4 5 6 7 8 9 10 11 12 13 14 15 16 17 18 19 20";
 
-// Whether a check of a ladder finds so many faults: those of its empty pages, and these lines.
+// Whether a check of a ladder finds this many faults: those of its empty pages, and these lines.
 fn has_lines(alloc: Global, file: &[u8], faults: u64, behind: &str) -> bool {
     let mut source = LogSource::new(file);
     let found = found_of(alloc, check_of(100), &mut source);

@@ -5,7 +5,7 @@ use std::alloc::{AllocError, Global};
 use std::test::Fail;
 
 // Two tables of two leaves each: the leaves of `customer` are of the rowids 4 and 5, and 6 and 7, and those of `order` of 100 and
-// 200, and 201. The first and the last leaf stand on these pages, and the last child of `order` is this.
+// 200, and 201. The first and the last leaf are these pages, and the last child of `order` is this.
 fn two_tables(
     alloc: Global,
     first: u32,
@@ -38,7 +38,7 @@ fn root_cut_off(alloc: Global) -> Result<TestFile, AllocError> {
     Ok(file)
 }
 
-// A table behind a pointer map, whose last child is of page 3 and not, as its entry says, of page 4.
+// A table after a pointer map, whose last child is of page 3 and not, as its entry says, of page 4.
 fn wrong_entry(alloc: Global) -> Result<TestFile, AllocError> {
     let mut file = TestFile::new(alloc, 512, 5)?;
     file.schema(&[schema_row(b"table", b"t", 3)]);
@@ -56,7 +56,7 @@ fn damaged(alloc: Global, damage: &str) -> Result<TestFile, AllocError> {
         "leaves exchanged" => two_tables(alloc, 7, 3, 7),
         // The last child of `order` is the last one of `customer`, so that its own is lost.
         "a leaf shared" => two_tables(alloc, 3, 7, 4),
-        // The root of an index is behind the end of the file.
+        // The root of an index is after the end of the file.
         "a root cut off" => root_cut_off(alloc),
         // A child whose entry in the pointer map names another page.
         "a wrong entry" => wrong_entry(alloc),

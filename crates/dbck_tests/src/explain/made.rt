@@ -121,7 +121,7 @@ fn stripes(alloc: Global, pages: u32) -> Result<TestFile, AllocError> {
     Ok(file)
 }
 
-// Behind a pointer map whose entries of pages 4 and 8 are wrong, pages 5 to 7 are in no use: two of zeros, and a leaf between.
+// After a pointer map whose entries of pages 4 and 8 are wrong, pages 5 to 7 are in no use: two of zeros, and a leaf between.
 fn woven(alloc: Global) -> Result<TestFile, AllocError> {
     let mut file = TestFile::new(alloc, 512, 8)?;
     file.schema(&[schema_row(b"table", b"t", 3)]);
@@ -188,7 +188,7 @@ fn named(alloc: Global, name: &str, number: u32) -> Result<TestFile, AllocError>
     }
 }
 
-/// The bytes of a file of a text: one of the above by its name, with its pages where these vary, or a sample, and behind a colon
+/// The bytes of a file of a text: one of the above by its name, with its pages where these vary, or a sample, and after a colon
 /// what is written over it, as in [`TestFile::of`].
 pub(crate) fn made(alloc: Global, text: &str) -> Result<Vec<u8>, AllocError> {
     let (front, changes) = text.split_once(':').unwrap_or((text, ""));
@@ -214,7 +214,7 @@ fn stated_faults(text: &str) -> u64 {
     0
 }
 
-/// Whether some bytes are explained so, with so many entries at most, and with the verdict that the text states.
+/// Whether some bytes are explained so, with this many entries at most, and with the verdict that the text states.
 pub(crate) fn is_explained(alloc: Global, bytes: &[u8], limit: u32, text: &str) -> bool {
     let mut source = MemSource::new(bytes);
     let mut out = MemOut::new(alloc);

@@ -11,12 +11,12 @@ use std::alloc::{AllocError, Global};
 use std::process::Abort;
 use std::test::Fail;
 
-// The first bytes, so many, of what is written of the file with two owners.
+// The first `len` bytes of what is written of the file with two owners.
 fn beginning(len: usize) -> &'static [u8] {
     SHARED.as_bytes().get(..len).unwrap_or(&[])
 }
 
-// The call of the source with this number fails: so many bytes were written by then.
+// The call of the source with this number fails: this many bytes were written by then.
 fn fails_at_read(rt: &impl Abort, alloc: Global, file: &[u8], fails_at: u64, written: usize) {
     let mut source = StatedSource::new(file, file.len() as u64, fails_at);
     let mut out = SmallOut::new(2048);
@@ -139,7 +139,7 @@ fn each_write_fails_in_turn(rt: HostRuntime) -> Result<(), Fail> {
     Ok(())
 }
 
-// A heap of so many bytes answers so: nothing of it is held then, and nothing was written where it is an error.
+// A heap of this many bytes answers so: nothing of it is held then, and nothing was written where it is an error.
 fn in_room(
     rt: &impl Abort,
     alloc: Global,

@@ -105,7 +105,7 @@ fn squares_stand_for_runs(rt: HostRuntime) -> Result<(), Fail> {
 }
 
 // The picture of a file.
-fn drawn(rt: &impl Abort, alloc: Global, file: &[u8], texts: &[&str]) {
+pub(crate) fn drawn(rt: &impl Abort, alloc: Global, file: &[u8], texts: &[&str]) {
     let mut source = MemSource::new(file);
     let mut out = MemOut::new(alloc);
     let verdict = map(alloc, "x", &mut source, &mut out);

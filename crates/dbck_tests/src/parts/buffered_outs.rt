@@ -53,7 +53,7 @@ fn out_over(
     BufferedOut::new(alloc, counting(alloc, at_once, fails_at))
 }
 
-// Adds so many bytes, each unlike its neighbours, and none a line feed.
+// Adds this many bytes, each unlike its neighbours, and none a line feed.
 fn add_bytes(bytes: &mut Vec<u8>, len: usize) -> Result<(), AllocError> {
     for i in 0..len {
         bytes.push(b'\n' + 1 + (i % 241) as u8)?;
@@ -66,7 +66,7 @@ fn is_put(out: &mut BufferedOut<CountingWriter>, bytes: &[u8], from: usize) -> b
     out.put(bytes.get(from..).unwrap_or(&[])) == Ok(())
 }
 
-// Puts a piece of so many bytes, and adds them to all that were put. An `n` behind the number makes the last one a line feed.
+// Puts a piece of this many bytes, and adds them to all that were put. An `n` after the number makes the last one a line feed.
 fn is_piece_put(
     out: &mut BufferedOut<CountingWriter>,
     all: &mut Vec<u8>,
@@ -83,14 +83,14 @@ fn is_piece_put(
     Ok(is_put(out, all.as_slice(), from))
 }
 
-// That all bytes were taken behind a flush.
+// That all bytes were taken after a flush.
 fn is_flushed(rt: &impl Abort, out: &mut BufferedOut<CountingWriter>, all: &[u8], of: &str) {
     holds!(*rt; out.flush() == Ok(()), of);
     holds!(*rt; out.gathered().is_empty(), of);
     holds!(*rt; out.writer().taken.as_slice() == all, of);
 }
 
-// Pieces by their lengths, an `n` behind those that end with a line feed; and how many bytes are gathered then, how many the
+// Pieces by their lengths, an `n` after those that end with a line feed; and how many bytes are gathered then, how many the
 // writer took, and in how many writes.
 const PUTS: [(&str, &str); 21] = [
     ("1 2 3", "6 0 0"),
@@ -104,7 +104,7 @@ const PUTS: [(&str, &str); 21] = [
     ("7 65537 5", "5 65544 2"),
     ("65536 65536 65536", "65536 131072 2"),
     ("100000 100000 100000", "0 300000 3"),
-    // The line that was begun stays, where the piece has room behind it, also just so.
+    // The line that was begun stays, where the piece has room after it, also just so.
     ("10n 65520 7 0", "65527 10 1"),
     ("10n 65526 10 0", "65536 10 1"),
     // And goes where it has none.
@@ -116,7 +116,7 @@ const PUTS: [(&str, &str); 21] = [
     // A line of 65536 bytes is written at once, and one of 65537 is not.
     ("10n 65535 1n 1", "1 65546 2"),
     ("10n 65535 2n 1", "3 65545 2"),
-    // A piece that is longer than the buffer is written behind all that was gathered.
+    // A piece that is longer than the buffer is written after all that was gathered.
     ("10n 5 65537n 3", "3 65552 2"),
     ("10n 70000 70000 6n", "6 140010 3"),
 ];
@@ -166,7 +166,7 @@ const PIECES: [&str; 4] = [
     "6\n",
 ];
 
-// Puts a row: what the writer took ends with a row, and after so many rows it took so many.
+// Puts a row: what the writer took ends with a row, and after this many rows it took this many.
 fn puts_row(rt: &impl Abort, out: &mut BufferedOut<CountingWriter>, row: u64) {
     for piece in PIECES {
         holds!(*rt; out.put(piece.as_bytes()) == Ok(()), row);
@@ -188,7 +188,7 @@ fn rows_of_several_puts_are_not_torn(rt: HostRuntime) -> Result<(), Fail> {
     Ok(())
 }
 
-// Puts so many bytes, of which the first may be another, and flushes them.
+// Puts this many bytes, of which the first may be another, and flushes them.
 fn puts_and_flushes(
     rt: &impl Abort,
     out: &mut BufferedOut<CountingWriter>,
@@ -276,7 +276,7 @@ fn each_failing_write_keeps_the_rest(rt: HostRuntime) -> Result<(), Fail> {
     Ok(())
 }
 
-// Puts two pieces into so much room. Whether the second was taken, and the flush behind it.
+// Puts two pieces into this much room. Whether the second was taken, and the flush after it.
 fn put_two(
     alloc: Global,
     held: &mut [u8],
@@ -290,7 +290,7 @@ fn put_two(
     Ok((is_first, is_second, is_flushed))
 }
 
-// The first piece, of so many bytes, is gathered, and the second has no room, or is longer than the buffer.
+// The first piece, of this many bytes, is gathered, and the second has no room, or is longer than the buffer.
 fn ends_at(
     rt: &impl Abort,
     alloc: Global,
@@ -327,7 +327,7 @@ fn room_ends_at_each_byte(rt: HostRuntime) -> Result<(), Fail> {
     Ok(())
 }
 
-// Whether an out finds room in so many bytes of memory, and writes.
+// Whether an out finds room in this many bytes of memory, and writes.
 fn is_written_in(alloc: Global, room: usize) -> Result<bool, AllocError> {
     let heap = LocalHeap::new(alloc, room)?;
     let Ok(mut out) = BufferedOut::new_in(&heap, counting(alloc, 100, 100)) else {

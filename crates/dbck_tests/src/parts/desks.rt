@@ -25,7 +25,7 @@ fn header_of(bytes: &[u8]) -> Result<Header, OpenError> {
 
 const FAULTY: &str = "O01 page 3 item 0 value 2: last overflow page names a next page\n";
 
-// Marks and roots of the first run do not stand in the way of the second.
+// Marks and roots of the first run do not change the second.
 #[test]
 fn a_desk_serves_twice(rt: HostRuntime) -> Result<(), Fail> {
     for (text, verdict, out) in [
@@ -80,7 +80,7 @@ fn a_desk_serves_both_commands(rt: HostRuntime) -> Result<(), Fail> {
 }
 
 // The marks of the most pages that are taken are 256 MiB, and nothing says that there is too little memory: the read of page 1
-// fails, behind the length and the header.
+// fails, after the length and the header.
 #[test]
 fn takes_marks_of_67108864_pages(rt: HostRuntime) -> Result<(), Fail> {
     let file = TestFile::new(rt.alloc(), 512, 1)?.into_bytes();
@@ -110,7 +110,7 @@ fn are_of_pages(offsets: &[u64]) -> bool {
     are_new
 }
 
-// How many reads a run over such a header and drawn bytes makes, where it finds faults, and reads no page twice behind the
+// How many reads a run over such a header and drawn bytes makes, where it finds faults, and reads no page twice after the
 // header, nor any part of one; and else 0.
 fn drawn_reads(alloc: Global, header: &[u8], drawn: u32) -> usize {
     let mut source = DrawnSource::new(header, 32768, drawn);
@@ -123,7 +123,7 @@ fn drawn_reads(alloc: Global, header: &[u8], drawn: u32) -> usize {
     }
 }
 
-// The header of 64 pages with a pointer map and a freelist, and then other bytes at each read: no page is read twice behind
+// The header of 64 pages with a pointer map and a freelist, and then other bytes at each read: no page is read twice after
 // the header, and the call returns.
 #[test]
 fn reads_no_page_twice(rt: HostRuntime) -> Result<(), Fail> {

@@ -96,14 +96,14 @@ fn counts_pages(rt: HostRuntime) -> Result<(), Fail> {
     Ok(())
 }
 
-// Whether a header of a file of so many bytes is read, and in how many calls.
+// Whether a header of a file of this many bytes is read, and in how many calls.
 fn calls_of(bytes: &[u8], len: u64) -> (bool, u64) {
     let mut source = StatedSource::new(bytes, len, 9);
     let is_read = Header::read(&mut source).is_ok();
     (is_read, source.calls())
 }
 
-// No clause can say it, since asking for a length leaves nothing behind: the length is asked for once, and the bytes once.
+// No clause can say it, since asking for a length leaves no trace: the length is asked for once, and the bytes once.
 #[test]
 fn asks_for_the_length_and_the_bytes_once(rt: HostRuntime) -> Result<(), Fail> {
     let file = TestFile::new(rt.alloc(), 512, 1)?.into_bytes();

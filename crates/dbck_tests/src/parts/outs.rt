@@ -35,7 +35,7 @@ fn full_memory_holds_nothing(rt: HostRuntime) -> Result<(), Fail> {
     Ok(())
 }
 
-// A source of four bytes gives them, and none behind their end. Two reads are kept.
+// A source of four bytes gives them, and none after their end. Two reads are kept.
 fn gives_bytes(rt: &impl Abort, source: &mut LogSource<'_>) {
     let mut buf = [0u8; 2];
     holds!(*rt; source.len() == Ok(4));

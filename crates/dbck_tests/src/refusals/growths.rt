@@ -9,7 +9,7 @@ use linked_list_allocator::LocalHeap;
 use std::alloc::{AllocError, Global};
 use std::test::Fail;
 
-// An arena with room for so many bytes more. What is given back leaves no room, since it is of two chunks: the first is full, and
+// An arena with room for this many bytes more. What is given back leaves no room, since it is of two chunks: the first is full, and
 // the second, which is twice as large, has the room.
 fn arena(alloc: Global, room: usize) -> Result<Bump, AllocError> {
     let arena = Bump::try_with_capacity(alloc, 20000)?;
@@ -21,7 +21,7 @@ fn arena(alloc: Global, room: usize) -> Result<Bump, AllocError> {
     Ok(arena)
 }
 
-// How much room is left of so much where vectors of so many bytes were made and given back, one after another.
+// How much of this room is left where vectors of these lengths were made and given back, one after another.
 fn left_of(alloc: Global, room: usize, lens: &[usize]) -> Result<usize, AllocError> {
     let arena = arena(alloc, room)?;
     for len in lens {
@@ -38,7 +38,7 @@ fn an_arena_gets_nothing_back(rt: HostRuntime) {
     holds!(rt; left_of(rt.alloc(), 1024, &[512, 512, 1]).is_err());
 }
 
-// What a run answers that has so many bytes in all, how many of them it left, and how long the texts are that it wrote.
+// What a run answers that has this many bytes in all, how many of them it left, and how long the texts are that it wrote.
 type Grown = (Result<Verdict, RunError>, usize, usize, usize);
 
 fn run_in_arena(alloc: Global, what: &str, file: &[u8], room: usize) -> Result<Grown, AllocError> {
@@ -85,7 +85,7 @@ fn takes_23_growths_and_no_more(rt: HostRuntime) -> Result<(), Fail> {
     Ok(())
 }
 
-// What a run answers whose growths are from a heap of so many bytes, and how long the texts are that it wrote: of both the
+// What a run answers whose growths are from a heap of this many bytes, and how long the texts are that it wrote: of both the
 // beginnings. All memory is given back.
 type Written = (Result<Verdict, RunError>, usize, usize);
 
@@ -106,7 +106,7 @@ fn run_in_heap(
     Ok((are_begun && heap.used() == 0).then_some(written))
 }
 
-// What is run, what is written to both outs, and what of that stands where the list of roots finds no memory, behind the buffers
+// What is run, what is written to both outs, and what of that is written where the list of roots finds no memory, after the buffers
 // and the marks: the line of the header, and the row of page 1.
 const ROOTS: [(&str, (&str, &str), (usize, usize)); 2] = [
     ("check", (OLD_VERSION, ""), (55, 0)),

@@ -8,12 +8,12 @@ use dbsource::RunError;
 use std::alloc::Global;
 use std::test::Fail;
 
-// What is run, the file, what is written to the first out, and how many lines of that stand after a failure of the length, the
+// What is run, the file, what is written to the first out, and how many lines of that are written after a failure of the length, the
 // header, and each page in turn.
 const READS: [[&str; 4]; 8] = [
     // `ok` comes at the end.
     ["check", "LongRow 3", "ok\n", "0 0 0 0 0"],
-    // The line of the header stands before page 1 is read.
+    // The line of the header is written before page 1 is read.
     ["check", "LongRow 3: 1 18 03", OLD_VERSION, "0 0 1 1 1"],
     ["pages", "LongRow 3", LONG_ROW_ROWS, "0 0 0 1 2"],
     // The row of a tree is written when its last page is read.
@@ -23,7 +23,7 @@ const READS: [[&str; 4]; 8] = [
         "sqlite_schema|-|1|-|1|14|386|14|-|512\nt|-|2|-|1|600|403|600|-|1024\n",
         "0 0 0 1 1",
     ],
-    // Behind page 4 the map page 2 is read, when all rows stand.
+    // After page 4 the map page 2 is read, when all rows are written.
     ["all pages", "Mapped 4", MAPPED_ROWS, "0 0 0 1 2 4"],
     [
         "all trees",
@@ -31,7 +31,7 @@ const READS: [[&str; 4]; 8] = [
         "sqlite_schema|-|1|-|1|14|386|14|-|512\nt|-|2|-|1|600|403|600|-|1024\n-|-|2|map|0|0|0|0|512|512\n",
         "0 0 0 1 1 3",
     ],
-    // The trunk on page 3 is read behind page 2.
+    // The trunk on page 3 is read after page 2.
     [
         "all pages",
         "LongRow 3: 1 32 00000003 00000001, 2 0 0d 0000 0000 0200 00, 2 508 00000000",
@@ -46,7 +46,7 @@ const READS: [[&str; 4]; 8] = [
     ],
 ];
 
-// Whether a run whose call of this number fails, from 0, wrote so many lines; or, where no call fails, all of the text.
+// Whether a run whose call of this number fails, from 0, wrote this many lines; or, where no call fails, all of the text.
 fn stands(alloc: Global, [what, _, text, stand]: &[&str; 4], file: &[u8], fails_at: usize) -> bool {
     let mut source = StatedSource::new(file, file.len() as u64, fails_at as u64);
     let mut out = SmallOut::new(2048);

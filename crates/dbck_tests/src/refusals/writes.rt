@@ -67,9 +67,9 @@ fn each_write_to_the_first_out_fails_in_turn(rt: HostRuntime) -> Result<(), Fail
     Ok(())
 }
 
-// The file, its rows, its lines, for which the second out has little room, and how many rows stand before the first line.
+// The file, its rows, its lines, for which the second out has little room, and how many rows are before the first line.
 const SECOND_OUTS: [(&str, &str, &str, usize); 3] = [
-    // The line of the header comes before all rows, and that of the overflow page behind them.
+    // The line of the header comes before all rows, and that of the overflow page after them.
     ("LongRow 3: 1 18 03", LONG_ROW_ROWS, OLD_VERSION, 0),
     (
         "LongRow 3: 3 0 00000002",
@@ -81,7 +81,7 @@ const SECOND_OUTS: [(&str, &str, &str, usize); 3] = [
     ("ladder 3", LADDER_ROWS, LADDER_LINES, 2),
 ];
 
-// Whether the second out holds a beginning of the lines, as long as its room, and the rows before the line that failed stand.
+// Whether the second out holds a beginning of the lines, as long as its room, and the rows before the line that failed are written.
 fn fills_second(
     alloc: Global,
     (rows, told, first): (&str, &str, usize),

@@ -113,7 +113,7 @@ fn agrees_on_each_byte(rt: HostRuntime) -> Result<(), Fail> {
     Ok(())
 }
 
-// What a check of the first bytes of a table, so many, answers and writes.
+// What a check of the first `len` bytes of a table answers and writes.
 fn wanted_of(len: usize) -> (Result<Verdict, RunError>, &'static str) {
     match len {
         0..100 => (Err(RunError::Refused(Refusal::Short)), ""),

@@ -1,5 +1,5 @@
 // A slow checker, beside which the program's verdicts are held: the bytes of a file, its header and its pages. It is written
-// from what a sound file is, for files that are shorter than the lock-byte page is far. Behind the end of bytes it reads zeros,
+// from what a sound file is, for files that are shorter than the lock-byte page is far. After the end of bytes it reads zeros,
 // and each part is asked by itself whether it is within its bounds.
 
 /// Whether all of these hold.
@@ -7,7 +7,7 @@ pub(crate) fn all(facts: &[bool]) -> bool {
     !facts.contains(&false)
 }
 
-/// The byte at a place, or 0 behind the end.
+/// The byte at a place, or 0 after the end.
 pub(crate) fn byte_at(bytes: &[u8], at: usize) -> u8 {
     bytes.get(at).copied().unwrap_or(0)
 }
@@ -34,7 +34,7 @@ pub(crate) fn part(bytes: &[u8], from: usize, to: usize) -> &[u8] {
     bytes.get(from..to).unwrap_or(&[])
 }
 
-/// The varint at a place, and the place behind it, which is behind the end of the bytes where they end first.
+/// The varint at a place, and the place after it, which is after the end of the bytes where they end first.
 pub(crate) fn varint_at(bytes: &[u8], at: usize) -> (u64, usize) {
     let mut value: u64 = 0;
     for i in 0..8usize {
@@ -126,7 +126,7 @@ impl<'a> File<'a> {
         four_at(self.bytes, at)
     }
 
-    // How many pages a page is behind its map page.
+    // How many pages a page is after its map page.
     fn behind_map(&self, p: u32) -> usize {
         let period = (self.usable / 5).wrapping_add(1);
         let behind = (p as usize).wrapping_sub(2);

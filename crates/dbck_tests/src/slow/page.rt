@@ -10,7 +10,7 @@ pub(crate) struct Cell {
     pub(crate) left: u32,
     /// Its key, or 0 where it is of an index.
     pub(crate) key: i64,
-    /// The size of its payload, of which `local` bytes stand on the page from `from` on, and the page that the others begin on.
+    /// The size of its payload, of which `local` bytes are on the page from `from` on, and the page that the others begin on.
     pub(crate) size: usize,
     pub(crate) from: usize,
     pub(crate) local: usize,
@@ -75,7 +75,7 @@ impl<'a> TreePage<'a> {
         ])
     }
 
-    // How many bytes of a payload stand on the page.
+    // How many bytes of a payload are on the page.
     fn local_size(&self, payload: usize) -> usize {
         let usable = self.bytes.len();
         let part = usable.wrapping_sub(12);
@@ -146,7 +146,7 @@ impl<'a> TreePage<'a> {
         are_inside
     }
 
-    // Whether each freeblock is within the content, behind the one before.
+    // Whether each freeblock is within the content, after the one before.
     fn are_blocks_inside(&self) -> bool {
         let mut at = two_at(self.bytes, self.at.wrapping_add(1));
         let mut least = self.start;

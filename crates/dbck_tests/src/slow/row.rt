@@ -1,7 +1,7 @@
 // A slow checker: a row of the schema, from the whole of its payload.
 use crate::slow::file::{all, part, varint_at};
 
-// How bytes of a text stand for characters.
+// How bytes of a text are characters.
 #[derive(Clone, Copy, PartialEq, Eq)]
 enum Text {
     Utf8,
@@ -9,7 +9,7 @@ enum Text {
     BigEnd,
 }
 
-// A column: its serial type, where the next one stands, and where its bytes begin and end.
+// A column: its serial type, where the next one is, and where its bytes begin and end.
 #[derive(Clone, Copy)]
 struct Column {
     serial: u64,
@@ -94,7 +94,7 @@ impl<'a> SchemaRow<'a> {
         have_types && last.next == header && last.to == self.payload.len()
     }
 
-    // The number of the column of the root, which is an integer or NULL, that stands for 0.
+    // The number of the column of the root, which is an integer or NULL, which counts as 0.
     fn root_number(&self) -> Option<i64> {
         match column_at(self.payload, 3).serial {
             0 | 8 => Some(0),
@@ -171,7 +171,7 @@ fn spells(text: Text, bytes: &[u8], word: &[u8]) -> bool {
     is_same
 }
 
-// Whether bytes are well-formed: in UTF-16 each first half of a pair has its second, and no second stands alone.
+// Whether bytes are well-formed: in UTF-16 each first half of a pair has its second, and no second is alone.
 fn is_well_formed(text: Text, bytes: &[u8]) -> bool {
     if text == Text::Utf8 {
         return str::from_utf8(bytes).is_ok();

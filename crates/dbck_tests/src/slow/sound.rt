@@ -1,5 +1,5 @@
 // A slow checker: whether a file is sound. The pages of each tree are listed level by level, those of a chain and of the
-// freelist one behind another, and nothing is marked: at the end the list has to be all pages, each once.
+// freelist one after another, and nothing is marked: at the end the list has to be all pages, each once.
 use crate::slow::file::{File, all, four_at, part};
 use crate::slow::page::{Cell, TreePage};
 use crate::slow::row::SchemaRow;
@@ -306,7 +306,7 @@ impl Terms<'_> {
     }
 }
 
-// Writes the payload of a cell of a sound page, whose chain is whole, over a buffer, and then what stands behind it.
+// Writes the payload of a cell of a sound page, whose chain is whole, over a buffer, and then what comes after it.
 fn read_payload(file: File<'_>, page: &TreePage<'_>, cell: &Cell, payload: &mut [u8]) {
     let local = part(page.bytes, cell.from, cell.from.wrapping_add(cell.local));
     patch(payload, 0, local);

@@ -43,7 +43,7 @@ fn is_sound_in(alloc: Global, case: Case<'_>, answers: &[Answer]) -> Result<bool
     is_sound(alloc, file.as_slice())
 }
 
-// Whether a read of this number was of the header, or of a page: of page 1 first, and of none that was read before behind the
+// Whether a read of this number was of the header, or of a page: of page 1 first, and of none that was read before after the
 // header.
 fn is_in_place(answers: &[Answer], number: usize) -> bool {
     let Some(answer) = answers.get(number) else {
@@ -62,7 +62,7 @@ fn is_in_place(answers: &[Answer], number: usize) -> bool {
     is_in_place
 }
 
-// That the header was read first, then page 1, if any, and no page twice behind the header.
+// That the header was read first, then page 1, if any, and no page twice after the header.
 fn is_each_page_once(answers: &[Answer]) -> bool {
     let mut is_once = true;
     for number in 0..answers.len() {
@@ -80,7 +80,7 @@ struct Case<'a> {
     seed: u32,
 }
 
-// How many runs were of each kind, and how many would have told otherwise of a later version of one page, and of the header
+// How many runs were of each kind, and how many would have been reported otherwise of a later version of one page, and of the header
 // that stood on page 1 when that was read as a page.
 #[derive(Clone, Copy)]
 struct Counts {
@@ -141,7 +141,7 @@ fn is_other_in(
     Ok(!is_same(found, &other))
 }
 
-// That a run to its end found what stands in the file that its answers make up.
+// That a run to its end found what is in the file that its answers make up.
 fn is_found_together(
     rt: &impl Abort,
     alloc: Global,
@@ -231,7 +231,7 @@ fn holds_of_failing_run(
     Ok(())
 }
 
-// The same run where one read fails: nothing is read behind it, and what is written is a beginning of what is written of a
+// The same run where one read fails: nothing is read after it, and what is written is a beginning of what is written of a
 // file with zeros in its place. Whether anything is.
 fn failing_run(
     rt: &impl Abort,

@@ -191,8 +191,8 @@ fn shows_trees_and_other_pages(rt: HostRuntime) -> Result<(), Fail> {
 
 const FORMS: [&str; 4] = ["pages", "trees", "all pages", "all trees"];
 
-// Files, and the pages that are read behind the header, in their order: a row on an overflow page, a page that is its own child
-// twice, two rows of one root, an index, a map, and a freelist behind a map.
+// Files, and the pages that are read after the header, in their order: a row on an overflow page, a page that is its own child
+// twice, two rows of one root, an index, a map, and a freelist after a map.
 const ASKED: [[&str; 2]; 6] = [
     ["LongRow 3", "1 2 3"],
     ["OwnChild 1", "1"],

@@ -9,7 +9,7 @@ use std::test::Fail;
 
 const CANNOT_BE_SHOWN: &str = "S02 page 1 item 0 value 1: name cannot be shown\n";
 
-// What stands behind the name in the row of an empty root, page 2 of 4096 bytes.
+// What comes after the name in the row of an empty root, page 2 of 4096 bytes.
 const ROW_END: &[u8] = b"\t/\t2\tleaf\t0\t0\t4088\t0\t4096\t4096\n";
 
 // The word `table` in an encoding.
@@ -36,12 +36,12 @@ fn named(alloc: Global, encoding: u8, serial: usize, name: &[u8]) -> Result<Vec<
     Ok(file.into_bytes())
 }
 
-// The type of a text of so many bytes.
+// The type of a text of this many bytes.
 fn text_serial(len: usize) -> usize {
     len.wrapping_mul(2).wrapping_add(13)
 }
 
-// Whether the row of the table shows this name, and these lines tell of it. The row of the schema stands before it.
+// Whether the row of the table shows this name, and these lines report it. The row of the schema comes before it.
 fn is_shown(alloc: Global, file: &[u8], shown: &[u8], lines: &str) -> bool {
     let found = found_of(alloc, command_of("pages"), &mut MemSource::new(file));
     let out = found.out.bytes();
@@ -52,7 +52,7 @@ fn is_shown(alloc: Global, file: &[u8], shown: &[u8], lines: &str) -> bool {
         && row.strip_prefix(shown) == Some(ROW_END)
 }
 
-// That a name of some type is shown so, and told where it cannot be.
+// That a name of some type is shown so, and reported where it cannot be.
 fn shows(
     rt: &impl Abort,
     alloc: Global,

@@ -59,7 +59,7 @@ const ROWS: [StatCase; 28] = [
         LONG_ROW_ROWS,
         "O01 page 3 item 0 value 2: last overflow page names a next page\n",
     ],
-    // Of 1108 bytes 39 + (1108 - 39) % 508 = 92 stand on the leaf.
+    // Of 1108 bytes 39 + (1108 - 39) % 508 = 92 are on the leaf.
     [
         "an overflow chain that ends early",
         "pages",
@@ -69,7 +69,7 @@ const ROWS: [StatCase; 28] = [
               t|/000+000000|3|overflow|0|508|0|0|1024|512\n",
         "R01 page 3 item 0 value 0: page number out of range\n",
     ],
-    // Of 478 bytes 39 + (478 - 39) % 508 is above 477, so 39 stand on the leaf, whose cell begins at byte 466, and 439 on page 3.
+    // Of 478 bytes 39 + (478 - 39) % 508 is above 477, so 39 are on the leaf, whose cell begins at byte 466, and 439 on page 3.
     [
         "a last overflow page with bytes to spare",
         "pages",
@@ -147,7 +147,7 @@ const ROWS: [StatCase; 28] = [
         LONG_ROW_ROWS,
         "H08 page 1 item 4 value 0: schema has rows but no format or encoding\n",
     ],
-    // Two cells of 10 payload bytes, behind 488 - 12 bytes that are free.
+    // Two cells of 10 payload bytes, after 488 - 12 bytes that are free.
     [
         "cells that share bytes",
         "pages",
@@ -244,7 +244,7 @@ fn shows_a_row_for_each_page(rt: HostRuntime) -> Result<(), Fail> {
 
 const LARGEST_ROW: &str = "sqlite_schema|/|1|leaf|0|0|65428|0|0|65536\n";
 
-// The content area of an empty page of 65536 bytes begins behind the page: 65536 - 108 bytes are free.
+// The content area of an empty page of 65536 bytes begins after the page: 65536 - 108 bytes are free.
 #[test]
 fn shows_the_largest_page(rt: HostRuntime) -> Result<(), Fail> {
     let file = TestFile::new(rt.alloc(), 65536, 1)?.into_bytes();
@@ -260,7 +260,7 @@ fn shows_deep_paths(rt: HostRuntime) -> Result<(), Fail> {
     Ok(())
 }
 
-// Whether so many faults of a file are found, each of them in a line, of which this is the last.
+// Whether this many faults of a file are found, each of them in a line, of which this is the last.
 fn shows_all(alloc: Global, file: &[u8], faults: u32, last: &str) -> bool {
     let found = found_of(alloc, command_of("pages"), &mut MemSource::new(file));
     let text = found.err.bytes();

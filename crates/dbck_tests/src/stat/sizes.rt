@@ -74,7 +74,7 @@ fn shows_4097_children(rt: HostRuntime) -> Result<(), Fail> {
     Ok(())
 }
 
-// A table whose only row is of 92 + 508 * 18 bytes: its chain is of 18 pages, those behind its root, which is page 2 or 3.
+// A table whose only row is of 92 + 508 * 18 bytes: its chain is of 18 pages, those after its root, which is page 2 or 3.
 fn long_chain(alloc: Global, root: u8, pages: u32) -> Result<TestFile, AllocError> {
     let first = u32::from(root).wrapping_add(1);
     let last = first.wrapping_add(17);
@@ -88,7 +88,7 @@ fn long_chain(alloc: Global, root: u8, pages: u32) -> Result<TestFile, AllocErro
     Ok(file)
 }
 
-// That a run answers this, and that the rows of these numbers, from 0, are these. Behind the last there is none.
+// That a run answers this, and that the rows of these numbers, from 0, are these. After the last there is none.
 fn has_some(rt: &impl Abort, found: &Found, verdict: Verdict, rows: &[(usize, &str)]) {
     holds!(*rt; found.answer == Ok(verdict));
     for (number, row) in rows {
@@ -209,7 +209,7 @@ fn has_each_page_once(rt: &impl Abort, alloc: Global, file: &[u8], seen: &mut [b
     }
 }
 
-// So many numbers from one on.
+// This many numbers from one on.
 fn numbers(alloc: Global, first: u32, count: u32) -> Result<Vec<u32>, AllocError> {
     let mut numbers = Vec::new(alloc);
     for number in first..first.wrapping_add(count) {
@@ -218,7 +218,7 @@ fn numbers(alloc: Global, first: u32, count: u32) -> Result<Vec<u32>, AllocError
     Ok(numbers)
 }
 
-// 100000 pages behind a pointer map: a tree with a long chain, which two rows of the schema name, a freelist of two trunks whose
+// 100000 pages after a pointer map: a tree with a long chain, which two rows of the schema name, a freelist of two trunks whose
 // leaves are map pages too, and pages that nothing uses.
 fn many_pages(alloc: Global) -> Result<Vec<u8>, AllocError> {
     let mut file = long_chain(alloc, 3, 1000)?;
@@ -240,7 +240,7 @@ fn shows_each_of_100000_pages_once(rt: HostRuntime) -> Result<(), Fail> {
     Ok(())
 }
 
-// 64 pages whose bytes are drawn from a counter, behind the header of a file with a freelist and, for every other counter, a
+// 64 pages whose bytes are drawn from a counter, after the header of a file with a freelist and, for every other counter, a
 // pointer map.
 fn drawn_file(alloc: Global, drawn: u32) -> Result<Vec<u8>, AllocError> {
     let mut header = TestFile::new(alloc, 512, 2)?;

@@ -8,15 +8,15 @@ use std::alloc::{AllocError, Global};
 use std::process::Abort;
 use std::test::Fail;
 
-/// A file in four texts: a name; the sample, of so many pages of 512 bytes, and what is written over it; what a check of it
-/// writes; and the pages that are read behind the header, in their order.
+/// A file in four texts: a name; the sample, of some pages of 512 bytes, and what is written over it; what a check of it
+/// writes; and the pages that are read after the header, in their order.
 pub(crate) type CheckCase = [&'static str; 4];
 
 /// A file and its statistics in five texts: a name; the form; the file; the rows, in which each tab is written `|`; and the lines
 /// of the faults.
 pub(crate) type StatCase = [&'static str; 5];
 
-/// The bytes of a file that one text tells: a `ladder` of so many pages, a `trunk` that states so many leaves, a `forest` or a
+/// The bytes of a file that one text describes: a `ladder` of some pages, a `trunk` that states some leaves, a `forest` or a
 /// `mapped-forest`, or a sample as [`TestFile::of`] has it.
 pub(crate) fn file_of(alloc: Global, text: &str) -> Result<Vec<u8>, AllocError> {
     let (word, number) = text.split_once(' ').unwrap_or((text, ""));

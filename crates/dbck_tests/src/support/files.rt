@@ -5,7 +5,7 @@ use std::alloc::{AllocError, Global};
 /// The line of a header whose file version is 3.
 pub(crate) const OLD_VERSION: &str = "H01 page 1 item 18 value 3: file version is not 1 or 2\n";
 
-/// The rows of the sample behind a pointer map, in which each tab is written `|`, with those of other pages.
+/// The rows of the sample after a pointer map, in which each tab is written `|`, with those of other pages.
 pub(crate) const MAPPED_ROWS: &str = "sqlite_schema|/|1|leaf|1|14|386|14|0|512\n\
     t|/|3|leaf|1|92|403|600|1024|512\n\
     t|/000+000000|4|overflow|0|508|0|0|1536|512\n\
@@ -46,7 +46,7 @@ pub(crate) const DEEP_ROWS: &str = "sqlite_schema|/|1|internal|0|0|400|0|0|512\n
     sqlite_schema|/000/000/000/000/000/000/000/000/000/000/000/000/000/000/000/000/000/000/|19|internal|0|0|500|0|9216|512\n\
     sqlite_schema|/000/000/000/000/000/000/000/000/000/000/000/000/000/000/000/000/000/000/000/|20|leaf|0|0|504|0|9728|512\n";
 
-/// What is told of pages 2 to 20 of a ladder.
+/// What is reported of pages 2 to 20 of a ladder.
 pub(crate) const EMPTY_PAGES: &str = "P10 page 2 item 0 value 0: empty page that is not a root\n\
     P10 page 3 item 0 value 0: empty page that is not a root\n\
     P10 page 4 item 0 value 0: empty page that is not a root\n\
@@ -77,7 +77,7 @@ pub(crate) fn ladder(alloc: Global, pages: u8) -> Result<Vec<u8>, AllocError> {
     Ok(file.into_bytes())
 }
 
-/// A freelist of one trunk, page 2, which states this many leaves, and the leaves 3 to 128, all of the pages behind it.
+/// A freelist of one trunk, page 2, which states this many leaves, and the leaves 3 to 128, all of the pages after it.
 pub(crate) fn long_freelist(alloc: Global, count: u8) -> Result<Vec<u8>, AllocError> {
     let mut leaves = [0u32; 126];
     for (place, leaf) in leaves.iter_mut().zip(3..129u32) {

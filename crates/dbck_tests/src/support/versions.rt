@@ -12,7 +12,7 @@ pub(crate) struct Answer {
     pub(crate) bytes: Vec<u8>,
 }
 
-// What writes the file meanwhile, drawn from a counter. It is calm so many times out of `calm + 1`.
+// What writes the file meanwhile, drawn from a counter. It is calm `calm` times out of `calm + 1`.
 #[derive(Drop)]
 struct Writer {
     drawn: u32,
@@ -68,7 +68,7 @@ impl Writer {
 }
 
 /// A file of which each read answers another version, drawn from a counter that goes on. It keeps what it answered. The read
-/// number `fails_at`, from 0, fails, and all behind it. It tells nothing.
+/// number `fails_at`, from 0, fails, and all after it. Its bytes are not known.
 #[derive(Drop)]
 pub(crate) struct ChangingSource<'a> {
     alloc: Global,

@@ -1,10 +1,14 @@
 use Rattle.std.proofs.Common.{rules, ◌≡◌, ap, sym, subst, ◌∙◌}
+use Rattle.dbformat.specs.File.{geometry}
+use Rattle.dbformat.specs.declared.Geometry.{Geometry}
 use Rattle.dbsource.specs.Errors.{is_write_failed}
 use Rattle.dbsource.specs.Failures.{failures_after}
 use Rattle.dbscan.proofs.BehindHeader.{behind_weaker}
 use Rattle.dbscan.proofs.Tellers.{first}
 use Rattle.dbreport.proofs.SinkStates.{lent_same, one_failed}
+use Rattle.dbmap.specs.KeptFaults.{HearsNone}
 use Rattle.dbmap.specs.Maps.{DrawsMap}
+use Rattle.dbmap.specs.declared.kept.Kept.{Kept}
 use Rattle.dbmap.proofs.Counting.{map_left}
 use Rattle.dbmap.proofs.maps.map_on.Goals as goal
 
@@ -15,7 +19,9 @@ returns-clause-read g c =
     let same = ap first (lent_same r _ _ c.run_over.ensures.writes) in
     let k : c.out-1.given.0 ≡ c.run_over.new.sink.out.now = search (rules, same) in
     behind_weaker _ _ c.run_over.ensures.read (λ file is left V s.
-    let h = map_left held file V s r c.new-sink.result c.run_over.new.sink c.new-sink.ensures.faults (left V s) in (
+    let empty = subst (λ (g : Geometry). HearsNone g.pages c.args.kept.now) is.shape c.requires in
+    let here = subst (HearsNone (geometry file).pages) (sym c.new-sink.ensures.kept) empty in
+    let h = map_left file V s c.new-sink.result c.run_over.new.sink c.new-sink.ensures.faults here held r (left V s) in (
       h.0,
       subst (λ (o : g.row.O.Denot). DrawsMap r (held o).bytes (held c.out-1.given.0).bytes file V) c.new-sink.ensures.out
           (subst (λ (o : g.row.O.Denot). DrawsMap r (held c.new-sink.result.out.now).bytes (held o).bytes file V) (sym k) h.1),

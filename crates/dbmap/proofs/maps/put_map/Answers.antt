@@ -1,8 +1,22 @@
-use Rattle.std.proofs.Common.{rules, ◌≡◌, refl, ap, ◌∙◌}
+use Rattle.std.proofs.Common.{rules, ◌≡◌, ℕ, List, [], None, length, min, refl, ap, subst, ◌∙◌, arith}
+use Rattle.std.specs.Prelude.{count_by}
 use Rattle.std.specs.Int.{div_ceil}
+use Rattle.dbformat.specs.File.{geometry}
+use Rattle.dbformat.specs.Reference.{Reference}
 use Rattle.dbformat.specs.declared.Geometry.{Geometry}
+use Rattle.dbmarks.proofs.Markings.{marks_of-length}
+use Rattle.dbscan.specs.Roots.{Listed}
 use Rattle.dbsource.specs.HeaderBytes.{HeaderBytes}
+use Rattle.dbscan.specs.Desks.{shape_of}
+use Rattle.dbscan.specs.Finishes.{IsDeskOf}
 use Rattle.dbmap.specs.Drawings.{stated_of}
+use Rattle.dbmap.specs.KeptFaults.{HasRoom}
+use Rattle.dbmap.specs.Legends.{HasFaultyLine}
+use Rattle.dbmap.specs.Owners.{IsOf, starts_of}
+use Rattle.dbmap.specs.PageSets.{has_page, is_noted, shown_codes}
+use Rattle.dbmap.specs.declared.page_set.PageSet.{PageSet}
+use Rattle.dbmap.specs.declared.walk.Walk.{Walk}
+use Rattle.dbmap.proofs.Tallying.{largest_of}
 use Rattle.dbmap.proofs.Drawing.{put_drawn}
 use Rattle.dbmap.proofs.maps.put_map.Goals as goal
 
@@ -10,10 +24,29 @@ pub returns : goal.returns
 returns g c =
     let drawn = c.draw_picture.ensures.draws in
     let same = drawn.same_out in
+    let begun = λ (file : List ℕ) (V : List Reference) (d : IsDeskOf c.args.desk.now file V) (room : HasRoom (shape_of c.args.desk.now).pages c.args.kept.now.walk.trees.known). (
+    let marked = c.marks.ensures ∙ d.marks in
+    let all : length c.marks.result.now ≡ (geometry file).pages = ap length marked ∙ marks_of-length (geometry file) V in
+    let shape = ap (λ (g : Geometry). g.pages) d.header.shape in
+    let same = ap (λ (w : Walk _). length w.trees.known) c.note_listed.ensures.walk in
+    let is : IsOf c.marks-2.result.now c.begin.new.self.trees.known file V = record {
+      survey = d.survey;
+      marks = c.marks-2.ensures ∙ d.marks;
+      trees = c.begin.ensures.trees file V d.survey marked (ap (λ (l : Listed). l.rows) c.roots.ensures ∙ d.rows) (omega (arith, all, room, shape, same));
+    } in is) in
+    let known = λ (file : List ℕ) (V : List Reference) (d : IsDeskOf c.args.desk.now file V) (room : HasRoom (shape_of c.args.desk.now).pages c.args.kept.now.walk.trees.known). (
+    let of = c.count.ensures.trees file V (begun file V d room) in
+    let is : IsOf c.marks-3.result.now c.count.new.trees.known file V = record { survey = d.survey; marks = c.marks-3.ensures ∙ d.marks; trees = of.trees } in is) in
     let k : c.out-1.given.0 ≡ c.draw_picture.new.canvas.out.now = search (rules, same) in
     record {
       heading = record { file = c.shown_file.result; geometry = c.geometry-geometry.result; faults = c.args.faults };
-      ground = record { grid = c.new.result; names = c.new-2.result.names.items; marks = c.marks-3.result.now };
+      ground = record {
+        grid = c.new.result;
+        names = c.new-2.result.names.items;
+        marks = c.marks-3.result.now;
+        faults = record { has = has_page c.note_listed.new.self.faulty; codes = shown_codes c.note_listed.new.self.faulty; strong = has_page c.note_listed.new.self.strong };
+        owners = record { start = λ p. None; largest = starts_of c.largest-largest.result.items };
+      };
       all = c.draw_picture.ensures.all;
       lines = c.new-legend.result.lines.items;
       is = record {
@@ -25,7 +58,15 @@ returns g c =
         cells = c.new.ensures.cells ∙ ap (λ (s : Geometry). div_ceil s.pages c.new.result.run) c.geometry-geometry.ensures.shape;
         marks = c.marks-3.ensures;
         many = c.draw_picture.ensures.many;
-        are = c.draw_picture.ensures.are;
+        are = λ file V d room. c.draw_picture.ensures.are file V (known file V d room);
+        largest = λ file V d room. largest_of file V c.count.new.self (starts_of c.largest-largest.result.items) (c.count.ensures.tally file V (begun file V d room)) c.largest-largest.ensures.largest;
+        faulty = record {
+          has = λ p. ap (λ (s : PageSet _). has_page s p) c.note_listed.ensures.faulty;
+          codes = λ p. ap (λ (s : PageSet _). shown_codes s p) c.note_listed.ensures.faulty;
+          strong = record { set = c.note_listed.new.self.strong; noted = c.note_listed.ensures.strong []; pages = c.note_listed.ensures.pages; is = λ p. refl };
+        };
       };
+      faulty_line = subst (λ n. HasFaultyLine n c.new-legend.result.lines.items)
+          (c.count-2.ensures ∙ ap (λ (s : PageSet _). min (count_by is_noted s.noted.items) 4294967295) c.note_listed.ensures.faulty) c.new-legend.ensures;
       puts = rw k (put_drawn c.end.result _ _ _ _ _ c.new-canvas.ensures.fresh c.end.ensures (rw (ap g.O.Out.held c.new-canvas.ensures.out) at drawn.drawn));
     }

@@ -1,6 +1,5 @@
-use Rattle.std.proofs.Common.{◌<◌}
-use Rattle.std.specs.Prelude.{IfSome}
+use Rattle.dbmap.proofs.Shares.{IsOnlyTo}
 use Rattle.dbmap.proofs.cell.Cell.only.Given as goal
 
 abbrev pub invariant-loop-number : goal.invariant-loop-number
-invariant-loop-number l = IfSome l.only (λ number. number < 16)
+invariant-loop-number l = IsOnlyTo l.self l.number l.only

@@ -1,17 +1,36 @@
 use Rattle.std.proofs.Common.{ap}
+use Rattle.dbmap.specs.Owners.{starts_of}
 use Rattle.dbmap.specs.Squares.{of_page}
-use Rattle.dbmap.specs.declared.pen.Pen.{Pen}
 use Rattle.dbmap.specs.declared.page.PageSquare.{PageSquare}
+use Rattle.dbmap.specs.declared.pen.Pen.{Pen}
 use Rattle.dbmap.proofs.Drawing.{draws_then}
+use Rattle.dbmap.proofs.Owning.{shade_is}
 use Rattle.dbmap.proofs.squares.Squares.draw_page.Goals as goal
 
-pub returns : goal.returns
-returns g c =
+pub returns-clause-draws : goal.returns-clause-draws
+returns-clause-draws g c =
     let s : PageSquare = record { x = c.x_of.result; page = c.pages_of-page.result.0; place = c.place_of-place.result; fixed = c.fixed.result; faulty = c.faulty.result } in
-    let change = rw (ap (λ (p : Pen). p.group) c.name.ensures) at c.change.ensures.draws in
+    let change = rw (ap (λ (p : Pen). p.group) c.name.ensures.pen) at c.change.ensures.draws in
     record {
       square = of_page (c.owner.result, c.is_overflow.result) s c.name.new.self.name;
-      is = (c.requires, record { x = c.x_of.ensures.x; page = ap (λ p. p.0) c.pages_of-page.ensures; place = c.place_of-place.ensures.mark });
+      is = λ file V of. (
+        c.requires,
+        record {
+          x = c.x_of.ensures.x;
+          page = ap (λ p. p.0) c.pages_of-page.ensures;
+          place = c.place_of-place.ensures.mark;
+          faulty = c.faulty.ensures;
+          shade = shade_is c.args.self.now.marks.now V (starts_of c.args.self.now.largest.items) s.page c.place_of-place.ensures.mark
+              (c.start_of-start.ensures.visit file V of.survey of.marks of.trees) c.owner.ensures c.is_overflow.ensures;
+        },
+      );
       group = c.change.ensures.group;
       draws = draws_then change c.draw.ensures;
     }
+
+pub returns-clause-trees : goal.returns-clause-trees
+returns-clause-trees g c = λ file V of. record {
+  survey = of.survey;
+  marks = of.marks;
+  trees = rw c.name.ensures.trees (c.start_of-start.ensures.right file V of.survey of.marks of.trees);
+}

@@ -1,0 +1,47 @@
+// Frames of squares, by the rules: a wide one at the pages of a fault that leads, of the page that its value names and of its cause, and
+// a narrow one where there is another fault.
+use crate::map::pictures::drawn;
+use dbfiles::{TestFile, schema_row};
+use std::alloc::{AllocError, Global};
+use std::test::Fail;
+
+// Table `a` has its root on page 2, and rows on the pages 3 and 4, where rowid 5 comes after key 10 of page 2: T06. The trunk on page 5
+// names page 3: R03. Table `b` has its root on page 6, and an empty leaf on each of the pages 7 to 10: P10, of which three lead. Page
+// 11 is in no use: N01.
+fn faulty(alloc: Global) -> Result<Vec<u8>, AllocError> {
+    let mut file = TestFile::new(alloc, 512, 11)?;
+    file.schema(&[schema_row(b"table", b"a", 2), schema_row(b"table", b"b", 6)]);
+    file.interior_table(2, 4).key(3, 10);
+    file.leaf_table(3).cell(1, b"x").cell(9, b"x");
+    file.leaf_table(4).cell(5, b"x");
+    file.freelist(5, 1);
+    file.trunk(5, 0, &[3]);
+    file.interior_table(6, 10).key(7, 1).key(8, 2).key(9, 3);
+    for page in 7..11u32 {
+        file.leaf_table(page);
+    }
+    Ok(file.into_bytes())
+}
+
+// What its picture has: a square with a wide frame begins a pixel further right and down.
+const FRAMES: [&str; 12] = [
+    "<rect x=\"0\" width=\"27\" height=\"27\"><title>page 1: root of sqlite_schema</title></rect>\n",
+    "<rect x=\"29\" y=\"1\" width=\"25\" height=\"25\" stroke=\"#BE0700\" stroke-width=\"4\"><title>page 2: root of table a</title></rect>\n",
+    "<rect x=\"57\" y=\"1\" width=\"25\" height=\"25\" stroke=\"#BE0700\" stroke-width=\"4\"><title>page 3: in table a, child of page 2</title></rect>\n",
+    "<rect x=\"85\" y=\"1\" width=\"25\" height=\"25\" stroke=\"#BE0700\" stroke-width=\"4\"><title>page 4: in table a, child of page 2, with T06</title></rect>\n",
+    "<rect x=\"113\" y=\"1\" width=\"25\" height=\"25\" stroke=\"#BE0700\" stroke-width=\"4\"><title>page 5: trunk of the freelist, with R03</title></rect>\n",
+    "<rect x=\"140\" width=\"27\" height=\"27\"><title>page 6: root of table b</title></rect>\n",
+    "<rect x=\"169\" y=\"1\" width=\"25\" height=\"25\" stroke=\"#BE0700\" stroke-width=\"4\"><title>page 7: in table b, child of page 6, with P10</title></rect>\n",
+    "<rect x=\"197\" y=\"1\" width=\"25\" height=\"25\" stroke=\"#BE0700\" stroke-width=\"4\"><title>page 8: in table b, child of page 6, with P10</title></rect>\n",
+    "<rect x=\"225\" y=\"1\" width=\"25\" height=\"25\" stroke=\"#BE0700\" stroke-width=\"4\"><title>page 9: in table b, child of page 6, with P10</title></rect>\n",
+    "<rect x=\"252\" width=\"27\" height=\"27\" stroke=\"#BE0700\" stroke-width=\"2\" paint-order=\"stroke\"><title>page 10: in table b, child of page 6, with P10</title></rect>\n",
+    "<rect x=\"280\" width=\"27\" height=\"27\" stroke=\"#BE0700\" stroke-width=\"2\" paint-order=\"stroke\"><title>page 11: in no tree, overflow chain or freelist, with N01</title></rect>\n",
+    ">pages with a fault</text><text x=\"580\" y=\"140\" text-anchor=\"end\">7</text>",
+];
+
+#[test]
+fn faults_that_lead_have_wide_frames(rt: HostRuntime) -> Result<(), Fail> {
+    let file = faulty(rt.alloc())?;
+    drawn(&rt, rt.alloc(), file.as_slice(), &FRAMES);
+    Ok(())
+}

@@ -1,0 +1,74 @@
+-- What is kept of a file: the faults that were reported, and the room to know the trees of its pages.
+use Rattle.std.specs.Prelude.{◌≡◌, ℕ, ◌≤◌, min, Bool, List, [], ◌∷◌, ◌++◌, length, Option, count_by, vec_len, if◌then◌else◌}
+use Rattle.dbformat.specs.File.{geometry}
+use Rattle.dbformat.specs.Reference.{Reference}
+use Rattle.dbformat.specs.declared.FaultCode.{FaultCode}
+use Rattle.dbtrace.specs.declared.Reported.{Reported}
+use Rattle.dbentries.specs.Apart.{is_lost}
+use Rattle.dbentries.specs.Listing.{rank}
+use Rattle.dbentries.specs.Store.{AreEntriesOf}
+use Rattle.dbmap.specs.FaultyPages.{FaultsGround, coded, others_told, page_faults}
+use Rattle.dbmap.specs.FramedPages.{framed, leading}
+use Rattle.dbmap.specs.PageSets.{AreNoted, has_page, is_noted, shown_codes}
+use Rattle.dbmap.specs.declared.kept.Kept.{Kept}
+use Rattle.dbmap.specs.declared.page_set.PageSet.{PageSet}
+
+-- no fault was noted of this number of pages
+pub record IsUnnoted {A : Type 0} (count : ℕ) (s : PageSet A) : Type 0 where
+  pub none : AreNoted [] s
+  pub pages : vec_len s.noted ≡ count
+
+-- there is room to know the tree of each page
+abbrev pub HasRoom : ℕ → List (Option (Option ℕ)) → Type 0
+HasRoom pages known = pages ≤ length known
+
+-- no fault was reported of a file of this number of pages; there is room for 100 entries, and for the trees of the pages
+pub record HearsNone {A : Type 0} (pages : ℕ) (k : Kept A) : Type 0 where
+  pub room : HasRoom pages k.walk.trees.known
+  pub faulty : IsUnnoted pages k.faulty
+  pub strong : IsUnnoted pages k.strong
+  pub entries : AreEntriesOf [] k.entries
+  pub part : k.entries.part ≡ 0
+  pub limit : k.entries.limit ≡ 100
+  pub few : pages ≤ 67108864
+
+-- what is listed of a fault: all but that of a lost page
+abbrev pub listed_now : Reported → List Reported
+listed_now x = if is_lost x then [] else x ∷ []
+
+-- a fault was noted at its page, and listed
+pub record Keeps {A : Type 0} (x : Reported) (k l : Kept A) : Type 0 where
+  pub faulty : (fs : List (ℕ × FaultCode)) → AreNoted fs k.faulty → AreNoted (fs ++ coded x.fault ∷ []) l.faulty
+  pub pages : vec_len l.faulty.noted ≡ vec_len k.faulty.noted
+  pub entries : (xs : List Reported) → AreEntriesOf xs k.entries → k.entries.part ≤ rank x.part → AreEntriesOf (xs ++ listed_now x) l.entries
+  pub part : k.entries.part ≤ rank x.part → l.entries.part ≤ rank x.part
+  pub limit : l.entries.limit ≡ k.entries.limit
+  pub strong : l.strong ≡ k.strong
+  pub walk : l.walk ≡ k.walk
+
+-- The pages of what is listed have the strong frame.
+pub record IsStrong {A : Type 0} (k : Kept A) (strong : ℕ → Bool) : Type 0 where
+  pub set : PageSet A
+  pub noted : AreNoted [] k.strong → AreNoted (framed (leading k.entries.listed)) set
+  pub pages : vec_len set.noted ≡ vec_len k.strong.noted
+  pub is : (p : ℕ) → strong p ≡ has_page set p
+
+-- what squares are drawn by is what is kept
+pub record IsKeptGround {A : Type 0} (k : Kept A) (g : FaultsGround) : Type 0 where
+  pub has : (p : ℕ) → g.has p ≡ has_page k.faulty p
+  pub codes : (p : ℕ) → g.codes p ≡ shown_codes k.faulty p
+  pub strong : IsStrong k g.strong
+
+-- how many pages with a fault were noted
+abbrev pub noted_pages : {A : Type 0} → Kept A → ℕ
+noted_pages k = min (count_by is_noted k.faulty.noted.items) 4294967295
+
+-- all faults of a file were noted at their pages, and are listed but for those of lost pages; no strong frame is noted yet
+pub record HasFaults {A : Type 0} (file : List ℕ) (V : List Reference) (k : Kept A) : Type 0 where
+  pub room : HasRoom (geometry file).pages k.walk.trees.known
+  pub faulty : AreNoted (page_faults file V) k.faulty
+  pub pages : vec_len k.faulty.noted ≡ (geometry file).pages
+  pub strong : IsUnnoted (geometry file).pages k.strong
+  pub entries : AreEntriesOf (others_told file V) k.entries
+  pub limit : k.entries.limit ≡ 100
+  pub few : (geometry file).pages ≤ 67108864
