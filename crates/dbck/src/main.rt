@@ -8,7 +8,7 @@ use dbsource::{BufferedOut, StreamOut};
 use std::io::IsTerminal;
 use std::process::ExitCode;
 
-// Hands the words on, and the streams that are written.
+// Hands on the words, and the streams that are written to.
 fn run(rt: &HostRuntime) -> Result<u8, LineError> {
     let words = words_of(rt)?;
     let texts = texts_of(rt.alloc(), words.as_slice())?;

@@ -1,4 +1,4 @@
--- What a status says of what was asked of a file, by the outcome that it stands for.
+-- What a status says of what was asked of a file, by the outcome that it belongs to.
 use Rattle.std.proofs.Common.{inl, inr, ◌≡◌, ◌↔◌, ℕ, List, [], Option, Some, None, Result, Ok, Err, ◌≤◌, ◌%◌, ◌^◌, refl, sym, ◌∙◌, ap, subst, arith}
 use Rattle.std.specs.Prelude.{OnErr, OnOk, IfErr, IfOk}
 use Rattle.std.specs.Io.KnownBytes.{Appends, Keeps}
@@ -56,7 +56,7 @@ neither n r why out out' err err' h told = record {
   refused = λ e. absurd (omega arith);
 }
 
--- all of it is a beginning of it, with no line behind
+-- all of it is a beginning of it, with no line after it
 all_then_line : (old new : OutState) (bytes : List ℕ) → Appends old.bytes new.bytes bytes → BeginsThenLine old new bytes []
 all_then_line old new bytes a = record {
   part = bytes;
@@ -310,7 +310,7 @@ refused_at_3 step (Err ReadFailed) old new h k = absurd (omega arith)
 refused_at_3 step (Err OutOfMemory) old new h k = absurd (omega arith)
 refused_at_3 step (Err WriteFailed) old new h k = absurd (omega arith)
 
--- and what is told of it
+-- and what is said of it
 pub untold : {X Y : Type 0} (f : X → Y) (outcome : Result Verdict RunError) (old new : X) → IsUnwritten outcome old new → IsUnwritten outcome (f old) (f new)
 untold f (Ok v) old new u = tt
 untold f (Err (Refused e)) old new u = ap f u

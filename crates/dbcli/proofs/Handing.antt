@@ -32,7 +32,7 @@ use Rattle.dbcli.specs.Status.{exit_status}
 use Rattle.dbcli.specs.declared.request.Request.{Request}
 use Rattle.dbcli.specs.declared.request.Request.TheVariants as request
 
--- ---- what was so of an outcome is so behind it
+-- ---- what held before an outcome holds after it
 
 -- the verdict of a run has one of two statuses
 at_verdict : (v : Verdict) → exit_status (Ok v) ≤ 1
@@ -50,6 +50,7 @@ picture_for file V less h = record {
   all = h.all;
   lines = h.lines;
   is = h.is;
+  faulty_line = h.faulty_line;
   holds = less (picture_text h.heading h.ground h.all h.lines) h.holds;
 }
 
@@ -223,7 +224,7 @@ module _ (out err out1 err1 out2 err2 err3 : OutState) where
   first_unread (request.Map name) same t =
       let m = none_moved out err out1 err1 same in let s = m.sum in failed_then m.first 1 1 out out1 out2 (omega (arith, s)) m.count t.once
 
-  -- and behind any error
+  -- and after any error
   pub first_at_error : (asked : Request) (o r : Result Verdict RunError) → OutsFail o asked out out1 err err1
       → IsHanded o r out1 out2 err1 err2 → 4 ≤ exit_status r → IsHandedOnOrFailed (first_most asked (exit_status r)) out out2
   first_at_error asked (Ok v) (Ok w) same h k = let q = at_verdict w in absurd (omega arith)

@@ -24,7 +24,7 @@ limit_rule most = record (new_rule (codes "N")) {
   defaults = codes "100" ∷ [];
 }
 
--- a flag, which has no value, by its name
+-- a flag, by its name, without a value
 abbrev pub flag_rule : Text → Rule
 flag_rule name = record (new_rule name) { long = Some name; action = Some SetTrue }
 
@@ -80,7 +80,7 @@ HasLimit (Report (Stat aggregate all)) = ⊤
 HasLimit (Explain limit) = IsLimit 10000 limit
 HasLimit (Map name) = ⊤
 
--- the text is this number in decimal digits, behind a plus sign or not
+-- the text is this number in decimal digits, after a plus sign or without one
 abbrev pub Spells : Text → ℕ → Type 0
 Spells text n = IsNumeral 10 (without_leading_plus text) × (digits_value 10 (without_leading_plus text) ≡ n)
 
@@ -88,7 +88,7 @@ Spells text n = IsNumeral 10 (without_leading_plus text) × (digits_value 10 (wi
 abbrev pub IsInRow : ℕ → List Row → Type 0
 IsInRow limit rows = (text : Text) × (one_of (codes "N") rows ≡ Some text) × Spells text limit
 
--- so is the one of a request that has one
+-- and so for a request that has a limit
 abbrev pub IsLimitOf : Request → List Row → Type 0
 IsLimitOf (Report (Check limit)) rows = IsInRow limit rows
 IsLimitOf (Report (Stat aggregate all)) rows = ⊤
@@ -128,7 +128,7 @@ pub record AsksFor (met : Option (Text × List Row)) (request : Request) (file :
   pub limit : IsLimitOf request rows
   pub title : IsNameOf request file
 
--- Why the words are not taken: for one of the kinds of fault that `clap` finds in them, or for want of memory. Where it finds
+-- Why the words are not taken: one of the kinds of fault that `clap` finds in them, or want of memory. Where it finds
 -- none, only words that make no request with a limit in range are refused.
 abbrev pub IsErrorOf : LineError → List Text → Type 0
 IsErrorOf (Words e) words = HasKind (fault_of dbck_app words) e

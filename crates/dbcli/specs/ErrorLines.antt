@@ -5,7 +5,7 @@ use Rattle.dbformat.specs.declared.Refusal.TheVariants.{Short, Magic, PageSize, 
 use Rattle.dbsource.specs.declared.error.RunError.{RunError}
 use Rattle.dbsource.specs.declared.error.RunError.TheVariants.{Refused, ReadFailed, OutOfMemory, WriteFailed}
 
--- the line of a refusal
+-- the line that says why a file is refused
 unfoldable pub refusal_line : Refusal → List ℕ
 refusal_line Short = codes "dbck: E1 file is shorter than 100 bytes\n"
 refusal_line Magic = codes "dbck: E2 file is not a SQLite 3 database\n"
@@ -15,7 +15,7 @@ refusal_line NoPage = codes "dbck: E5 file has no whole page\n"
 refusal_line TooManyPages = codes "dbck: E6 file has more than 67108864 pages\n"
 refusal_line MapAtLock = codes "dbck: E7 pointer map at the lock-byte page\n"
 
--- and of any error
+-- the line of any error that ends a run
 unfoldable pub error_line : RunError → List ℕ
 error_line (Refused refusal) = refusal_line refusal
 error_line ReadFailed = codes "dbck: E8 the file cannot be read\n"
@@ -27,7 +27,7 @@ abbrev pub refused_line : Option Refusal → List ℕ
 refused_line (Some refusal) = error_line (Refused refusal)
 refused_line None = []
 
--- the line of the error that an exit status stands for, where this is why the file is refused, if it is; and none at a verdict
+-- the line of the error of an exit status, where this is why the file is refused, if it is; and none at a verdict
 abbrev pub exit_line : ℕ → Option Refusal → List ℕ
 exit_line status why =
     if status == 3 then refused_line why

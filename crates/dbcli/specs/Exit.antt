@@ -21,7 +21,8 @@ pub record IsWritten (r : Report) (out out' err err' : OutState) : Type 0 where
   pub first : Appends out.bytes out'.bytes r.out
   pub second : Appends err.bytes err'.bytes r.err
 
--- Told bytes grew by a beginning of these, and then by a beginning of a line: by all of the line, unless a call of the Out failed.
+-- The bytes of an Out, where they are known, grew by a beginning of these, and then by a beginning of a line: by all of
+-- the line, unless a call of the Out failed.
 pub record BeginsThenLine (old new : OutState) (bytes line : List ℕ) : Type 0 where
   pub part : List ℕ
   pub rest : List ℕ
@@ -37,7 +38,7 @@ pub record IsHandedOn (old new : OutState) : Type 0 where
   pub all : new.pending ≡ []
   pub unfailed : new.failures ≡ old.failures
 
--- Behind an error: at most so many calls of an Out failed, and if none did, nothing of it is pending.
+-- After an error: at most `most` calls of an Out failed, and if none did, nothing of it is pending.
 pub record IsHandedOnOrFailed (most : ℕ) (old new : OutState) : Type 0 where
   pub failed : ℕ
   pub bound : failed ≤ most

@@ -5,9 +5,11 @@ use Rattle.std.specs.Io.KnownBytes.{Keeps}
 use Rattle.dbformat.specs.File.{geometry}
 use Rattle.dbformat.specs.Log.{IsRunLog, IsSomeRunLog}
 use Rattle.dbformat.specs.declared.Refusal.{Refusal}
+use Rattle.dbsource.specs.Answers.{Lengths, Step}
 use Rattle.dbsource.specs.Headers.{IsOpenLog}
-use Rattle.dbsource.specs.Snapshots.{HasRead}
-use Rattle.dbsource.specs.Sources.{HasRanges}
+use Rattle.dbsource.specs.Outs.{OutState}
+use Rattle.dbsource.specs.Snapshots.{HasRead, ToldFileIsRead}
+use Rattle.dbsource.specs.Sources.{HasRanges, SourceState}
 use Rattle.dbsource.specs.declared.error.OpenError.TheVariants as opening
 use Rattle.dbsource.specs.declared.error.RunError.{RunError}
 use Rattle.dbsource.specs.declared.error.RunError.TheVariants.{ReadFailed}
@@ -19,6 +21,12 @@ use Rattle.dbcli.specs.Exit.{EndsWithLine, HasFailed, IsFinishOf, IsHandedOn, Is
 use Rattle.dbcli.specs.Requests.{WritesToFirst}
 use Rattle.dbcli.specs.Status.{exit_status}
 use Rattle.dbcli.specs.declared.request.Request.{Request}
+
+-- What finishing says of each file that agrees with what was read, it says of the bytes that a source tells.
+abbrev pub ToldFilesAreFinished : Step → Lengths → Type 0
+ToldFilesAreFinished step lengths = (asked : Request) (status : ℕ) (out_old out_new err_old err_new : OutState) (old new : SourceState)
+    → ToldFileIsRead step lengths IsSomeRunLog
+    (λ file ranges. IsRunLog (geometry file) ranges × IsFinishOf status asked file out_old out_new err_old err_new) old new
 
 module _ {S O E : Type 0} (source : SourceWords S) (out : OutWords O) (err : OutWords E) where
   -- What was read, and what became of it.
@@ -77,7 +85,7 @@ module _ {S O E : Type 0} (source : SourceWords S) (out : OutWords O) (err : Out
     -- the second got the line E8, and that was handed on, if it could be
     pub second : EndsWithLine (error_line ReadFailed) 2 (err.held old.1) (err.held new.1)
 
-  -- What was opened was finished, and was left in some state; or nothing was.
+  -- What was opened was finished, and was left in some state; or nothing was opened.
   abbrev pub FinishesOpened : Request → ℕ → Result S Unread → O × E → O × E → Type 0
   FinishesOpened asked status (Ok s) old new = (left : S) × Finishes asked status (s, old.0, old.1) (left, new.0, new.1)
   FinishesOpened asked status (Err e) old new = IsUnopened status old new

@@ -13,20 +13,20 @@ use Rattle.dbcli.specs.Exit.{IsHandedOnOrFailed}
 abbrev pub EndsLine : List ℕ → Type 0
 EndsLine piece = slice_get piece (length piece - 1) ≡ Some 10
 
--- it was tried to flush an Out, once: told bytes stay
+-- a flush of an Out was tried, once: the bytes that are known stay
 pub record TriesToFlush (old new : OutState) : Type 0 where
   pub kept : Keeps old.bytes new.bytes
   pub once : IsHandedOnOrFailed 1 old new
 
--- The first Out was flushed and then the second, and one of the two failed. Told bytes stay.
+-- The first Out was flushed and then the second, and one of the two failed. The bytes that are known stay.
 pub record StopsFlushing (out out' err err' : OutState) : Type 0 where
   pub kept : Keeps out.bytes out'.bytes
   pub second_kept : Keeps err.bytes err'.bytes
   pub once : HasOneMore (failures_of_each out err) (failures_of_each out' err')
   pub first : out'.failures ≡ out.failures → out'.pending ≡ []
 
--- Behind a verdict both Outs are flushed, and where one fails the verdict is a failed write. Behind an error that is tried of
--- the first, and at a refusal nothing is done.
+-- After a verdict both Outs are flushed, and where one fails the outcome is a failed write. After an error a flush of
+-- the first is tried, and at a refusal nothing is done.
 abbrev pub IsHanded : Result Verdict RunError → Result Verdict RunError → OutState → OutState → OutState → OutState → Type 0
 IsHanded (Ok v) (Ok w) out out' err err' = (w ≡ v) × IsFlushed out out' × IsFlushed err err'
 IsHanded (Ok v) (Err e) out out' err err' = (e ≡ WriteFailed) × StopsFlushing out out' err err'

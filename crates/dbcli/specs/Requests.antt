@@ -20,13 +20,14 @@ WritesToFirst (request.Report command) = IsCheck command
 WritesToFirst (request.Explain limit) = ⊤
 WritesToFirst (request.Map name) = ⊤
 
--- What a run left is so of a file, by what was asked of it: it is the run of a report, an explanation, or a map.
+-- What a run left is right for a file, by what was asked of it: it is the run of a report, an explanation, or a map.
 abbrev pub IsRunFor : Request → List ℕ → Result Verdict RunError → OutState → OutState → OutState → OutState → Type 0
 IsRunFor (request.Report command) file r out out' err err' = IsRunBy (report command) file r out.bytes out'.bytes err.bytes err'.bytes
 IsRunFor (request.Explain limit) file r out out' err err' = IsExplained limit file r out out'
 IsRunFor (request.Map name) file r out out' err err' = IsMapOf file r out.bytes out'.bytes
 
--- Just one of the Outs failed, once, exactly at a failed write; but of an explanation the first may fail, once, after a failed read.
+-- Exactly one of the Outs failed, once, exactly at a failed write; but of an explanation the first may fail, once,
+-- after a failed read.
 abbrev pub OutsFail : Result Verdict RunError → Request → OutState → OutState → OutState → OutState → Type 0
 OutsFail (Err ReadFailed) (request.Explain limit) out out' err err' =
     OutFailures (Err ReadFailed) out.failures out'.failures × (err'.failures ≡ err.failures)

@@ -37,7 +37,7 @@ module _ {F S O E : Type 0} (opens : F → List ℕ → Result S Unread → F �
     pub first : new.1 ≡ old.1
     pub second : err.held new.2 ≡ err.held old.2
 
-  -- And of any: they were taken; or they have an error, of which the status says what it is.
+  -- And of any words: they were taken; or they have an error, and the status says which.
   abbrev pub AnswersWords : List Text → ℕ → F × O × E → F × O × E → Type 0
   AnswersWords words status old new =
       RunsWords words status old new

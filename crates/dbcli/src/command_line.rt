@@ -21,19 +21,19 @@ use thiserror::Error;
 pub struct Line<'a> {
     /// What is asked of the file.
     pub request: Request<'a>,
-    /// Where the file is.
+    /// The path of the file.
     pub file: &'a str,
     /// Whether progress is shown.
     pub progress: bool,
 }
 
-/// Why a command line is not one of the program's, or that it asks for help or the version.
+/// Why a command line is not taken, or that it asks for help or the version.
 #[derive(Debug, Drop, Error)]
 pub enum LineError {
-    /// What the parser of the words says.
+    /// What the parser of the words reports.
     #[error(transparent)]
     Words(clap::Error),
-    /// The limit passed the parser, and is no number in its range all the same.
+    /// The limit passed the parser, but is no number in its range.
     #[error("dbck: the limit is not a number in its range")]
     Limit,
     /// A word is not UTF-8.
@@ -63,10 +63,10 @@ impl From<AllocError> for LineError {
     }
 }
 
-/// The version of the program: it stands here alone.
+/// The version of the program, which is stated only here.
 const VERSION: &str = "0.1.0";
 
-/// How many faults `check` shows at most, and how many `explain` does.
+/// The most faults that `check` shows, and the most injuries that `explain` shows.
 const MOST_SHOWN: u32 = 1000000;
 
 const MOST_EXPLAINED: u32 = 10000;
@@ -135,7 +135,7 @@ fn file_arg<'a>(alloc: Global) -> Arg<'a>
         .help("The database file")
 }
 
-// The limit, from 1 to a greatest one.
+// The option `--limit N`, from 1 to `most`, and 100 where it is not given.
 fn limit_arg<'a>(alloc: Global, most: u32, help: &'a str) -> Arg<'a>
     requires { (1 ≤ most) × (most ≤ 1000000) }
     ensures rule { rule_of result ≡ limit_rule most }
@@ -148,7 +148,7 @@ fn limit_arg<'a>(alloc: Global, most: u32, help: &'a str) -> Arg<'a>
         .help(help)
 }
 
-// A flag, by its name behind two dashes.
+// A flag, by its name after two dashes.
 fn flag_arg<'a>(alloc: Global, name: &'a str, help: &'a str) -> Arg<'a>
     ensures rule { rule_of result ≡ flag_rule name.entry.now }
     ensures local { result.global ≡ false }
@@ -175,7 +175,7 @@ fn described<'a>(alloc: Global, name: &'a str, about: &'a str, after: &'a str) -
     Words::new(alloc, name).about(about).after_help(after)
 }
 
-// A subcommand of this name that writes at most so many faults as its limit says.
+// A subcommand of this name with a limit of at most `most`.
 fn limited_command<'a>(
     alloc: Global,
     name: &'a str,
@@ -259,7 +259,7 @@ fn dbck_command<'a>(alloc: Global) -> Result<Words<'a>, clap::Error>
     Ok(command)
 }
 
-// The limit, from 1 to a greatest one.
+// The given limit, if it is from 1 to `most`.
 fn limit_of(given: &ArgMatches<'_>, most: u32) -> Option<u32>
     ensures range { IfSome result (λ limit. IsLimit most limit) }
     ensures value { IfSome result (λ limit. IsInRow limit (rows_of (found_of given.now))) }
@@ -272,7 +272,7 @@ fn limit_of(given: &ArgMatches<'_>, most: u32) -> Option<u32>
     Some(limit)
 }
 
-// The check that is asked for.
+// The check that the words ask for.
 fn check_of<'a>(given: &ArgMatches<'_>) -> Option<Request<'a>>
     ensures named { IfSome result (λ request. name_of request ≡ codes "check") }
     ensures limit { IfSome result HasLimit }
@@ -287,7 +287,7 @@ fn check_of<'a>(given: &ArgMatches<'_>) -> Option<Request<'a>>
     }
 }
 
-// The explanation that is asked for.
+// The explanation that the words ask for.
 fn explain_of<'a>(given: &ArgMatches<'_>) -> Option<Request<'a>>
     ensures named { IfSome result (λ request. name_of request ≡ codes "explain") }
     ensures limit { IfSome result HasLimit }
@@ -302,7 +302,7 @@ fn explain_of<'a>(given: &ArgMatches<'_>) -> Option<Request<'a>>
     }
 }
 
-// A picture of the file at this path.
+// A picture of the file at this path, whose title is the last part of the path.
 fn map_of<'a>(file: &'a str) -> Request<'a>
     ensures named { name_of result ≡ codes "map" }
     ensures title { IsNameOf result file.entry.now }
@@ -314,7 +314,7 @@ fn map_of<'a>(file: &'a str) -> Request<'a>
     Request::Map { name }
 }
 
-// The statistics that are asked for.
+// The statistics that the words ask for.
 fn stat_of<'a>(given: &ArgMatches<'_>) -> Request<'a>
     ensures named { name_of result ≡ codes "stat" }
     ensures limit { HasLimit result }
@@ -328,14 +328,14 @@ fn stat_of<'a>(given: &ArgMatches<'_>) -> Request<'a>
     })
 }
 
-// Whether progress is not turned off.
+// Whether progress is shown: it is unless a flag turns it off.
 fn shows_progress(given: &ArgMatches<'_>) -> bool
     ensures { IsFlag (not result) (codes "no-progress") (rows_of (found_of given.now)) }
 {
     !given.get_flag("no-progress")
 }
 
-// What the subcommand that was met asks for, of the file at this path.
+// What this subcommand asks for, of the file at this path.
 fn request_of<'a>(name: &str, given: &ArgMatches<'_>, file: &'a str) -> Option<Request<'a>>
     ensures named { IfSome result (λ request. name.now ≡ name_of request) }
     ensures limit { IfSome result HasLimit }
@@ -358,13 +358,13 @@ fn request_of<'a>(name: &str, given: &ArgMatches<'_>, file: &'a str) -> Option<R
 ///
 /// # Errors
 ///
-/// [`LineError::Words`] where they ask for help or the version, where they are no command line of the program, or for want
-/// of memory; its kind says which.
+/// [`LineError::Words`] where they ask for help or the version, where they are no command line of the program, or for
+/// want of memory; its kind says which. [`LineError::Limit`] where the parser took a limit that is out of range.
 pub fn line_of<'a>(alloc: Global, words: &'a [&'a str]) -> Result<Line<'a>, LineError>
     ensures asks { IfOk result (λ line. AsksFor (subcommand_of dbck_app (map (λ word. word.now) words.entry.now)) line.request line.file.now) }
     ensures limit { IfOk result (λ line. HasLimit line.request) }
     ensures progress { IfOk result (λ line. IsProgressOf line.progress (subcommand_of dbck_app (map (λ word. word.now) words.entry.now))) }
-    // Only words in which the parser finds no fault are taken, and its fault is why others are not.
+    // Exactly the words in which the parser finds no fault are taken, and its fault is why others are not.
     ensures taken { IfOk result (λ line. fault_of dbck_app (map (λ word. word.now) words.entry.now) ≡ []) }
     ensures refused { IfErr result (λ error. IsErrorOf error (map (λ word. word.now) words.entry.now)) }
 {
@@ -386,7 +386,7 @@ pub fn line_of<'a>(alloc: Global, words: &'a [&'a str]) -> Result<Line<'a>, Line
     }
 }
 
-// The words as one line shows them.
+// The words as they are shown on one line.
 fn shown_words(alloc: Global, words: &[&str]) -> Result<Vec<String>, AllocError> {
     let mut lines = Vec::new(alloc);
     for word in words {
@@ -395,7 +395,7 @@ fn shown_words(alloc: Global, words: &[&str]) -> Result<Vec<String>, AllocError>
     Ok(lines)
 }
 
-// The error of words as one line shows them, if they have one.
+// The error of the words as they are shown on one line, if they have one.
 fn error_of_shown(alloc: Global, words: &[&str]) -> Result<Option<clap::Error>, AllocError> {
     let lines = shown_words(alloc, words)?;
     let mut texts: Vec<&str> = Vec::new(alloc);
@@ -408,8 +408,8 @@ fn error_of_shown(alloc: Global, words: &[&str]) -> Result<Option<clap::Error>, 
     }
 }
 
-/// An error of the words with the text that it has of them as one line shows them, so that no control character of a word
-/// reaches a terminal.
+/// An error of the words, whose text has the words as they are shown on one line, so that no control character of a
+/// word reaches a terminal. It has the same kind and the same status.
 pub fn shown_error(alloc: Global, words: &[&str], error: LineError) -> LineError
     ensures kept { (texts : List (List ℕ)) → IsErrorOf error texts → IsErrorOf result texts }
     ensures status { line_status result ≡ line_status error }

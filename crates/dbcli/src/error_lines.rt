@@ -19,7 +19,7 @@ fn refusal_line(refusal: Refusal) -> &'static str
     }
 }
 
-/// The line of an error, with its line feed. What it says is the text of the error.
+/// The line of an error, with its line feed: the program's name and the text of the error.
 #[tactic(auto, unfolding(crate::specs::ErrorLines::error_line))]
 pub fn error_line(error: RunError) -> &'static str
     ensures { result.now ≡ error_line error }

@@ -3,7 +3,7 @@ ghost use Rattle.std.specs.Prelude.{◌≡◌, IfErr, OnOk};
 ghost use Rattle.dbreport.specs.Runs.{IsUnwritten};
 ghost use Rattle.dbcli.specs.ErrorLines.{error_line};
 ghost use Rattle.dbcli.specs.Exit.{EndsWithLine, IsKnown};
-ghost use Rattle.dbcli.specs.Finishing.{FailsByStatus, FinishesOpened, IsFinished, LeavesFirst, LeavesSecond};
+ghost use Rattle.dbcli.specs.Finishing.{FailsByStatus, FinishesOpened, IsFinished, LeavesFirst, LeavesSecond, ToldFilesAreFinished};
 ghost use Rattle.dbcli.specs.Handing.{IsHanded};
 ghost use Rattle.dbcli.specs.Status.{exit_status};
 
@@ -14,14 +14,14 @@ use dbreport::Verdict;
 use dbsource::{Out, ReadFailed, RunError, Source};
 use std::alloc::Global;
 
-/// What is told of a run beside its two Outs, which it does nothing to.
+/// What is reported of a run beside its two Outs, which it does not touch.
 pub trait Notes {
-    /// The run has come to this. The line of an error is not yet put.
+    /// The run has this outcome. The line of an error is not yet put.
     fn tell(&mut self, outcome: &Result<Verdict, RunError>);
 }
 
-// Hands on what is pending, then tells the notes of an error and puts its line, and hands it on, as far as that can be. Where
-// both the first and the line fail no more is tried.
+// Hands on what is pending, gives the notes the error, puts its line, and hands that on, as far as it can. If handing
+// on and the line both fail, no more is tried.
 fn put_error<E: Out, N: Notes>(err: &mut E, error: RunError, notes: &mut N)
     ensures { EndsWithLine (error_line error) 2 (E.held err.old) (E.held err.new) }
 {
@@ -33,8 +33,8 @@ fn put_error<E: Out, N: Notes>(err: &mut E, error: RunError, notes: &mut N)
     }
 }
 
-/// Puts the line of an error to `err`, after its notes, and hands it on, as far as that can be; answers the status of the
-/// outcome.
+/// Ends a run: gives the notes the outcome; at an error puts its line to `err`, after the notes, and hands it on, as
+/// far as it can. Answers the status of the outcome.
 pub fn end<E: Out, N: Notes>(err: &mut E, outcome: Result<Verdict, RunError>, notes: &mut N) -> u8
     ensures status { result ≡ exit_status outcome }
     ensures quiet { OnOk outcome (E.held err.new ≡ E.held err.old) }
@@ -47,8 +47,8 @@ pub fn end<E: Out, N: Notes>(err: &mut E, outcome: Result<Verdict, RunError>, no
     status_of(&outcome)
 }
 
-/// Hands on what is pending. Where `outcome` is a verdict that is done of both Outs. Where it is an error other than a refusal it
-/// is done of `out`, if that can be. At a refusal nothing was written.
+/// Hands on what is pending. If `outcome` is a verdict it does so of both Outs. If it is an error other than a refusal
+/// it tries so of `out`. At a refusal nothing was written.
 ///
 /// # Errors
 ///
@@ -75,9 +75,9 @@ pub fn hand_on<O: Out, E: Out>(
     }
 }
 
-/// Does what is asked on the source, and answers the exit status. What was put to `out` and then what was put to `err` is handed
-/// on before the status is decided. After an error that is tried of `out`, unless the file is refused; then the line of the
-/// error is put to `err`, if that can be, and handed on, if that can be.
+/// Runs the request on the source, and answers the exit status. What was put to `out` and then what was put to `err` is
+/// handed on before the status is decided. After an error, unless the file is refused, only `out` is tried; then the
+/// line of the error is put to `err` and handed on, if it can be.
 pub fn finish_opened<S: Source, O: Out, E: Out, N: Notes>(
     alloc: Global,
     request: Request<'_>,
@@ -97,8 +97,8 @@ pub fn finish_opened<S: Source, O: Out, E: Out, N: Notes>(
     end(err, outcome, notes)
 }
 
-/// Does what is asked on the file that was opened, as [`finish_opened`], or that could not be, and answers the exit status. Where
-/// it could not be opened the line of the error is put to `err`, and `out` is left alone.
+/// Runs the request on the file that was opened, as [`finish_opened`], or that could not be, and answers the exit
+/// status. If it could not be opened the line of the error is put to `err`, and `out` is left alone.
 pub fn finish<S: Source + Drop, O: Out, E: Out, N: Notes>(
     alloc: Global,
     request: Request<'_>,
@@ -114,3 +114,9 @@ pub fn finish<S: Source + Drop, O: Out, E: Out, N: Notes>(
         Err(error) => end(err, Err(RunError::from(error)), notes),
     }
 }
+
+/// What [`finish_opened`] says of each file that agrees with what was read is so of the bytes that a source tells, as memory does:
+/// what was written is theirs, and of the statuses 0 and 1 it is 0 exactly where they are sound.
+pub fn told_files_are_finished<S: Source>()
+    ensures { ToldFilesAreFinished S.step S.lengths }
+{}

@@ -1,5 +1,5 @@
-//! What the program `dbck` does between its words and its exit status: it reads the command line, opens the file, runs what is
-//! asked for, and reports errors, notes and progress.
+//! What the program `dbck` does between its words and its exit status: it reads the command line, opens the file, runs
+//! the request, and reports errors, notes and progress.
 #![tactic(auto)]
 
 mod command_line;
@@ -21,7 +21,7 @@ pub use command_line::{Line, LineError, line_of, shown_error};
 pub use dbreport::{Command, Verdict};
 pub use dbsource::{Out, ReadFailed, RunError, Source};
 pub use error_lines::error_line;
-pub use finishing::{Notes, end, finish, finish_opened, hand_on};
+pub use finishing::{Notes, end, finish, finish_opened, hand_on, told_files_are_finished};
 pub use line_out::LineOut;
 pub use logs::put_log_notes;
 pub use opening::{Opener, SystemFiles};

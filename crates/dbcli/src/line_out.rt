@@ -1,4 +1,4 @@
-// An Out that hands on each line where it ends.
+// An Out that hands on each line at its end.
 ghost use Rattle.std.specs.Prelude.{◌≡◌, ◌-◌, [], true, OnOk};
 ghost use Rattle.dbsource.specs.Outs.{Puts};
 ghost use Rattle.dbcli.specs.Handing.{EndsLine};
@@ -6,8 +6,8 @@ ghost use Rattle.dbcli.specs.Handing.{EndsLine};
 use crate::progress::Progress;
 use dbsource::{Out, WriteFailed};
 
-/// An Out over an Out. Where it leads to a terminal, a line is handed on with its last piece, so that it is seen as soon as
-/// it is found, and what is shown of the progress is wiped before; else lines stay with the Out below.
+/// An Out over another Out. If that leads to a terminal, a line is handed on with its last piece, so that it is seen as
+/// soon as it is found, and the progress that is shown is wiped before; else lines stay with the inner Out.
 #[derive(Drop)]
 pub struct LineOut<'a, O, W> {
     out: O,

@@ -1,13 +1,13 @@
-// The logs of SQLite that lie beside a database, of which a check reads nothing.
+// The logs of SQLite beside a database, which a check does not read.
 use crate::shown::shown;
 use dbsource::Out;
 use std::rt::Files;
 use std::{fs, io};
 
-// What a log's name has behind that of its database, and what SQLite has to do with it.
+// What a log's name has after that of its database, and what SQLite does with it.
 const LOGS: [(&str, &str); 2] = [("-wal", "checkpoint"), ("-journal", "recover")];
 
-// Where the database itself lies, if `file` is a link to it: there SQLite looks for the logs.
+// The path of the database itself, if `file` is a link to it: SQLite looks for the logs there.
 fn behind_links<R: Files + AllocGlobal>(rt: &R, file: &str) -> io::Result<String> {
     if fs::symlink_metadata(rt, file)?.is_symlink() {
         Ok(fs::canonicalize(rt, file)?.into_string())
@@ -16,7 +16,7 @@ fn behind_links<R: Files + AllocGlobal>(rt: &R, file: &str) -> io::Result<String
     }
 }
 
-// Puts the line of a log that lies at `path` and is not empty.
+// Puts the line of a log at `path`, if it is not empty.
 fn put_note<R: Files + AllocGlobal, N: Out>(
     rt: &R,
     path: &str,
@@ -43,8 +43,8 @@ fn put_each<R: Files + AllocGlobal, N: Out>(rt: &R, file: &str, notes: &mut N) -
     Ok(())
 }
 
-/// Puts a line to `notes` for each log of SQLite that lies beside the database at `file` and is not empty, if that can be.
-/// An error while one is looked for is ignored.
+/// Puts a line to `notes` for each log of SQLite beside the database at `file` that is not empty. An error in looking
+/// for one is ignored, and so is a line that cannot be put.
 pub fn put_log_notes<R: Files + AllocGlobal, N: Out>(rt: &R, file: &str, notes: &mut N) {
     let _ = put_each(rt, file, notes);
 }

@@ -13,7 +13,7 @@ use std::os::unix::fs::{FileTypeExt, MetadataExt};
 use std::rt::Files;
 use std::{fs, io, str};
 
-/// What notes are put on: the file at a path, of which a run asks what `watch` sees.
+/// Puts notes on the file at a path; `watch` has what the run has seen of it.
 #[derive(Drop)]
 pub struct FileNotes<'a, R, N> {
     rt: &'a R,
@@ -42,7 +42,7 @@ impl<'a, R: Files<File = File> + AllocGlobal, N: Out> FileNotes<'a, R, N> {
         }
     }
 
-    /// The file was opened. A note is put on each log beside it.
+    /// Says that the file was opened. A note is put on each log beside it.
     pub fn opened(&mut self) {
         self.is_open = true;
         put_log_notes(self.rt, self.file, self.notes);
@@ -57,7 +57,7 @@ impl<'a, R: Files<File = File> + AllocGlobal, N: Out> FileNotes<'a, R, N> {
         }
     }
 
-    // Why the file cannot be read.
+    // The note on a file that cannot be read.
     fn unread(&self) -> Result<Option<String>, AllocError> {
         let alloc = self.rt.alloc();
         let reason = if self.is_open {
@@ -72,13 +72,13 @@ impl<'a, R: Files<File = File> + AllocGlobal, N: Out> FileNotes<'a, R, N> {
         Ok(Some(format!(in alloc; "{name}: {reason}")?))
     }
 
-    // That the file is refused.
+    // The note on a refused file.
     fn refused(&self) -> Result<Option<String>, AllocError> {
         let name = shown(self.rt.alloc(), self.file)?;
         Ok(Some(format!(in self.rt.alloc(); "{name} is not checked")?))
     }
 
-    // What is known of a file that is refused: that it has no bytes, or which ones it begins with.
+    // What is known of a refused file: that it has no bytes, or which bytes it begins with.
     fn known(&self, refusal: Refusal) -> Result<Option<String>, AllocError> {
         let alloc = self.rt.alloc();
         let known = match refusal {
@@ -92,7 +92,7 @@ impl<'a, R: Files<File = File> + AllocGlobal, N: Out> FileNotes<'a, R, N> {
         Ok(Some(format!(in alloc; "{name} {known}")?))
     }
 
-    // That the file was changed, if its name still leads to it.
+    // The note that the file was changed, if its name still leads to it.
     fn changed(&self) -> Result<Option<String>, AllocError> {
         let Some(before) = &self.before else {
             return Ok(None);
@@ -139,7 +139,7 @@ fn beginning(alloc: Global, first: [u8; 16]) -> Result<String, AllocError> {
     String::from_str(alloc, str::from_utf8(line.as_slice()).unwrap_or("?"))
 }
 
-// Whether one file has another length, or was written, between two looks at it.
+// Whether a file got another length, or was written, between two looks at it.
 fn is_changed(before: &Metadata, after: &Metadata) -> bool {
     let is_same = before.dev() == after.dev() && before.ino() == after.ino();
     let is_written = before.mtime() != after.mtime() || before.mtime_nsec() != after.mtime_nsec();

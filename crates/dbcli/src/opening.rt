@@ -3,15 +3,15 @@ use dbsource::{FileSource, ReadFailed, Source};
 use std::fs::File;
 use std::rt::{Clock, Files};
 
-/// Who opens files, each by its path.
+/// Opens files by their paths.
 pub trait Opener {
     ghost use Rattle.std.specs.Prelude.{ℕ, List, Result};
     ghost use Rattle.dbsource.specs.declared.source.ReadFailed.{ReadFailed as Unread};
 
-    /// What an opened file is read from.
+    /// What the bytes of an opened file are read from.
     type File: Source + Drop;
 
-    // What an opening makes of who opens, by the path and by what is answered: which file that is.
+    // What opening a path makes of the opener, and which file the answer is.
     ghost opens: { Self → List ℕ → Result Self.File Unread → Self → Type 0 };
 
     /// Opens the file at `path` for reading.
@@ -30,7 +30,7 @@ pub struct SystemFiles<'a, R> {
 }
 
 impl<'a, R: Files<File = File> + Clock + AllocGlobal> SystemFiles<'a, R> {
-    /// Those that `rt` reaches.
+    /// The files of the system that `rt` reaches.
     pub fn new(rt: &'a R) -> SystemFiles<'a, R> {
         SystemFiles { rt }
     }
@@ -42,7 +42,7 @@ impl<'a, R: Files<File = File> + Clock + AllocGlobal> Opener for SystemFiles<'a,
 
     type File = FileSource<'a, R>;
 
-    // Nothing is known of the bytes of a file.
+    // No contract knows the bytes of a file.
     ghost opens = { λ old path opened new. (new ≡ old) × IfOk opened (λ source. source ≡ untold_source) };
 
     fn open(&mut self, path: &str) -> Result<FileSource<'a, R>, ReadFailed> {

@@ -3,14 +3,14 @@ use arrayvec::ArrayString;
 use std::cell::Cell;
 use std::fmt::Write;
 
-// After how many pages it is shown, each time.
+// Progress is shown each time after this many pages.
 const STEP: u64 = 65_536;
 
-// As long as the longest text is, and back to where it began.
+// Blanks over the longest text, between two returns to the beginning of the line.
 const BLANK: &str = "\r                                        \r";
 
-/// A line of a stream that is written over, if that is a terminal. After each text the cursor goes back to the line's beginning, so
-/// that also after a run that is interrupted the next text is written over it. That it cannot be written changes nothing.
+/// A line of a stream that is overwritten, if the stream is a terminal. After each text the cursor goes back to the beginning
+/// of the line, so that the next text overwrites it, also after an interrupted run. A failed write changes nothing.
 #[derive(Drop)]
 pub struct Progress<W> {
     stream: W,
@@ -19,7 +19,7 @@ pub struct Progress<W> {
 }
 
 impl<W: Print> Progress<W> {
-    /// One that shows nothing yet, and nothing at all where `stream` is no terminal.
+    /// A line that shows nothing yet, and never anything where `stream` is no terminal.
     pub fn new(stream: W, is_terminal: bool) -> Progress<W> {
         Progress {
             stream,
@@ -28,12 +28,12 @@ impl<W: Print> Progress<W> {
         }
     }
 
-    /// Shows nothing from here on.
+    /// Shows nothing from now on.
     pub fn turn_off(&self) {
         self.is_on.set(false);
     }
 
-    /// Whether it is to be shown after so many pages: after each 65536th.
+    /// Whether it is due after `count` pages: after each 65536th.
     pub fn is_due(&self, count: u64) -> bool {
         count > 0 && count % STEP == 0 && self.is_on.get()
     }
@@ -50,7 +50,7 @@ impl<W: Print> Progress<W> {
         }
     }
 
-    /// Wipes what is shown, before another line.
+    /// Wipes the text that is shown, before another line is written.
     pub fn wipe(&self) {
         if self.is_shown.replace(false) {
             let _ = self.stream.print(BLANK);

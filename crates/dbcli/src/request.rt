@@ -19,17 +19,18 @@ use std::alloc::Global;
 pub enum Request<'a> {
     /// Its faults, or its rows.
     Report(Command),
-    /// The first so many faults, from 1 to 10000, with what is known of their pages, and how many there are of each kind.
+    /// The first `limit` injuries, from 1 to 10000, with what is known of their pages, and how many faults there are of
+    /// each code and tree.
     Explain { limit: u32 },
     /// A picture of its pages, under this name.
     Map { name: &'a str },
 }
 
-/// Does what is asked of the file that `source` gives, as [`run`], [`explain`] and [`map`] do.
+/// Runs the request on the file that `source` gives, as [`run`], [`explain`] and [`map`] do.
 ///
 /// # Errors
 ///
-/// As of these.
+/// Those of these functions.
 pub(crate) fn run_request<S: Source, O: Out, E: Out>(
     alloc: Global,
     request: Request<'_>,

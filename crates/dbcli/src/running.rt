@@ -17,17 +17,17 @@ use std::fs::File;
 use std::io;
 use std::rt::Files;
 
-/// The system of a run: where notes come from, and who opens its file.
+/// The system of a run: its memory and metadata, and the opener of its file.
 #[derive(Drop)]
 pub struct System<'a, R, F> {
-    /// Where memory comes from, and what is asked of a path for the notes.
+    /// Gives memory, and the metadata of a path for the notes.
     pub rt: &'a R,
-    /// Who opens the file that is run.
+    /// Opens the file of the run.
     pub files: F,
 }
 
 impl<'a, R, F> System<'a, R, F> {
-    /// One of these.
+    /// A system of these two.
     pub fn new(rt: &'a R, files: F) -> System<'a, R, F>
         ensures { result.files ≡ files }
     {
@@ -35,7 +35,7 @@ impl<'a, R, F> System<'a, R, F> {
     }
 }
 
-// What was opened, watched.
+// The source that was opened, watched.
 fn watch_opened<'w, 'p, S: Source, W: Print>(
     opened: Result<S, ReadFailed>,
     watch: &'w Watch,
@@ -50,8 +50,8 @@ fn watch_opened<'w, 'p, S: Source, W: Print>(
     }
 }
 
-/// Runs what a line asks for, on the file alone, and answers the exit status. What is told of the file beside the report is
-/// put to `notes`, and the progress is wiped at the end.
+/// Runs what a line asks for, on its file alone, and answers the exit status. What is reported of the file beside the
+/// report is put to `notes`, and the progress is wiped at the end.
 pub fn run_line<R: Files<File = File> + AllocGlobal, F: Opener, O: Out, E: Out, N: Out, W: Print>(
     system: &mut System<'_, R, F>,
     line: Line<'_>,
@@ -83,7 +83,7 @@ pub fn run_line<R: Files<File = File> + AllocGlobal, F: Opener, O: Out, E: Out, 
 ///
 /// # Errors
 ///
-/// As [`line_of`], with its words as [`shown_error`] has them. Nothing was opened and nothing put then.
+/// As [`line_of`], with its words as [`shown_error`] has them. Then nothing was opened and nothing was put.
 pub fn run_words<
     'a,
     R: Files<File = File> + AllocGlobal,
@@ -115,8 +115,8 @@ pub fn run_words<
     Ok(run_line(system, line, out, err, notes, progress))
 }
 
-/// Runs what the words ask for, or tells why they ask for nothing, and answers the exit status. The first of them is the
-/// program's name.
+/// Runs what the words ask for, or prints why they are not taken or the help that they ask for, and answers the exit
+/// status. The first of them is the program's name.
 pub fn answer_words<
     'a,
     R: Files<File = File> + AllocGlobal + Print + Eprint,
@@ -143,7 +143,7 @@ pub fn answer_words<
     }
 }
 
-// Prints what is wrong with the words, as the program's own lines begin.
+// Prints what is wrong with the words, with the program's own name before it.
 fn print_error<R: Eprint + Print + AllocGlobal>(rt: &R, words: &clap::Error) -> io::Result<()> {
     let Ok(text) = words.to_string(rt.alloc()) else {
         return words.print(rt);
@@ -154,8 +154,8 @@ fn print_error<R: Eprint + Print + AllocGlobal>(rt: &R, words: &clap::Error) -> 
     }
 }
 
-/// Tells why the words are no command line, or the help that they ask for, and answers the exit status: 6 where what they
-/// ask for cannot be printed.
+/// Prints why the words are no command line, or the help that they ask for, and answers the exit status: 6 where the
+/// help cannot be printed.
 pub fn tell<R: Print + Eprint + AllocGlobal>(rt: &R, error: &LineError) -> u8
     ensures { IsTold result error.now }
 {

@@ -7,8 +7,8 @@ use clap::error::ErrorKind;
 use dbreport::Verdict;
 use dbsource::RunError;
 
-/// The exit status for the outcome of a run: 0 without a fault, 1 with faults, 3 for a refused file, 4 where it cannot be
-/// read, 5 for want of memory, and 6 where the output cannot be written.
+/// The exit status for the outcome of a run: 0 without a fault, 1 with faults, 3 for a refused file, 4 for a file that
+/// cannot be read, 5 for want of memory, and 6 for output that cannot be written.
 pub fn status_of(outcome: &Result<Verdict, RunError>) -> u8
     ensures { result ≡ exit_status outcome.now }
 {

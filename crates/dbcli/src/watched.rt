@@ -1,4 +1,4 @@
-// A source over a source, of which it is seen what it was asked for.
+// A source over another source, which sees what is asked of that.
 ghost use Rattle.std.specs.Prelude.{◌≡◌};
 
 use crate::progress::Progress;
@@ -16,7 +16,7 @@ pub struct Watch {
 }
 
 impl Watch {
-    /// Nothing yet.
+    /// Nothing seen yet.
     pub fn new() -> Watch {
         Watch {
             len: Cell::new(0),
@@ -27,7 +27,7 @@ impl Watch {
         }
     }
 
-    /// How many bytes there are, as the source said last.
+    /// The number of bytes, as the source answered last.
     pub fn len(&self) -> u64 {
         self.len.get()
     }
@@ -64,7 +64,7 @@ impl Watch {
     }
 }
 
-// The first 16 bytes, with zeros for those that are not there.
+// The first 16 bytes, with zeros for those that the file does not have.
 fn first_of(bytes: &[u8]) -> [u8; 16] {
     let mut first = [0; 16];
     for (to, from) in first.iter_mut().zip(bytes) {
@@ -73,15 +73,15 @@ fn first_of(bytes: &[u8]) -> [u8; 16] {
     first
 }
 
-// The first bytes of a file of so many.
+// The first bytes of a file whose length is `file_len`.
 #[derive(Drop)]
-struct Beginning<'a> {
+struct FirstBytes<'a> {
     bytes: &'a [u8],
     file_len: u64,
     failures: Failures,
 }
 
-impl Source for Beginning<'_> {
+impl Source for FirstBytes<'_> {
     ghost use Rattle.dbsource.specs.Sources.{any_length, no_step, untold_source};
 
     ghost held = { λ s. record untold_source { failures = s.failures } };
@@ -103,20 +103,20 @@ impl Source for Beginning<'_> {
     }
 }
 
-// The shape of a file of so many bytes that begins with these, if its header is accepted.
+// The shape of a file of this length with these first bytes, if its header is accepted.
 fn geometry_of(bytes: &[u8], file_len: u64) -> Option<Geometry> {
-    let mut beginning = Beginning {
+    let mut first_bytes = FirstBytes {
         bytes,
         file_len,
         failures: Failures::new(),
     };
-    match Header::read(&mut beginning) {
+    match Header::read(&mut first_bytes) {
         Ok(header) => Some(header.geometry()),
         Err(_) => None,
     }
 }
 
-/// A source over a source, which answers what that one answers, and shows the progress.
+/// A source over another source, which answers what that one answers, and shows the progress.
 #[derive(Drop)]
 pub struct Watched<'w, 'p, S, W> {
     source: S,
@@ -125,7 +125,7 @@ pub struct Watched<'w, 'p, S, W> {
 }
 
 impl<'w, 'p, S: Source, W: Print> Watched<'w, 'p, S, W> {
-    /// One over `source`.
+    /// A watched source over `source`.
     pub fn new(source: S, watch: &'w Watch, progress: &'p Progress<W>) -> Watched<'w, 'p, S, W>
         ensures { result.source ≡ source }
     {

@@ -4,7 +4,7 @@ use std::alloc::{AllocError, Global};
 use std::env::{self, Env};
 use std::io::ErrorKind;
 
-// Why no words were read, as an error of the line.
+// The error of the line for words that could not be read.
 fn words_error(kind: ErrorKind) -> LineError {
     match kind {
         ErrorKind::OutOfMemory => LineError::from(AllocError),
@@ -24,7 +24,7 @@ pub fn words_of<R: Env + AllocGlobal>(rt: &R) -> Result<Vec<String>, LineError> 
     }
 }
 
-/// The same words as texts.
+/// The same words, as texts.
 ///
 /// # Errors
 ///

@@ -32,10 +32,10 @@ const NOTED: &str = "dbck: note\n";
 
 const NOTED_E8: &str = "dbck: note\ndbck: E8 the file cannot be read\n";
 
-// What is run, and the number of the call of its file that fails; the file; the two outs; the status; and what the outs tell.
-// Call 0 asks for the length, call 1 reads the header, and the others read a page each.
+// What is run, and the number of the call of its file that fails; the file; the two outs; the status; and what the outs
+// hold. Call 0 asks for the length, call 1 reads the header, and the others read a page each.
 const ENDS: [(&str, &str, &str, &str, u8, &str, &str); 13] = [
-    // Behind a verdict a flush of either that fails is status 6, and the line says so.
+    // After a verdict a failed flush of either is status 6, and the line says so.
     ("check", "Smallest 1", "no flush", "", 6, "1", E10),
     ("check", "Smallest 1", "", "no flush", 6, "ok\n", "3"),
     // A refusal keeps its status, and of its first out nothing is asked.
@@ -45,15 +45,15 @@ const ENDS: [(&str, &str, &str, &str, u8, &str, &str); 13] = [
     ("stat", "Smallest 1", "", "no room", 0, PAGE_ROW, ""),
     ("stat", "Smallest 2", "", "no room", 6, PAGE_ROW, ""),
     ("check", "Smallest 0", "", "no room", 3, "", ""),
-    // A file that is not opened. The line of the error is handed on, behind what was pending.
+    // A file that is not opened. The line of the error is handed on, after what was pending.
     ("check", "missing", "", "", 4, "", E8),
     ("check", "missing", "", NOTED, 4, "", NOTED_E8),
     // The rows that were found before a read fails are handed on.
     ("stat 1", PARENT, "", "", 4, "", E8),
     ("stat 2", PARENT, "", "", 4, "", E8),
     ("stat 3", PARENT, "", "", 4, PARENT_ROW, E8),
-    // Behind want of memory what was written is handed on. (A run in a heap that is too small is a test of `run_in`: memory of
-    // `finish` is that of the program.)
+    // After want of memory what was written is handed on. (A run in a heap that is too small is a test of `run_in`:
+    // memory of `finish` is that of the program.)
     ("stat", "no memory", "row\n", "", 5, "row\n", E9),
 ];
 
@@ -97,7 +97,7 @@ fn ends_runs(rt: HostRuntime) -> Result<(), Fail> {
     Ok(())
 }
 
-// What is found is written before the next page is read: the row of page 1 stands there when the read of page 2 fails.
+// What is found is written before the next page is read: the row of page 1 is there when the read of page 2 fails.
 #[test]
 fn holds_nothing_back(rt: HostRuntime) -> Result<(), Fail> {
     let file = TestFile::of(rt.alloc(), PARENT)?.into_bytes();

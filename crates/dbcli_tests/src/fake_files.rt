@@ -10,13 +10,13 @@ use std::time::Duration;
 /// What is allowed beside a look at a path.
 #[derive(Clone, Copy, PartialEq)]
 pub enum Allowed {
-    /// Nothing.
+    /// To open no file.
     Looking,
     /// To open a file for reading alone.
     Reading,
     /// The same, where a look at a path finds 512 bytes, whatever the file has.
     Lying,
-    /// The same, where a device takes the place of each file behind the look, which finds 512 bytes.
+    /// The same, where a device takes the place of each file after the look, which finds 512 bytes.
     Swapping,
 }
 

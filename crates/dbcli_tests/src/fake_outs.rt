@@ -1,4 +1,4 @@
-// Where the tests write to, and what is told beside it.
+// Where the tests write to, and the notes of a run.
 use dbcli::Notes;
 use dbreport::Verdict;
 use dbsource::{Failures, MemOut, Out, RunError, WriteFailed};
@@ -6,7 +6,7 @@ use std::alloc::Global;
 use std::cell::RefCell;
 use std::io::{self, ErrorKind, Write};
 
-/// A writer to a log that others may write to, too. It is full once the log has so many bytes.
+/// A writer to a log that others may write to, too. It is full once the log has `room` bytes.
 #[derive(Drop)]
 pub struct LogWriter<'a> {
     log: &'a RefCell<Vec<u8>>,
@@ -38,7 +38,7 @@ impl Write for LogWriter<'_> {
     }
 }
 
-/// An out that tells what it handed on, or one of two that fail. It counts its flushes.
+/// An out that shows what it handed on, or one of two that fail. It counts its flushes.
 #[derive(Drop)]
 pub struct FakeOut {
     taken: MemOut,
@@ -101,7 +101,7 @@ impl Out for FakeOut {
     }
 }
 
-/// A run of which nothing is told beside its two outs.
+/// A run without notes.
 #[derive(Drop)]
 pub struct NoNotes;
 

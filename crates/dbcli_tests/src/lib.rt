@@ -1,4 +1,5 @@
-//! Tests of `dbcli`: texts and statuses that no clause says. They stand apart, since a crate with tests is proved twice.
+//! Tests of `dbcli`: texts and statuses that no clause says. They have a crate of their own, since a crate with tests
+//! is proved twice.
 #![tactic(auto)]
 
 // One call where `assert!` has a branch, which would be proved at each place. The text says what did not hold, and of what.

@@ -257,7 +257,7 @@ const WRONG: [(&str, &str); 19] = [
     ("dbck|repair|x", "error: unrecognized subcommand 'repair'\n"),
 ];
 
-// The text of each error, which its line shows behind the program's name.
+// The text of each error, which its line shows after the program's name.
 const ERRORS: [(RunError, &str); 10] = [
     (
         RunError::Refused(Refusal::Short),

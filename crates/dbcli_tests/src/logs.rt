@@ -56,14 +56,14 @@ fn make_folder(rt: &HostRuntime, folder: &str, names: &str) -> Result<(), Fail> 
     Ok(())
 }
 
-// Puts the notes on the logs of a database, and tells whether nothing but metadata was asked for.
+// Puts the notes on the logs of a database, and answers whether nothing but metadata was asked for.
 fn put_notes(rt: &HostRuntime, path: &str, notes: &mut MemOut) -> bool {
     let files = FakeFiles::new(rt, Allowed::Looking);
     put_log_notes(&files, path, notes);
     !files.has_refused()
 }
 
-// Whether the notes are one text and, behind it, another.
+// Whether the notes are one text and, after it, another.
 fn are_both(notes: &[u8], first: &str, second: &str) -> bool {
     notes.strip_prefix(first.as_bytes()) == Some(second.as_bytes())
 }

@@ -19,7 +19,7 @@ const LEAVES: u32 = 70;
 
 const PAGES: u32 = 4000;
 
-// Makes a page an interior one, whose children are so many pages from `first` on.
+// Makes a page an interior one, whose children are `count` pages from `first` on.
 fn put_interior(file: &mut TestFile, page: u32, first: u32, count: u32) {
     let last = first.wrapping_add(count).wrapping_sub(1);
     let mut tree = file.interior_table(page, last);
@@ -28,7 +28,7 @@ fn put_interior(file: &mut TestFile, page: u32, first: u32, count: u32) {
     }
 }
 
-// A schema of three levels whose leaves are zeros, and behind them pages that are not in use.
+// A schema of three levels whose leaves are zeros, and after them pages that are not in use.
 fn tall_file(alloc: Global) -> Result<Vec<u8>, AllocError> {
     let mut file = TestFile::new(alloc, 512, 21)?;
     put_interior(&mut file, 1, 2, INTERIOR);
@@ -40,9 +40,9 @@ fn tall_file(alloc: Global) -> Result<Vec<u8>, AllocError> {
     Ok(bytes)
 }
 
-// The rows and faults of the schema, each fault behind the row of its page.
+// The rows and faults of the schema, each fault after the row of its page.
 fn put_schema(text: &mut String) -> Result<(), AllocError> {
-    // 400 and 500 bytes behind the headers, of which a cell and its pointer take 7.
+    // 400 and 500 bytes after the headers, of which a cell and its pointer take 7.
     writeln!(text, "sqlite_schema\t/\t1\tinternal\t19\t0\t267\t0\t0\t512")?;
     for index in 0..INTERIOR {
         let page = 2 + index;
@@ -143,7 +143,7 @@ fn rows_and_faults_keep_their_order(rt: HostRuntime) -> Result<(), Fail> {
     compare_at_once(&rt, &rt, file.as_slice(), text.as_str())
 }
 
-// The row of a tree stands behind the faults of its pages: page 1 is an interior page whose one child, page 2, is zeros.
+// The row of a tree comes after the faults of its pages: page 1 is an interior page whose one child, page 2, is zeros.
 #[test]
 fn rows_of_trees_stand_behind_their_faults(rt: HostRuntime) -> Result<(), Fail> {
     let file = TestFile::of(rt.alloc(), "Smallest 2: 1 100 05, 1 108 00000002")?.into_bytes();

@@ -19,7 +19,7 @@ const LENGTHS: [u64; 5] = [0, 5, WINDOW, 2 * WINDOW, 2 * WINDOW + 77_777];
 // How long reads are: of pages, and of parts that cross windows.
 const SIZES: [usize; 4] = [4096, 65_536, 3000, 300_000];
 
-// In which order parts are read: each is so many after the one before. 1 is a row, and the others jump.
+// The orders in which parts are read: each part is this many parts after the one before. 1 is a row, and the others jump.
 const STEPS: [u64; 3] = [1, 3, 101];
 
 fn byte_at(place: u64) -> u8 {
@@ -54,7 +54,7 @@ fn open<'r, R: Files<File = File> + Clock + AllocGlobal>(
     Ok(FileSource::open_with(rt, path, bound.map(Duration::from_micros))?)
 }
 
-// Reads into `buf` from a place on, in a file of so many bytes: its bytes, or nothing where they pass its end.
+// Reads into `buf` from a place on, in a file of `len` bytes: its bytes, or nothing where they pass its end.
 fn read_part(stop: &impl Abort, source: &mut impl Source, len: u64, offset: u64, buf: &mut [u8]) {
     let is_inside = offset.saturating_add(buf.len() as u64) <= len;
     let is_read = source.read_at(offset, buf).is_ok();
@@ -68,7 +68,7 @@ fn read_page(stop: &impl Abort, source: &mut impl Source, len: u64, number: u64,
     read_part(stop, source, len, number.wrapping_mul(size), page);
 }
 
-// Reads all parts of a file, and two behind its end.
+// Reads all parts of a file, and two past its end.
 fn read_parts(stop: &impl Abort, source: &mut impl Source, len: u64, step: u64, buf: &mut [u8]) {
     let size = buf.len() as u64;
     let parts = len.checked_div(size).unwrap_or(0).saturating_add(2);
@@ -102,7 +102,7 @@ fn cut(rt: &HostRuntime, path: &str, len: u64) -> Result<(), Fail> {
     Ok(())
 }
 
-// Behind the end of a file that was cut short nothing is read, but what a longer read returned before.
+// Past the end of a file that was cut short nothing is read, except what a longer read returned before.
 #[test]
 fn reads_a_file_that_is_cut_short(rt: HostRuntime) -> Result<(), Fail> {
     let mut page = [0u8; 4096];
@@ -143,7 +143,7 @@ fn looks_at_the_clock_once_a_window(rt: HostRuntime) -> Result<(), Fail> {
     for (len, found) in [(0, 0), (4096, 2), (WINDOW, 2), (WINDOW + 4096, 4)] {
         make_file(&rt, "looks.db", len)?;
         for bound in BOUNDS {
-            // A look before the read, and one behind it.
+            // A look before the read, and one after it.
             let wanted = if bound.is_some() { found } else { 0 };
             holds!(rt; looks(&rt, bound, len / 4096)? == wanted, "looks");
         }
@@ -159,7 +159,7 @@ fn bytes_read(rt: &HostRuntime) -> Option<u64> {
     line.strip_prefix("rchar: ")?.parse::<u64>().ok()
 }
 
-// How many windows are read ahead while four pages of two windows are read, where a read takes so many microseconds.
+// How many windows are read ahead while four pages of two windows are read, where a read takes `pace` microseconds.
 fn windows_read(rt: &HostRuntime, stop: &impl Abort, pace: u64) -> Result<Option<u64>, Fail> {
     let files = FakeFiles::new(rt, Allowed::Reading);
     files.set_pace(pace);

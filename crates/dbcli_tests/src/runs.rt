@@ -1,4 +1,4 @@
-// Lines that are run on real files: the status, and what stands in the outs.
+// Lines that are run on real files: the status, and what is in the outs.
 use crate::fake_files::{Allowed, FakeFiles};
 use crate::fake_outs::LogWriter;
 use dbcli::{Progress, System, SystemFiles, run_words};
@@ -9,7 +9,7 @@ use std::fs;
 use std::process::Abort;
 use std::test::Fail;
 
-// The files: name, pages with what is patched in them, and what is behind these.
+// The files: name, pages with what is patched in them, and what is after these.
 const FILES: [[&str; 3]; 16] = [
     ["whole.db", "Smallest 1", ""],
     ["longer.db", "Smallest 1", "\0"],
@@ -193,7 +193,7 @@ fn make_files(rt: &HostRuntime, folder: &str) -> Result<(), Fail> {
 
 type LogOut<'a> = BufferedOut<LogWriter<'a>>;
 
-// Runs the words, for which files are only read, and tells the status.
+// Runs the words, with files that are only read, and answers the status.
 fn status_of(
     rt: &HostRuntime,
     words: &[&str],
@@ -211,7 +211,7 @@ fn status_of(
     }
 }
 
-/// Runs a line with both outs, and tells the status.
+/// Runs a line with both outs, and answers the status.
 pub fn run_line(
     rt: &HostRuntime,
     line: &str,
@@ -234,7 +234,7 @@ fn is_written(bytes: &[u8], wanted: &str) -> bool {
     text.starts_with("<svg xmlns=") && text.ends_with("</svg>\n") && text.contains(wanted)
 }
 
-// Runs a line whose first out has so much room, and compares the outs and the notes with what is wanted.
+// Runs a line whose first out has `room` bytes left, and compares the outs and the notes with what is wanted.
 fn compare(
     rt: &HostRuntime,
     stop: &impl Abort,
