@@ -31,14 +31,14 @@ use Rattle.dbmap.specs.declared.map_sink.MapSink.{MapSink}
 use Rattle.dbmap.specs.declared.walk.Walk.{Walk}
 use Rattle.dbmap.proofs.Heard.{HasHeardFaults, codes_told, file_heard, never_stops, some_untouched}
 
--- the pages and codes of faults that were told
+-- the pages and codes of faults that were reported
 coded_told : (ts : List Reported) → codes_told ts ≡ map coded (faults_of ts)
 coded_told [] = refl
 coded_told (t ∷ ts) = ap (λ l. coded t.fault ∷ l) (coded_told ts)
 
 module _ {A O : Type 0} (file : List ℕ) (V : List Reference) (survey : Survey file V) (s t : MapSink A O) (none : s.faults ≡ 0)
     (empty : HearsNone (geometry file).pages s.kept.now) where
-  -- all of a run was told, and nothing before it: so many faults were counted, and these are kept
+  -- all of a run was heard, and nothing before it: its faults were counted, and these are kept
   module _ (heard : Moves Hears s (run_notices file V) t) where
     all : HasHeardFaults (told_faults file V) (others_told file V) s t
     all = file_heard file V survey s t none empty heard

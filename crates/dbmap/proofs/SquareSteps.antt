@@ -80,7 +80,7 @@ rows_text_more g row (q ∷ rs) r =
     ap (λ l. row_text g row q ++ l) (rows_text_more g (row + 1) rs r ∙ ap (λ n. rows_text g (row + 1) rs ++ row_text g n r) e)
     ∙ sym (append_assoc (row_text g row q) (rows_text g (row + 1) rs) (row_text g (row + suc (length rs)) r))
 
--- so many rows have been drawn
+-- the rows before this one have been drawn
 pub record HasRows {O : Type 0} (held : O → OutState) (g : Ground) (known : List (Option (Option ℕ))) (count : ℕ) (s t : Canvas O) : Type 0 where
   pub all : List (List Square)
   pub many : length all ≡ count

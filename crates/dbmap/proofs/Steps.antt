@@ -14,7 +14,7 @@ use Rattle.dbmap.specs.declared.legend.Line.{Line}
 use Rattle.dbmap.specs.declared.page_set.Codes.{Codes}
 use Rattle.dbmap.specs.declared.run.Run.{Run}
 
--- one fewer is left of so many
+-- one fewer is left
 pub one_less : (n m : ℕ) → n < m → m - n ≡ suc (m - (n + 1))
 one_less n m h = omega arith
 

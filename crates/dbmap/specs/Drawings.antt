@@ -28,7 +28,7 @@ module _ {O : Type 0} (held : O → OutState) (g : Ground) (known : List (Option
     pub group : after ≡ group_after before square
     pub draws : Draws held s (before_text before square ++ square_text g square) t
 
-  -- the squares of so many places from one on were
+  -- the squares of `count` places from one on were
   pub record DrawsSquares (cell count : ℕ) (before after : Option (Owner × Bool)) (s t : Canvas O) : Type 0 where
     pub squares : List Square
     pub many : length squares ≡ count

@@ -40,7 +40,7 @@ cells_of_row g row = (min (row * columns g) g.cells, min ((row + 1) * columns g)
 abbrev pub outlines_of_row : Grid → ℕ → ℕ × ℕ
 outlines_of_row g row = (max (min (row * columns g) (places g)) g.cells, min ((row + 1) * columns g) (places g))
 
--- the first and the last page of a place, of so many pages
+-- the first and the last page of a place, in a file of `pages` pages
 abbrev pub run_of : Grid → ℕ → ℕ → ℕ × ℕ
 run_of g place pages = (min (place * g.run + 1) pages, min (place * g.run + g.run) pages)
 

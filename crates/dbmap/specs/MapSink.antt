@@ -35,7 +35,7 @@ module _ {A O : Type 0} where
   abbrev pub Never : MapSink A O → Notice → MapSink A O → Type 0
   Never s notice t = ⊥
 
--- it is lent its Out, whose failures are counted
+-- it borrows its Out, whose failures are counted
 abbrev pub map_held : {A O : Type 0} → (O → OutState) → MapSink A O → SinkState
 map_held held s = record { lent = s.out.ghost_name ∷ []; failures = (held s.out.now).failures ∷ [] }
 

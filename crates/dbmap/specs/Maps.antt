@@ -34,7 +34,7 @@ use Rattle.dbmap.specs.declared.legend.Line.{Line}
 use Rattle.dbmap.specs.declared.picture.Heading.{Heading}
 
 -- A picture of a file with survey V: of its size, with the number of its faults; with one square for each page, or for each run of
--- so many pages, row by row; what is remembered of a page is what the page is, the faults that are shown of it are its own, it belongs to
+-- pages, row by row; what is remembered of a page is what the page is, the faults that are shown of it are its own, it belongs to
 -- the start of its visit, and the largest trees are those of the file.
 pub record IsPictureOf (file : List ℕ) (V : List Reference) (h : Heading) (g : Ground) (all : List (List Square)) : Type 0 where
   pub shape : h.geometry ≡ geometry file
@@ -60,7 +60,7 @@ pub record HasPicture (P : List ℕ → Type 0) (file : List ℕ) (V : List Refe
   pub faulty_line : HasFaultyLine (faulty_pages file V) lines
   pub holds : P (picture_text heading ground all lines)
 
--- what told bytes become: at Ok a picture was put, and at Err nothing, or a beginning of one
+-- what the told bytes of an Out become: at Ok a picture was put, and at Err nothing, or a beginning of one
 abbrev pub DrawsMap : {A E : Type 0} → Result A E → Option (List ℕ) → Option (List ℕ) → List ℕ → List Reference → Type 0
 DrawsMap (Ok a) old new file V = HasPicture (Appends old new) file V
 DrawsMap (Err e) old new file V = Keeps old new ⊎ HasPicture (Begins old new) file V

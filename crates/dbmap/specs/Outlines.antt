@@ -20,7 +20,7 @@ run_outline g place =
 abbrev pub outline_text : Grid → ℕ → List ℕ
 outline_text g place = if g.run == 1 then page_outline g place else run_outline g place
 
--- so many outlines from a place on
+-- outlines, one for each of `count` places from a place on
 abbrev pub outlines_from : Grid → ℕ → ℕ → List ℕ
 outlines_from g place zero = []
 outlines_from g place (suc count) = outline_text g place ++ outlines_from g (place + 1) count

@@ -75,7 +75,7 @@ pub record Numbers {A : Type 0} (codes : Codes) (old : PageSet A) (n : ℕ) (new
   pub is : ((new.sets.items ≡ old.sets.items) × IsNumber old.sets.items n codes)
       ⊎ ((IsIn codes old.sets.items → ⊥) × IsKept old.sets.items codes n new.sets.items)
 
--- a set is that of the codes that a page had when some of these faults were told
+-- a set is that of the codes that a page had when some of these faults had been reported
 pub record Occurs (fs : List (ℕ × FaultCode)) (codes : Codes) : Type 0 where
   pub first : List (ℕ × FaultCode)
   pub rest : List (ℕ × FaultCode)

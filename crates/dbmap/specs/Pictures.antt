@@ -26,7 +26,7 @@ abbrev pub faults_text : ℕ → List ℕ
 faults_text faults =
     if faults == 0 then codes "no fault" else (if faults == 1 then codes "1 fault" else decimal faults ++ codes " faults")
 
--- what stands after the number of pages
+-- what comes after the number of pages
 abbrev pub pages_word : ℕ → List ℕ
 pages_word pages = if pages == 1 then codes " page of " else codes " pages of "
 
@@ -36,7 +36,7 @@ size_text g =
     concat (decimal g.pages ∷ pages_word g.pages ∷ decimal g.page_size ∷ codes " bytes (" ∷ tenths_text (size_tenths g.pages g.page_size)
     ∷ size_unit g.pages g.page_size ∷ codes "), " ∷ [])
 
--- what a square stands for
+-- how many pages a square covers
 abbrev pub unit_text : ℕ → List ℕ
 unit_text run =
     if run == 1 then codes "; a square is a page, in the order of the file</text>\n"
@@ -59,7 +59,7 @@ page_of_row_text g row =
 abbrev pub row_name : Grid → ℕ → List ℕ
 row_name g row = if nat_lt 10 (side g) || (row % 2 == 0) then page_of_row_text g row else []
 
--- those of so many rows from one on
+-- those of `count` rows from one on
 abbrev pub names_from : Grid → ℕ → ℕ → List ℕ
 names_from g row zero = []
 names_from g row (suc count) = row_name g row ++ names_from g (row + 1) count

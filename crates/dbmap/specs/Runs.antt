@@ -14,18 +14,18 @@ use Rattle.dbmap.specs.declared.cell.Owner.TheVariants.{Fixed, Freelist, Nobody,
 use Rattle.dbmap.specs.declared.grid.Width.{Width}
 use Rattle.dbmap.specs.declared.run.Run.{Run}
 
--- what stands after a number of pages of an owner
+-- what comes after a number of pages of an owner
 abbrev pub words : Owner → List ℕ
 words (Tree rank) = if nat_lt rank 12 then codes " in " else codes " in other trees"
 words Freelist = codes " in the freelist"
 words Fixed = codes " of fixed use"
 words Nobody = codes " in no tree"
 
--- the name of the tree of a rank, as it is shown in so many columns, if there is such a tree
+-- the name of the tree of a rank, as it is shown in at most `width` columns, if there is such a tree
 abbrev pub name_text : List (List ℕ) → ℕ → ℕ → List ℕ
 name_text names rank width = option_map_or (λ name. shown_text name width) (slice_get names rank) []
 
--- what stands before a number of pages
+-- what comes before a number of pages
 abbrev pub owner_mark : Bool → List ℕ
 owner_mark true = codes ": "
 owner_mark false = codes ", "
@@ -37,7 +37,7 @@ owner_text c names is_first number =
     then concat (owner_mark is_first ∷ decimal (share_of c number).pages ∷ words (owner_numbered number) ∷ name_text names number 72 ∷ [])
     else []
 
--- the same of so many owners from a number on
+-- the same of `count` owners from a number on
 unfoldable pub owners_from : Cell → List (List ℕ) → Bool → ℕ → ℕ → List ℕ
 owners_from c names is_first number zero = []
 owners_from c names is_first number (suc count) =
@@ -61,7 +61,7 @@ band_text r number top height =
     else concat (codes "<rect x=\"" ∷ decimal r.x ∷ codes "\" y=\"" ∷ decimal top ∷ codes "\" width=\"6\" height=\"" ∷ decimal height
     ∷ codes "\" fill=\"" ∷ fill (owner_numbered number) (is_shaded (share_of r.cell number)) ∷ codes "\"/>" ∷ [])
 
--- the bands of so many owners from a number on, each below those before it
+-- the bands of `count` owners from a number on, each below those before it
 unfoldable pub bands_from : Run → Bands → ℕ → ℕ → ℕ → List ℕ
 bands_from r bands number zero top = []
 bands_from r bands number (suc count) top =

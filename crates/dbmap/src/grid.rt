@@ -118,7 +118,7 @@ impl Grid {
         cell % self.columns() * self.side()
     }
 
-    // The first place of a row, and the first of the next, among so many.
+    // The first place of a row, and the first of the next, among `places` places.
     fn places_of(&self, row: u32, places: u32) -> (u32, u32)
         ensures first { result.0 ≡ min (row * grids.columns self.now) places }
         ensures end { result.1 ≡ min ((row + 1) * grids.columns self.now) places }

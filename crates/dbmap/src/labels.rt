@@ -34,7 +34,7 @@ impl Labels {
         self.names.as_slice().get(rank)
     }
 
-    /// The name of the tree of a rank in so many columns, or nothing.
+    /// The name of the tree of a rank in at most `width` columns, or nothing.
     pub(crate) fn piece(&self, rank: usize, width: u32) -> Piece<'_>
         ensures { piece_text result ≡ name_text self.now.names.items rank width }
     {

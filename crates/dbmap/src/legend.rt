@@ -180,7 +180,7 @@ fn draw_missing<O: Out>(canvas: &mut Canvas<'_, O>, missing: u32, geometry: Geom
     }
 }
 
-// Draws the line of so many such pages.
+// Draws the line of this many such pages.
 fn draw_some_missing<O: Out>(canvas: &mut Canvas<'_, O>, missing: u32, geometry: Geometry, y: u32)
     ensures { Draws O.held canvas.old (legends.missing_line missing geometry y) canvas.new }
 {

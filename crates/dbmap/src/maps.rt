@@ -43,7 +43,7 @@ fn stated_pages(header: &Header) -> u32
     }
 }
 
-/// Puts the picture of a file whose pages have been visited, and in which so many faults were found.
+/// Puts the picture of a file whose pages have been visited, and in which this number of faults was found.
 ///
 /// # Errors
 ///

@@ -68,7 +68,7 @@ fn draw_faults<O: Out>(canvas: &mut Canvas<'_, O>, faults: u64)
     }
 }
 
-// What stands after the number of pages.
+// What comes after the number of pages.
 fn pages_word(pages: u32) -> &'static str
     ensures { result.now ≡ pictures.pages_word pages }
 {
@@ -94,7 +94,7 @@ fn draw_size<O: Out>(canvas: &mut Canvas<'_, O>, geometry: Geometry)
     ]);
 }
 
-// Draws what a square stands for.
+// Draws how many pages a square covers.
 fn draw_unit<O: Out>(canvas: &mut Canvas<'_, O>, run: u32)
     ensures { Draws O.held canvas.old (pictures.unit_text run) canvas.new }
 {
@@ -145,7 +145,7 @@ fn draw_page_of_row<O: Out>(canvas: &mut Canvas<'_, O>, grid: &Grid, row: u32)
     ]);
 }
 
-// Draws the first pages of so many rows.
+// Draws the first pages of the first `rows` rows.
 fn draw_names<O: Out>(canvas: &mut Canvas<'_, O>, grid: &Grid, rows: u32)
     ensures { Draws O.held canvas.old (pictures.names_from grid.now 0 rows) canvas.new }
 {

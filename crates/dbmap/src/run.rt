@@ -165,14 +165,14 @@ fn is_still_first(is_first: bool, has: bool) -> bool
     is_first && !has
 }
 
-// What stands before the number of an owner's pages.
+// What comes before the number of an owner's pages.
 fn owner_mark(is_first: bool) -> &'static str
     ensures { result.now ≡ owner_mark is_first }
 {
     if is_first { ": " } else { ", " }
 }
 
-// What stands after a number of pages of an owner: for one of the largest trees, all but its name.
+// What comes after a number of pages of an owner: for one of the largest trees, all but its name.
 fn words(owner: Owner) -> &'static str
     ensures { result.now ≡ words owner }
 {
