@@ -1,7 +1,6 @@
 -- The picture of the file that a desk is of.
 use Rattle.std.proofs.Common.{◌≡◌, ℕ, List, length, Result, refl, sym, ap, subst, ◌∙◌}
 use Rattle.std.specs.Int.{div_ceil}
-use Rattle.dbformat.specs.File.{geometry}
 use Rattle.dbformat.specs.Lines.{counted}
 use Rattle.dbformat.specs.Reference.{Reference}
 use Rattle.dbformat.specs.Report.{faults}

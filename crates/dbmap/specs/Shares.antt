@@ -1,6 +1,5 @@
 -- How many of some pages each owner has, and how many of these are overflow pages.
-use Rattle.std.specs.Prelude.{◌≡◌, ℕ, ◌+◌, ◌-◌, ◌<◌, ◌≤◌, min, Bool, true, false, ◌&&◌, List, count_by, ◌==◌, if◌then◌else◌}
-use Rattle.std.specs.List.{range_with_len}
+use Rattle.std.specs.Prelude.{◌≡◌, ℕ, ◌+◌, ◌<◌, ◌≤◌, min, Bool, true, false, ◌&&◌, List, count_by, ◌==◌, if◌then◌else◌}
 use Rattle.dbmarks.specs.declared.marks.Mark.{Mark}
 use Rattle.dbmap.specs.Cells.{has_pages, is_shaded, number_of, share_of}
 use Rattle.dbmap.specs.Owners.{OwnersGround, is_overflow, owner_at, place_at}

@@ -8,7 +8,6 @@ use Rattle.dbscan.proofs.Tellers.{first}
 use Rattle.dbreport.proofs.SinkStates.{lent_same, one_failed}
 use Rattle.dbmap.specs.KeptFaults.{HearsNone}
 use Rattle.dbmap.specs.Maps.{DrawsMap}
-use Rattle.dbmap.specs.declared.kept.Kept.{Kept}
 use Rattle.dbmap.proofs.Counting.{map_left}
 use Rattle.dbmap.proofs.maps.map_on.Goals as goal
 
