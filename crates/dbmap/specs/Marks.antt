@@ -1,15 +1,9 @@
 -- The markup of squares, by their size and their frame.
-use Rattle.std.specs.Prelude.{ℕ, Bool, true, false, List, codes}
+use Rattle.std.specs.Prelude.{ℕ, List, codes}
 use Rattle.dbmap.specs.declared.frame.Frame.{Frame}
 use Rattle.dbmap.specs.declared.frame.Frame.TheVariants.{None, Weak, Strong}
 use Rattle.dbmap.specs.declared.grid.Width.{Width}
 use Rattle.dbmap.specs.declared.grid.Width.TheVariants.{Few, Some, Many}
-
--- whether there is a frame
-abbrev pub is_framed : Frame → Bool
-is_framed None = false
-is_framed Weak = true
-is_framed Strong = true
 
 -- how far a square is moved in, in pixels
 abbrev pub inset : Width → Frame → ℕ

@@ -6,11 +6,14 @@ use Rattle.dbxml.specs.Pieces.{shown_text}
 use Rattle.dbmap.specs.Cells.{has_pages, is_shaded, owner_numbered, share_of}
 use Rattle.dbmap.specs.Colours.{fill}
 use Rattle.dbmap.specs.Faults.{faults_text}
-use Rattle.dbmap.specs.Marks.{is_framed, tail}
+use Rattle.dbmap.specs.Marks.{tail}
 use Rattle.dbmap.specs.declared.bands.Bands.{Bands}
 use Rattle.dbmap.specs.declared.cell.Cell.{Cell}
 use Rattle.dbmap.specs.declared.cell.Owner.{Owner}
 use Rattle.dbmap.specs.declared.cell.Owner.TheVariants.{Fixed, Freelist, Nobody, Tree}
+use Rattle.dbmap.specs.declared.frame.Frame.{Frame}
+use Rattle.dbmap.specs.declared.frame.Frame.TheVariants as frame
+use Rattle.dbmap.specs.declared.frame.Frame.TheVariants.{Weak, Strong}
 use Rattle.dbmap.specs.declared.grid.Width.{Width}
 use Rattle.dbmap.specs.declared.run.Run.{Run}
 
@@ -67,14 +70,24 @@ bands_from r bands number zero top = []
 bands_from r bands number (suc count) top =
     band_text r number top (get_or bands.heights number 0) ++ bands_from r bands (number + 1) count (min (top + get_or bands.heights number 0) 4294967295)
 
--- the frame of a square in bands, where it is framed
-abbrev pub frame_text : Run → List ℕ
-frame_text r =
-    if is_framed r.faulty.frame
-    then concat (codes "<rect width=\"6\" height=\"6\" stroke=\"#BE0700\" stroke-width=\"2\" x=\"" ∷ decimal r.x ∷ codes "\" fill=\"none\"/>" ∷ [])
-    else []
+-- the frame of a square in bands that begins there
+abbrev pub band_frame : ℕ → List ℕ
+band_frame x = concat (codes "<rect width=\"6\" height=\"6\" stroke=\"#BE0700\" stroke-width=\"2\" x=\"" ∷ decimal x ∷ codes "\" fill=\"none\"/>" ∷ [])
+
+-- a weak frame lies below the bands, so that they cover its inner half
+abbrev pub frame_below : Frame → ℕ → List ℕ
+frame_below Weak x = band_frame x
+frame_below Strong x = []
+frame_below frame.None x = []
+
+-- and a strong one above them
+abbrev pub frame_above : Frame → ℕ → List ℕ
+frame_above Weak x = []
+frame_above Strong x = band_frame x
+frame_above frame.None x = []
 
 -- the square of pages of several owners, divided in bands
 unfoldable pub mixed_text : Run → List (List ℕ) → Bands → List ℕ
 mixed_text r names bands =
-    codes "<g><title>page" ++ (title_text r names ++ (codes "</title>" ++ (bands_from r bands 0 16 0 ++ (frame_text r ++ codes "</g>\n"))))
+    codes "<g><title>page" ++ (title_text r names ++ (codes "</title>" ++ (frame_below r.faulty.frame r.x
+    ++ (bands_from r bands 0 16 0 ++ (frame_above r.faulty.frame r.x ++ codes "</g>\n")))))

@@ -1,11 +1,11 @@
 // The markup of squares, by their size and their frame.
 ghost use Rattle.std.specs.Prelude.{◌≡◌, ◌≤◌};
-ghost use Rattle.dbmap.specs.Marks.{inset, is_framed, outline_tail, tail};
+ghost use Rattle.dbmap.specs.Marks.{inset, outline_tail, tail};
 
 use crate::grid::Width;
 
 /// The frame of a square.
-#[derive(Clone, Copy, PartialEq, Eq)]
+#[derive(Clone, Copy)]
 pub(crate) enum Frame {
     /// No page has a fault, or is the cause of one that is listed.
     None,
@@ -13,18 +13,6 @@ pub(crate) enum Frame {
     Weak,
     /// It covers the edge of the square too: a page has a fault that is listed, or is the cause of one.
     Strong,
-}
-
-impl Frame {
-    /// Whether there is one.
-    pub(crate) fn is_framed(self) -> bool
-        ensures { result ≡ is_framed self }
-    {
-        match self {
-            Frame::None => false,
-            Frame::Weak | Frame::Strong => true,
-        }
-    }
 }
 
 /// How far a square with this frame is moved in, in pixels. Its stroke lies half within.

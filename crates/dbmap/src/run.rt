@@ -1,14 +1,27 @@
 // The square of a run of pages.
 ghost use Rattle.std.specs.Prelude.{◌≡◌, ◌<◌, ◌&&◌, not, true};
 ghost use Rattle.dbmap.specs.Canvas.{Draws};
-ghost use Rattle.dbmap.specs.Runs.{band_text, bands_from, frame_text, mixed_text, owner_mark, owner_text, owners_from, plain_text, title_text, words};
+ghost use Rattle.dbmap.specs.Runs.{
+  band_frame,
+  band_text,
+  bands_from,
+  frame_above,
+  frame_below,
+  mixed_text,
+  owner_mark,
+  owner_text,
+  owners_from,
+  plain_text,
+  title_text,
+  words,
+};
 
 use crate::bands::Bands;
 use crate::canvas::Canvas;
 use crate::cell::{Cell, OWNERS, Owner};
 use crate::colours::fill;
 use crate::faulty::Faulty;
-use crate::frame::{BAND_FRAME, tail};
+use crate::frame::{BAND_FRAME, Frame, tail};
 use crate::grid::Width;
 use crate::labels::Labels;
 use crate::squares::NAME_WIDTH;
@@ -58,21 +71,40 @@ impl Run {
         canvas.draw(&[Piece::Markup("<g><title>page")]);
         self.draw_title(canvas, labels);
         canvas.draw(&[Piece::Markup("</title>")]);
+        self.draw_frame_below(canvas);
         self.draw_bands(canvas, bands);
-        self.draw_frame(canvas);
+        self.draw_frame_above(canvas);
         canvas.draw(&[Piece::Markup("</g>\n")]);
     }
 
-    // Draws its frame, if it is framed.
+    // Draws the frame of a square in bands.
     fn draw_frame<O: Out>(&self, canvas: &mut Canvas<'_, O>)
-        ensures { Draws O.held canvas.old (frame_text self.now) canvas.new }
+        ensures { Draws O.held canvas.old (band_frame self.now.x) canvas.new }
     {
-        if self.faulty.frame.is_framed() {
-            canvas.draw(&[
-                Piece::Markup(BAND_FRAME),
-                Piece::Number(u64::from(self.x)),
-                Piece::Markup("\" fill=\"none\"/>"),
-            ]);
+        canvas.draw(&[
+            Piece::Markup(BAND_FRAME),
+            Piece::Number(u64::from(self.x)),
+            Piece::Markup("\" fill=\"none\"/>"),
+        ]);
+    }
+
+    // Draws what lies below the bands: a weak frame, so that they cover its inner half.
+    fn draw_frame_below<O: Out>(&self, canvas: &mut Canvas<'_, O>)
+        ensures { Draws O.held canvas.old (frame_below self.now.faulty.frame self.now.x) canvas.new }
+    {
+        match self.faulty.frame {
+            Frame::Weak => self.draw_frame(canvas),
+            Frame::None | Frame::Strong => {}
+        }
+    }
+
+    // Draws what lies above them: a strong frame.
+    fn draw_frame_above<O: Out>(&self, canvas: &mut Canvas<'_, O>)
+        ensures { Draws O.held canvas.old (frame_above self.now.faulty.frame self.now.x) canvas.new }
+    {
+        match self.faulty.frame {
+            Frame::Strong => self.draw_frame(canvas),
+            Frame::None | Frame::Weak => {}
         }
     }
 
