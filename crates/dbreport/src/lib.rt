@@ -14,6 +14,6 @@ mod statistics;
 
 pub use dbformat::{Command, Verdict};
 pub use dbscan::Desk;
-pub use dbsource::{Header, Out, RunError, Source};
-pub use opening::open_in;
+pub use dbsource::{Geometry, Header, Out, RunError, Source};
+pub use opening::{Extra, open_in, open_with};
 pub use runs::{run, run_in, run_on, told_files_are_run};
