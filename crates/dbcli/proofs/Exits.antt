@@ -1,6 +1,6 @@
 -- What a status says of what was asked of a file, by the outcome that it belongs to.
 use Rattle.std.proofs.Common.{inl, inr, ◌≡◌, ◌↔◌, ℕ, List, [], Option, Some, None, Result, Ok, Err, ◌≤◌, ◌%◌, ◌^◌, refl, sym, ◌∙◌, ap, subst, arith}
-use Rattle.std.specs.Prelude.{OnErr, OnOk, IfErr, IfOk}
+use Rattle.std.specs.Prelude.{◌⊎◌, OnErr, OnOk, IfErr, IfOk}
 use Rattle.std.specs.Io.KnownBytes.{Appends, Keeps}
 use Rattle.std.proofs.KnownBytes.{Appends-trans}
 use Rattle.std.proofs.lemmas.List.{append-nil}
@@ -27,7 +27,7 @@ use Rattle.dbsource.specs.declared.error.RunError.TheVariants.{Refused, ReadFail
 use Rattle.dbcli.proofs.Explaining.{IsEndFor, IsExplainedTo, begun_not_at_4, explain_err, found_at_4, kept_writes, whole_text}
 use Rattle.dbcli.proofs.Failures.{FewFailed, none_failed, more_failures}
 use Rattle.dbcli.specs.ErrorLines.{error_line, exit_line, refused_line}
-use Rattle.dbmap.specs.Maps.{DrawsMap}
+use Rattle.dbmap.specs.Maps.{DrawsMap, HasPicture}
 use Rattle.dbcli.specs.Exit.{BeginsThenLine, EndsWithLine, IsExit, IsExitOf, IsExplainExit, IsFinishOf, IsKnown, IsMapExit, IsStatusOf, second_most}
 use Rattle.dbcli.specs.Requests.{WritesToFirst}
 use Rattle.dbcli.specs.Status.{exit_status}
@@ -174,9 +174,16 @@ sound_by (Err WriteFailed) file h = λ m. absurd (omega arith)
 
 -- what the status says of a map
 map_neither : (n : ℕ) (file : List ℕ) (V : List Reference) (out out' err err' : OutState) → 4 ≤ n
+    → Keeps out.bytes out'.bytes ⊎ HasPicture (Begins out.bytes out'.bytes) file V
     → BeginsThenLine err err' [] (exit_line n (refusal file)) → IsMapExit n file V out out' err err'
-map_neither n file V out out' err err' h told =
-    record { told = told; drawn = λ e. absurd (omega arith); clean = λ e. absurd (omega arith); faulty = λ e. absurd (omega arith); refused = λ e. absurd (omega arith) }
+map_neither n file V out out' err err' h begun told = record {
+  told = told;
+  drawn = λ e. absurd (omega arith);
+  begun = λ e. begun;
+  clean = λ e. absurd (omega arith);
+  faulty = λ e. absurd (omega arith);
+  refused = λ e. absurd (omega arith);
+}
 
 -- nothing was put at a verdict
 quiet_told : (err mid err' : OutState) → Keeps err.bytes mid.bytes → err' ≡ mid → BeginsThenLine err err' [] []
@@ -190,6 +197,7 @@ map_exit : (file : List ℕ) (V : List Reference) (outcome : Result Verdict RunE
 map_exit file V (Ok Clean) out out' err mid err' answer found picture unwritten kept quiet few line = record {
   told = quiet_told err mid err' kept quiet;
   drawn = λ e. picture;
+  begun = λ h. absurd (omega arith);
   clean = λ e. sym found;
   faulty = λ e. absurd (omega arith);
   refused = λ e. absurd (omega arith);
@@ -197,6 +205,7 @@ map_exit file V (Ok Clean) out out' err mid err' answer found picture unwritten 
 map_exit file V (Ok (Faulty n)) out out' err mid err' answer found picture unwritten kept quiet few line = record {
   told = quiet_told err mid err' kept quiet;
   drawn = λ e. picture;
+  begun = λ h. absurd (omega arith);
   clean = λ e. absurd (omega arith);
   faulty = λ e. (n, sym found);
   refused = λ e. absurd (omega arith);
@@ -204,16 +213,20 @@ map_exit file V (Ok (Faulty n)) out out' err mid err' answer found picture unwri
 map_exit file V (Err (Refused e)) out out' err mid err' answer found picture unwritten kept quiet few line = record {
   told = refused_told err err' [] (refusal file) e answer (kept_then_line 2 err mid err' (error_line (Refused e)) (omega arith) kept few line);
   drawn = λ h. absurd (omega arith);
+  begun = λ h. absurd (omega arith);
   clean = λ h. absurd (omega arith);
   faulty = λ h. absurd (omega arith);
   refused = λ h. (e, answer, unwritten);
 }
 map_exit file V (Err ReadFailed) out out' err mid err' answer found picture unwritten kept quiet few line =
-    map_neither 4 file V out out' err err' (omega arith) (kept_then_line 2 err mid err' (error_line ReadFailed) (omega arith) kept few line)
+    map_neither 4 file V out out' err err' (omega arith) picture
+    (kept_then_line 2 err mid err' (error_line ReadFailed) (omega arith) kept few line)
 map_exit file V (Err OutOfMemory) out out' err mid err' answer found picture unwritten kept quiet few line =
-    map_neither 5 file V out out' err err' (omega arith) (kept_then_line 2 err mid err' (error_line OutOfMemory) (omega arith) kept few line)
+    map_neither 5 file V out out' err err' (omega arith) picture
+    (kept_then_line 2 err mid err' (error_line OutOfMemory) (omega arith) kept few line)
 map_exit file V (Err WriteFailed) out out' err mid err' answer found picture unwritten kept quiet few line =
-    map_neither 6 file V out out' err err' (omega arith) (kept_then_line 3 err mid err' (error_line WriteFailed) (omega arith) kept few line)
+    map_neither 6 file V out out' err err' (omega arith) picture
+    (kept_then_line 3 err mid err' (error_line WriteFailed) (omega arith) kept few line)
 
 -- all was written at a verdict, and else a beginning
 whole_by : {A E : Type 0} (r : Result A E) (old new : Option (List ℕ)) (bytes : List ℕ) → Writes r old new bytes → OnOk r (Appends old new bytes)

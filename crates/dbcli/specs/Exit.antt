@@ -1,7 +1,7 @@
 -- What an exit status says of what was asked of a file, and of what was written of it.
 use Rattle.std.specs.Prelude.{◌≡◌, ◌≢◌, ◌≤◌, ◌⊎◌, ◌↔◌, ℕ, ◌+◌, ◌%◌, ◌^◌, ◌==◌, if◌then◌else◌, List, [], ◌++◌, Option, Some, Ok, Err, None}
 use Rattle.dbformat.specs.File.{refusal}
-use Rattle.std.specs.Io.KnownBytes.{Appends}
+use Rattle.std.specs.Io.KnownBytes.{Appends, Keeps}
 use Rattle.dbformat.specs.Reference.{Reference}
 use Rattle.dbformat.specs.Report.{Report, faults, report, verdict}
 use Rattle.dbformat.specs.Sound.{Sound}
@@ -117,6 +117,8 @@ pub record IsMapExit (status : ℕ) (file : List ℕ) (V : List Reference) (out 
   pub told : BeginsThenLine err err' [] (exit_line status (refusal file))
   -- 0 and 1 are answered only where a picture of the file was put to the first Out
   pub drawn : status ≤ 1 → HasPicture (Appends out.bytes out'.bytes) file V
+  -- at an error other than a refusal nothing was put to it, or a beginning of such a picture
+  pub begun : 4 ≤ status → Keeps out.bytes out'.bytes ⊎ HasPicture (Begins out.bytes out'.bytes) file V
   -- 0 is answered only where the verdict on the faults is that there is none
   pub clean : status ≡ 0 → verdict (faults file V) ≡ Clean
   -- 1 only where there are some
