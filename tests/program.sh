@@ -206,6 +206,21 @@ else
     echo "no run without memory: $(cat "$work/why")"
 fi
 
+# What a command takes in all, of a file of a million pages: 7 MiB for the program, its buffers and counts, and for each page no more
+# than is said of it: 4 bytes, for `explain` 8 and a bit, for `map` 10.
+cp "$data/empty.db" "$work/million.db"
+if truncate -s 512000000 "$work/million.db" 2> "$work/why"; then
+    for words in '4000000 check --limit 1' '4000000 stat' '8125000 explain --limit 1' '10000000 map'; do
+        read -r bytes words <<< "$words"
+        # shellcheck disable=SC2086
+        (ulimit -v $((7 * 1024 + bytes / 1024)) && run $words "$work/million.db" && exit "$status")
+        count "$words of a million pages in $bytes bytes" [ $? = 1 ]
+    done
+    rm "$work/million.db"
+else
+    echo "no run over a million pages: $(cat "$work/why")"
+fi
+
 # A page above 8 GiB is read: page 1 is an interior page whose one child is the last of 131074 pages of 65536 bytes, a leaf
 # without cells, which only a root may be. Page 16385 is the lock-byte page, and nothing names the others: 131071 are lost.
 put() {

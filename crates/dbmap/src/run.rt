@@ -1,20 +1,8 @@
 // The square of a run of pages.
 ghost use Rattle.std.specs.Prelude.{◌≡◌, ◌<◌, ◌&&◌, not, true};
 ghost use Rattle.dbmap.specs.Canvas.{Draws};
-ghost use Rattle.dbmap.specs.Runs.{
-  band_frame,
-  band_text,
-  bands_from,
-  frame_above,
-  frame_below,
-  mixed_text,
-  owner_mark,
-  owner_text,
-  owners_from,
-  plain_text,
-  title_text,
-  words,
-};
+ghost use Rattle.dbmap.specs.Runs.{band_frame, band_text, bands_from, frame_above, frame_below, mixed_text};
+ghost use Rattle.dbmap.specs.Runs.{owner_mark, owner_text, owners_from, plain_text, title_text, words};
 
 use crate::bands::Bands;
 use crate::canvas::Canvas;
