@@ -8,7 +8,7 @@ ghost use Rattle.dbformat.specs.Sound.{Sound};
 ghost use Rattle.dbformat.specs.Survey.{Survey};
 ghost use Rattle.dbformat.specs.declared.Command.TheVariants.{Check, Stat};
 ghost use Rattle.dbscan.specs.DeskSizes.{DeskFitsInMemory};
-ghost use Rattle.dbscan.specs.Finishes.{HasUsed};
+ghost use Rattle.dbscan.specs.Kept.{HasUsed};
 ghost use Rattle.dbreport.specs.Runs.{FailsAsAnswered, HasRun, HasRunBehind, IsCheck, IsLeftAlone, IsReported, ToldReportsAreRead, ToldRunsAreRead};
 ghost use Rattle.dbreport.specs.StatSink.{failures_of_each};
 ghost use Rattle.dbsource.specs.Errors.{is_read_failed, is_write_failed};

@@ -8,11 +8,11 @@ pub mod FaultsHeard
 pub mod FileCodes
 pub mod Finished
 pub mod HeardFaults
+pub mod Keeping
 pub mod MapLogs
 pub mod MapPlaces
 pub mod PlacedFaults
 pub mod Reached
-pub mod Refusals
 pub mod RootLists
 pub mod RootsTaken
 pub mod RunItems

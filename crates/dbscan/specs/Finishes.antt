@@ -5,7 +5,7 @@ use Rattle.dbformat.specs.Log.{IsPageLog}
 use Rattle.dbformat.specs.Reference.{Reference}
 use Rattle.dbformat.specs.Survey.{Survey}
 use Rattle.dbformat.specs.declared.Verdict.{Verdict}
-use Rattle.dbsource.specs.Errors.{is_out_of_memory, is_read_failed, is_write_failed}
+use Rattle.dbsource.specs.Errors.{is_read_failed, is_write_failed}
 use Rattle.dbsource.specs.Failures.{failures_after}
 use Rattle.dbsource.specs.Headers.{IsHeaderOf}
 use Rattle.dbsource.specs.Snapshots.{HasReadBehind}
@@ -14,8 +14,9 @@ use Rattle.dbsource.specs.declared.error.RunError.{RunError}
 use Rattle.dbsource.specs.declared.source.Source.{Ghosts as SourceWords}
 use Rattle.dbmarks.specs.Marking.{AreMarksOf}
 use Rattle.dbscan.specs.Roots.{AreListed}
-use Rattle.dbwalk.specs.Telling.{IsReadOrWrite, IsReadWriteOrMemory, SinkAfter, SinkState, StopsBy}
+use Rattle.dbwalk.specs.Telling.{IsReadOrWrite, SinkAfter, SinkState, StopsBy}
 use Rattle.dbscan.specs.Desks.{Things, shape_of}
+use Rattle.dbscan.specs.Kept.{HasUsed}
 use Rattle.dbscan.specs.Looks.{IsUnmarked, ReadsRising}
 use Rattle.dbscan.specs.Notices.{Notice, run_notices}
 
@@ -48,13 +49,6 @@ pub record HasFinished {S K : Type 0} (source : SourceWords S) (hears : K → No
 abbrev pub Leaves : {K : Type 0} → (K → Notice → K → Type 0) → (K → Notice → K → Type 0) → (List ℕ → List Reference → Result Verdict RunError → K → K → Type 0)
     → List ℕ → List Reference → Result Verdict RunError → K → K → Type 0
 Leaves hears cuts leaves file V r s t = leaves file V r s t ⊎ ((e : RunError) × (r ≡ Err e) × StopsBy hears cuts e s (run_notices file V) t)
-
--- A run over a desk, which keeps its header. Its list of roots was refused memory, once, exactly where that is answered, and
--- the file is not refused.
-pub record HasUsed (r : Result Verdict RunError) (old new : Things) : Type 0 where
-  pub header : new.header ≡ old.header
-  pub memory : new.roots.refusals ≡ failures_after is_out_of_memory r old.roots.refusals
-  pub only : IfErr r IsReadWriteOrMemory
 
 -- What a run over a desk makes of a reporter, whatever the source answered: there is a file of the desk's header that agrees
 -- with all that was read after it, and of each such file, by any survey, this is what a run leaves. The answer says who failed.

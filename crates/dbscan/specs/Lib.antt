@@ -3,6 +3,7 @@ pub mod Desks
 pub mod EndPass
 pub mod Findings
 pub mod Finishes
+pub mod Kept
 pub mod Looks
 pub mod MapReads
 pub mod Notices

@@ -3,12 +3,12 @@ ghost use Rattle.std.specs.Prelude.{List};
 ghost use Rattle.dbformat.specs.Log.{IsPageLog};
 ghost use Rattle.dbformat.specs.Reference.{Reference};
 ghost use Rattle.dbformat.specs.Survey.{Survey};
-ghost use Rattle.dbsource.specs.Errors.{is_read_failed, is_write_failed};
+ghost use Rattle.dbsource.specs.Errors.{is_read_failed};
 ghost use Rattle.dbsource.specs.Headers.{IsHeaderOf};
 ghost use Rattle.dbsource.specs.Sources.{Asks};
-ghost use Rattle.dbwalk.specs.Telling.{SinkAfter};
 ghost use Rattle.dbscan.specs.Desks.{IsFresh, shape_of};
-ghost use Rattle.dbscan.specs.Finishes.{HasFinished, HasReported, HasUsed, Leaves};
+ghost use Rattle.dbscan.specs.Finishes.{HasFinished, HasReported, Leaves};
+ghost use Rattle.dbscan.specs.Kept.{Keeps};
 
 use crate::Desk;
 use crate::reporter::Reporter;
@@ -60,8 +60,7 @@ fn report<A: Allocator, S: Source, K: Finish<Desk<A>>>(
     ensures asks { Asks S.step (IsPageLog (shape_of desk.old)) (λ file. IsHeaderOf desk.old.header file → (V : List Reference) → Survey file V
         → Leaves K.hears K.cuts K.leaves file V result sink.old sink.new)
         is_read_failed result (S.held source.old) (S.held source.new) }
-    ensures writes { SinkAfter is_write_failed result (K.held sink.old) (K.held sink.new) }
-    ensures desk { HasUsed result desk.old desk.new }
+    ensures keeps { Keeps result desk.old desk.new (K.held sink.old) (K.held sink.new) }
 {
     scan(desk, source, sink)?;
     sink.finish(desk, source)

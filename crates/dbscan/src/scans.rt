@@ -1,13 +1,12 @@
 // A scan: all that is found in a file.
-ghost use Rattle.std.specs.Prelude.{◌≡◌, List, IfErr};
+ghost use Rattle.std.specs.Prelude.{List};
 ghost use Rattle.dbformat.specs.Reference.{Reference};
 ghost use Rattle.dbformat.specs.Survey.{Survey};
-ghost use Rattle.dbsource.specs.Errors.{is_out_of_memory, is_read_failed, is_write_failed};
-ghost use Rattle.dbsource.specs.Failures.{failures_after};
+ghost use Rattle.dbsource.specs.Errors.{is_read_failed};
 ghost use Rattle.dbsource.specs.Headers.{IsHeaderOf};
 ghost use Rattle.dbsource.specs.Sources.{Asks};
-ghost use Rattle.dbwalk.specs.Telling.{IsReadWriteOrMemory, SinkAfter};
 ghost use Rattle.dbscan.specs.Desks.{IsFresh, shape_of};
+ghost use Rattle.dbscan.specs.Kept.{Keeps};
 ghost use Rattle.dbscan.specs.Looks.{ReadsMarked};
 ghost use Rattle.dbscan.specs.Scans.{IsScanned};
 
@@ -31,14 +30,11 @@ pub fn scan<A: Allocator, S: Source, K: Reporter>(
     sink: &mut K,
 ) -> Result<(), RunError>
     requires fresh { IsFresh desk.old }
-    ensures header { desk.new.header ≡ desk.old.header }
     ensures asks { Asks S.step (ReadsMarked (shape_of desk.old) desk.new.marks) (λ file. IsHeaderOf desk.old.header file
         → (V : List Reference) → Survey file V
         → IsScanned K.hears K.cuts file V result desk.new.marks desk.new.roots.rows sink.old sink.new)
         is_read_failed result (S.held source.old) (S.held source.new) }
-    ensures writes { SinkAfter is_write_failed result (K.held sink.old) (K.held sink.new) }
-    ensures refusals { desk.new.roots.refusals ≡ failures_after is_out_of_memory result desk.old.roots.refusals }
-    ensures only { IfErr result IsReadWriteOrMemory }
+    ensures keeps { Keeps result desk.old desk.new (K.held sink.old) (K.held sink.new) }
 {
     tell_header(desk.header(), sink)?;
     let any_rows = walk_starts(desk, source, sink)?;

@@ -17,6 +17,7 @@ ghost use Rattle.dbwalk.specs.Rows.{schema_row_of};
 ghost use Rattle.dbwalk.specs.Taking.{StartsEmpty};
 ghost use Rattle.dbwalk.specs.declared.root.RootKind.TheVariants as root_kind;
 ghost use Rattle.dbscan.specs.Desks.{AsksOver, IsFresh};
+ghost use Rattle.dbscan.specs.Kept.{Keeps, KeepsRoots};
 ghost use Rattle.dbscan.specs.Starts.{at_freelist, at_row, kind_by, root_of, schema_root};
 ghost use Rattle.dbscan.specs.Walks.{AreTold, AreWalked, IsSchemaWalked, IsTelling, IsTreeWalked, IsWalkedOver, StopsTelling};
 
@@ -99,13 +100,10 @@ fn walk_schema<A: Allocator, S: Source, K: Reporter>(
     sink: &mut K,
 ) -> Result<bool, RunError>
     requires fresh { IsFresh desk.old }
-    ensures header { desk.new.header ≡ desk.old.header }
     ensures asks { AsksOver S.step desk.old desk.new (λ file.
         IsSchemaWalked K.hears K.cuts file result desk.new.marks desk.new.roots.rows sink.old sink.new)
         result (S.held source.old) (S.held source.new) }
-    ensures writes { SinkAfter is_write_failed result (K.held sink.old) (K.held sink.new) }
-    ensures refusals { desk.new.roots.refusals ≡ failures_after is_out_of_memory result desk.old.roots.refusals }
-    ensures only { IfErr result IsReadWriteOrMemory }
+    ensures keeps { Keeps result desk.old desk.new (K.held sink.old) (K.held sink.new) }
 {
     let root = schema_root(desk.header.encoding());
     let start = Start::schema();
@@ -160,13 +158,11 @@ fn walk_root<A: Allocator, S: Source, K: Reporter>(
 ) -> Result<(), RunError>
     requires within { (1 ≤ number) × (number ≤ length desk.old.roots.rows) }
     requires most { number ≤ 65536 }
-    ensures kept { (desk.new.header ≡ desk.old.header) × (desk.new.roots ≡ desk.old.roots) }
     ensures asks { AsksOver S.step desk.old desk.new (λ file. (row : NamingRow) → slice_get desk.old.roots.rows (number - 1) ≡ Some row
         → (W : List Reference) (c : Reference) → IsRootAfter file (root_of (encoding_of file) number row) W c desk.old.marks
         → IsTreeWalked K.hears K.cuts (at_row number row) file W c result desk.new.marks sink.old sink.new)
         result (S.held source.old) (S.held source.new) }
-    ensures writes { SinkAfter is_write_failed result (K.held sink.old) (K.held sink.new) }
-    ensures only { IfErr result IsReadOrWrite }
+    ensures keeps { KeepsRoots result desk.old desk.new (K.held sink.old) (K.held sink.new) }
 {
     let encoding = desk.header.encoding();
     walk_row(
@@ -186,13 +182,11 @@ fn walk_roots<A: Allocator, S: Source, K: Reporter>(
     source: &mut S,
     sink: &mut K,
 ) -> Result<(), RunError>
-    ensures kept { (desk.new.header ≡ desk.old.header) × (desk.new.roots ≡ desk.old.roots) }
     ensures asks { AsksOver S.step desk.old desk.new (λ file. (V : List Reference) → Survey file V → (before : K)
         → IsTelling K.hears K.cuts file V before (enumerate_from 1 desk.old.roots.rows) desk.old.marks sink.old
         → StopsTelling K.hears K.cuts file V before [] result desk.new.marks sink.new)
         result (S.held source.old) (S.held source.new) }
-    ensures writes { SinkAfter is_write_failed result (K.held sink.old) (K.held sink.new) }
-    ensures only { IfErr result IsReadOrWrite }
+    ensures keeps { KeepsRoots result desk.old desk.new (K.held sink.old) (K.held sink.new) }
 {
     for index in 0..desk.root_count() {
         walk_root(desk, source, index + 1, sink)?;
@@ -208,13 +202,11 @@ fn walk_trunks<A: Allocator, S: Source, K: Reporter>(
 ) -> Result<(), RunError>
     requires start { teller.old.start.now ≡ at_freelist }
     ensures same_sink { teller.new.sink.ghost_name ≡ teller.old.sink.ghost_name }
-    ensures kept { (desk.new.header ≡ desk.old.header) × (desk.new.roots ≡ desk.old.roots) }
     ensures asks { AsksOver S.step desk.old desk.new (λ file. (V : List Reference) → Survey file V → (before : K)
         → IsTelling K.hears K.cuts file V before [] desk.old.marks teller.old.sink.now
         → AreTold K.hears K.cuts file V result desk.new.marks before teller.new.sink.now)
         result (S.held source.old) (S.held source.new) }
-    ensures writes { SinkAfter is_write_failed result (K.held teller.old.sink.now) (K.held teller.new.sink.now) }
-    ensures only { IfErr result IsReadOrWrite }
+    ensures keeps { KeepsRoots result desk.old desk.new (K.held teller.old.sink.now) (K.held teller.new.sink.now) }
 {
     let first = desk.header.first_trunk();
     if first == 0 {
@@ -229,13 +221,11 @@ fn walk_later<A: Allocator, S: Source, K: Reporter>(
     source: &mut S,
     sink: &mut K,
 ) -> Result<(), RunError>
-    ensures kept { (desk.new.header ≡ desk.old.header) × (desk.new.roots ≡ desk.old.roots) }
     ensures asks { AsksOver S.step desk.old desk.new (λ file. (V : List Reference) → Survey file V → (before : K)
         → IsTelling K.hears K.cuts file V before (enumerate_from 1 desk.old.roots.rows) desk.old.marks sink.old
         → AreTold K.hears K.cuts file V result desk.new.marks before sink.new)
         result (S.held source.old) (S.held source.new) }
-    ensures writes { SinkAfter is_write_failed result (K.held sink.old) (K.held sink.new) }
-    ensures only { IfErr result IsReadOrWrite }
+    ensures keeps { KeepsRoots result desk.old desk.new (K.held sink.old) (K.held sink.new) }
 {
     walk_roots(desk, source, sink)?;
     let start = Start::freelist();
@@ -256,13 +246,10 @@ pub fn walk_starts<A: Allocator, S: Source, K: Reporter>(
     sink: &mut K,
 ) -> Result<bool, RunError>
     requires fresh { IsFresh desk.old }
-    ensures header { desk.new.header ≡ desk.old.header }
     ensures asks { AsksOver S.step desk.old desk.new (λ file. (V : List Reference) → Survey file V
         → AreWalked K.hears K.cuts file V result desk.new.marks desk.new.roots.rows sink.old sink.new)
         result (S.held source.old) (S.held source.new) }
-    ensures writes { SinkAfter is_write_failed result (K.held sink.old) (K.held sink.new) }
-    ensures refusals { desk.new.roots.refusals ≡ failures_after is_out_of_memory result desk.old.roots.refusals }
-    ensures only { IfErr result IsReadWriteOrMemory }
+    ensures keeps { Keeps result desk.old desk.new (K.held sink.old) (K.held sink.new) }
 {
     let any_rows = walk_schema(desk, source, sink)?;
     walk_later(desk, source, sink)?;

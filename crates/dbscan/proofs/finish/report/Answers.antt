@@ -1,17 +1,13 @@
-use Rattle.std.proofs.Common.{inl, inr, Err, refl, sym, ap, ◌∙◌, subst}
+use Rattle.std.proofs.Common.{inl, inr, Err, refl, sym, ap, subst}
 use Rattle.std.proofs.lemmas.Result.{err_from_is_err_and}
 use Rattle.dbformat.specs.FixedPages.{geometry_of}
 use Rattle.dbformat.specs.declared.Geometry.{Geometry}
-use Rattle.dbsource.specs.Errors.{is_write_failed}
 use Rattle.dbsource.specs.HeaderBytes.{HeaderBytes}
 use Rattle.dbsource.specs.Headers.{IsHeaderOf}
 use Rattle.dbsource.proofs.Logs.{asks_then, asks_weaker}
-use Rattle.dbscan.specs.Roots.{Listed}
-use Rattle.dbwalk.specs.Telling.{SinkAfter}
-use Rattle.dbwalk.proofs.Underway.Walks.{none_refused}
 use Rattle.dbscan.specs.Looks.{IsUnmarked, ReadsMarked, ReadsRising}
 use Rattle.dbscan.proofs.MapLogs.{looks_log}
-use Rattle.dbscan.proofs.Refusals.{read_or_write}
+use Rattle.dbscan.proofs.Keeping.{keeps_then}
 use Rattle.dbscan.proofs.finish.report.Goals as goal
 
 pub returns-in_err-scan-clause-asks : goal.returns-in_err-scan-clause-asks
@@ -21,16 +17,11 @@ returns-in_err-scan-clause-asks g c =
     rw q.1 (rw q.2 (asks_weaker _ _ (Err e) (λ n. refl) c.in_err-scan.ensures.asks (λ log r. r.pages)
     (λ file done is V s. inr (e, refl, (done is V s).told))))
 
-pub returns-in_err-scan-clause-desk : goal.returns-in_err-scan-clause-desk
-returns-in_err-scan-clause-desk g c =
-    let q = err_from_is_err_and c.from_residual.result c.from_residual.ensures.1 in
-    rw q.1 (rw q.2 (record { header = c.in_err-scan.ensures.header; memory = c.in_err-scan.ensures.refusals; only = c.in_err-scan.ensures.only }))
-
 pub returns-clause-asks : goal.returns-clause-asks
 returns-clause-asks g c =
     let geo = geometry_of c.args.desk.now.header.bytes c.args.desk.now.header.file_len in
     let d = c.scan.new.desk in
-    let same = c.in_ok-scan.ensures.header in
+    let same = c.in_ok-scan.ensures.keeps.desk.header in
     let shape = ap (λ (h : HeaderBytes). geometry_of h.bytes h.file_len) same in
     asks_then (ReadsMarked geo d.marks) (ReadsRising (geometry_of d.header.bytes d.header.file_len).page_size (IsUnmarked d.marks)) _ _ c.finish.result
     (λ n. refl) (λ n. refl) c.in_ok-scan.ensures.asks c.finish.ensures.asks
@@ -42,12 +33,7 @@ returns-clause-asks g c =
       heard = k.told;
     })))
 
-pub returns-clause-desk : goal.returns-clause-desk
-returns-clause-desk g c = record {
-  header = c.finish.ensures.kept.0 ∙ c.in_ok-scan.ensures.header;
-  memory = ap (λ (l : Listed). l.refusals) c.finish.ensures.kept.1 ∙ c.in_ok-scan.ensures.refusals ∙ none_refused c.finish.result c.args.desk.now.roots.refusals c.finish.ensures.only;
-  only = read_or_write c.finish.result c.finish.ensures.only;
-}
-
-pub returns-clause-writes : goal.returns-clause-writes
-returns-clause-writes g c = subst (λ s. SinkAfter is_write_failed c.finish.result s (g.K.Reporter.held c.finish.new.self)) c.in_ok-scan.ensures.writes c.finish.ensures.writes
+pub returns-clause-keeps : goal.returns-clause-keeps
+returns-clause-keeps g c =
+    let end = c.finish.ensures in
+    keeps_then c.in_ok-scan.ensures.keeps (record { header = end.kept.0; roots = end.kept.1; writes = end.writes; only = end.only })

@@ -23,10 +23,10 @@ returns g c =
       read = subst (λ (x : HeaderBytes). HasReadBehind g.S.Source.step (IsPageLog (geometry_of x.bytes x.file_len)) x T (g.S.Source.held c.args.source.now) (g.S.Source.held c.source-1.given.0)) c.renew.ensures.header
           (behind_headed g.S.Source.held h c.new-headed.result.header.now (c.new-headed.ensures.header ∙ c.header.ensures.value) c.new-headed.ensures.source k c.header.ensures.accepted c.report.ensures.asks.log);
       reads = rw k (c.report.ensures.asks.count ∙ ap (λ s. failures_after is_read_failed r (g.S.Source.held s).failures) c.new-headed.ensures.source);
-      writes = c.report.ensures.writes;
+      writes = c.report.ensures.keeps.writes;
       desk = record {
-        header = c.report.ensures.desk.header ∙ c.renew.ensures.header;
-        memory = c.report.ensures.desk.memory ∙ ap (failures_after is_out_of_memory r) c.renew.ensures.refusals;
-        only = c.report.ensures.desk.only;
+        header = c.report.ensures.keeps.desk.header ∙ c.renew.ensures.header;
+        memory = c.report.ensures.keeps.desk.memory ∙ ap (failures_after is_out_of_memory r) c.renew.ensures.refusals;
+        only = c.report.ensures.keeps.desk.only;
       };
     }

@@ -1,4 +1,4 @@
-use Rattle.std.proofs.Common.{◌++◌, Err, refl, sym, ap, subst, ◌∙◌}
+use Rattle.std.proofs.Common.{◌++◌, Err, refl, sym, ap, subst}
 use Rattle.std.proofs.lemmas.Result.{err_from_is_err_and}
 use Rattle.dbformat.specs.FixedPages.{geometry_of}
 use Rattle.dbsource.specs.HeaderBytes.{HeaderBytes}
@@ -7,11 +7,12 @@ use Rattle.dbsource.proofs.Logs.{asks_then, asks_weaker}
 use Rattle.dbmarks.specs.Reads.{Reads}
 use Rattle.dbmarks.proofs.FirstMarks.{fresh_marks}
 use Rattle.dbscan.specs.Desks.{Things}
-use Rattle.dbwalk.proofs.Underway.Walks.{none_refused}
 use Rattle.dbscan.specs.Looks.{ReadsMarked}
 use Rattle.dbscan.specs.MapReads.{MapReads}
 use Rattle.dbscan.proofs.MapLogs.{asks_nothing, no_log, walk_log, walk_then_map_log}
 use Rattle.dbscan.proofs.Scanned.{header_stopped, starts_stopped, scan_ended}
+use Rattle.dbscan.specs.Kept.{Keeps}
+use Rattle.dbscan.proofs.Keeping.{keeps_then}
 use Rattle.dbscan.proofs.scans.scan.Goals as goal
 
 pub returns-in_err-tell_header-clause-asks : goal.returns-in_err-tell_header-clause-asks
@@ -44,7 +45,7 @@ returns-clause-asks g c =
     let geo = geometry_of c.args.desk.now.header.bytes c.args.desk.now.header.file_len in
     let old = c.args.desk.now.marks in
     let new = c.walk_starts.new.desk.marks in
-    let same = c.in_ok-any_rows.ensures.header in
+    let same = c.in_ok-any_rows.ensures.keeps.desk.header in
     let shape_of = λ (h : HeaderBytes). geometry_of h.bytes h.file_len in
     asks_then (Reads geo.page_size old new) (MapReads (shape_of c.walk_starts.new.desk.header)) _ _ c.tell_end.result
     (λ n. refl) (λ n. refl) c.in_ok-any_rows.ensures.asks c.tell_end.ensures.asks
@@ -55,6 +56,8 @@ returns-clause-asks g c =
     c.in_ok-tell_header.ensures.told c.tell_end.result c.in_ok-any_rows.any_rows c.walk_starts.new.sink c.tell_end.new.sink c.walk_starts.new.desk c.tell_end.new.desk (walked is V s) c.tell_end.ensures.desk
     (ended (subst (λ (h : HeaderBytes). IsHeaderOf h file) (sym same) is) V s (walked is V s).all.marked (walked is V s).has_rows))
 
-pub returns-clause-refusals : goal.returns-clause-refusals
-returns-clause-refusals g c =
-    ap (λ (d : Things). d.roots.refusals) c.tell_end.ensures.desk ∙ c.in_ok-any_rows.ensures.refusals ∙ none_refused c.tell_end.result c.args.desk.now.roots.refusals c.tell_end.ensures.only
+pub returns-clause-keeps : goal.returns-clause-keeps
+returns-clause-keeps g c =
+    let same = c.tell_end.ensures.desk in
+    subst (λ s. Keeps c.tell_end.result c.args.desk.now c.tell_end.new.desk s (g.K.Reporter.held c.tell_end.new.sink)) c.in_ok-tell_header.ensures.writes
+    (keeps_then c.in_ok-any_rows.ensures.keeps (record { header = ap (λ (d : Things). d.header) same; roots = ap (λ (d : Things). d.roots) same; writes = c.tell_end.ensures.writes; only = c.tell_end.ensures.only }))

@@ -16,7 +16,7 @@ returns-in_err-walk_roots-clause-asks g c =
 
 pub returns-clause-asks : goal.returns-clause-asks
 returns-clause-asks g c =
-    let same = c.in_ok-walk_roots.ensures.kept.0 in
+    let same = c.in_ok-walk_roots.ensures.keeps.header in
     asks_then _ _ (ap (λ (h : HeaderBytes). (geometry_of h.bytes h.file_len).page_size) same) c.in_ok-walk_roots.ensures.asks c.walk_trunks.ensures.asks
     (λ file done walked is V s before h.
     let left = subst (λ x. IsTelling g.K.Reporter.hears g.K.Reporter.cuts file V before [] c.walk_roots.new.desk.marks x) (sym c.new.ensures.sink) (done is V s before h) in

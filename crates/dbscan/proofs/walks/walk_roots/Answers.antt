@@ -1,4 +1,4 @@
-use Rattle.std.proofs.Common.{◌≡◌, ◌+◌, ◌-◌, [], drop, length, Err, Ok, refl, sym, ap, subst, ◌∙◌, arith}
+use Rattle.std.proofs.Common.{rules, ◌≡◌, ◌+◌, ◌-◌, [], drop, length, Err, Ok, refl, sym, ap, subst, ◌∙◌, arith}
 use Rattle.std.specs.Prelude.{slice_get}
 use Rattle.std.specs.List.{enumerate_from}
 use Rattle.std.proofs.lemmas.Result.{err_from_is_err_and}
@@ -15,36 +15,32 @@ use Rattle.dbscan.proofs.walks.walk_roots.Goals as goal
 
 pub loop-index-init : goal.loop-index-init
 loop-index-init g c = record {
-  header = refl;
-  roots = refl;
   asks = record {
     log = log_none (geometry_of c.args.desk.now.header.bytes c.args.desk.now.header.file_len).page_size c.args.desk.now.marks c.args.desk.now.marks (g.S.Source.held c.args.source.now) refl (λ file is V s before h. h);
     count = refl;
   };
-  writes = refl;
+  keeps = record { header = refl; roots = refl; writes = refl; only = tt };
 }
 
 pub returns-in_err-walk_root-clause-asks : goal.returns-in_err-walk_root-clause-asks
 returns-in_err-walk_root-clause-asks g c =
     let q = err_from_is_err_and c.from_residual.result c.from_residual.ensures.1 in
-    let same = c.loop-index.invariant.header in
+    let same = c.loop-index.invariant.keeps.header in
     rw q.1 (rw q.2 (asks_then _ _ (ap (λ (h : HeaderBytes). (geometry_of h.bytes h.file_len).page_size) same) c.loop-index.invariant.asks c.in_err-walk_root.ensures.asks
     (λ file left walked is V s before h.
     root_told g.K.Reporter.hears g.K.Reporter.cuts file V s before c.loop-index.desk.marks c.walk_root.new.desk.marks c.loop-index.sink c.walk_root.new.sink c.args.desk.now.roots.rows c.loop-index.index
     (Err c.in_err-walk_root.field-0.0) (omega arith) (left is V s before h)
-    (λ row at. walked (subst (λ (h : HeaderBytes). IsHeaderOf h file) (sym same) is) row (ap (λ (l : Listed). slice_get l.rows (c.loop-index.index + 1 - 1)) c.loop-index.invariant.roots ∙ at)))))
+    (λ row at. walked (subst (λ (h : HeaderBytes). IsHeaderOf h file) (sym same) is) row (ap (λ (l : Listed). slice_get l.rows (c.loop-index.index + 1 - 1)) c.loop-index.invariant.keeps.roots ∙ at)))))
 
 pub loop-index-preserved : goal.loop-index-preserved
 loop-index-preserved g c =
-    let same = c.loop-index.invariant.header in record {
-      header = c.in_ok-walk_root.ensures.kept.0 ∙ same;
-      roots = c.in_ok-walk_root.ensures.kept.1 ∙ c.loop-index.invariant.roots;
+    let same = c.loop-index.invariant.keeps.header in record {
       asks = asks_then _ _ (ap (λ (h : HeaderBytes). (geometry_of h.bytes h.file_len).page_size) same) c.loop-index.invariant.asks c.in_ok-walk_root.ensures.asks
           (λ file left walked is V s before h.
           root_told g.K.Reporter.hears g.K.Reporter.cuts file V s before c.loop-index.desk.marks c.walk_root.new.desk.marks c.loop-index.sink c.walk_root.new.sink c.args.desk.now.roots.rows c.loop-index.index
           (Ok tt) (omega arith) (left is V s before h)
-          (λ row at. walked (subst (λ (h : HeaderBytes). IsHeaderOf h file) (sym same) is) row (ap (λ (l : Listed). slice_get l.rows (c.loop-index.index + 1 - 1)) c.loop-index.invariant.roots ∙ at)));
-      writes = c.in_ok-walk_root.ensures.writes ∙ c.loop-index.invariant.writes;
+          (λ row at. walked (subst (λ (h : HeaderBytes). IsHeaderOf h file) (sym same) is) row (ap (λ (l : Listed). slice_get l.rows (c.loop-index.index + 1 - 1)) c.loop-index.invariant.keeps.roots ∙ at)));
+      keeps = search rules;
     }
 
 pub returns-clause-asks : goal.returns-clause-asks

@@ -19,7 +19,7 @@ returns-in_err-any_rows-clause-asks g c =
 
 pub returns-in_err-walk_later-clause-asks : goal.returns-in_err-walk_later-clause-asks
 returns-in_err-walk_later-clause-asks g c =
-    let same = c.in_ok-any_rows.ensures.header in
+    let same = c.in_ok-any_rows.ensures.keeps.desk.header in
     let e = c.in_err-walk_later.field-0.0 in
     let q = err_from_is_err_and c.from_residual-in_err-walk_later.result c.from_residual-in_err-walk_later.ensures.1 in
     rw q.1 (rw q.2 (asks_weaker _ _ (Err e) (λ n. refl) (asks_then _ _ (ap (λ (h : HeaderBytes). (geometry_of h.bytes h.file_len).page_size) same) c.in_ok-any_rows.ensures.asks c.in_err-walk_later.ensures.asks
@@ -32,12 +32,12 @@ returns-in_err-walk_later-clause-asks g c =
 
 pub returns-clause-asks : goal.returns-clause-asks
 returns-clause-asks g c =
-    let same = c.in_ok-any_rows.ensures.header in
+    let same = c.in_ok-any_rows.ensures.keeps.desk.header in
     let any = c.in_ok-any_rows.any_rows in
     asks_weaker _ _ (Ok any) (λ n. refl) (asks_then _ _ (ap (λ (h : HeaderBytes). (geometry_of h.bytes h.file_len).page_size) same) c.in_ok-any_rows.ensures.asks c.in_ok-walk_later.ensures.asks
     (λ file walked later is V s.
     let first = walked is in
-    let of = subst (λ (l : Listed). IsSchemaOf file V l.rows any) (sym c.in_ok-walk_later.ensures.kept.1) (first.schema V s) in
+    let of = subst (λ (l : Listed). IsSchemaOf file V l.rows any) (sym c.in_ok-walk_later.ensures.keeps.roots) (first.schema V s) in
     all_walked g.K.Reporter.hears g.K.Reporter.cuts file V c.walk_later.new.desk.marks c.walk_later.new.desk.roots.rows c.args.sink.now c.walk_later.new.sink any of
     (later (subst (λ (h : HeaderBytes). IsHeaderOf h file) (sym same) is) V s c.args.sink.now
     (schema_told g.K.Reporter.hears g.K.Reporter.cuts file V s c.args.sink.now c.args.desk.now.marks c.walk_schema.new.desk.marks c.walk_schema.new.desk.roots.rows any c.walk_schema.new.sink

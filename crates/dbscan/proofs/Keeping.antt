@@ -1,0 +1,25 @@
+-- A call of a run that adds no root to the list, after one that may have added some.
+use Rattle.std.proofs.Common.{inl, Ok, Err, Result, ap, subst, ◌∙◌}
+use Rattle.std.specs.Prelude.{IfErr}
+use Rattle.dbsource.specs.Errors.{is_write_failed}
+use Rattle.dbsource.specs.declared.error.RunError.{RunError}
+use Rattle.dbwalk.specs.Telling.{IsReadOrWrite, IsReadWriteOrMemory, SinkAfter, SinkState}
+use Rattle.dbwalk.proofs.Underway.Walks.{none_refused}
+use Rattle.dbscan.specs.Desks.{Things}
+use Rattle.dbscan.specs.Kept.{Keeps, KeepsRoots}
+use Rattle.dbscan.specs.Roots.{Listed}
+
+-- an error of reading or writing is one of a run
+read_or_write : {A : Type 0} (r : Result A RunError) → IfErr r IsReadOrWrite → IfErr r IsReadWriteOrMemory
+read_or_write (Ok u) only = tt
+read_or_write (Err e) only = inl only
+
+pub keeps_then : {A B : Type 0} {a : A} {r : Result B RunError} {before mid after : Things} {old now new : SinkState} → Keeps (Ok a) before mid old now → KeepsRoots r mid after now new → Keeps r before after old new
+keeps_then {r = r} {before = before} {new = new} h k = record {
+  desk = record {
+    header = k.header ∙ h.desk.header;
+    memory = ap (λ (l : Listed). l.refusals) k.roots ∙ h.desk.memory ∙ none_refused r before.roots.refusals k.only;
+    only = read_or_write r k.only;
+  };
+  writes = subst (λ s. SinkAfter is_write_failed r s new) h.writes k.writes;
+}
