@@ -3,6 +3,7 @@ pub mod Apart
 pub mod Belonging
 pub mod ByCode
 pub mod Few
+pub mod KeptLists
 pub mod Noting
 pub mod Numbers
 pub mod Placing

@@ -1,11 +1,11 @@
 // The entries of the reported faults.
-ghost use Rattle.std.specs.Prelude.{◌≡◌, ◌≤◌, ◌<◌, ◌+◌, [], ◌∷◌, ◌++◌, List, IfOk, find};
+ghost use Rattle.std.specs.Prelude.{◌≡◌, ◌≤◌, ◌<◌, ◌+◌, [], ◌∷◌, ◌++◌, List, IfOk, find, map};
 ghost use Rattle.dbentries.specs.Kept.{kept_of};
 ghost use Rattle.dbentries.specs.Listing as listing;
 ghost use Rattle.dbentries.specs.Listing.{rank};
 ghost use Rattle.dbentries.specs.Store.{added, home_by, home_of, is_listed_cause, note_of, slots_of, AreEntriesOf};
 ghost use Rattle.dbentries.specs.Store.{put_in, put_kept, put_new, put_unkept, turned};
-ghost use Rattle.dbentries.specs.Woven.{kept_in, put_last, woven_in, KeepsFirst};
+ghost use Rattle.dbentries.specs.Woven.{kept_in, put_last, woven, woven_in, KeepsFirst};
 
 use crate::causes::{most, same_cause};
 use crate::entry::Entry;
@@ -93,9 +93,20 @@ impl<A: Allocator> Entries<A> {
         self.put(home, told);
     }
 
-    /// Puts an entry of lost pages before the first that comes after it: one of the end that is of a later page, and whose code
-    /// is not H08, H09 or H10. Where there is no room, the last entry is no longer kept. No fault is added after this.
-    pub fn insert(&mut self, entry: &Entry)
+    /// Puts the entries of lost pages in their places, each before the first that comes after it: one of the end that is of a
+    /// later page, and whose code is not H08, H09 or H10. Where there is no room, the last entries are no longer kept. No fault is
+    /// added after this.
+    pub fn weave(&mut self, lost: &[Entry])
+        ensures entries { (es ls : List listing.Entry) → KeepsFirst es self.old → lost.now ≡ map kept_of ls → KeepsFirst (woven es ls) self.new }
+        ensures limit { self.new.limit ≡ self.old.limit }
+    {
+        for entry in lost {
+            self.insert(entry);
+        }
+    }
+
+    // Puts an entry of lost pages in its place.
+    fn insert(&mut self, entry: &Entry)
         ensures entries { (es : List listing.Entry) (e : listing.Entry) → KeepsFirst es self.old → entry.now ≡ kept_of e
             → KeepsFirst (woven_in e es) self.new }
         ensures limit { self.new.limit ≡ self.old.limit }

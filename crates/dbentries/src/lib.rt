@@ -8,7 +8,7 @@
 //! belong to it, with the pages that look alike in runs.
 //!
 //! specs/Listing has the definition, over the list of all faults; specs/Lines and specs/Others have the lines. Faults
-//! of lost pages may be listed apart ([`Entries::insert`]): by [`weaving_is_listing`] the result is the same.
+//! of lost pages may be listed apart ([`Entries::weave`]): by [`weaving_is_listing`] the result is the same.
 #![tactic(auto)]
 
 ghost use Rattle.std.specs.Prelude.{List};

@@ -1,4 +1,4 @@
--- A desk of which other pages are in the buffers.
+-- What is known of pages, from a desk.
 use Rattle.std.proofs.Common.{◌≡◌, ℕ, List, ap, sym, subst, ◌∙◌}
 use Rattle.dbformat.specs.Reference.{Reference}
 use Rattle.dbsource.specs.HeaderBytes.{HeaderBytes}
@@ -9,12 +9,6 @@ use Rattle.dbexplain.specs.declared.owners.Owners.{Owners}
 use Rattle.dbscan.specs.Desks.{Things}
 use Rattle.dbscan.specs.Finishes.{IsDeskOf}
 
--- it is of the same file
-pub desk_kept : (old new : Things) (file : List ℕ) (V : List Reference) → new ≡ record old { pages = new.pages } → IsDeskOf old file V → IsDeskOf new file V
-desk_kept old new file V e d =
-    subst (λ (d : Things). IsDeskOf d file V) (sym e) (record { header = d.header; survey = d.survey; marks = d.marks; rows = d.rows })
-
--- what is known of the pages, from the desk
 pub of_desk : {A : Type 0} (o : Owners A) (d : Things) (file : List ℕ) (V : List Reference)
     → o.header.now ≡ d.header → o.marks.now ≡ d.marks → o.roots.now ≡ d.roots → IsDeskOf d file V → IsOf o file V
 of_desk o d file V header marks roots is = record {

@@ -28,13 +28,14 @@ use Rattle.dbscan.specs.Finishes.{Leaves}
 use Rattle.dbreport.specs.Runs.{FailsOnce, IsAnswerOf}
 use Rattle.dbreport.proofs.RunAnswers.{if_ok, read_answer}
 use Rattle.dbreport.proofs.RunReports.{check_answer}
-use Rattle.dbexplain.specs.Explained.{explain_report, explain_text, found_text, listed, lost_faults, other_faults}
+use Rattle.dblisting.specs.Listed.{listed, lost_faults, other_faults}
+use Rattle.dblisting.proofs.Woven.{all_lost}
+use Rattle.dbexplain.specs.Explained.{explain_report, explain_text, found_text}
 use Rattle.dbexplain.specs.Keeping.{HasFound, IsEmpty}
 use Rattle.dbexplain.specs.Reporting.{Ends, Hears, IsLeft, LeavesExplained, Never, PutsLines}
 use Rattle.dbexplain.specs.Runs.{ExplainFails, IsExplained, OutFailures, PutsFound, WritesReport}
 use Rattle.dbexplain.specs.declared.reporter.ExplainReporter.{ExplainReporter}
 use Rattle.dbexplain.proofs.Left.{is_left}
-use Rattle.dbexplain.proofs.Reports.{all_lost}
 
 -- ---- the report of a file that is read
 

@@ -1,47 +1,20 @@
--- What is kept of some entries, one after another.
-use Rattle.std.proofs.Common.{◌≡◌, ℕ, zero, suc, ◌+◌, ◌<◌, ◌≤◌, Bool, true, false, Option, Some, None, List, [], ◌∷◌, ◌++◌, length, take, drop, map, get_or, add-one, drop-cons, refl, ap, ap₂, ◌∙◌, arith}
-use Rattle.std.specs.Prelude.{flat_map, fold, nat_lt, pos, if◌then◌else◌}
+-- The lines of entries, one after another, by what is kept of them.
+use Rattle.std.proofs.Common.{◌≡◌, ℕ, zero, suc, ◌+◌, ◌<◌, ◌≤◌, Bool, true, false, Option, Some, None, List, [], ◌∷◌, ◌++◌, length, take, drop, map, get_or, add-one, drop-cons, refl, ap, ap₂, ◌∙◌}
+use Rattle.std.specs.Prelude.{flat_map, fold, nat_lt, if◌then◌else◌}
 use Rattle.std.specs.Option.{option_map_or}
-use Rattle.std.proofs.lemmas.List.{drop_all, get_or-map, length-map, take_all, take_more}
-use Rattle.std.proofs.lemmas.List.Sums.{fold-append}
-use Rattle.dbformat.specs.Faults.{fault}
+use Rattle.std.proofs.lemmas.List.{drop_all}
 use Rattle.dbformat.specs.Lines.{fault_line}
-use Rattle.dbformat.specs.declared.FaultCode.TheVariants.{H01}
-use Rattle.dbtrace.specs.declared.Cause.TheVariants as cause
-use Rattle.dbtrace.specs.declared.Part.TheVariants as part
 use Rattle.dbtrace.specs.declared.Reported.{Reported}
 use Rattle.dbentries.specs.Kept.{entry_of, kept_of}
 use Rattle.dbentries.specs.Listing as listing
 use Rattle.dbentries.specs.Listing.{changed_at, entries, home, joined, most, with_fault}
 use Rattle.dbentries.specs.Store.{Stored}
-use Rattle.dbentries.specs.Woven.{KeepsFirst, woven, woven_in}
+use Rattle.dbentries.specs.Woven.{KeepsFirst}
 use Rattle.dbentries.specs.declared.entry.Entry.{Entry}
+use Rattle.dbentries.proofs.KeptLists.{no_entry}
 use Rattle.dbentries.proofs.Noting.{first_kept}
 use Rattle.dbexplain.specs.Explained.{found_text}
 use Rattle.dbexplain.specs.Keeping.{lines_of}
-
-abbrev pub no_entry : listing.Entry
-no_entry = record { first = record { part = part.Header; fault = fault H01 0 0 (pos 0); cause = cause.Itself }; others = [] }
-
-module _ (listed : List Entry) (es : List listing.Entry) (is : listed ≡ map kept_of es) where
-  pub as_many : length listed ≡ length es
-  as_many = ap length is ∙ length-map es kept_of
-
-  pub within : (i : ℕ) → i < length listed → i < length es
-  within i h = let n = as_many in omega (arith, n, h)
-
-  pub beyond : (i : ℕ) → length listed ≤ i → length es ≤ i
-  beyond i h = let n = as_many in omega (arith, n, h)
-
-  pub kept_here : (i : ℕ) (none : Entry) → i < length listed → get_or listed i none ≡ kept_of (get_or es i no_entry)
-  kept_here i none h =
-      ap (λ l. get_or l i none) is ∙ get_or-map kept_of es i no_entry none (within i h)
-
-  pub taken_here : (i : ℕ) → i < length listed → take (i + 1) es ≡ take i es ++ get_or es i no_entry ∷ []
-  taken_here i h = take_more es i no_entry (within i h)
-
-  pub taken_all : (i : ℕ) → length listed ≤ i → take i es ≡ es
-  taken_all i h = take_all i es (beyond i h)
 
 -- the fault of an entry is its first
 pub first_of : (k : Entry) (e : listing.Entry) → k ≡ kept_of e → k.first ≡ e.first
@@ -63,10 +36,6 @@ next_line kept i none h = rw (add-one, drop-cons kept i none h) refl
 pub same_lines : (es : List listing.Entry) → lines_of (map kept_of es) ≡ flat_map (λ (e : listing.Entry). fault_line e.first.fault) es
 same_lines [] = refl
 same_lines (e ∷ es) = ap₂ (λ (f : Reported) text. fault_line f.fault ++ text) (first_kept e.others (entry_of e.first)) (same_lines es)
-
--- one entry of a lost page more
-pub woven_more : (es ls : List listing.Entry) (l : listing.Entry) → woven es (ls ++ l ∷ []) ≡ woven_in l (woven es ls)
-woven_more es ls l = fold-append (λ es e. woven_in e es) es ls (l ∷ [])
 
 -- the lines of the first entries, by what is kept of them
 pub found_lines : (es : List listing.Entry) (s : Stored) (limit : ℕ) → KeepsFirst es s → s.limit ≡ limit → lines_of s.listed ≡ found_text limit es

@@ -1,15 +1,13 @@
 -- What a run leaves of a reporter of which nothing had been heard.
-use Rattle.std.proofs.Common.{◌≡◌, ◌≢◌, ℕ, ◌*◌, ◌<◌, ◌≤◌, List, [], ◌∷◌, length, Err, Result, inl, inr, refl, sym, ap, subst, ◌∙◌, arith, append-nil}
+use Rattle.std.proofs.Common.{◌≡◌, ◌≢◌, ℕ, ◌*◌, ◌<◌, ◌≤◌, List, [], ◌∷◌, length, Err, Result, inl, inr, refl, sym, ap, subst, ◌∙◌, arith}
 use Rattle.std.proofs.lemmas.List.{length-map}
-use Rattle.dbsurvey.specs.Moves.{Moves, MovesBySome, Stops}
+use Rattle.dbsurvey.specs.Moves.{Moves, MovesBySome}
 use Rattle.dbformat.specs.File.{geometry}
 use Rattle.dbformat.specs.Lines.{counted, ok_line}
 use Rattle.dbformat.specs.Reference.{Reference}
-use Rattle.dbformat.specs.Report.{faults, verdict}
+use Rattle.dbformat.specs.Report.{faults}
 use Rattle.dbformat.specs.Survey.{Survey}
-use Rattle.dbformat.specs.declared.Fault.{Fault}
 use Rattle.dbformat.specs.declared.Verdict.{Verdict}
-use Rattle.dbformat.specs.declared.Verdict.TheVariants.{Clean, Faulty}
 use Rattle.dbtrace.specs.declared.Reported.{Reported}
 use Rattle.dbsource.specs.Outs.{Begins, OutState, Writes}
 use Rattle.dbsource.specs.declared.error.RunError.{RunError}
@@ -19,26 +17,22 @@ use Rattle.dbwalk.specs.Telling.{StopsBy}
 use Rattle.dbentries.specs.Store.{AreEntriesOf, Stored}
 use Rattle.dbowner.specs.Climbs.{Trees}
 use Rattle.dbscan.specs.Finishes.{Leaves}
-use Rattle.dbscan.specs.Notices.{Notice, run_notices}
-use Rattle.dbscan.specs.Placed.{faults_of, told_faults}
+use Rattle.dbscan.specs.Notices.{run_notices}
+use Rattle.dbscan.specs.Placed.{told_faults}
 use Rattle.dbscan.proofs.AllTold.{all_told}
-use Rattle.dbexplain.specs.Explained.{IsBeginning, explain_text, listed, lost_faults, other_faults}
-use Rattle.dbexplain.specs.Keeping.{HasAll, HasFound, IsEmpty, IsUnused}
+use Rattle.dblisting.specs.Listed.{IsBeginning, listed, lost_faults, other_faults}
+use Rattle.dblisting.specs.Lost.{IsUnused}
+use Rattle.dblisting.proofs.Heard.{never_stops}
+use Rattle.dblisting.proofs.Woven.{all_begins}
+use Rattle.dbexplain.specs.Explained.{explain_text}
+use Rattle.dbexplain.specs.Keeping.{HasAll, HasFound, IsEmpty}
 use Rattle.dbexplain.specs.Reporting.{Hears, IsLeft, LeavesExplained, Never}
 use Rattle.dbexplain.specs.declared.kept.Kept.{Kept}
 use Rattle.dbexplain.specs.declared.reporter.ExplainReporter.{ExplainReporter}
-use Rattle.dbexplain.proofs.Heard.{HasHeardFaults}
-use Rattle.dbexplain.proofs.HeardAll.{begun_out, file_begun, file_heard}
+use Rattle.dbexplain.proofs.Heard.{HasHeardFaults, all_heard, first_out, found_first, others_listed}
 use Rattle.dbexplain.proofs.Reports.{ok_text}
 
 -- ---- the number of faults
-
-no_faults : (ts : List Reported) (fs : List Fault) → faults_of ts ≡ fs → ts ≡ [] → fs ≡ []
-no_faults ts fs e h = sym e ∙ ap faults_of h
-
-some_counted : (fs : List Fault) (n : ℕ) → n ≡ counted (length fs) → n ≢ 0 → Faulty n ≡ verdict fs
-some_counted [] n e h = absurd (h e)
-some_counted (f ∷ fs) n e h = ap Faulty e
 
 none_counted : (ts : List Reported) → counted (length ts) ≡ 0 → ts ≡ []
 none_counted [] h = refl
@@ -46,8 +40,14 @@ none_counted (t ∷ ts) h = absurd (let e : ⊥ = omega arith in e)
 
 module _ {A O : Type 0} (held : O → OutState) (file : List ℕ) (V : List Reference) (survey : Survey file V) (first now : ExplainReporter A O)
     (empty : IsEmpty first.kept.now.entries.limit (geometry file) first.kept.now) (heard : Moves Hears first (run_notices file V) now) where
-  all : HasHeardFaults (told_faults file V) (other_faults file V) first now
-  all = file_heard file V survey first now first.kept.now.entries.limit (geometry file) empty heard
+  all : HasHeardFaults (told_faults file V) first now
+  all = all_heard file V survey first now first.kept.now.entries.limit (geometry file) empty heard
+
+  others : AreEntriesOf (other_faults file V) now.kept.now.entries
+  others = others_listed file V survey first now first.kept.now.entries.limit (geometry file) empty all
+
+  pub all_counted : now.kept.now.tally.all ≡ counted (length (faults file V))
+  all_counted = all.tally.all ∙ ap counted (sym (length-map (told_faults file V) (λ (t : Reported). t.fault)) ∙ ap length (all_told file V))
 
   abbrev text : List ℕ
   text = explain_text first.kept.now.entries.limit file V (listed file V)
@@ -65,9 +65,6 @@ module _ {A O : Type 0} (held : O → OutState) (file : List ℕ) (V : List Refe
     pub clean_put : {X E : Type 0} (r : Result X E) (after : O) → Writes r (held now.out.now).bytes (held after).bytes ok_line → Writes r (held first.out.now).bytes (held after).bytes text
     clean_put r after w = written r after ok_line (sym (ok_text first.kept.now.entries.limit file V nothing)) w
 
-    pub clean_found : Clean ≡ verdict (faults file V)
-    clean_found = ap verdict (sym (no_faults (told_faults file V) (faults file V) (all_told file V) nothing))
-
   -- ---- some were found
   module _ (some : now.kept.now.tally.all ≢ 0) where
     pub told_some : told_faults file V ≡ [] → ⊥
@@ -76,10 +73,6 @@ module _ {A O : Type 0} (held : O → OutState) (file : List ℕ) (V : List Refe
     pub faulty_put : {X E : Type 0} (r : Result X E) (after : O) → Writes r (held now.out.now).bytes (held after).bytes (explain_text now.kept.now.entries.limit file V (listed file V))
         → Writes r (held first.out.now).bytes (held after).bytes text
     faulty_put r after w = written r after _ (ap (λ n. explain_text n file V (listed file V)) all.limit) w
-
-    pub faulty_found : Faulty now.kept.now.tally.all ≡ verdict (faults file V)
-    faulty_found = some_counted (faults file V) now.kept.now.tally.all
-        (all.tally.all ∙ ap counted (sym (length-map (told_faults file V) (λ (t : Reported). t.fault)) ∙ ap length (all_told file V))) some
 
     -- ---- with the lost pages
     pub unused : IsUnused now.kept.now.lost
@@ -94,7 +87,7 @@ module _ {A O : Type 0} (held : O → OutState) (file : List ℕ) (V : List Refe
 
       pub all_kept : AreEntriesOf (lost_faults file V) lost → HasAll file V with_lost
       all_kept are = record {
-        entries = all.entries;
+        entries = others;
         lost = are;
         most_lost = six;
         tally = all.tally;
@@ -106,9 +99,9 @@ module _ {A O : Type 0} (held : O → OutState) (file : List ℕ) (V : List Refe
       found_kept xs begins are = record {
         told = other_faults file V;
         lost = xs;
-        told_first = ([], append-nil (other_faults file V));
+        told_first = all_begins (other_faults file V);
         lost_first = begins;
-        told_listed = all.entries;
+        told_listed = others;
         lost_listed = are;
         most_lost = six;
       }
@@ -121,21 +114,16 @@ module _ {A O : Type 0} (held : O → OutState) (file : List ℕ) (V : List Refe
 
 -- ---- a run that was cut off before its end
 
-never_stops : {A O : Type 0} (ns : List Notice) (s t : ExplainReporter A O) → Stops Hears Never s ns t → ⊥
-never_stops [] s t h = h
-never_stops (n ∷ ns) s t (inl h) = h
-never_stops (n ∷ ns) s t (inr (m, k, h)) = never_stops ns m t h
-
 module _ {A O : Type 0} (held : O → OutState) (file : List ℕ) (V : List Reference) (survey : Survey file V) (first now : ExplainReporter A O)
     (empty : IsEmpty first.kept.now.entries.limit (geometry file) first.kept.now) where
   nothing_put : MovesBySome Hears first (run_notices file V) now
       → Begins (held first.out.now).bytes (held now.out.now).bytes (explain_text first.kept.now.entries.limit file V (listed file V))
-  nothing_put m = subst (λ o. Begins (held first.out.now).bytes (held o).bytes (explain_text first.kept.now.entries.limit file V (listed file V))) (sym (begun_out file V survey first now first.kept.now.entries.limit (geometry file) empty m).0)
+  nothing_put m = subst (λ o. Begins (held first.out.now).bytes (held o).bytes (explain_text first.kept.now.entries.limit file V (listed file V))) (sym (first_out file V survey first now first.kept.now.entries.limit (geometry file) empty m).0)
       (begins_nothing (held first.out.now).bytes (explain_text first.kept.now.entries.limit file V (listed file V)))
 
   stopped : (e : RunError) → StopsBy Hears Never e first (run_notices file V) now → IsLeft held file V (Err e) first now
-  stopped ReadFailed m = let k = begun_out file V survey first now first.kept.now.entries.limit (geometry file) empty m in (k.0, file_begun file V survey first now first.kept.now.entries.limit (geometry file) empty m, k.1)
-  stopped WriteFailed m = absurd (never_stops (run_notices file V) first now m)
+  stopped ReadFailed m = let k = first_out file V survey first now first.kept.now.entries.limit (geometry file) empty m in (k.0, found_first file V survey first now first.kept.now.entries.limit (geometry file) empty m, k.1)
+  stopped WriteFailed m = absurd (never_stops Hears (run_notices file V) first now m)
   stopped OutOfMemory m = nothing_put m
   stopped (Refused r) m = nothing_put m
 

@@ -2,16 +2,11 @@ pub mod Below
 pub mod Causes
 pub mod Desks
 pub mod Explained
-pub mod FewLost
 pub mod Heard
-pub mod HeardAll
 pub mod KeptEntries
 pub mod Left
-pub mod LostPages
 pub mod PagePieces
-pub mod PartsRise
 pub mod ReachedPages
-pub mod ReportOrder
 pub mod Reports
 pub mod SumLaws
 pub mod SumPieces

@@ -1,12 +1,11 @@
 -- What `dbck explain` writes of a file with survey V (own): the faults that lead, each with where it is, what it goes back to and
 -- what belongs to it; and then how many faults there are, by code and by tree.
-use Rattle.std.specs.Prelude.{◌≡◌, ℕ, ◌+◌, not, List, [], ◌∷◌, ◌++◌, take, drop, map, flat_map, filter, Ok, codes, decimal, ◌==◌, if◌then◌else◌}
+use Rattle.std.specs.Prelude.{◌≡◌, ℕ, ◌+◌, List, [], ◌∷◌, ◌++◌, take, drop, flat_map, Ok, codes, decimal, ◌==◌, if◌then◌else◌}
 use Rattle.std.specs.List.{sum_by}
 use Rattle.std.specs.Option.{option_map_or}
 use Rattle.dbformat.specs.File.{geometry, refusal}
 use Rattle.dbformat.specs.Header.{stated_pages}
 use Rattle.dbformat.specs.Lines.{fault_line, ok_line}
-use Rattle.dbformat.specs.Looks.{look_at}
 use Rattle.dbformat.specs.Reference.{Reference}
 use Rattle.dbformat.specs.Report.{Report, faults, more_text, refused_report, verdict}
 use Rattle.dbformat.specs.declared.Fault.{Fault}
@@ -15,28 +14,14 @@ use Rattle.dbformat.specs.declared.FaultCode.TheVariants.{H06}
 use Rattle.dbtrace.specs.declared.Cause.{Cause}
 use Rattle.dbtrace.specs.declared.Cause.TheVariants as cause
 use Rattle.dbtrace.specs.declared.Reported.{Reported}
-use Rattle.dbentries.specs.Apart.{is_lost}
 use Rattle.dbentries.specs.Lines.{cause_text, indented, key_text}
 use Rattle.dbentries.specs.Listing.{Entry, entries, size}
 use Rattle.dbentries.specs.Others.{others_text}
 use Rattle.dbentries.specs.Woven.{woven}
+use Rattle.dblisting.specs.Listed.{IsBeginning, listed, lost_faults, other_faults}
 use Rattle.dbexplain.specs.Below.{lines_below, place_line}
 use Rattle.dbscan.specs.Placed.{told_faults}
 use Rattle.dbexplain.specs.Summary.{summary}
-
--- ---- all faults, each with what it goes back to
-
--- the fault of a page to which nothing refers goes back to what the page looks like
-abbrev pub looked_at : List ℕ → Reported → Reported
-looked_at file x = if is_lost x then record x { cause = cause.Look (look_at file x.fault.page) } else x
-
--- all faults of a file in the order of its report
-abbrev pub reported : List ℕ → List Reference → List Reported
-reported file V = map (looked_at file) (told_faults file V)
-
--- what is listed of them
-abbrev pub listed : List ℕ → List Reference → List Entry
-listed file V = entries (reported file V)
 
 -- ---- what is written of an entry
 
@@ -77,17 +62,6 @@ explain_report limit file V = option_map_or refused_report (refusal file)
     (record { out = explain_text limit file V (listed file V); err = []; answer = Ok (verdict (faults file V)) })
 
 -- ---- what is written after a failed read
-
--- the faults of lost pages, in their order, and all others
-abbrev pub lost_faults : List ℕ → List Reference → List Reported
-lost_faults file V = filter is_lost (reported file V)
-
-abbrev pub other_faults : List ℕ → List Reference → List Reported
-other_faults file V = filter (λ x. not (is_lost x)) (reported file V)
-
--- the first of some faults
-abbrev pub IsBeginning : List Reported → List Reported → Type 0
-IsBeginning xs ys = (rest : List Reported) × (xs ++ rest ≡ ys)
 
 -- the fault lines of the first entries
 abbrev pub found_text : ℕ → List Entry → List ℕ

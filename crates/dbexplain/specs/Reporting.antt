@@ -1,11 +1,10 @@
 -- The reporter of `explain`: what a notice makes of it, and what a run leaves.
-use Rattle.std.specs.Prelude.{◌≡◌, ℕ, ◌≤◌, List, [], ◌∷◌, ◌++◌, length, map, Result, Ok, Err, if◌then◌else◌}
+use Rattle.std.specs.Prelude.{◌≡◌, ℕ, ◌≤◌, List, [], ◌∷◌, ◌++◌, length, map, Result, Ok, Err}
 use Rattle.std.specs.Io.KnownBytes.{Appends}
 use Rattle.dbformat.specs.File.{geometry}
 use Rattle.dbformat.specs.Reference.{Reference}
 use Rattle.dbformat.specs.Report.{faults, verdict}
 use Rattle.dbformat.specs.declared.Verdict.{Verdict}
-use Rattle.dbtrace.specs.Finding.{told_row, told_fault}
 use Rattle.dbtrace.specs.declared.Reported.{Reported}
 use Rattle.dbsource.specs.Failures.{failures_after, is_any}
 use Rattle.dbsource.specs.Outs.{Begins, OutState, Writes}
@@ -13,22 +12,18 @@ use Rattle.dbsource.specs.declared.error.RunError.{RunError}
 use Rattle.dbsource.specs.declared.error.RunError.TheVariants.{ReadFailed}
 use Rattle.dbsource.specs.declared.out.WriteFailed.{WriteFailed}
 use Rattle.dbwalk.specs.Telling.{SinkState}
-use Rattle.dbscan.specs.Notices.{Notice, whole, found, ended, walked}
-use Rattle.dbscan.specs.Placed.{at_start, of_file, part_of}
-use Rattle.dbentries.specs.Apart.{is_lost}
+use Rattle.dbscan.specs.Notices.{Notice}
 use Rattle.dbentries.specs.Kept.{kept_of}
 use Rattle.dbentries.specs.Listing as listing
 use Rattle.dbentries.specs.Listing.{rank}
 use Rattle.dbentries.specs.Store.{AreEntriesOf}
 use Rattle.dbentries.specs.Woven.{KeepsFirst, woven}
-use Rattle.dbexplain.specs.Explained.{explain_text, found_text, listed}
+use Rattle.dblisting.specs.Listed.{listed}
+use Rattle.dblisting.specs.Told.{HearsReported, listed_now}
+use Rattle.dbexplain.specs.Explained.{explain_text, found_text}
 use Rattle.dbexplain.specs.Keeping.{HasFound, IsEmpty}
 use Rattle.dbexplain.specs.Tallies.{IsTallyOf}
 use Rattle.dbexplain.specs.declared.reporter.ExplainReporter.{ExplainReporter}
-
--- what is listed of a fault as it is heard: those of lost pages wait until their pages are looked at
-abbrev pub listed_now : Reported → List Reported
-listed_now x = if is_lost x then [] else x ∷ []
 
 module _ {A O : Type 0} where
   -- A fault was counted, and listed.
@@ -44,11 +39,7 @@ module _ {A O : Type 0} where
 
   -- a notice was taken: a fault was added, and nothing else changes it
   abbrev pub Hears : ExplainReporter A O → Notice → ExplainReporter A O → Type 0
-  Hears s (whole f) t = Adds (of_file (part_of f.code) f) s t
-  Hears s (found at (told_fault f why)) t = Adds (at_start at.number f why) s t
-  Hears s (found at (told_row r)) t = t ≡ s
-  Hears s (ended at) t = t ≡ s
-  Hears s (walked g marks) t = t ≡ s
+  Hears = HearsReported Adds
 
   -- none is ever refused
   abbrev pub Never : ExplainReporter A O → Notice → ExplainReporter A O → Type 0

@@ -5,12 +5,10 @@ ghost use Rattle.dbexplain.specs.Keeping.{IsEmpty};
 
 use crate::tally::Tally;
 use dbentries::Entries;
+use dblisting::LOST_ENTRIES;
 use dbowner::PageTrees;
 use dbsource::Geometry;
 use std::alloc::{AllocError, Allocator, Global};
-
-// How many entries lost pages have at most: one for each kind of page of a tree, one for zeros, and one for all others.
-const LOST_ENTRIES: u32 = 6;
 
 /// The entries of all faults but those of lost pages, and of these; the counts of the summary; and the tree of each page.
 #[derive(Drop)]

@@ -13,7 +13,6 @@
 mod entry_lines;
 mod kept;
 mod laws;
-mod lost;
 mod missing;
 mod notes;
 mod owners;

@@ -6,17 +6,17 @@ ghost use Rattle.dbsource.specs.Outs.{Writes};
 ghost use Rattle.dbentries.specs.Kept.{kept_of};
 ghost use Rattle.dbentries.specs.Listing as listing;
 ghost use Rattle.dbentries.specs.Woven.{KeepsFirst, woven};
+ghost use Rattle.dblisting.specs.Listed.{listed};
 ghost use Rattle.dbowner.specs.Climbs.{AreTrees};
 ghost use Rattle.dbscan.specs.Finishes.{IsDeskOf};
 ghost use Rattle.dbscan.specs.Placed.{told_faults};
-ghost use Rattle.dbexplain.specs.Explained.{explain_text, found_text, listed};
+ghost use Rattle.dbexplain.specs.Explained.{explain_text, found_text};
 ghost use Rattle.dbexplain.specs.Keeping.{HasAll};
 
 use crate::entry_lines::{put_entries, put_fault_lines};
 use crate::kept::Kept;
 use crate::owners::Owners;
 use crate::summary::put_summary;
-use dbentries::{Entries, Entry};
 use dblines::put_rest;
 use dbscan::Desk;
 use dbsource::{Out, WriteFailed};
@@ -35,17 +35,6 @@ fn owners_of<A: Allocator>(desk: &Desk<A>) -> Owners<'_, A>
     }
 }
 
-// Puts the entries of lost pages in their places among the others.
-fn weave<A: Allocator>(entries: &mut Entries<A>, lost: &[Entry])
-    ensures entries { (es ls : List listing.Entry) → KeepsFirst es entries.old → lost.now ≡ map kept_of ls
-        → KeepsFirst (woven es ls) entries.new }
-    ensures limit { entries.new.limit ≡ entries.old.limit }
-{
-    for entry in lost {
-        entries.insert(entry);
-    }
-}
-
 // Makes ready what is kept when all of a file is known: whose each page is, and the entries of lost pages in their places.
 fn make_ready<A: Allocator>(desk: &Desk<A>, kept: &mut Kept<A>)
     ensures trees { (file : List ℕ) (V : List Reference) → IsDeskOf desk.now file V → HasAll file V kept.old → AreTrees file V kept.new.trees.known }
@@ -55,7 +44,7 @@ fn make_ready<A: Allocator>(desk: &Desk<A>, kept: &mut Kept<A>)
     ensures tally { kept.new.tally ≡ kept.old.tally }
 {
     kept.trees.enter_roots(desk.marks(), desk.roots());
-    weave(&mut kept.entries, kept.lost.listed());
+    kept.entries.weave(kept.lost.listed());
 }
 
 /// Puts the report of a file in which faults were found: the first entries, how many faults belong to none of them, and the
@@ -93,6 +82,6 @@ pub(crate) fn put_found<A: Allocator, O: Out>(
         → Writes result (O.held out.old).bytes (O.held out.new).bytes (found_text kept.old.entries.limit (woven es ls)) }
     ensures count { (O.held out.new).failures ≡ failures_after is_any result (O.held out.old).failures }
 {
-    weave(&mut kept.entries, kept.lost.listed());
+    kept.entries.weave(kept.lost.listed());
     put_fault_lines(out, kept.entries.listed())
 }

@@ -1,14 +1,13 @@
 // The reporter of `explain`.
 ghost use Rattle.std.specs.Prelude.{◌≡◌};
-ghost use Rattle.dbscan.specs.Placed.{is_header_code, of_file, part_of};
 ghost use Rattle.dbexplain.specs.Reporting.{Adds, Ends, explain_held};
 
 use crate::kept::Kept;
-use crate::lost::look_at_lost;
 use crate::report::{put_found, put_report};
-use dbentries::{Cause, Part, Reported};
-use dbformat::{Fault, FaultCode, Verdict};
+use dbentries::Reported;
+use dbformat::{FaultCode, Verdict};
 use dblines::put_ok;
+use dblisting::{look_at_lost, reported_of};
 use dbscan::{Desk, Finish, Notice, Reporter};
 use dbsource::{Geometry, Out, RunError, Source, WriteFailed};
 use dbwalk::Marks;
@@ -19,37 +18,6 @@ use std::alloc::Allocator;
 pub(crate) struct ExplainReporter<'a, A: Allocator, O> {
     pub(crate) kept: &'a mut Kept<A>,
     pub(crate) out: &'a mut O,
-}
-
-// Whether faults with this code are found in the header alone.
-fn is_header_code(code: FaultCode) -> bool
-    ensures { result ≡ is_header_code code }
-{
-    matches!(
-        code,
-        FaultCode::H01
-            | FaultCode::H02
-            | FaultCode::H03
-            | FaultCode::H04
-            | FaultCode::H05
-            | FaultCode::H06
-            | FaultCode::H07
-    )
-}
-
-// A fault of the whole file.
-fn of_file(fault: &Fault) -> Reported
-    ensures { result ≡ of_file (part_of fault.now.code) fault.now }
-{
-    Reported {
-        part: if is_header_code(fault.code) {
-            Part::Header
-        } else {
-            Part::End
-        },
-        fault: *fault,
-        cause: Cause::Itself,
-    }
 }
 
 impl<'a, A: Allocator, O: Out> ExplainReporter<'a, A, O> {
@@ -94,14 +62,8 @@ impl<A: Allocator, O: Out> Reporter for ExplainReporter<'_, A, O> {
     ghost held = { explain_held O.held };
 
     fn hear(&mut self, notice: &Notice<'_>) -> Result<(), WriteFailed> {
-        match notice {
-            Notice::Whole(fault) => self.add(&of_file(fault)),
-            Notice::Fault(start, fault, cause) => self.add(&Reported {
-                part: Part::Start(start.number()),
-                fault: **fault,
-                cause: **cause,
-            }),
-            Notice::Row(_, _) | Notice::Ended(_) => {}
+        if let Some(told) = reported_of(notice) {
+            self.add(&told);
         }
         Ok(())
     }
@@ -126,12 +88,13 @@ impl<A: Allocator, O: Out> Finish<Desk<A>> for ExplainReporter<'_, A, O> {
         source: &mut S,
     ) -> Result<Verdict, RunError> {
         let faults = self.kept.tally.all();
+        let verdict = Verdict::of(faults);
         if faults == 0 {
             put_ok(self.out)?;
-            return Ok(Verdict::Clean);
+            return Ok(verdict);
         }
         look_at_lost(desk, source, &mut self.kept.lost)?;
         put_report(desk, self.kept, self.out)?;
-        Ok(Verdict::Faulty(faults))
+        Ok(verdict)
     }
 }

@@ -4,7 +4,8 @@ use Rattle.dbbytes.proofs.NameLemmas.{put_all, put_more, put_stop}
 use Rattle.dbsource.specs.Failures.{one_more}
 use Rattle.dbexplain.specs.Explained.{entry_text}
 use Rattle.dbexplain.proofs.Causes.{put_by}
-use Rattle.dbexplain.proofs.KeptEntries.{beyond, kept_here, next_text, no_entry, no_text, within}
+use Rattle.dbentries.proofs.KeptLists.{beyond, kept_here, no_entry, within}
+use Rattle.dbexplain.proofs.KeptEntries.{next_text, no_text}
 use Rattle.dbexplain.proofs.entry_lines.put_entries.Goals as goal
 
 pub returns-in_err-put_entry-clause-lines : goal.returns-in_err-put_entry-clause-lines

@@ -1,9 +1,11 @@
-use Rattle.std.proofs.Common.{ap, ◌∙◌}
+use Rattle.std.proofs.Common.{ap, subst, ◌∙◌}
 use Rattle.dbentries.specs.Listing.{entries}
 use Rattle.dbentries.proofs.Weaving.{keeps_first}
 use Rattle.dbscan.specs.Roots.{Listed}
-use Rattle.dbexplain.specs.Explained.{lost_faults, other_faults}
-use Rattle.dbexplain.proofs.Reports.{all_woven, every_lost, marks_fit}
+use Rattle.dbentries.specs.Woven.{KeepsFirst}
+use Rattle.dblisting.specs.Listed.{lost_faults, other_faults}
+use Rattle.dblisting.proofs.Woven.{all_woven, every_lost}
+use Rattle.dbexplain.proofs.Reports.{marks_fit}
 use Rattle.dbexplain.proofs.report.make_ready.Goals as goal
 
 pub returns-clause-trees : goal.returns-clause-trees
@@ -14,5 +16,5 @@ returns-clause-trees g c = λ file V d all.
 pub returns-clause-entries : goal.returns-clause-entries
 returns-clause-entries g c = λ file V d all.
     let lost = every_lost file V c.args.kept.now.lost all.lost all.most_lost in
-    all_woven file V c.weave.new.entries d.survey
+    subst (λ es. KeepsFirst es c.weave.new.self) (all_woven file V)
     (c.weave.ensures.entries (entries (other_faults file V)) (entries (lost_faults file V)) (keeps_first (entries (other_faults file V)) c.args.kept.now.entries all.entries) (c.listed.ensures ∙ lost))

@@ -8,7 +8,8 @@ use Rattle.dbsource.proofs.Puts.{puts_then, puts_stop}
 use Rattle.dbentries.specs.Kept.{kept_of}
 use Rattle.dbentries.specs.Listing.{size}
 use Rattle.dbscan.specs.Placed.{told_faults}
-use Rattle.dbexplain.specs.Explained.{entry_text, listed}
+use Rattle.dblisting.specs.Listed.{listed}
+use Rattle.dbexplain.specs.Explained.{entry_text}
 use Rattle.dbexplain.specs.Summary.{summary}
 use Rattle.dbexplain.specs.Tallies.{HasRoom, IsTallyOf, Tallied}
 use Rattle.dbexplain.proofs.Causes.{put_by}

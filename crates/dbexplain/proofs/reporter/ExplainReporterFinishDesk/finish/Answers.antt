@@ -1,6 +1,6 @@
 use Rattle.std.proofs.Common.{◌≢◌, ℕ, [], ◌∷◌, Ok, Err, Result, inl, inr, refl, sym, ap, ◌∙◌}
 use Rattle.std.proofs.lemmas.Result.{err_from_is_err_and}
-use Rattle.dbformat.specs.declared.Verdict.TheVariants.{Faulty}
+use Rattle.dbformat.specs.Report.{faults}
 use Rattle.dbsource.specs.declared.error.RunError.TheVariants as error
 use Rattle.dbsource.specs.declared.error.RunError.TheVariants.{ReadFailed}
 use Rattle.dbsource.specs.declared.out.WriteFailed.{WriteFailed}
@@ -9,8 +9,8 @@ use Rattle.dbwalk.specs.Telling.{SinkState}
 use Rattle.dbscan.specs.Desks.{Things}
 use Rattle.dbscan.proofs.Finished.{finished}
 use Rattle.dbexplain.specs.Reporting.{Hears, LeavesExplained, explain_held}
-use Rattle.dbexplain.proofs.Desks.{desk_kept}
-use Rattle.dbexplain.proofs.Left.{all_kept, clean_found, clean_put, faulty_found, faulty_put, found_kept, found_limit, found_out, told_some, unused}
+use Rattle.dblisting.proofs.Desks.{desk_kept}
+use Rattle.dbexplain.proofs.Left.{all_counted, all_kept, clean_put, faulty_put, found_kept, found_limit, found_out, told_some, unused}
 use Rattle.dbexplain.proofs.reporter.ExplainReporterFinishDesk.finish.Goals as goal
 
 -- the answer of a put
@@ -37,7 +37,7 @@ returns-then-faults-eq0 g c =
     (ap (λ (n : ℕ). let x : SinkState = record { lent = c.args.self.now.out.ghost_name ∷ []; failures = n ∷ [] } in x) c.in_ok-put_ok.ensures.count)
     (λ file V first heard empty. (
       clean_put held file V heard.desk.survey first c.args.self.now empty heard.heard none done c.put_ok.new.out c.in_ok-put_ok.ensures.held,
-      clean_found held file V heard.desk.survey first c.args.self.now empty heard.heard none,
+      c.of-verdict.ensures.faults (faults file V) (c.all-faults.ensures ∙ all_counted held file V heard.desk.survey first c.args.self.now empty heard.heard),
     ))
 
 pub returns-in_err-look_at_lost : goal.returns-in_err-look_at_lost
@@ -90,7 +90,7 @@ returns g c =
           let here = desk_kept c.args.desk.now c.look_at_lost.new.desk file V look.desk heard.desk in (
             faulty_put held file V heard.desk.survey first c.args.self.now empty heard.heard some done c.put_report.new.out
                 (put.report file V here kept (told_some held file V heard.desk.survey first c.args.self.now empty heard.heard some)),
-            ap Faulty c.all-faults.ensures ∙ faulty_found held file V heard.desk.survey first c.args.self.now empty heard.heard some,
+            c.of-verdict.ensures.faults (faults file V) (c.all-faults.ensures ∙ all_counted held file V heard.desk.survey first c.args.self.now empty heard.heard),
           ));
       writes = ap (λ (n : ℕ). let x : SinkState = record { lent = c.args.self.now.out.ghost_name ∷ []; failures = n ∷ [] } in x) put.count;
       only = tt;

@@ -15,8 +15,8 @@ use Rattle.dbentries.specs.Apart.{is_lost, is_lost_code}
 use Rattle.dbentries.specs.Listing.{entries, rank}
 use Rattle.dbentries.proofs.Few.{IsHere, few_entries}
 use Rattle.dbscan.specs.Placed.{of_file, told_faults, walk_told}
-use Rattle.dbexplain.specs.Explained.{IsBeginning, looked_at, lost_faults, reported}
-use Rattle.dbexplain.proofs.ReportOrder.{first_told, same_fault}
+use Rattle.dblisting.specs.Listed.{IsBeginning, looked_at, lost_faults, reported}
+use Rattle.dblisting.proofs.ReportOrder.{first_told, same_fault}
 
 -- a fault of a lost page is at the end
 abbrev IsLostPage : Reported → Type 0

@@ -19,60 +19,58 @@ use Rattle.dbformat.specs.Looks.{look_at}
 use Rattle.dbformat.specs.Reference.{Reference, Role, root, child, first_overflow, later_overflow, trunk, free_leaf, role_of, from_of}
 use Rattle.dbformat.specs.Report.{event_faults}
 use Rattle.dbformat.specs.Story.{Event, telling}
-use Rattle.dbformat.specs.Survey.{Survey}
 use Rattle.dbformat.specs.Tests.{told_if}
 use Rattle.dbformat.specs.declared.Fault.{Fault}
 use Rattle.dbformat.specs.declared.FaultCode.{FaultCode}
 use Rattle.dbformat.specs.declared.FaultCode.TheVariants.{N01}
 use Rattle.dbformat.specs.declared.Geometry.{Geometry}
-use Rattle.dbmarks.specs.Marking.{AreMarksOf, is_none, is_unmarked, mark_of}
+use Rattle.dbmarks.specs.Marking.{AreMarksOf, is_none, is_unmarked, mark_of, role_mark}
 use Rattle.dbmarks.specs.declared.marks.Mark.{Mark}
-use Rattle.dbmarks.specs.declared.marks.Mark.TheVariants.{Unmarked, Fixed, Root, Trunk, FreeLeaf, FirstOverflow, LaterOverflow, Child}
 use Rattle.dbmarks.proofs.Markings.{page_mark-in}
 use Rattle.dbtrace.specs.Causes.{cause_of}
 use Rattle.dbtrace.specs.declared.Cause.TheVariants as cause
 use Rattle.dbtrace.specs.declared.Part.TheVariants as part
 use Rattle.dbtrace.specs.declared.Reported.{Reported}
 use Rattle.dbentries.specs.Apart.{is_lost, is_lost_code}
-use Rattle.dbowner.specs.Climbs.{place_by}
-use Rattle.dbexplain.specs.Keeping.{is_nowhere}
-use Rattle.dbowner.specs.Owners.{place_in, place_of}
-use Rattle.dbowner.proofs.PageMarks.{place_is}
 use Rattle.dbscan.specs.Placed.{at_start, is_header_code, is_walk_code, of_file, told_faults, walk_told}
 use Rattle.dbscan.proofs.FileCodes.{header_codes}
 use Rattle.dbscan.proofs.WalkCodes.{walk_codes}
-use Rattle.dbexplain.specs.Explained.{IsBeginning, looked_at, lost_faults}
-use Rattle.dbexplain.specs.Keeping.{lost_at, lost_page}
+use Rattle.dblisting.specs.Listed.{IsBeginning, looked_at, lost_faults}
+use Rattle.dblisting.specs.Lost.{is_nowhere, lost_at, lost_page}
 
 -- ---- by the marks
 
--- a page is nowhere just where its mark is none
-nowhere_by_mark : (m : Mark) → is_none m ≡ is_nowhere (place_by (Some m))
-nowhere_by_mark Unmarked = refl
-nowhere_by_mark Fixed = refl
-nowhere_by_mark Root = refl
-nowhere_by_mark Trunk = refl
-nowhere_by_mark FreeLeaf = refl
-nowhere_by_mark (FirstOverflow from) = refl
-nowhere_by_mark (LaterOverflow from) = refl
-nowhere_by_mark (Child from) = refl
+-- a visit leaves a mark
+visit_marked : (role : Role) (from : ℕ) → is_none (role_mark role from) ≡ false
+visit_marked (root kind) from = refl
+visit_marked (child kind) from = refl
+visit_marked (first_overflow left) from = refl
+visit_marked (later_overflow left) from = refl
+visit_marked trunk from = refl
+visit_marked free_leaf from = refl
 
--- where the marks are those of a survey, a page of the file has none just where nothing refers to it
-pub unmarked_nowhere : (file : List ℕ) (V : List Reference) (marks : List Mark) (p : ℕ) → Survey file V → AreMarksOf file V marks → 1 ≤ p → p ≤ (geometry file).pages
-    → is_unmarked marks p ≡ is_nowhere (place_of file V p)
-unmarked_nowhere file V marks p s m low high =
-    let g : Geometry = geometry file in
-    let here = page_mark-in g V p low high in
+-- a page is lost just where its mark is none
+nowhere_by_mark : (file : List ℕ) (V : List Reference) (p : ℕ) → is_none (mark_of (geometry file) V p) ≡ is_nowhere file V p
+unfolding mark_of
+nowhere_by_mark file V p = by_case (is_fixed (geometry file) p) refl (visit_of V p) refl
+  where
+    by_case : (b : Bool) → is_fixed (geometry file) p ≡ b → (o : Option Reference) → visit_of V p ≡ o → is_none (mark_of (geometry file) V p) ≡ is_nowhere file V p
+    by_case true e o f = rw e refl
+    by_case false e None f = rw (e, f) refl
+    by_case false e (Some r) f = rw (e, f) (visit_marked (role_of r) (from_of r))
+
+-- where the marks are those of a survey, a page of the file has none just where it is lost
+pub unmarked_nowhere : (file : List ℕ) (V : List Reference) (marks : List Mark) (p : ℕ) → AreMarksOf file V marks → 1 ≤ p → p ≤ (geometry file).pages
+    → is_unmarked marks p ≡ is_nowhere file V p
+unmarked_nowhere file V marks p m low high =
     ap (λ marks. is_unmarked marks p) m
-    ∙ ap (λ o. option_map_or is_none o false) here
-    ∙ nowhere_by_mark (mark_of g V p)
-    ∙ sym (ap (λ o. is_nowhere (place_by o)) here)
-    ∙ ap is_nowhere (place_is file V s p)
+    ∙ ap (λ o. option_map_or is_none o false) (page_mark-in (geometry file) V p low high)
+    ∙ nowhere_by_mark file V p
 
-pub lost_here : (file : List ℕ) (V : List Reference) (p : ℕ) → is_nowhere (place_of file V p) ≡ true → lost_at file V p ≡ lost_page file p ∷ []
+pub lost_here : (file : List ℕ) (V : List Reference) (p : ℕ) → is_nowhere file V p ≡ true → lost_at file V p ≡ lost_page file p ∷ []
 lost_here file V p h = rw h refl
 
-pub not_lost : (file : List ℕ) (V : List Reference) (p : ℕ) → is_nowhere (place_of file V p) ≡ false → lost_at file V p ≡ []
+pub not_lost : (file : List ℕ) (V : List Reference) (p : ℕ) → is_nowhere file V p ≡ false → lost_at file V p ≡ []
 not_lost file V p h = rw h refl
 
 -- ---- their faults
@@ -140,16 +138,8 @@ late_at_end file V p = by_least (least_other_page V) refl
     by_least None e = rw e refl
     by_least (Some least) e = rw e (not_at_end file _ _ refl)
 
-visited_somewhere : (role : Role) (from : ℕ) → is_nowhere (place_in role from) ≡ false
-visited_somewhere (root kind) from = refl
-visited_somewhere (child kind) from = refl
-visited_somewhere (first_overflow left) from = refl
-visited_somewhere (later_overflow left) from = refl
-visited_somewhere trunk from = refl
-visited_somewhere free_leaf from = refl
-
 use_at_end : (file : List ℕ) (V : List Reference) (p : ℕ) → flat_map (at_end file) (use_fault file V p) ≡ lost_at file V p
-unfolding use_fault place_of
+unfolding use_fault
 use_at_end file V p = by_visit (visit_of V p) refl (is_fixed (geometry file) p) refl
   where
     of_entry : (e : Option MapEntry) (r : Reference) → flat_map (at_end file) (entry_fault p e r) ≡ []
@@ -160,7 +150,7 @@ use_at_end file V p = by_visit (visit_of V p) refl (is_fixed (geometry file) p) 
     by_visit None e true f = rw (e, f) refl
     by_visit None e false f = rw (e, f) refl
     by_visit (Some r) e true f = rw (e, f) (of_entry (map_entry file p) r)
-    by_visit (Some r) e false f = rw (e, f) (of_entry (map_entry file p) r ∙ sym (ap (λ b. if b then lost_page file p ∷ [] else []) (visited_somewhere (role_of r) (from_of r))))
+    by_visit (Some r) e false f = rw (e, f) (of_entry (map_entry file p) r)
 
 -- the faults of lost pages are those of the pages to which nothing refers, in their order
 pub lost_are : (file : List ℕ) (V : List Reference) → lost_faults file V ≡ flat_map (lost_at file V) (page_numbers (geometry file))

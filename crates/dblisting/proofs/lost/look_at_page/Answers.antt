@@ -11,15 +11,15 @@ use Rattle.dbtrace.specs.declared.Reported.{Reported}
 use Rattle.dbsource.proofs.Logs.{asks_weaker, has_none}
 use Rattle.dbentries.specs.Listing.{rank}
 use Rattle.dbentries.specs.Store.{AreEntriesOf}
-use Rattle.dbexplain.specs.Keeping.{lost_at}
-use Rattle.dbexplain.proofs.LostPages.{lost_here, not_lost, unmarked_nowhere}
-use Rattle.dbexplain.proofs.lost.look_at_page.Goals as goal
+use Rattle.dblisting.specs.Lost.{lost_at}
+use Rattle.dblisting.proofs.LostPages.{lost_here, not_lost, unmarked_nowhere}
+use Rattle.dblisting.proofs.lost.look_at_page.Goals as goal
 
 pub returns-then-not-is_lost-clause-asks : goal.returns-then-not-is_lost-clause-asks
 returns-then-not-is_lost-clause-asks g c = record {
   log = has_none _ _ refl refl (inl refl) (λ file V d low high.
       let p = c.args.page in
-      let none = not_lost file V p (sym (unmarked_nowhere file V c.args.desk.now.marks p d.survey d.marks low high) ∙ sym c.is_lost.ensures.mark ∙ c.if-not-is_lost.true) in
+      let none = not_lost file V p (sym (unmarked_nowhere file V c.args.desk.now.marks p d.marks low high) ∙ sym c.is_lost.ensures.mark ∙ c.if-not-is_lost.true) in
       record {
         listed = λ xs a most. subst (λ l. AreEntriesOf l c.args.lost.now) (sym (ap (λ l. xs ++ l) none ∙ append-nil xs)) a;
         part = λ h. h;
@@ -39,7 +39,7 @@ returns-clause-asks g c =
     let p = c.args.page in
     let yes = sym c.is_lost.ensures.mark ∙ c.if-not-is_lost.false in
     asks_weaker _ _ (Ok _) (λ n. refl) c.in_ok-look.ensures.asks (λ log l. inr (l, yes)) (λ file w V d low high.
-    let some = lost_here file V p (sym (unmarked_nowhere file V c.args.desk.now.marks p d.survey d.marks low high) ∙ yes) in
+    let some = lost_here file V p (sym (unmarked_nowhere file V c.args.desk.now.marks p d.marks low high) ∙ yes) in
     let told : Fault → Look → List Reported = λ f look. record { part = part.End; fault = f; cause = cause.Look look } ∷ [] in
     let same : told c.lost_fault.result c.in_ok-look.look ≡ lost_at file V p = ap (λ f. told f c.in_ok-look.look) c.lost_fault.ensures ∙ ap (told (fault N01 p 0 (pos 0))) (w d.header) ∙ sym some in
     record {

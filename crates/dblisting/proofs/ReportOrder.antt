@@ -32,7 +32,7 @@ use Rattle.dbentries.specs.Woven.{is_end, is_stated}
 use Rattle.dbscan.specs.Placed.{at_start, is_header_code, is_walk_code, of_file, told_faults, walk_told}
 use Rattle.dbscan.proofs.FileCodes.{header_codes}
 use Rattle.dbscan.proofs.WalkCodes.{walk_codes}
-use Rattle.dbexplain.specs.Explained.{looked_at, reported}
+use Rattle.dblisting.specs.Listed.{looked_at, reported}
 
 -- ---- codes
 

@@ -1,7 +1,7 @@
 use Rattle.std.proofs.Common.{get_or, sym, subst, ap, take, ◌∙◌}
 use Rattle.dbentries.specs.Woven.{KeepsFirst, woven}
-use Rattle.dbexplain.proofs.KeptEntries.{kept_here, no_entry, taken_all, taken_here, woven_more}
-use Rattle.dbexplain.proofs.report.weave.Goals as goal
+use Rattle.dbentries.proofs.KeptLists.{kept_here, no_entry, taken_all, taken_here, woven_more}
+use Rattle.dbentries.proofs.entries.Entries.weave.Goals as goal
 
 pub loop-entry-preserved : goal.loop-entry-preserved
 loop-entry-preserved g c =
@@ -16,5 +16,5 @@ loop-entry-preserved g c =
 
 pub returns-clause-entries : goal.returns-clause-entries
 returns-clause-entries g c = λ es ls k e.
-    subst (λ xs. KeepsFirst (woven es xs) c.loop-entry.entries) (taken_all c.args.lost.now ls e c.loop-entry.entry-index c.loop-entry-test.false)
+    subst (λ xs. KeepsFirst (woven es xs) c.loop-entry.self) (taken_all c.args.lost.now ls e c.loop-entry.entry-index c.loop-entry-test.false)
     (c.loop-entry.invariant.entries es ls k e)

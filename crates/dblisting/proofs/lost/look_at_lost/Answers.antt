@@ -10,10 +10,10 @@ use Rattle.dbentries.specs.Store.{AreEntriesOf}
 use Rattle.dbscan.specs.Desks.{Things, shape_of}
 use Rattle.dbscan.specs.Looks.{IsUnmarked, ReadsOrNot, ReadsRisingBefore}
 use Rattle.dbscan.proofs.MapLogs.{reads_more, reads_none}
-use Rattle.dbexplain.specs.Keeping.{lost_at}
-use Rattle.dbexplain.proofs.LostPages.{ends, fits, lost_are, lost_first, lost_more}
-use Rattle.dbexplain.proofs.Desks.{desk_kept}
-use Rattle.dbexplain.proofs.lost.look_at_lost.Goals as goal
+use Rattle.dblisting.specs.Lost.{lost_at}
+use Rattle.dblisting.proofs.LostPages.{ends, fits, lost_are, lost_first, lost_more}
+use Rattle.dblisting.proofs.Desks.{desk_kept}
+use Rattle.dblisting.proofs.lost.look_at_lost.Goals as goal
 
 pub loop-index-init : goal.loop-index-init
 loop-index-init g c = record {

@@ -10,8 +10,8 @@ use Rattle.dbentries.specs.Store.{AreEntriesOf}
 use Rattle.dbscan.specs.Desks.{shape_of}
 use Rattle.dbscan.specs.Finishes.{IsDeskOf}
 use Rattle.dbscan.specs.Looks.{IsUnmarked, ReadsRisingBefore}
-use Rattle.dbexplain.specs.Keeping.{IsUnused, lost_at}
-use Rattle.dbexplain.proofs.lost.look_at_lost.Given as goal
+use Rattle.dblisting.specs.Lost.{IsUnused, lost_at}
+use Rattle.dblisting.proofs.lost.look_at_lost.Given as goal
 
 abbrev pub invariant-loop-index : goal.invariant-loop-index
 invariant-loop-index g l = record {

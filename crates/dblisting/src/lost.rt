@@ -10,7 +10,7 @@ ghost use Rattle.dbmarks.specs.Marking.{is_unmarked};
 ghost use Rattle.dbscan.specs.Desks.{shape_of};
 ghost use Rattle.dbscan.specs.Finishes.{IsDeskOf};
 ghost use Rattle.dbscan.specs.Looks.{IsUnmarked, ReadsOrNot, ReadsRising};
-ghost use Rattle.dbexplain.specs.Keeping.{AddsLost, HasLooked, IsUnused};
+ghost use Rattle.dblisting.specs.Lost.{AddsLost, HasLooked, IsUnused};
 
 use dbentries::{Cause, Entries, Part, Reported};
 use dbformat::{Fault, FaultCode};
@@ -18,6 +18,9 @@ use dbscan::Desk;
 use dbsource::{ReadFailed, Source};
 use dbwalk::Mark;
 use std::alloc::Allocator;
+
+/// How many entries lost pages have at most: one for each kind of page of a tree, one for zeros, and one for all others.
+pub const LOST_ENTRIES: u32 = 6;
 
 // The fault of a page to which nothing refers.
 fn lost_fault(page: u32) -> Fault
@@ -73,7 +76,7 @@ fn look_at_page<A: Allocator, S: Source>(
 /// # Errors
 ///
 /// [`ReadFailed`] exactly where the source failed. Then the faults of the pages before are listed.
-pub(crate) fn look_at_lost<A: Allocator, S: Source>(
+pub fn look_at_lost<A: Allocator, S: Source>(
     desk: &mut Desk<A>,
     source: &mut S,
     lost: &mut Entries<A>,

@@ -1,0 +1,30 @@
+-- The entries of lost pages, in their places among the others.
+use Rattle.std.proofs.Common.{◌≡◌, ℕ, ◌≤◌, List, [], length, map, sym, ap, ◌∙◌, arith, append-nil}
+use Rattle.std.proofs.lemmas.List.{take_all}
+use Rattle.dbformat.specs.Reference.{Reference}
+use Rattle.dbtrace.specs.declared.Reported.{Reported}
+use Rattle.dbentries.specs.Kept.{kept_of}
+use Rattle.dbentries.specs.Listing.{entries}
+use Rattle.dbentries.specs.Store.{AreEntriesOf, Stored}
+use Rattle.dbentries.specs.Woven.{woven}
+use Rattle.dbentries.proofs.Apart.{weaving_is_listing}
+use Rattle.dblisting.specs.Listed.{IsBeginning, listed, lost_faults, other_faults, reported}
+use Rattle.dblisting.proofs.FewLost.{few_first_lost}
+use Rattle.dblisting.proofs.ReportOrder.{in_report_order}
+
+-- six entries are all of those of lost pages
+pub all_lost : (file : List ℕ) (V : List Reference) (ys : List Reported) (s : Stored) → IsBeginning ys (lost_faults file V) → AreEntriesOf ys s → s.limit ≡ 6 → s.listed ≡ map kept_of (entries ys)
+all_lost file V ys s first are six =
+    let few = few_first_lost file V ys first in
+    let fits : length (entries ys) ≤ s.limit = omega (arith, few, six) in
+    are.listed ∙ ap (map kept_of) (take_all s.limit (entries ys) fits)
+
+pub all_begins : (ys : List Reported) → IsBeginning ys ys
+all_begins ys = ([], append-nil ys)
+
+pub every_lost : (file : List ℕ) (V : List Reference) (s : Stored) → AreEntriesOf (lost_faults file V) s → s.limit ≡ 6 → s.listed ≡ map kept_of (entries (lost_faults file V))
+every_lost file V s are six = all_lost file V (lost_faults file V) s (all_begins (lost_faults file V)) are six
+
+-- with those in their places, they are all entries
+pub all_woven : (file : List ℕ) (V : List Reference) → woven (entries (other_faults file V)) (entries (lost_faults file V)) ≡ listed file V
+all_woven file V = sym (weaving_is_listing (reported file V) (in_report_order file V))

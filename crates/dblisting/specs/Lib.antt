@@ -1,0 +1,3 @@
+pub mod Listed
+pub mod Lost
+pub mod Told
