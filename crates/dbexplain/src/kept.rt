@@ -1,12 +1,11 @@
 // What `explain` keeps of a file beside what a check keeps.
 ghost use Rattle.std.specs.Prelude.{◌≡◌, [], None, IfOk, replicate};
-ghost use Rattle.dbformat.specs.FixedPages.{IsInRange};
-ghost use Rattle.dbexplain.specs.Keeping.{IsEmpty};
 
 use crate::tally::Tally;
 use dbentries::Entries;
 use dblisting::LOST_ENTRIES;
 use dbowner::PageTrees;
+use dbreport::Extra;
 use dbsource::Geometry;
 use std::alloc::{AllocError, Allocator, Global};
 
@@ -19,16 +18,13 @@ pub(crate) struct Kept<A: Allocator = Global> {
     pub(crate) trees: PageTrees<A>,
 }
 
-impl<A: Allocator + Copy> Kept<A> {
-    /// That of a file of which nothing is known yet, with room for `limit` entries. It takes no memory after that.
-    ///
-    /// # Errors
-    ///
-    /// [`AllocError`] where a growth was refused.
-    pub(crate) fn new_in(alloc: A, limit: u32, geometry: &Geometry) -> Result<Kept<A>, AllocError>
-        requires { IsInRange geometry.now }
-        ensures { IfOk result (IsEmpty limit geometry.now) }
-    {
+// It takes no memory after it is made.
+impl<A: Allocator + Copy> Extra<A> for Kept<A> {
+    ghost use Rattle.dbexplain.specs.Keeping.{IsEmpty};
+
+    ghost begins = { IsEmpty };
+
+    fn new_in(alloc: A, limit: u32, geometry: &Geometry) -> Result<Kept<A>, AllocError> {
         Ok(Kept {
             entries: Entries::new_in(alloc, limit)?,
             lost: Entries::new_in(alloc, LOST_ENTRIES)?,

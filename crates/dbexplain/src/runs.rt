@@ -18,7 +18,7 @@ use crate::kept::Kept;
 use crate::report::put_found;
 use crate::reporter::ExplainReporter;
 use dbformat::Verdict;
-use dbreport::open_in;
+use dbreport::open_with;
 use dbscan::{Desk, run_over};
 use dbsource::{Out, RunError, Source};
 use std::alloc::{Allocator, Global};
@@ -62,8 +62,7 @@ pub fn explain_in<A: Allocator + Copy, S: Source, O: Out>(
     ensures failed { ExplainFails S.Source O.Out result (source.old, out.old) (source.new, out.new) }
     ensures refused { IsUntouched S.Source O.Out result (source.old, out.old) (source.new, out.new) }
 {
-    let mut desk = open_in(alloc, source)?;
-    let mut kept = Kept::new_in(alloc, limit, &desk.geometry())?;
+    let (mut desk, mut kept) = open_with(alloc, limit, source)?;
     explain_on(&mut desk, &mut kept, source, out)
 }
 

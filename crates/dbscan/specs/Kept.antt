@@ -14,7 +14,7 @@ pub record HasUsed {A : Type 0} (r : Result A RunError) (old new : Things) : Typ
   pub only : IfErr r IsReadWriteOrMemory
 
 -- The reporter also borrows the same as before, and one of its Outs failed, once, exactly where that is answered.
-pub record Keeps {A : Type 0} (r : Result A RunError) (before after : Things) (old new : SinkState) : Type 0 where
+pub record KeepsHeader {A : Type 0} (r : Result A RunError) (before after : Things) (old new : SinkState) : Type 0 where
   pub desk : HasUsed r before after
   pub writes : SinkAfter is_write_failed r old new
 

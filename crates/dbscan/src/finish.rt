@@ -8,7 +8,7 @@ ghost use Rattle.dbsource.specs.Headers.{IsHeaderOf};
 ghost use Rattle.dbsource.specs.Sources.{Asks};
 ghost use Rattle.dbscan.specs.Desks.{IsFresh, shape_of};
 ghost use Rattle.dbscan.specs.Finishes.{HasFinished, HasReported, Leaves};
-ghost use Rattle.dbscan.specs.Kept.{Keeps};
+ghost use Rattle.dbscan.specs.Kept.{KeepsHeader};
 
 use crate::Desk;
 use crate::reporter::Reporter;
@@ -60,7 +60,7 @@ fn report<A: Allocator, S: Source, K: Finish<Desk<A>>>(
     ensures asks { Asks S.step (IsPageLog (shape_of desk.old)) (λ file. IsHeaderOf desk.old.header file → (V : List Reference) → Survey file V
         → Leaves K.hears K.cuts K.leaves file V result sink.old sink.new)
         is_read_failed result (S.held source.old) (S.held source.new) }
-    ensures keeps { Keeps result desk.old desk.new (K.held sink.old) (K.held sink.new) }
+    ensures keeps { KeepsHeader result desk.old desk.new (K.held sink.old) (K.held sink.new) }
 {
     scan(desk, source, sink)?;
     sink.finish(desk, source)

@@ -6,7 +6,7 @@ ghost use Rattle.dbsource.specs.Errors.{is_read_failed};
 ghost use Rattle.dbsource.specs.Headers.{IsHeaderOf};
 ghost use Rattle.dbsource.specs.Sources.{Asks};
 ghost use Rattle.dbscan.specs.Desks.{IsFresh, shape_of};
-ghost use Rattle.dbscan.specs.Kept.{Keeps};
+ghost use Rattle.dbscan.specs.Kept.{KeepsHeader};
 ghost use Rattle.dbscan.specs.Looks.{ReadsMarked};
 ghost use Rattle.dbscan.specs.Scans.{IsScanned};
 
@@ -34,7 +34,7 @@ pub fn scan<A: Allocator, S: Source, K: Reporter>(
         → (V : List Reference) → Survey file V
         → IsScanned K.hears K.cuts file V result desk.new.marks desk.new.roots.rows sink.old sink.new)
         is_read_failed result (S.held source.old) (S.held source.new) }
-    ensures keeps { Keeps result desk.old desk.new (K.held sink.old) (K.held sink.new) }
+    ensures keeps { KeepsHeader result desk.old desk.new (K.held sink.old) (K.held sink.new) }
 {
     tell_header(desk.header(), sink)?;
     let any_rows = walk_starts(desk, source, sink)?;

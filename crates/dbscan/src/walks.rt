@@ -17,7 +17,7 @@ ghost use Rattle.dbwalk.specs.Rows.{schema_row_of};
 ghost use Rattle.dbwalk.specs.Taking.{StartsEmpty};
 ghost use Rattle.dbwalk.specs.declared.root.RootKind.TheVariants as root_kind;
 ghost use Rattle.dbscan.specs.Desks.{AsksOver, IsFresh};
-ghost use Rattle.dbscan.specs.Kept.{Keeps, KeepsRoots};
+ghost use Rattle.dbscan.specs.Kept.{KeepsHeader, KeepsRoots};
 ghost use Rattle.dbscan.specs.Starts.{at_freelist, at_row, kind_by, root_of, schema_root};
 ghost use Rattle.dbscan.specs.Walks.{AreTold, AreWalked, IsSchemaWalked, IsTelling, IsTreeWalked, IsWalkedOver, StopsTelling};
 
@@ -103,7 +103,7 @@ fn walk_schema<A: Allocator, S: Source, K: Reporter>(
     ensures asks { AsksOver S.step desk.old desk.new (λ file.
         IsSchemaWalked K.hears K.cuts file result desk.new.marks desk.new.roots.rows sink.old sink.new)
         result (S.held source.old) (S.held source.new) }
-    ensures keeps { Keeps result desk.old desk.new (K.held sink.old) (K.held sink.new) }
+    ensures keeps { KeepsHeader result desk.old desk.new (K.held sink.old) (K.held sink.new) }
 {
     let root = schema_root(desk.header.encoding());
     let start = Start::schema();
@@ -249,7 +249,7 @@ pub fn walk_starts<A: Allocator, S: Source, K: Reporter>(
     ensures asks { AsksOver S.step desk.old desk.new (λ file. (V : List Reference) → Survey file V
         → AreWalked K.hears K.cuts file V result desk.new.marks desk.new.roots.rows sink.old sink.new)
         result (S.held source.old) (S.held source.new) }
-    ensures keeps { Keeps result desk.old desk.new (K.held sink.old) (K.held sink.new) }
+    ensures keeps { KeepsHeader result desk.old desk.new (K.held sink.old) (K.held sink.new) }
 {
     let any_rows = walk_schema(desk, source, sink)?;
     walk_later(desk, source, sink)?;

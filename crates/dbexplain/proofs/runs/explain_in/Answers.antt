@@ -1,68 +1,46 @@
 use Rattle.std.proofs.Common.{ℕ, subst}
 use Rattle.std.proofs.lemmas.Result.{err_from_is_err_and}
-use Rattle.dbsource.specs.declared.error.RunError.TheVariants.{OutOfMemory}
 use Rattle.dbscan.proofs.BehindHeader.{behind_weaker}
-use Rattle.dbreport.proofs.Openings.{fails_once, memory_refused, nothing_read, run_failures, run_read, untouched}
+use Rattle.dbreport.proofs.Openings.{fails_once, nothing_read, run_failures, run_read, untouched}
 use Rattle.dbreport.proofs.RunAnswers.{read_refused, read_unwritten}
 use Rattle.dbexplain.specs.Runs.{IsExplained}
 use Rattle.dbexplain.proofs.Explained.{failed_before, is_explained, not_explained}
 use Rattle.dbexplain.proofs.runs.explain_in.Goals as goal
 
--- ---- the file was not opened
+-- ---- there was no run
 
 pub returns-in_err-desk-clause-read : goal.returns-in_err-desk-clause-read
 returns-in_err-desk-clause-read g c =
     let q = err_from_is_err_and c.from_residual.result c.from_residual.ensures.1 in
     let e = c.in_err-desk.field-0.0 in
-    rw q.1 (rw q.2 (nothing_read g.S.Source c.args.source.now e c.open_in.new.source c.in_err-desk.ensures
+    rw q.1 (rw q.2 (nothing_read g.S.Source c.args.source.now e c.open_with.new.source c.in_err-desk.ensures
     (λ file answer. not_explained c.args.limit file e (g.O.Out.held c.args.out.now) answer)))
 
 pub returns-in_err-desk-clause-failed : goal.returns-in_err-desk-clause-failed
 returns-in_err-desk-clause-failed g c =
     let q = err_from_is_err_and c.from_residual.result c.from_residual.ensures.1 in
     let e = c.in_err-desk.field-0.0 in
-    rw q.1 (rw q.2 (failed_before g.S.Source g.O.Out e (fails_once g.S.Source c.args.source.now e c.open_in.new.source c.in_err-desk.ensures g.O.Out c.args.out.now)))
+    rw q.1 (rw q.2 (failed_before g.S.Source g.O.Out e (fails_once g.S.Source c.args.source.now e c.open_with.new.source c.in_err-desk.ensures g.O.Out c.args.out.now)))
 
 pub returns-in_err-desk-clause-refused : goal.returns-in_err-desk-clause-refused
 returns-in_err-desk-clause-refused g c =
     let q = err_from_is_err_and c.from_residual.result c.from_residual.ensures.1 in
-    rw q.1 (rw q.2 (untouched g.S.Source c.args.source.now c.in_err-desk.field-0.0 c.open_in.new.source c.in_err-desk.ensures g.O.Out c.args.out.now))
-
--- ---- memory was refused
-
-pub returns-in_err-kept-clause-read : goal.returns-in_err-kept-clause-read
-returns-in_err-kept-clause-read g c =
-    let q = err_from_is_err_and c.from_residual-in_err-kept.result c.from_residual-in_err-kept.ensures.1 in
-    let k = memory_refused g.S.Source c.args.source.now c.in_ok-desk.desk.header c.open_in.new.source c.in_ok-desk.ensures in
-    rw q.1 (rw q.2 (nothing_read g.S.Source c.args.source.now OutOfMemory c.open_in.new.source k
-    (λ file answer. not_explained c.args.limit file OutOfMemory (g.O.Out.held c.args.out.now) answer)))
-
-pub returns-in_err-kept-clause-failed : goal.returns-in_err-kept-clause-failed
-returns-in_err-kept-clause-failed g c =
-    let q = err_from_is_err_and c.from_residual-in_err-kept.result c.from_residual-in_err-kept.ensures.1 in
-    let k = memory_refused g.S.Source c.args.source.now c.in_ok-desk.desk.header c.open_in.new.source c.in_ok-desk.ensures in
-    rw q.1 (rw q.2 (failed_before g.S.Source g.O.Out OutOfMemory (fails_once g.S.Source c.args.source.now OutOfMemory c.open_in.new.source k g.O.Out c.args.out.now)))
-
-pub returns-in_err-kept-clause-refused : goal.returns-in_err-kept-clause-refused
-returns-in_err-kept-clause-refused g c =
-    let q = err_from_is_err_and c.from_residual-in_err-kept.result c.from_residual-in_err-kept.ensures.1 in
-    let k = memory_refused g.S.Source c.args.source.now c.in_ok-desk.desk.header c.open_in.new.source c.in_ok-desk.ensures in
-    rw q.1 (rw q.2 (untouched g.S.Source c.args.source.now OutOfMemory c.open_in.new.source k g.O.Out c.args.out.now))
+    rw q.1 (rw q.2 (untouched g.S.Source c.args.source.now c.in_err-desk.field-0.0 c.open_with.new.source c.in_err-desk.ensures g.O.Out c.args.out.now))
 
 -- ---- the file was read
 
 pub returns-clause-read : goal.returns-clause-read
 returns-clause-read g c =
     let held = g.O.Out.held in
-    let most = c.in_ok-kept.ensures.most in
-    run_read g.S.Source c.args.source.now c.in_ok-desk.desk.header c.open_in.new.source c.explain_on.new.source c.in_ok-desk.ensures
+    let most = c.in_ok-desk.ensures.1.most in
+    run_read g.S.Source c.args.source.now c.in_ok-desk.desk.header c.open_with.new.source c.explain_on.new.source c.in_ok-desk.ensures.0
     (behind_weaker _ _ c.explain_on.ensures.read (λ file is told.
     let P : ℕ → Type 0 = λ limit. IsExplained limit file c.explain_on.result (held c.args.out.now) (held c.explain_on.new.out) in
-    subst P most (is_explained c.in_ok-kept.kept.entries.limit file c.explain_on.result (held c.args.out.now) (held c.explain_on.new.out) c.explain_on.ensures.only is.is_read told)))
+    subst P most (is_explained c.in_ok-desk.kept.entries.limit file c.explain_on.result (held c.args.out.now) (held c.explain_on.new.out) c.explain_on.ensures.only is.is_read told)))
 
 pub returns-clause-failed : goal.returns-clause-failed
 returns-clause-failed g c = record {
-  reads = run_failures g.S.Source c.args.source.now c.in_ok-desk.desk.header c.open_in.new.source c.in_ok-desk.ensures c.explain_on.result _ c.explain_on.ensures.reads;
+  reads = run_failures g.S.Source c.args.source.now c.in_ok-desk.desk.header c.open_with.new.source c.in_ok-desk.ensures.0 c.explain_on.result _ c.explain_on.ensures.reads;
   writes = c.explain_on.ensures.writes;
 }
 
@@ -74,5 +52,5 @@ returns-clause-refused g c = record {
 
 -- ---- the room that a desk takes
 
-pub open_in-requires : goal.open_in-requires
-open_in-requires g c = (c.requires.fits, c.requires.fits)
+pub open_with-requires : goal.open_with-requires
+open_with-requires g c = (c.requires.fits, c.requires.fits)

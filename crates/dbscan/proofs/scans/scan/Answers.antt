@@ -11,7 +11,7 @@ use Rattle.dbscan.specs.Looks.{ReadsMarked}
 use Rattle.dbscan.specs.MapReads.{MapReads}
 use Rattle.dbscan.proofs.MapLogs.{asks_nothing, no_log, walk_log, walk_then_map_log}
 use Rattle.dbscan.proofs.Scanned.{header_stopped, starts_stopped, scan_ended}
-use Rattle.dbscan.specs.Kept.{Keeps}
+use Rattle.dbscan.specs.Kept.{KeepsHeader}
 use Rattle.dbscan.proofs.Keeping.{keeps_then}
 use Rattle.dbscan.proofs.scans.scan.Goals as goal
 
@@ -59,5 +59,5 @@ returns-clause-asks g c =
 pub returns-clause-keeps : goal.returns-clause-keeps
 returns-clause-keeps g c =
     let same = c.tell_end.ensures.desk in
-    subst (λ s. Keeps c.tell_end.result c.args.desk.now c.tell_end.new.desk s (g.K.Reporter.held c.tell_end.new.sink)) c.in_ok-tell_header.ensures.writes
+    subst (λ s. KeepsHeader c.tell_end.result c.args.desk.now c.tell_end.new.desk s (g.K.Reporter.held c.tell_end.new.sink)) c.in_ok-tell_header.ensures.writes
     (keeps_then c.in_ok-any_rows.ensures.keeps (record { header = ap (λ (d : Things). d.header) same; roots = ap (λ (d : Things). d.roots) same; writes = c.tell_end.ensures.writes; only = c.tell_end.ensures.only }))
