@@ -1,5 +1,5 @@
 // What a run works with.
-ghost use Rattle.std.specs.Prelude.{◌≡◌, ◌≤◌, [], None, length, IfOk};
+ghost use Rattle.std.specs.Prelude.{◌≡◌, [], None, length, IfOk};
 ghost use Rattle.dbformat.specs.File.{refusal_of};
 ghost use Rattle.dbformat.specs.FixedPages.{geometry_of, IsInRange};
 ghost use Rattle.dbscan.specs.Desks.{IsFresh, shape_of};
@@ -60,14 +60,6 @@ impl<A: Allocator> Desk<A> {
         ensures { result.now ≡ self.now.roots }
     {
         &self.roots
-    }
-
-    // How many roots its schema names.
-    pub(crate) fn root_count(&self) -> u32
-        ensures count { result ≡ length self.now.roots.rows }
-        ensures most { result ≤ 65536 }
-    {
-        self.roots.len()
     }
 
     /// Takes back all marks and roots, for a walk from the beginning.

@@ -149,33 +149,6 @@ fn walk_row<A: Allocator, S: Source, K: Reporter>(
     walk_over(source, bench, marks, root, &mut NoRows, &mut teller)
 }
 
-// Walks over the tree of a row of the desk's list, to its end.
-fn walk_root<A: Allocator, S: Source, K: Reporter>(
-    desk: &mut Desk<A>,
-    source: &mut S,
-    number: u32,
-    sink: &mut K,
-) -> Result<(), RunError>
-    requires within { (1 ≤ number) × (number ≤ length desk.old.roots.rows) }
-    requires most { number ≤ 65536 }
-    ensures asks { AsksOver S.step desk.old desk.new (λ file. (row : NamingRow) → slice_get desk.old.roots.rows (number - 1) ≡ Some row
-        → (W : List Reference) (c : Reference) → IsRootAfter file (root_of (encoding_of file) number row) W c desk.old.marks
-        → IsTreeWalked K.hears K.cuts (at_row number row) file W c result desk.new.marks sink.old sink.new)
-        result (S.held source.old) (S.held source.new) }
-    ensures keeps { KeepsRoots result desk.old desk.new (K.held sink.old) (K.held sink.new) }
-{
-    let encoding = desk.header.encoding();
-    walk_row(
-        source,
-        &mut desk.bench,
-        &mut desk.marks,
-        &desk.roots,
-        encoding,
-        number,
-        sink,
-    )
-}
-
 // Walks over the trees of the list, one after another.
 fn walk_roots<A: Allocator, S: Source, K: Reporter>(
     desk: &mut Desk<A>,
@@ -188,8 +161,17 @@ fn walk_roots<A: Allocator, S: Source, K: Reporter>(
         result (S.held source.old) (S.held source.new) }
     ensures keeps { KeepsRoots result desk.old desk.new (K.held sink.old) (K.held sink.new) }
 {
-    for index in 0..desk.root_count() {
-        walk_root(desk, source, index + 1, sink)?;
+    let encoding = desk.header.encoding();
+    for index in 0..desk.roots.len() {
+        walk_row(
+            source,
+            &mut desk.bench,
+            &mut desk.marks,
+            &desk.roots,
+            encoding,
+            index + 1,
+            sink,
+        )?;
     }
     Ok(())
 }
