@@ -13,6 +13,7 @@ use Rattle.dbformat.specs.declared.FaultCode.{FaultCode}
 use Rattle.dbformat.specs.declared.Verdict.{Verdict}
 use Rattle.dbformat.proofs.Verdicts.{verdict_counted}
 use Rattle.dbtrace.specs.declared.Reported.{Reported}
+use Rattle.dbentries.specs.Store.{AreEntriesOf, Stored}
 use Rattle.dbsource.proofs.Puts.{keeps_same}
 use Rattle.dbsource.specs.Outs.{OutState}
 use Rattle.dbsource.specs.declared.error.RunError.{RunError}
@@ -22,14 +23,18 @@ use Rattle.dbscan.specs.Finishes.{Leaves}
 use Rattle.dbscan.specs.Notices.{run_notices}
 use Rattle.dbscan.specs.Placed.{faults_of, told_faults}
 use Rattle.dbscan.proofs.AllTold.{all_told}
-use Rattle.dbmap.specs.FaultyPages.{coded, others_told}
+use Rattle.dblisting.specs.Listed.{lost_faults}
+use Rattle.dblisting.specs.Lost.{IsUnused}
+use Rattle.dblisting.proofs.Heard.{never_stops}
+use Rattle.dblisting.proofs.ListedFaults.{others_are}
+use Rattle.dbmap.specs.FaultyPages.{coded}
 use Rattle.dbmap.specs.KeptFaults.{HasFaults, HasRoom, HearsNone, IsUnnoted}
 use Rattle.dbmap.specs.Maps.{DrawsMap}
 use Rattle.dbmap.specs.MapSink.{Hears, LeavesMap, Never}
 use Rattle.dbmap.specs.PageSets.{AreNoted}
 use Rattle.dbmap.specs.declared.map_sink.MapSink.{MapSink}
 use Rattle.dbmap.specs.declared.walk.Walk.{Walk}
-use Rattle.dbmap.proofs.Heard.{HasHeardFaults, codes_told, file_heard, never_stops, some_untouched}
+use Rattle.dbmap.proofs.Heard.{HasHeardFaults, all_heard, codes_told, some_untouched}
 
 -- the pages and codes of faults that were reported
 coded_told : (ts : List Reported) → codes_told ts ≡ map coded (faults_of ts)
@@ -40,8 +45,8 @@ module _ {A O : Type 0} (file : List ℕ) (V : List Reference) (survey : Survey 
     (empty : HearsNone (geometry file).pages s.kept.now) where
   -- all of a run was heard, and nothing before it: its faults were counted, and these are kept
   module _ (heard : Moves Hears s (run_notices file V) t) where
-    all : HasHeardFaults (told_faults file V) (others_told file V) s t
-    all = file_heard file V survey s t none empty heard
+    all : HasHeardFaults (told_faults file V) s t
+    all = all_heard file V survey s t none empty heard
 
     as_many : length (told_faults file V) ≡ length (faults file V)
     as_many = sym (length-map (told_faults file V) (λ (x : Reported). x.fault)) ∙ ap length (all_told file V)
@@ -55,22 +60,32 @@ module _ {A O : Type 0} (file : List ℕ) (V : List Reference) (survey : Survey 
     pub map_finds : verdict_of t.faults ≡ verdict (faults file V)
     map_finds = ap verdict_of map_counts ∙ verdict_counted (faults file V)
 
-    pub map_keeps : HasFaults file V t.kept.now
-    map_keeps = record {
+    pub map_unused : IsUnused t.kept.now.lost
+    map_unused = subst IsUnused (sym all.lost) empty.lost
+
+    -- with the lost pages
+    pub map_keeps : (lost : Stored) → lost.limit ≡ t.kept.now.lost.limit → AreEntriesOf (lost_faults file V) lost → HasFaults file V (record t.kept.now { lost = lost })
+    map_keeps lost kept are = record {
       room = subst (λ (w : Walk A). HasRoom (geometry file).pages w.trees.known) (sym all.walk) empty.room;
       faulty = subst (λ (fs : List (ℕ × FaultCode)). AreNoted fs t.kept.now.faulty) (coded_told (told_faults file V) ∙ ap (map coded) (all_told file V)) all.faulty;
       pages = all.pages ∙ empty.faulty.pages;
       strong = subst (IsUnnoted (geometry file).pages) (sym all.strong) empty.strong;
-      entries = all.entries;
+      entries = subst (λ l. AreEntriesOf l t.kept.now.entries) (sym (others_are file (told_faults file V))) all.entries;
       limit = all.limit ∙ empty.limit;
+      lost = are;
+      most_lost = kept ∙ ap (λ (s : Stored). s.limit) all.lost ∙ empty.most_lost;
       few = empty.few;
     }
 
+    -- after a failed read nothing has been put
+    pub map_unput : (held : O → OutState) → Keeps (held s.out.now).bytes (held t.out.now).bytes
+    map_unput held = subst (λ (o : O). Keeps (held s.out.now).bytes (held o).bytes) (sym map_untouched) (keeps_same (held s.out.now).bytes)
+
   stopped : (e : RunError) → StopsBy Hears Never e s (run_notices file V) t → t.out.now ≡ s.out.now
-  stopped (Refused r) h = some_untouched (run_notices file V) s t h
-  stopped ReadFailed h = some_untouched (run_notices file V) s t h
-  stopped OutOfMemory h = some_untouched (run_notices file V) s t h
-  stopped WriteFailed h = absurd (never_stops (run_notices file V) s t h)
+  stopped (Refused r) h = some_untouched file V survey s t none empty h
+  stopped ReadFailed h = some_untouched file V survey s t none empty h
+  stopped OutOfMemory h = some_untouched file V survey s t none empty h
+  stopped WriteFailed h = absurd (never_stops Hears (run_notices file V) s t h)
 
   -- a run that came to its end, or not
   pub map_left : (held : O → OutState) (r : Result Verdict RunError) → Leaves Hears Never (LeavesMap held) file V r s t

@@ -6,7 +6,6 @@ pub mod LegendLines
 pub mod MapAnswers
 pub mod Owning
 pub mod PageSets
-pub mod PartsRise
 pub mod Pictured
 pub mod Shares
 pub mod ShownFaults

@@ -9,14 +9,16 @@ use Rattle.dbsurvey.proofs.Lists.{count-append}
 use Rattle.dbformat.specs.File.{geometry}
 use Rattle.dbformat.specs.Reference.{Reference}
 use Rattle.dbformat.specs.declared.FaultCode.{FaultCode}
-use Rattle.dbtrace.specs.declared.Reported.{Reported}
-use Rattle.dbentries.specs.Kept.{entry_of, kept_of}
+use Rattle.dbentries.specs.Kept.{kept_of}
 use Rattle.dbentries.specs.Listing as listing
 use Rattle.dbentries.specs.Listing.{entries}
-use Rattle.dbentries.proofs.Noting.{first_kept}
+use Rattle.dbentries.specs.Woven.{KeepsFirst, woven}
+use Rattle.dbentries.proofs.Weaving.{keeps_first}
+use Rattle.dblisting.specs.Listed.{lost_faults, other_faults}
+use Rattle.dblisting.proofs.Woven.{all_woven, every_lost}
 use Rattle.dbmap.specs.CodeSets.{no_codes}
-use Rattle.dbmap.specs.FaultyPages.{AreFaultsOf, FaultsGround, ShowsCodes, faulty_pages, leading_faults, others_told, page_faults}
-use Rattle.dbmap.specs.FramedPages.{framed, leading}
+use Rattle.dbmap.specs.FaultyPages.{AreFaultsOf, FaultsGround, ShowsCodes, faulty_pages, leading_faults, page_faults}
+use Rattle.dbmap.specs.FramedPages.{first_faults, framed}
 use Rattle.dbmap.specs.KeptFaults.{HasFaults, IsKeptGround, noted_pages}
 use Rattle.dbmap.specs.PageSets.{AreNoted, IsNoteOf, has_page, is_faulty, is_noted, number_at, set_numbered, shown_codes}
 use Rattle.dbmap.specs.declared.kept.Kept.{Kept}
@@ -69,15 +71,16 @@ number_next xs i =
 
 -- ---- those that lead
 
-leading_kept : (es : List listing.Entry) → leading (map kept_of es) ≡ map (λ (e : listing.Entry). e.first) es
-leading_kept [] = refl
-leading_kept (e ∷ es) = ap₂ (λ (x : Reported) xs. x ∷ xs) (first_kept e.others (entry_of e.first)) (leading_kept es)
-
 module _ {A : Type 0} (file : List ℕ) (V : List Reference) (k : Kept A) (has : HasFaults file V k) where
-  leads : leading k.entries.listed ≡ leading_faults file V
-  leads =
-      ap leading has.entries.listed ∙ leading_kept (take k.entries.limit (entries (others_told file V)))
-      ∙ ap (λ n. map (λ (e : listing.Entry). e.first) (take n (entries (others_told file V)))) has.limit
+  -- the pages of the first entries were noted
+  leads : (set : PageSet A) → ((es ls : List listing.Entry) → KeepsFirst es k.entries → k.lost.listed ≡ map kept_of ls → AreNoted [] k.strong
+      → AreNoted (framed (first_faults (take k.entries.limit (woven es ls)))) set) → AreNoted (framed (leading_faults file V)) set
+  leads set noted =
+      let others = entries (other_faults file V) in
+      let lost = entries (lost_faults file V) in
+      subst (λ es. AreNoted (framed (first_faults (take 100 es))) set) (all_woven file V)
+      (subst (λ n. AreNoted (framed (first_faults (take n (woven others lost)))) set) has.limit
+      (noted others lost (keeps_first others k.entries has.entries) (every_lost file V k.lost has.lost has.most_lost) has.strong.none))
 
   -- the squares
   pub faults_shown : (g : FaultsGround) → IsKeptGround k g → AreFaultsOf file V g
@@ -86,8 +89,7 @@ module _ {A : Type 0} (file : List ℕ) (V : List Reference) (k : Kept A) (has :
     codes = λ p l h. subst (ShowsCodes (page_faults file V) p) (sym (is.codes p)) (codes_noted (page_faults file V) k.faulty has.faulty p l (let e = has.pages in omega (arith, h, e)));
     strong = λ p l h.
         let room = is.strong.pages in let e = has.strong.pages in
-        is.strong.is p ∙ has_noted (framed (leading k.entries.listed)) is.strong.set (is.strong.noted has.strong.none) p l (omega (arith, h, e, room))
-        ∙ ap (λ (xs : List Reported). is_faulty (framed xs) p) leads;
+        is.strong.is p ∙ has_noted (framed (leading_faults file V)) is.strong.set (leads is.strong.set is.strong.noted) p l (omega (arith, h, e, room));
   }
 
   -- the legend

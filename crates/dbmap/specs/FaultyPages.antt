@@ -1,5 +1,5 @@
 -- Which pages have a fault, which codes these faults have, and which pages have the strong frame.
-use Rattle.std.specs.Prelude.{◌≡◌, ◌⊎◌, ℕ, ◌≤◌, Bool, true, false, not, List, map, filter, take, count_by}
+use Rattle.std.specs.Prelude.{◌≡◌, ◌⊎◌, ℕ, ◌≤◌, Bool, true, false, List, map, take, count_by}
 use Rattle.std.specs.List.{range_with_len}
 use Rattle.dbformat.specs.File.{geometry}
 use Rattle.dbformat.specs.Reference.{Reference}
@@ -7,12 +7,9 @@ use Rattle.dbformat.specs.Report.{faults}
 use Rattle.dbformat.specs.declared.Fault.{Fault}
 use Rattle.dbformat.specs.declared.FaultCode.{FaultCode}
 use Rattle.dbtrace.specs.declared.Reported.{Reported}
-use Rattle.dbentries.specs.Apart.{is_lost}
-use Rattle.dbentries.specs.Listing as listing
-use Rattle.dbentries.specs.Listing.{entries}
-use Rattle.dbscan.specs.Placed.{told_faults}
+use Rattle.dblisting.specs.Listed.{listed}
 use Rattle.dbmap.specs.CodeSets.{no_codes}
-use Rattle.dbmap.specs.FramedPages.{framed}
+use Rattle.dbmap.specs.FramedPages.{first_faults, framed}
 use Rattle.dbmap.specs.PageSets.{HasManySets, any_page, codes_at, codes_of_pages, is_faulty}
 use Rattle.dbmap.specs.declared.faulty.Faulty.{Faulty}
 use Rattle.dbmap.specs.declared.frame.Frame.{Frame}
@@ -48,12 +45,9 @@ coded f = (f.page, f.code)
 abbrev pub page_faults : List ℕ → List Reference → List (ℕ × FaultCode)
 page_faults file V = map coded (faults file V)
 
--- the faults that lead the first 100 entries of all faults but those of lost pages
-abbrev pub others_told : List ℕ → List Reference → List Reported
-others_told file V = filter (λ x. not (is_lost x)) (told_faults file V)
-
+-- the faults that lead the first 100 entries: those that `explain` lists where no other number is given
 abbrev pub leading_faults : List ℕ → List Reference → List Reported
-leading_faults file V = map (λ (e : listing.Entry). e.first) (take 100 (entries (others_told file V)))
+leading_faults file V = first_faults (take 100 (listed file V))
 
 -- the codes that are shown of page p are those of its faults; where more different sets occurred than can be kept, it may be that none
 -- are shown

@@ -6,6 +6,7 @@ use Rattle.dbformat.specs.declared.FaultCode.TheVariants.{R02, R03, T04, O01, M0
 use Rattle.dbtrace.specs.declared.Cause.{Cause}
 use Rattle.dbtrace.specs.declared.Cause.TheVariants as cause
 use Rattle.dbtrace.specs.declared.Reported.{Reported}
+use Rattle.dbentries.specs.Listing as listing
 use Rattle.dbentries.specs.declared.entry.Entry.{Entry}
 
 -- whether the value of a fault with this code is the number of a page
@@ -42,6 +43,9 @@ framed_of x = (x.fault.page, x.fault.code) ∷ (value_page x.fault, x.fault.code
 abbrev pub framed : List Reported → List (ℕ × FaultCode)
 framed xs = flat_map framed_of xs
 
--- the faults that lead
+-- the faults that lead some entries, and the same of what is kept of entries
+abbrev pub first_faults : List listing.Entry → List Reported
+first_faults es = map (λ (e : listing.Entry). e.first) es
+
 abbrev pub leading : List Entry → List Reported
 leading es = map (λ (e : Entry). e.first) es

@@ -1,14 +1,19 @@
 -- What is kept of a file: the faults that were reported, and the room to know the trees of its pages.
-use Rattle.std.specs.Prelude.{◌≡◌, ℕ, ◌≤◌, min, Bool, List, [], ◌∷◌, ◌++◌, length, Option, count_by, vec_len, if◌then◌else◌}
+use Rattle.std.specs.Prelude.{◌≡◌, ℕ, ◌≤◌, min, Bool, List, [], ◌∷◌, ◌++◌, length, map, take, Option, count_by, vec_len}
 use Rattle.dbformat.specs.File.{geometry}
 use Rattle.dbformat.specs.Reference.{Reference}
 use Rattle.dbformat.specs.declared.FaultCode.{FaultCode}
 use Rattle.dbtrace.specs.declared.Reported.{Reported}
-use Rattle.dbentries.specs.Apart.{is_lost}
+use Rattle.dbentries.specs.Kept.{kept_of}
+use Rattle.dbentries.specs.Listing as listing
 use Rattle.dbentries.specs.Listing.{rank}
 use Rattle.dbentries.specs.Store.{AreEntriesOf}
-use Rattle.dbmap.specs.FaultyPages.{FaultsGround, coded, others_told, page_faults}
-use Rattle.dbmap.specs.FramedPages.{framed, leading}
+use Rattle.dbentries.specs.Woven.{KeepsFirst, woven}
+use Rattle.dblisting.specs.Listed.{lost_faults, other_faults}
+use Rattle.dblisting.specs.Lost.{IsUnused}
+use Rattle.dblisting.specs.Told.{listed_now}
+use Rattle.dbmap.specs.FaultyPages.{FaultsGround, coded, page_faults}
+use Rattle.dbmap.specs.FramedPages.{first_faults, framed}
 use Rattle.dbmap.specs.PageSets.{AreNoted, has_page, is_noted, shown_codes}
 use Rattle.dbmap.specs.declared.kept.Kept.{Kept}
 use Rattle.dbmap.specs.declared.page_set.PageSet.{PageSet}
@@ -22,19 +27,17 @@ pub record IsUnnoted {A : Type 0} (count : ℕ) (s : PageSet A) : Type 0 where
 abbrev pub HasRoom : ℕ → List (Option (Option ℕ)) → Type 0
 HasRoom pages known = pages ≤ length known
 
--- no fault was reported of a file of this number of pages; there is room for 100 entries, and for the trees of the pages
+-- No fault was reported of a file of this number of pages. There is room for 100 entries and six of lost pages, and for the trees of the
+-- pages.
 pub record HearsNone {A : Type 0} (pages : ℕ) (k : Kept A) : Type 0 where
   pub room : HasRoom pages k.walk.trees.known
   pub faulty : IsUnnoted pages k.faulty
   pub strong : IsUnnoted pages k.strong
-  pub entries : AreEntriesOf [] k.entries
-  pub part : k.entries.part ≡ 0
+  pub entries : IsUnused k.entries
   pub limit : k.entries.limit ≡ 100
+  pub lost : IsUnused k.lost
+  pub most_lost : k.lost.limit ≡ 6
   pub few : pages ≤ 67108864
-
--- what is listed of a fault: all but that of a lost page
-abbrev pub listed_now : Reported → List Reported
-listed_now x = if is_lost x then [] else x ∷ []
 
 -- a fault was noted at its page, and listed
 pub record Keeps {A : Type 0} (x : Reported) (k l : Kept A) : Type 0 where
@@ -43,13 +46,15 @@ pub record Keeps {A : Type 0} (x : Reported) (k l : Kept A) : Type 0 where
   pub entries : (xs : List Reported) → AreEntriesOf xs k.entries → k.entries.part ≤ rank x.part → AreEntriesOf (xs ++ listed_now x) l.entries
   pub part : k.entries.part ≤ rank x.part → l.entries.part ≤ rank x.part
   pub limit : l.entries.limit ≡ k.entries.limit
+  pub lost : l.lost ≡ k.lost
   pub strong : l.strong ≡ k.strong
   pub walk : l.walk ≡ k.walk
 
--- The pages of what is listed have the strong frame.
+-- The pages of the first entries have the strong frame, where those of lost pages are in their places among the others.
 pub record IsStrong {A : Type 0} (k : Kept A) (strong : ℕ → Bool) : Type 0 where
   pub set : PageSet A
-  pub noted : AreNoted [] k.strong → AreNoted (framed (leading k.entries.listed)) set
+  pub noted : (es ls : List listing.Entry) → KeepsFirst es k.entries → k.lost.listed ≡ map kept_of ls → AreNoted [] k.strong
+      → AreNoted (framed (first_faults (take k.entries.limit (woven es ls)))) set
   pub pages : vec_len set.noted ≡ vec_len k.strong.noted
   pub is : (p : ℕ) → strong p ≡ has_page set p
 
@@ -63,12 +68,14 @@ pub record IsKeptGround {A : Type 0} (k : Kept A) (g : FaultsGround) : Type 0 wh
 abbrev pub noted_pages : {A : Type 0} → Kept A → ℕ
 noted_pages k = min (count_by is_noted k.faulty.noted.items) 4294967295
 
--- all faults of a file were noted at their pages, and are listed but for those of lost pages; no strong frame is noted yet
+-- all faults of a file were noted at their pages, and are listed, those of lost pages apart; no strong frame is noted yet
 pub record HasFaults {A : Type 0} (file : List ℕ) (V : List Reference) (k : Kept A) : Type 0 where
   pub room : HasRoom (geometry file).pages k.walk.trees.known
   pub faulty : AreNoted (page_faults file V) k.faulty
   pub pages : vec_len k.faulty.noted ≡ (geometry file).pages
   pub strong : IsUnnoted (geometry file).pages k.strong
-  pub entries : AreEntriesOf (others_told file V) k.entries
+  pub entries : AreEntriesOf (other_faults file V) k.entries
   pub limit : k.entries.limit ≡ 100
+  pub lost : AreEntriesOf (lost_faults file V) k.lost
+  pub most_lost : k.lost.limit ≡ 6
   pub few : (geometry file).pages ≤ 67108864

@@ -5,13 +5,12 @@ use Rattle.dbformat.specs.Lines.{counted}
 use Rattle.dbformat.specs.Reference.{Reference}
 use Rattle.dbformat.specs.Report.{faults, verdict}
 use Rattle.dbformat.specs.declared.Verdict.{Verdict}
-use Rattle.dbtrace.specs.Finding.{told_row, told_fault}
 use Rattle.dbtrace.specs.declared.Reported.{Reported}
 use Rattle.dbsource.specs.Outs.{OutState}
 use Rattle.dbsource.specs.declared.error.RunError.{RunError}
 use Rattle.dbwalk.specs.Telling.{SinkState}
-use Rattle.dbscan.specs.Notices.{Notice, whole, found, ended, walked}
-use Rattle.dbscan.specs.Placed.{at_start, of_file, part_of}
+use Rattle.dbscan.specs.Notices.{Notice}
+use Rattle.dblisting.specs.Told.{HearsReported}
 use Rattle.dbmap.specs.KeptFaults.{HearsNone, Keeps}
 use Rattle.dbmap.specs.Maps.{DrawsMap}
 use Rattle.dbmap.specs.declared.map_sink.MapSink.{MapSink}
@@ -25,11 +24,7 @@ module _ {A O : Type 0} where
 
   -- a notice was taken: a fault was added, and nothing else changes it
   abbrev pub Hears : MapSink A O → Notice → MapSink A O → Type 0
-  Hears s (whole f) t = Adds (of_file (part_of f.code) f) s t
-  Hears s (found at (told_fault f why)) t = Adds (at_start at.number f why) s t
-  Hears s (found at (told_row r)) t = t ≡ s
-  Hears s (ended at) t = t ≡ s
-  Hears s (walked g marks) t = t ≡ s
+  Hears = HearsReported Adds
 
   -- none is ever refused
   abbrev pub Never : MapSink A O → Notice → MapSink A O → Type 0

@@ -1,8 +1,11 @@
 // What a map keeps of a file beside what a check keeps.
-ghost use Rattle.std.specs.Prelude.{◌≡◌, ℕ, ◌++◌, List, IfOk, vec_len};
+ghost use Rattle.std.specs.Prelude.{◌≡◌, ℕ, ◌++◌, List, IfOk, map, take, vec_len};
 ghost use Rattle.dbformat.specs.FixedPages.{IsInRange};
 ghost use Rattle.dbformat.specs.declared.FaultCode.{FaultCode};
-ghost use Rattle.dbmap.specs.FramedPages.{framed, leading};
+ghost use Rattle.dbentries.specs.Kept.{kept_of};
+ghost use Rattle.dbentries.specs.Listing as listing;
+ghost use Rattle.dbentries.specs.Woven.{KeepsFirst, woven};
+ghost use Rattle.dbmap.specs.FramedPages.{first_faults, framed};
 ghost use Rattle.dbmap.specs.KeptFaults.{HearsNone, Keeps};
 ghost use Rattle.dbmap.specs.PageSets.{AreNoted};
 
@@ -12,6 +15,7 @@ use crate::tally::Tally;
 use crate::walk::Walk;
 use dbentries::{Entries, Reported};
 use dbformat::FaultCode;
+use dblisting::LOST_ENTRIES;
 use dbowner::PageTrees;
 use dbsource::Geometry;
 use std::alloc::{AllocError, Allocator, Global};
@@ -32,6 +36,8 @@ pub(crate) struct Kept<A: Allocator = Global> {
     pub(crate) strong: PageSet<A>,
     // The entries of all faults but those of lost pages.
     entries: Entries<A>,
+    /// The entries of lost pages.
+    pub(crate) lost: Entries<A>,
 }
 
 impl<A: Allocator + Copy> Kept<A> {
@@ -49,12 +55,14 @@ impl<A: Allocator + Copy> Kept<A> {
         let faulty = PageSet::new_in(alloc, geometry.pages)?;
         let strong = PageSet::new_in(alloc, geometry.pages)?;
         let entries = Entries::new_in(alloc, LIMIT)?;
+        let lost = Entries::new_in(alloc, LOST_ENTRIES)?;
         Ok(Kept {
             walk: Walk::new(trees),
             tally,
             faulty,
             strong,
             entries,
+            lost,
         })
     }
 }
@@ -70,14 +78,16 @@ impl<A: Allocator> Kept<A> {
         }
     }
 
-    /// Notes the pages of the entries that are listed, and of their causes.
+    /// Puts the entries of lost pages in their places, and notes the pages of the entries that are listed then, and of their causes.
     pub(crate) fn note_listed(&mut self)
-        ensures strong { (fs : List (ℕ × FaultCode)) → AreNoted fs self.old.strong
-            → AreNoted (fs ++ framed (leading self.old.entries.listed)) self.new.strong }
+        ensures strong { (fs : List (ℕ × FaultCode)) (es ls : List listing.Entry) → KeepsFirst es self.old.entries
+            → self.old.lost.listed ≡ map kept_of ls → AreNoted fs self.old.strong
+            → AreNoted (fs ++ framed (first_faults (take self.old.entries.limit (woven es ls)))) self.new.strong }
         ensures pages { vec_len self.new.strong.noted ≡ vec_len self.old.strong.noted }
         ensures faulty { self.new.faulty ≡ self.old.faulty }
         ensures walk { self.new.walk ≡ self.old.walk }
     {
+        self.entries.weave(self.lost.listed());
         note_listed(&mut self.strong, self.entries.listed());
     }
 }

@@ -7,13 +7,13 @@
 //! let verdict = map(alloc, "shop.db", &mut source, &mut out)?;
 //! ```
 //!
-//! [`map`] reads the file as a check does, and writes no line of a fault: its reporter counts the faults, and notes the pages that
-//! they are found at. When the walks and the end are done, the marks and the list of roots say which tree each page belongs to
-//! (`dbowner`); a first pass over the pages counts those of each tree, and a second one writes the squares. The faults that lead are
-//! kept as `explain` keeps them (`dbentries`): their pages, and those of their causes, have a stronger frame than other pages with a
-//! fault.
+//! [`map`] reads the file as `explain` does, and writes no line of a fault: its reporter counts the faults, and notes the pages that
+//! they are found at. When the walks and the end are done, and the lost pages have been looked at, the marks and the list of roots say
+//! which tree each page belongs to (`dbowner`); a first pass over the pages counts those of each tree, and a second one writes the
+//! squares. The faults that lead are kept as `explain` keeps them (`dbentries`, `dblisting`): their pages, and those of their causes,
+//! have a stronger frame than other pages with a fault.
 //!
-//! What is proved is that the file is read as a check reads it, that the verdict is the check's, and that a picture of the file is put
+//! What is proved is what is read of the file, that the verdict is the check's, and that a picture of the file is put
 //! (specs/Maps): its bytes are those of specs/Pictures, in which each page, or run of pages, has one square, in their order. The square of
 //! a page says what the page is, each square is filled for the owners of its pages, and has the frame and the codes of the faults that the
 //! file's report has of its pages. No text of the file or of the command line comes into it but escaped (`dbxml`). Names of trees, heights

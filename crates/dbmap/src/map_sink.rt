@@ -1,56 +1,26 @@
 // The reporter of a map.
 ghost use Rattle.std.specs.Prelude.{◌≡◌};
 ghost use Rattle.dbformat.specs.Report.{verdict_of};
-ghost use Rattle.dbscan.specs.Placed.{is_header_code, of_file, part_of};
 ghost use Rattle.dbmap.specs.MapSink.{Adds, map_held};
 
 use crate::kept::Kept;
 use crate::maps::put_map;
-use dbentries::{Cause, Part, Reported};
-use dbformat::{FaultCode, Verdict};
+use dbentries::Reported;
+use dbformat::Verdict;
+use dblisting::{look_at_lost, reported_of};
 use dbscan::{Desk, Finish, Notice, Reporter};
 use dbsource::{Geometry, Out, RunError, Source, WriteFailed};
-use dbwalk::{Fault, Marks};
+use dbwalk::Marks;
 use std::alloc::Allocator;
 
-// Counts faults, notes the pages that they are found at, and lists those that lead. When the file has been heard it puts the picture.
+// Counts faults, notes the pages that they are found at, and lists those that lead. When the file has been heard it looks at the lost
+// pages, and puts the picture.
 #[derive(Drop)]
 pub(crate) struct MapSink<'a, A: Allocator, O> {
     name: &'a str,
     kept: &'a mut Kept<A>,
     out: &'a mut O,
     faults: u64,
-}
-
-// Whether faults with this code are found in the header alone.
-fn is_header_code(code: FaultCode) -> bool
-    ensures { result ≡ is_header_code code }
-{
-    matches!(
-        code,
-        FaultCode::H01
-            | FaultCode::H02
-            | FaultCode::H03
-            | FaultCode::H04
-            | FaultCode::H05
-            | FaultCode::H06
-            | FaultCode::H07
-    )
-}
-
-// A fault of the whole file.
-fn of_file(fault: &Fault) -> Reported
-    ensures { result ≡ of_file (part_of fault.now.code) fault.now }
-{
-    Reported {
-        part: if is_header_code(fault.code) {
-            Part::Header
-        } else {
-            Part::End
-        },
-        fault: *fault,
-        cause: Cause::Itself,
-    }
 }
 
 impl<'a, A: Allocator, O: Out> MapSink<'a, A, O> {
@@ -96,14 +66,8 @@ impl<A: Allocator, O: Out> Reporter for MapSink<'_, A, O> {
     ghost held = { map_held O.held };
 
     fn hear(&mut self, notice: &Notice<'_>) -> Result<(), WriteFailed> {
-        match notice {
-            Notice::Whole(fault) => self.note(&of_file(fault)),
-            Notice::Fault(start, fault, cause) => self.note(&Reported {
-                part: Part::Start(start.number()),
-                fault: **fault,
-                cause: **cause,
-            }),
-            Notice::Row(_, _) | Notice::Ended(_) => {}
+        if let Some(told) = reported_of(notice) {
+            self.note(&told);
         }
         Ok(())
     }
@@ -125,8 +89,9 @@ impl<A: Allocator, O: Out> Finish<Desk<A>> for MapSink<'_, A, O> {
     fn finish<S: Source>(
         &mut self,
         desk: &mut Desk<A>,
-        _source: &mut S,
+        source: &mut S,
     ) -> Result<Verdict, RunError> {
+        look_at_lost(desk, source, &mut self.kept.lost)?;
         put_map(self.name, desk, self.kept, self.faults, self.out)?;
         Ok(self.verdict())
     }

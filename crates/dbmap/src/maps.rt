@@ -146,10 +146,11 @@ pub fn map_in<A: Allocator + Copy, S: Source, O: Out>(
 }
 
 /// Reads the database that `source` gives, and puts a picture of its pages to `out`, an SVG with `name` as the file's name. It
-/// answers what was found, as a check does; no line of a fault is put.
+/// answers what was found, as a check does; no line of a fault is put. It reads what a check reads, and then each page to which nothing
+/// refers, once, for what it looks like.
 ///
 /// It keeps, beside what a check does, a number of four bytes and two notes of one byte for each page, the counts of 65538 starts,
-/// and 100 entries of faults. Each of these is one growth, before the first page is read.
+/// and 106 entries of faults. Each of these is one growth, before the first page is read.
 ///
 /// # Errors
 ///

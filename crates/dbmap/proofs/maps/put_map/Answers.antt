@@ -63,7 +63,7 @@ returns g c =
         faulty = record {
           has = λ p. ap (λ (s : PageSet _). has_page s p) c.note_listed.ensures.faulty;
           codes = λ p. ap (λ (s : PageSet _). shown_codes s p) c.note_listed.ensures.faulty;
-          strong = record { set = c.note_listed.new.self.strong; noted = c.note_listed.ensures.strong []; pages = c.note_listed.ensures.pages; is = λ p. refl };
+          strong = record { set = c.note_listed.new.self.strong; noted = λ es ls first lost none. c.note_listed.ensures.strong [] es ls first lost none; pages = c.note_listed.ensures.pages; is = λ p. refl };
         };
       };
       faulty_line = subst (λ n. HasFaultyLine n c.new-legend.result.lines.items)
