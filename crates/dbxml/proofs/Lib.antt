@@ -1,3 +1,4 @@
 pub mod Escaping
+pub mod KeptTexts
 pub mod Texts
 pub mod Waiting

@@ -1,3 +1,4 @@
+pub mod Names
 pub mod Pieces
 pub mod Puts
 pub mod Widths

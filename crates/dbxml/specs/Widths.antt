@@ -1,5 +1,5 @@
 -- How much of a text is shown in a number of columns.
-use Rattle.std.specs.Prelude.{ℕ, suc, ◌-◌, List, [], ◌∷◌, nat_lt, if◌then◌else◌}
+use Rattle.std.specs.Prelude.{ℕ, suc, ◌-◌, List, [], ◌∷◌, take, nat_lt, if◌then◌else◌}
 
 -- How many columns a character takes, by its first byte in UTF-8: one of three or four bytes takes two, and the bytes after the first
 -- take none.
@@ -10,3 +10,7 @@ columns byte = if nat_lt byte 128 then 1 else (if nat_lt byte 192 then 0 else (i
 abbrev pub fitting : ℕ → List ℕ → ℕ
 fitting width [] = 0
 fitting width (byte ∷ text) = if nat_lt width (columns byte) then 0 else suc (fitting (width - columns byte) text)
+
+-- the bytes that do
+abbrev pub seen : ℕ → List ℕ → List ℕ
+seen width text = take (fitting width text) text

@@ -1,5 +1,5 @@
 //! The text of an XML document, put together of pieces: markup, numbers, and texts of a file or of the command line, which come
-//! into it escaped, and cut to a width (specs/Xml).
+//! into it escaped, and cut to a width (specs/Xml). specs/Names has the names of files and trees.
 //!
 //! ```
 //! let name = shown_file("a & b.db");
@@ -7,7 +7,7 @@
 //! ```
 #![tactic(auto)]
 
-mod hidden;
+mod kept_bytes;
 mod pieces;
 mod shown;
 mod xml;

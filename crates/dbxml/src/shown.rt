@@ -1,24 +1,23 @@
 // Texts of the file and of the command line as the picture shows them.
-ghost use Rattle.std.specs.Prelude.{◌≡◌, ◌≤◌, length, IfSome};
+ghost use Rattle.std.specs.Prelude.{◌≡◌, ◌≤◌, [], length, nat_eq, IfSome};
+ghost use Rattle.std.specs.Cmp.Lexicographic.{pointwise};
 ghost use Rattle.dbsource.specs.Outs.{Puts};
+ghost use Rattle.dbxml.specs.Names.{file_name, tree_name};
 ghost use Rattle.dbxml.specs.Pieces.{shown_text};
 ghost use Rattle.dbxml.specs.Widths as widths;
 
-use crate::hidden::{code, is_hidden};
+use crate::kept_bytes::{KEPT, KeptBytes};
 use crate::xml::{is_plain, put_escaped};
 use arrayvec::ArrayVec;
-use dbbytes::name_text;
+use dbbytes::plain_name_text;
 use dbformat::Encoding;
 use dbowner::TreeNames;
 use dbsource::{Out, WriteFailed};
 use std::alloc::Allocator;
 use std::marker::Model;
 
-// How many bytes of a text are kept: more than the widest that is shown.
-const KEPT: usize = 320;
-
-/// The beginning of a text. It is UTF-8 without control characters, as names are shown, and without those that turn a text around or
-/// that XML forbids: they are shown by their codes too.
+/// A text, or its beginning. It is UTF-8, in which the bytes of control characters, and of those that turn a text around or that XML
+/// forbids, are shown by their codes.
 #[derive(Drop)]
 pub struct Shown {
     bytes: ArrayVec<u8, KEPT>,
@@ -40,7 +39,9 @@ impl Default for Shown {
 
 impl Shown {
     /// Nothing.
-    pub fn new() -> Shown {
+    pub fn new() -> Shown
+        ensures { result ≡ [] }
+    {
         Shown {
             bytes: ArrayVec::new(),
         }
@@ -59,58 +60,41 @@ impl Shown {
     }
 
     /// Whether it is shown as another one is, in a number of columns.
-    pub fn is_like(&self, other: &Shown, width: u32) -> bool {
+    pub fn is_like(&self, other: &Shown, width: u32) -> bool
+        ensures { result ≡ pointwise nat_eq (widths.seen width self.now) (widths.seen width other.now) }
+    {
         self.seen(width) == other.seen(width)
     }
 
     // The bytes that fit in a number of columns.
-    fn seen(&self, width: u32) -> &[u8] {
+    fn seen(&self, width: u32) -> &[u8]
+        ensures { result.now ≡ widths.seen width self.now }
+    {
         let text = self.bytes.as_slice();
         &text[..fitting(text, width)]
     }
+}
 
-    // Adds bytes, as far as there is room.
-    fn add(&mut self, bytes: &[u8]) {
-        for byte in bytes {
-            let _ = self.bytes.try_push(*byte);
-        }
+/// The name of a file, or its first 320 bytes.
+pub fn shown_file(name: &str) -> Shown
+    ensures { result ≡ file_name name.now }
+{
+    let mut kept = KeptBytes::new();
+    let _ = plain_name_text(name.as_bytes(), Encoding::Utf8, &mut kept);
+    Shown {
+        bytes: kept.into_bytes(),
     }
 }
 
-// Texts are put to it, each of whole characters. It takes what there is room for, and tells nothing.
-impl Out for Shown {
-    ghost use Rattle.std.specs.Prelude.{[], None};
-
-    ghost held = { λ s. record { bytes = None; pending = []; failures = 0 } };
-
-    fn put(&mut self, piece: &[u8]) -> Result<(), WriteFailed> {
-        for (at, byte) in piece.iter().enumerate() {
-            if *byte >= 0x80 && is_hidden(piece, at) {
-                self.add(&code(*byte));
-            } else {
-                self.add(&[*byte]);
-            }
-        }
-        Ok(())
+/// The tree of a start, or the first 320 bytes of its text.
+pub fn shown_tree<A: Allocator>(names: &TreeNames<'_, A>, start: u32) -> Shown
+    ensures { result ≡ tree_name names.now.encoding names.now.roots.now.rows start }
+{
+    let mut kept = KeptBytes::new();
+    let _ = names.put_tree(&mut kept, start);
+    Shown {
+        bytes: kept.into_bytes(),
     }
-
-    fn flush(&mut self) -> Result<(), WriteFailed> {
-        Ok(())
-    }
-}
-
-/// The name of a file.
-pub fn shown_file(name: &str) -> Shown {
-    let mut shown = Shown::new();
-    let _ = name_text(name.as_bytes(), Encoding::Utf8, &mut shown);
-    shown
-}
-
-/// The tree of a start.
-pub fn shown_tree<A: Allocator>(names: &TreeNames<'_, A>, start: u32) -> Shown {
-    let mut shown = Shown::new();
-    let _ = names.put_tree(&mut shown, start);
-    shown
 }
 
 // How many columns a character takes, by its first byte: those that are written in three or four bytes are mostly wide.
