@@ -173,13 +173,14 @@ sound_by (Err OutOfMemory) file h = λ m. absurd (omega arith)
 sound_by (Err WriteFailed) file h = λ m. absurd (omega arith)
 
 -- what the status says of a map
-map_neither : (n : ℕ) (file : List ℕ) (V : List Reference) (out out' err err' : OutState) → 4 ≤ n
-    → Keeps out.bytes out'.bytes ⊎ HasPicture (Begins out.bytes out'.bytes) file V
-    → BeginsThenLine err err' [] (exit_line n (refusal file)) → IsMapExit n file V out out' err err'
-map_neither n file V out out' err err' h begun told = record {
+map_neither : (n : ℕ) (name file : List ℕ) (V : List Reference) (out out' err err' : OutState) → 4 ≤ n
+    → (n ≡ 6 → Keeps out.bytes out'.bytes ⊎ HasPicture (Begins out.bytes out'.bytes) name file V) → (n ≤ 5 → Keeps out.bytes out'.bytes)
+    → BeginsThenLine err err' [] (exit_line n (refusal file)) → IsMapExit n name file V out out' err err'
+map_neither n name file V out out' err err' h begun unwritten told = record {
   told = told;
   drawn = λ e. absurd (omega arith);
-  begun = λ e. begun;
+  begun = begun;
+  unwritten = λ e. unwritten e.1;
   clean = λ e. absurd (omega arith);
   faulty = λ e. absurd (omega arith);
   refused = λ e. absurd (omega arith);
@@ -190,42 +191,45 @@ quiet_told : (err mid err' : OutState) → Keeps err.bytes mid.bytes → err' �
 quiet_told err mid err' kept quiet = all_then_line err err' []
     (err_written err mid err' [] (appends_kept err.bytes err.bytes mid.bytes [] (appends_nothing err.bytes) kept) quiet)
 
-map_exit : (file : List ℕ) (V : List Reference) (outcome : Result Verdict RunError) (out out' err mid err' : OutState) → IsAnswerOf outcome file
-    → IfOk outcome (λ v. v ≡ verdict (faults file V)) → DrawsMap outcome out.bytes out'.bytes file V → IsUnwritten outcome out.bytes out'.bytes → Keeps err.bytes mid.bytes
+map_exit : (name file : List ℕ) (V : List Reference) (outcome : Result Verdict RunError) (out out' err mid err' : OutState) → IsAnswerOf outcome file
+    → IfOk outcome (λ v. v ≡ verdict (faults file V)) → DrawsMap outcome out.bytes out'.bytes name file V → IsUnwritten outcome out.bytes out'.bytes → Keeps err.bytes mid.bytes
     → OnOk outcome (err' ≡ mid) → OnErr outcome (FewFailed (second_most (exit_status outcome)) err mid)
-    → IfErr outcome (λ error. EndsWithLine (error_line error) 2 mid err') → IsMapExit (exit_status outcome) file V out out' err err'
-map_exit file V (Ok Clean) out out' err mid err' answer found picture unwritten kept quiet few line = record {
+    → IfErr outcome (λ error. EndsWithLine (error_line error) 2 mid err') → IsMapExit (exit_status outcome) name file V out out' err err'
+map_exit name file V (Ok Clean) out out' err mid err' answer found picture unwritten kept quiet few line = record {
   told = quiet_told err mid err' kept quiet;
   drawn = λ e. picture;
   begun = λ h. absurd (omega arith);
+  unwritten = λ h. let k = h.0 in absurd (omega (arith, k));
   clean = λ e. sym found;
   faulty = λ e. absurd (omega arith);
   refused = λ e. absurd (omega arith);
 }
-map_exit file V (Ok (Faulty n)) out out' err mid err' answer found picture unwritten kept quiet few line = record {
+map_exit name file V (Ok (Faulty n)) out out' err mid err' answer found picture unwritten kept quiet few line = record {
   told = quiet_told err mid err' kept quiet;
   drawn = λ e. picture;
   begun = λ h. absurd (omega arith);
+  unwritten = λ h. let k = h.0 in absurd (omega (arith, k));
   clean = λ e. absurd (omega arith);
   faulty = λ e. (n, sym found);
   refused = λ e. absurd (omega arith);
 }
-map_exit file V (Err (Refused e)) out out' err mid err' answer found picture unwritten kept quiet few line = record {
+map_exit name file V (Err (Refused e)) out out' err mid err' answer found picture unwritten kept quiet few line = record {
   told = refused_told err err' [] (refusal file) e answer (kept_then_line 2 err mid err' (error_line (Refused e)) (omega arith) kept few line);
   drawn = λ h. absurd (omega arith);
   begun = λ h. absurd (omega arith);
+  unwritten = λ h. let k = h.0 in absurd (omega (arith, k));
   clean = λ h. absurd (omega arith);
   faulty = λ h. absurd (omega arith);
   refused = λ h. (e, answer, unwritten);
 }
-map_exit file V (Err ReadFailed) out out' err mid err' answer found picture unwritten kept quiet few line =
-    map_neither 4 file V out out' err err' (omega arith) picture
+map_exit name file V (Err ReadFailed) out out' err mid err' answer found picture unwritten kept quiet few line =
+    map_neither 4 name file V out out' err err' (omega arith) (λ e. absurd (omega arith)) (λ m. picture)
     (kept_then_line 2 err mid err' (error_line ReadFailed) (omega arith) kept few line)
-map_exit file V (Err OutOfMemory) out out' err mid err' answer found picture unwritten kept quiet few line =
-    map_neither 5 file V out out' err err' (omega arith) picture
+map_exit name file V (Err OutOfMemory) out out' err mid err' answer found picture unwritten kept quiet few line =
+    map_neither 5 name file V out out' err err' (omega arith) (λ e. absurd (omega arith)) (λ m. picture)
     (kept_then_line 2 err mid err' (error_line OutOfMemory) (omega arith) kept few line)
-map_exit file V (Err WriteFailed) out out' err mid err' answer found picture unwritten kept quiet few line =
-    map_neither 6 file V out out' err err' (omega arith) picture
+map_exit name file V (Err WriteFailed) out out' err mid err' answer found picture unwritten kept quiet few line =
+    map_neither 6 name file V out out' err err' (omega arith) (λ e. picture) (λ m. absurd (omega arith))
     (kept_then_line 3 err mid err' (error_line WriteFailed) (omega arith) kept few line)
 
 -- all was written at a verdict, and else a beginning
@@ -279,7 +283,7 @@ exit_of (request.Report command) file outcome out out' err mid err' run unwritte
 exit_of (request.Explain limit) file outcome out out' err mid err' run unwritten kept quiet few line =
     explain_exit limit file outcome out out' err mid err' run unwritten (kept tt) quiet few line
 exit_of (request.Map name) file outcome out out' err mid err' run unwritten kept quiet few line =
-    λ V s. map_exit file V outcome out out' err mid err' run.answer (run.verdict V s) (run.picture V s) unwritten (kept tt) quiet few line
+    λ V s. map_exit name.now file V outcome out out' err mid err' run.answer (run.verdict V s) (run.picture V s) unwritten (kept tt) quiet few line
 
 -- each run has an answer for the file, and its verdict says whether that is sound
 answer_of : (asked : Request) (file : List ℕ) (outcome : Result Verdict RunError) (out out' err mid : OutState)

@@ -50,7 +50,7 @@ pub record IsExplainedTo (limit : ℕ) (file : List ℕ) (r : Result Verdict Run
 abbrev pub IsEndFor : Request → List ℕ → Result Verdict RunError → OutState → OutState → OutState → OutState → Type 0
 IsEndFor (request.Report command) file r out out' err err' = IsRunBy (report command) file r out.bytes out'.bytes err.bytes err'.bytes
 IsEndFor (request.Explain limit) file r out out' err err' = IsExplainedTo limit file r out out'
-IsEndFor (request.Map name) file r out out' err err' = IsMapOf file r out.bytes out'.bytes
+IsEndFor (request.Map name) file r out out' err err' = IsMapOf name.now file r out.bytes out'.bytes
 
 -- ---- the lines found so far
 

@@ -43,14 +43,14 @@ begins_still : (o m n : Option (List ℕ)) (bytes : List ℕ) → Begins o m byt
 begins_still o m n bytes b k = record { part = b.part; rest = b.rest; whole = b.whole; added = appends_kept o m n b.part b.added k }
 
 -- a picture of which less is said
-picture_for : {P Q : List ℕ → Type 0} (file : List ℕ) (V : List Reference) → ((text : List ℕ) → P text → Q text) → HasPicture P file V → HasPicture Q file V
-picture_for file V less h = record {
+picture_for : {P Q : List ℕ → Type 0} (name file : List ℕ) (V : List Reference) → ((text : List ℕ) → P text → Q text) → HasPicture P name file V → HasPicture Q name file V
+picture_for name file V less h = record {
   heading = h.heading;
   ground = h.ground;
   all = h.all;
   lines = h.lines;
   is = h.is;
-  faulty_line = h.faulty_line;
+  legend = h.legend;
   holds = less (picture_text h.heading h.ground h.all h.lines) h.holds;
 }
 
@@ -62,10 +62,10 @@ keeps_then (Some x) (Some y) (Some z) h k = k ∙ h
 
 module _ (out out' err err' : OutState) where
   -- nothing of a picture was put, or a beginning
-  begun_still : (before : Option (List ℕ)) (file : List ℕ) (V : List Reference) → Keeps out.bytes out'.bytes
-      → Keeps before out.bytes ⊎ HasPicture (Begins before out.bytes) file V → Keeps before out'.bytes ⊎ HasPicture (Begins before out'.bytes) file V
-  begun_still before file V kept (inl k) = inl (keeps_then before out.bytes out'.bytes k kept)
-  begun_still before file V kept (inr k) = inr (picture_for file V (λ text begun. begins_still before out.bytes out'.bytes text begun kept) k)
+  begun_still : (before : Option (List ℕ)) (name file : List ℕ) (V : List Reference) → Keeps out.bytes out'.bytes
+      → Keeps before out.bytes ⊎ HasPicture (Begins before out.bytes) name file V → Keeps before out'.bytes ⊎ HasPicture (Begins before out'.bytes) name file V
+  begun_still before name file V kept (inl k) = inl (keeps_then before out.bytes out'.bytes k kept)
+  begun_still before name file V kept (inr k) = inr (picture_for name file V (λ text begun. begins_still before out.bytes out'.bytes text begun kept) k)
 
   -- the answer is one for the file
   still_answers : (o r : Result Verdict RunError) (file : List ℕ) → IsHanded o r out out' err err' → IsAnswerOf o file → IsAnswerOf r file
@@ -138,15 +138,15 @@ module _ (out out' err err' : OutState) where
   }
 
   -- the picture of a map
-  still_drawn : (o r : Result Verdict RunError) (before : Option (List ℕ)) (file : List ℕ) (V : List Reference)
-      → IsHanded o r out out' err err' → DrawsMap o before out.bytes file V → DrawsMap r before out'.bytes file V
-  still_drawn (Ok v) (Ok w) before file V h k = picture_for file V (λ text added. appends_kept before out.bytes out'.bytes text added h.1.kept) k
-  still_drawn (Ok v) (Err e) before file V h k =
-      inr (picture_for file V (λ text added. all_begun before out'.bytes text (appends_kept before out.bytes out'.bytes text added h.1.kept)) k)
-  still_drawn (Err (Refused x)) r before file V h k = rw h.0 (subst (λ g. DrawsMap {A = Verdict} {E = RunError} (Err (Refused x)) before g.bytes file V) (sym h.1) k)
-  still_drawn (Err ReadFailed) r before file V h k = rw h.0 (begun_still before file V h.1.kept k)
-  still_drawn (Err OutOfMemory) r before file V h k = rw h.0 (begun_still before file V h.1.kept k)
-  still_drawn (Err WriteFailed) r before file V h k = rw h.0 (begun_still before file V h.1.kept k)
+  still_drawn : (o r : Result Verdict RunError) (before : Option (List ℕ)) (name file : List ℕ) (V : List Reference)
+      → IsHanded o r out out' err err' → DrawsMap o before out.bytes name file V → DrawsMap r before out'.bytes name file V
+  still_drawn (Ok v) (Ok w) before name file V h k = picture_for name file V (λ text added. appends_kept before out.bytes out'.bytes text added h.1.kept) k
+  still_drawn (Ok v) (Err e) before name file V h k =
+      rw h.0 (inr (picture_for name file V (λ text added. all_begun before out'.bytes text (appends_kept before out.bytes out'.bytes text added h.1.kept)) k))
+  still_drawn (Err (Refused x)) r before name file V h k = rw h.0 (subst (λ g. DrawsMap {A = Verdict} (Err (Refused x)) before g.bytes name file V) (sym h.1) k)
+  still_drawn (Err ReadFailed) r before name file V h k = rw h.0 (keeps_then before out.bytes out'.bytes k h.1.kept)
+  still_drawn (Err OutOfMemory) r before name file V h k = rw h.0 (keeps_then before out.bytes out'.bytes k h.1.kept)
+  still_drawn (Err WriteFailed) r before name file V h k = rw h.0 (begun_still before name file V h.1.kept k)
 
   -- what an explanation wrote
   still_explained : (limit : ℕ) (file : List ℕ) (V : List Reference) (o r : Result Verdict RunError) (first : OutState) → IsHanded o r out out' err err'
@@ -173,7 +173,7 @@ module _ (out out' err err' : OutState) where
   still_for (request.Map name) file o r first second h run = record {
     survey = run.survey;
     verdict = λ V s. still_of (λ v. v ≡ verdict (faults file V)) o r h (run.verdict V s);
-    picture = λ V s. still_drawn o r first.bytes file V h (run.picture V s);
+    picture = λ V s. still_drawn o r first.bytes name.now file V h (run.picture V s);
     answer = still_answers o r file h run.answer;
     sound = still_of (λ v. v ≡ Clean ↔ Sound file) o r h run.sound;
   }

@@ -111,14 +111,15 @@ pub record IsExplainExit (status limit : ℕ) (file : List ℕ) (V : List Refere
   -- the rest is as of any report
   pub says : IsStatusOf status (explain_report limit file V) (refusal file) out out' err err'
 
--- The same of a map.
-pub record IsMapExit (status : ℕ) (file : List ℕ) (V : List Reference) (out out' err err' : OutState) : Type 0 where
+-- The same of a map with this name.
+pub record IsMapExit (status : ℕ) (name file : List ℕ) (V : List Reference) (out out' err err' : OutState) : Type 0 where
   -- the second Out got the line of the error
   pub told : BeginsThenLine err err' [] (exit_line status (refusal file))
   -- 0 and 1 are answered only where a picture of the file was put to the first Out
-  pub drawn : status ≤ 1 → HasPicture (Appends out.bytes out'.bytes) file V
-  -- at an error other than a refusal nothing was put to it, or a beginning of such a picture
-  pub begun : 4 ≤ status → Keeps out.bytes out'.bytes ⊎ HasPicture (Begins out.bytes out'.bytes) file V
+  pub drawn : status ≤ 1 → HasPicture (Appends out.bytes out'.bytes) name file V
+  -- at 6 nothing was put to it, or a beginning of such a picture; at 4 and 5 nothing
+  pub begun : status ≡ 6 → Keeps out.bytes out'.bytes ⊎ HasPicture (Begins out.bytes out'.bytes) name file V
+  pub unwritten : (4 ≤ status) × (status ≤ 5) → Keeps out.bytes out'.bytes
   -- 0 is answered only where the verdict on the faults is that there is none
   pub clean : status ≡ 0 → verdict (faults file V) ≡ Clean
   -- 1 only where there are some
@@ -133,7 +134,7 @@ IsExitOf status (request.Report command) file out out' err err' =
 IsExitOf status (request.Explain limit) file out out' err err' =
     (V : List Reference) → Survey file V → IsExplainExit status limit file V out out' err err'
 IsExitOf status (request.Map name) file out out' err err' =
-    (V : List Reference) → Survey file V → IsMapExit status file V out out' err err'
+    (V : List Reference) → Survey file V → IsMapExit status name.now file V out out' err err'
 
 -- What an exit status says of a file.
 pub record IsFinishOf (status : ℕ) (asked : Request) (file : List ℕ) (out out' err err' : OutState) : Type 0 where

@@ -24,7 +24,7 @@ WritesToFirst (request.Map name) = ⊤
 abbrev pub IsRunFor : Request → List ℕ → Result Verdict RunError → OutState → OutState → OutState → OutState → Type 0
 IsRunFor (request.Report command) file r out out' err err' = IsRunBy (report command) file r out.bytes out'.bytes err.bytes err'.bytes
 IsRunFor (request.Explain limit) file r out out' err err' = IsExplained limit file r out out'
-IsRunFor (request.Map name) file r out out' err err' = IsMapOf file r out.bytes out'.bytes
+IsRunFor (request.Map name) file r out out' err err' = IsMapOf name.now file r out.bytes out'.bytes
 
 -- Exactly one of the Outs failed, once, exactly at a failed write; but of an explanation the first may fail, once,
 -- after a failed read.

@@ -1,5 +1,5 @@
 -- What the reporter of a map has counted and kept, by what it heard.
-use Rattle.std.proofs.Common.{◌≡◌, ℕ, List, [], ◌∷◌, length, map, Result, inl, inr, refl, sym, ap, subst, ◌∙◌}
+use Rattle.std.proofs.Common.{◌≡◌, ℕ, List, [], ◌∷◌, length, map, Option, Result, Err, inl, inr, refl, sym, ap, subst, ◌∙◌}
 use Rattle.std.specs.Prelude.{IfOk}
 use Rattle.std.specs.Io.KnownBytes.{Keeps}
 use Rattle.std.proofs.lemmas.List.{length-map}
@@ -87,11 +87,18 @@ module _ {A O : Type 0} (file : List ℕ) (V : List Reference) (survey : Survey 
   stopped OutOfMemory h = some_untouched file V survey s t none empty h
   stopped WriteFailed h = absurd (never_stops Hears (run_notices file V) s t h)
 
+  -- a picture was not begun where nothing was put
+  unbegun : (e : RunError) (old new : Option (List ℕ)) → Keeps old new → DrawsMap {A = Verdict} (Err e) old new s.name.now file V
+  unbegun (Refused r) old new kept = kept
+  unbegun ReadFailed old new kept = kept
+  unbegun OutOfMemory old new kept = kept
+  unbegun WriteFailed old new kept = inl kept
+
   -- a run that came to its end, or not
   pub map_left : (held : O → OutState) (r : Result Verdict RunError) → Leaves Hears Never (LeavesMap held) file V r s t
-      → IfOk r (λ v. v ≡ verdict (faults file V)) × DrawsMap r (held s.out.now).bytes (held t.out.now).bytes file V
+      → IfOk r (λ v. v ≡ verdict (faults file V)) × DrawsMap r (held s.out.now).bytes (held t.out.now).bytes s.name.now file V
   map_left held r (inl h) = h none empty
   map_left held r (inr (e, is, k)) =
       let kept : Keeps (held s.out.now).bytes (held t.out.now).bytes =
       subst (λ (o : O). Keeps (held s.out.now).bytes (held o).bytes) (sym (stopped e k)) (keeps_same (held s.out.now).bytes) in
-      subst (λ (r : Result Verdict RunError). IfOk r (λ v. v ≡ verdict (faults file V)) × DrawsMap r (held s.out.now).bytes (held t.out.now).bytes file V) (sym is) (tt, inl kept)
+      subst (λ (r : Result Verdict RunError). IfOk r (λ v. v ≡ verdict (faults file V)) × DrawsMap r (held s.out.now).bytes (held t.out.now).bytes s.name.now file V) (sym is) (tt, unbegun e (held s.out.now).bytes (held t.out.now).bytes kept)

@@ -4,9 +4,12 @@ pub mod Heard
 pub mod Largest
 pub mod LegendLines
 pub mod MapAnswers
+pub mod Namesakes
 pub mod Owning
 pub mod PageSets
 pub mod Pictured
+pub mod Runs
+pub mod SameName
 pub mod Shares
 pub mod ShownFaults
 pub mod SquareSteps

@@ -13,6 +13,7 @@ use Rattle.dbformat.proofs.Theory.{one_survey}
 use Rattle.dbsound.proofs.Soundness.{sound_by_verdict}
 use Rattle.dbsource.proofs.Puts.{keeps_same}
 use Rattle.dbsource.specs.declared.error.RunError.{RunError}
+use Rattle.dbsource.specs.declared.error.RunError.TheVariants.{OutOfMemory, ReadFailed, Refused, WriteFailed}
 use Rattle.dbwalk.specs.Telling.{IsReadWriteOrMemory}
 use Rattle.dbreport.specs.Runs.{IsAnswerOf}
 use Rattle.dbreport.proofs.RunAnswers.{read_answer}
@@ -20,9 +21,9 @@ use Rattle.dbreport.proofs.RunReports.{check_answer}
 use Rattle.dbmap.specs.Maps.{DrawsMap, IsMapOf}
 
 -- the file was read
-pub map_of : (file : List ℕ) (r : Result Verdict RunError) → IfErr r IsReadWriteOrMemory → refusal file ≡ None
-    → (old new : Option (List ℕ)) → ((V : List Reference) → Survey file V → IfOk r (λ v. v ≡ verdict (faults file V)) × DrawsMap r old new file V) → IsMapOf file r old new
-map_of file r only read old new found = record {
+pub map_of : (name file : List ℕ) (r : Result Verdict RunError) → IfErr r IsReadWriteOrMemory → refusal file ≡ None
+    → (old new : Option (List ℕ)) → ((V : List Reference) → Survey file V → IfOk r (λ v. v ≡ verdict (faults file V)) × DrawsMap r old new name file V) → IsMapOf name file r old new
+map_of name file r only read old new found = record {
   survey = (one_survey file).0;
   verdict = λ V s. (found V s).0;
   picture = λ V s. (found V s).1;
@@ -35,11 +36,17 @@ map_of file r only read old new found = record {
     by_answer (Err e) h = tt
 
 -- no verdict was found
-pub no_map : (file : List ℕ) (e : RunError) (old : Option (List ℕ)) → IsAnswerOf {A = Verdict} (Err e) file → IsMapOf file (Err e) old old
-no_map file e old answer = record {
+pub no_map : (name file : List ℕ) (e : RunError) (old : Option (List ℕ)) → IsAnswerOf {A = Verdict} (Err e) file → IsMapOf name file (Err e) old old
+no_map name file e old answer = record {
   survey = (one_survey file).0;
   verdict = λ V s. tt;
-  picture = λ V s. inl (keeps_same old);
+  picture = λ V s. by_error e V;
   answer = answer;
   sound = tt;
 }
+  where
+    by_error : (e : RunError) (V : List Reference) → DrawsMap {A = Verdict} (Err e) old old name file V
+    by_error (Refused r) V = keeps_same old
+    by_error ReadFailed V = keeps_same old
+    by_error OutOfMemory V = keeps_same old
+    by_error WriteFailed V = inl (keeps_same old)

@@ -1,8 +1,10 @@
 -- Lists of trees, tree by tree.
-use Rattle.std.proofs.Common.{◌≡◌, ℕ, List, [], ◌∷◌, ◌++◌, map, Result, Ok, Err, refl, sym, ap, ap₂, ◌∙◌}
+use Rattle.std.proofs.Common.{◌≡◌, ℕ, zero, suc, ◌+◌, ◌<◌, List, [], ◌∷◌, ◌++◌, get_or, length, map, take, arith, Result, Ok, Err, refl, sym, ap, ap₂, ◌∙◌}
 use Rattle.std.specs.Prelude.{IsOk, OnOk}
 use Rattle.std.proofs.lemmas.Bool.{false≢true}
+use Rattle.std.proofs.lemmas.List.{take_more}
 use Rattle.dbmap.specs.Owners.{starts_of}
+use Rattle.dbmap.specs.Tallies.{share_at}
 use Rattle.dbmap.specs.TreeLists.{tree_at}
 use Rattle.dbmap.specs.declared.cell.Share.{Share}
 use Rattle.dbmap.specs.declared.tally.Tree.{Tree}
@@ -16,7 +18,7 @@ pub starts_push : (ts : List Tree) (t : Tree) → starts_of (ts ++ t ∷ []) ≡
 starts_push [] t = refl
 starts_push (u ∷ ts) t = ap (λ l. u.start ∷ l) (starts_push ts t)
 
-map_push : (f : ℕ → Tree) (ks : List ℕ) (k : ℕ) → map f (ks ++ k ∷ []) ≡ map f ks ++ f k ∷ []
+map_push : {X : Type 0} (f : ℕ → X) (ks : List ℕ) (k : ℕ) → map f (ks ++ k ∷ []) ≡ map f ks ++ f k ∷ []
 map_push f [] k = refl
 map_push f (j ∷ ks) k = ap (λ l. f j ∷ l) (map_push f ks k)
 
@@ -24,3 +26,16 @@ pub trees_push : (starts : List Share) (ts : List Tree) (t : Tree) {us : List Tr
     → us ≡ map (tree_at starts) (starts_of us)
 trees_push starts ts t e h k =
     e ∙ ap₂ (λ l u. l ++ u ∷ []) h k ∙ sym (map_push (tree_at starts) (starts_of ts) t.start) ∙ ap (map (tree_at starts)) (sym (starts_push ts t) ∙ ap starts_of (sym e))
+
+-- what a tree has is what a tally has of its start, where that is so of all
+pub tree_here : (starts : List Share) (ts : List Tree) (i : ℕ) (d : Tree) → i < length ts → ts ≡ map (tree_at starts) (starts_of ts)
+    → (get_or ts i d).share ≡ share_at starts (get_or ts i d).start
+tree_here starts [] i d h e = absurd (let no : ⊥ = omega arith in no)
+tree_here starts (t ∷ ts) zero d h e = let same : t ≡ tree_at starts t.start = cc in ap (λ (t : Tree). t.share) same
+tree_here starts (t ∷ ts) (suc i) d h e = let same : ts ≡ map (tree_at starts) (starts_of ts) = cc in tree_here starts ts i d (omega arith) same
+
+-- the names of the first of some trees, one tree more
+pub names_more : (f : ℕ → List ℕ) (ts : List Tree) (i : ℕ) (d : Tree) → i < length ts
+    → map f (starts_of (take (i + 1) ts)) ≡ map f (starts_of (take i ts)) ++ f (get_or ts i d).start ∷ []
+names_more f ts i d h =
+    ap (λ l. map f (starts_of l)) (take_more ts i d h) ∙ ap (map f) (starts_push (take i ts) (get_or ts i d)) ∙ map_push f (starts_of (take i ts)) (get_or ts i d).start

@@ -1,15 +1,16 @@
 -- What is drawn of squares: for each place of the grid there is one.
-use Rattle.std.specs.Prelude.{◌≡◌, ℕ, ◌≤◌, Bool, List, ◌++◌, length, Option, Result, if◌then◌else◌}
+use Rattle.std.specs.Prelude.{◌≡◌, ℕ, ◌≤◌, Bool, List, ◌++◌, length, map, Option, Result, if◌then◌else◌}
 use Rattle.std.specs.Int.{div_ceil}
-use Rattle.dbformat.specs.Header.{is_size_valid, stated_pages}
+use Rattle.dbformat.specs.Header.{encoding, is_size_valid, stated_pages}
 use Rattle.dbformat.specs.Reference.{Reference}
 use Rattle.dbscan.specs.Desks.{Things, shape_of}
 use Rattle.dbscan.specs.Finishes.{IsDeskOf}
 use Rattle.dbsource.specs.Outs.{OutState, Puts}
+use Rattle.dbxml.specs.Names.{file_name, tree_name}
 use Rattle.dbmap.specs.Canvas.{Draws}
-use Rattle.dbmap.specs.Grids.{rows}
+use Rattle.dbmap.specs.Grids.{IsLeastRun, rows, width_of}
 use Rattle.dbmap.specs.KeptFaults.{HasRoom, IsKeptGround, noted_pages}
-use Rattle.dbmap.specs.Legends.{HasFaultyLine}
+use Rattle.dbmap.specs.LegendLines.{legend_lines}
 use Rattle.dbmap.specs.Owners.{IsOf}
 use Rattle.dbmap.specs.Squares.{AreRows, AreSquares, Ground, IsRow, IsSquare, Square, before_text, group_after, last_group, row_text, rows_text, square_text, squares_text, surveyed}
 use Rattle.dbmap.specs.Pictures.{picture_text}
@@ -60,16 +61,21 @@ pub record DrawsPicture {O : Type 0} (held : O → OutState) (h : Heading) (g : 
 abbrev pub stated_of : List ℕ → ℕ
 stated_of header = if is_size_valid header then stated_pages header else 0
 
--- A picture of the file of a desk, and of what was kept of its faults, where there was room to know the trees of its pages: how large it
--- is, how many faults were found, and the squares of all its pages, row by row.
-pub record IsPicture {K : Type 0} (d : Things) (k : Kept K) (faults : ℕ) (h : Heading) (g : Ground) (all : List (List Square)) : Type 0 where
+-- A picture of the file of a desk, and of what was kept of its faults, where there was room to know the trees of its pages: its name, how
+-- large it is, how many faults were found, the names of its trees, and the squares of all its pages, row by row.
+pub record IsPicture {K : Type 0} (name : List ℕ) (d : Things) (k : Kept K) (faults : ℕ) (h : Heading) (g : Ground) (all : List (List Square)) : Type 0 where
+  pub named : h.file ≡ file_name name
   pub geometry : h.geometry ≡ shape_of d
   pub found : h.faults ≡ faults
   pub pages : g.grid.pages ≡ (shape_of d).pages
   pub stated : g.grid.stated ≡ stated_of d.header.bytes
-  pub run : 1 ≤ g.grid.run
+  pub run : IsLeastRun (shape_of d).pages g.grid.run
+  pub width : g.grid.width ≡ width_of g.grid.cells
   pub cells : g.grid.cells ≡ div_ceil (shape_of d).pages g.grid.run
   pub marks : g.marks ≡ d.marks
+  pub shape : g.shape ≡ shape_of d
+  pub tree : g.tree ≡ tree_name (encoding d.header.bytes) d.roots.rows
+  pub names : g.names ≡ map g.tree g.owners.largest
   pub many : length all ≡ rows g.grid
   pub are : (file : List ℕ) (V : List Reference) → IsDeskOf d file V → HasRoom (shape_of d).pages k.walk.trees.known → AreRows (surveyed g V) 0 all
   pub largest : (file : List ℕ) (V : List Reference) → IsDeskOf d file V → HasRoom (shape_of d).pages k.walk.trees.known
@@ -77,11 +83,12 @@ pub record IsPicture {K : Type 0} (d : Things) (k : Kept K) (faults : ℕ) (h : 
   pub faulty : IsKeptGround k g.faults
 
 -- such a picture was put
-pub record PutsPicture {A E K : Type 0} (r : Result A E) (old new : OutState) (d : Things) (k : Kept K) (faults : ℕ) : Type 0 where
+pub record PutsPicture {A E K : Type 0} (r : Result A E) (old new : OutState) (name : List ℕ) (d : Things) (k : Kept K) (faults : ℕ) : Type 0 where
   pub heading : Heading
   pub ground : Ground
   pub all : List (List Square)
   pub lines : List Line
-  pub is : IsPicture d k faults heading ground all
-  pub faulty_line : HasFaultyLine (noted_pages k) lines
+  pub is : IsPicture name d k faults heading ground all
+  pub legend : (file : List ℕ) (V : List Reference) → IsDeskOf d file V → HasRoom (shape_of d).pages k.walk.trees.known
+      → lines ≡ legend_lines file V ground.names ground.owners.largest (noted_pages k)
   pub puts : Puts r old new (picture_text heading ground all lines)

@@ -1,10 +1,20 @@
 -- How the squares of a picture are laid out.
-use Rattle.std.specs.Prelude.{ℕ, ◌+◌, ◌*◌, ◌%◌, min, max}
-use Rattle.std.specs.Int.{div_ceil}
+use Rattle.std.specs.Prelude.{◌≡◌, ◌⊎◌, ℕ, ◌+◌, ◌*◌, ◌/◌, ◌%◌, ◌<◌, ◌≤◌, min, max, nat_le, if◌then◌else◌}
+use Rattle.std.specs.Int.{IsPowerOfTwo, div_ceil}
 use Rattle.dbformat.specs.Lines.{counted}
 use Rattle.dbmap.specs.declared.grid.Grid.{Grid}
 use Rattle.dbmap.specs.declared.grid.Width.{Width}
 use Rattle.dbmap.specs.declared.grid.Width.TheVariants.{Few, Some, Many}
+
+-- A square covers the smallest power of two of pages with which a file of this number of pages has at most 16384 squares.
+pub record IsLeastRun (pages run : ℕ) : Type 0 where
+  pub power : IsPowerOfTwo run
+  pub most : div_ceil pages run ≤ 16384
+  pub least : (run ≡ 1) ⊎ (16384 < div_ceil pages (run / 2))
+
+-- the width of the rows, by how many squares there are
+abbrev pub width_of : ℕ → Width
+width_of cells = if nat_le cells 512 then Few else (if nat_le cells 2048 then Some else Many)
 
 -- how many squares are in a row
 abbrev pub columns_of : Width → ℕ

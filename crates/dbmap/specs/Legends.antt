@@ -1,5 +1,5 @@
 -- The legend of a picture, line by line: what it is of, how many pages that are, and how they are drawn.
-use Rattle.std.specs.Prelude.{◌≡◌, ℕ, ◌+◌, ◌-◌, ◌*◌, Bool, true, false, filter, List, [], ◌∷◌, ◌++◌, length, Option, Some, None, codes, decimal, ◌==◌, if◌then◌else◌}
+use Rattle.std.specs.Prelude.{ℕ, ◌+◌, ◌-◌, ◌*◌, true, false, List, [], ◌∷◌, ◌++◌, length, Option, Some, None, codes, decimal, ◌==◌, if◌then◌else◌}
 use Rattle.std.specs.List.{concat}
 use Rattle.dbformat.specs.declared.Geometry.{Geometry}
 use Rattle.dbxml.specs.Pieces.{tenths_text}
@@ -14,27 +14,9 @@ use Rattle.dbmap.specs.declared.legend.Label.{Label}
 use Rattle.dbmap.specs.declared.legend.Label.TheVariants.{Faulty, Fixed, Freelist, Nobody, Others, Tree}
 use Rattle.dbmap.specs.declared.legend.Line.{Line}
 
--- whether a label is that of pages with a fault
-abbrev pub is_faulty : Label → Bool
-is_faulty Faulty = true
-is_faulty _ = false
-
 -- some pages, none of which is an overflow page
 abbrev pub no_overflow : ℕ → Share
 no_overflow pages = record { pages = pages; overflow = 0 }
-
--- whether a line is that of pages with a fault
-abbrev pub is_of_faulty : Line → Bool
-is_of_faulty line = is_faulty line.label
-
--- a line more, if there is a page of it
-abbrev pub with_line : List Line → Label → Share → List Line
-with_line lines label share = if share.pages == 0 then lines else lines ++ record { label = label; share = share } ∷ []
-
--- The legend has one line of pages with a fault, which says how many there are; none, where there is no such page.
-abbrev pub HasFaultyLine : ℕ → List Line → Type 0
-HasFaultyLine pages lines =
-    filter is_of_faulty lines ≡ (if pages == 0 then [] else record { label = Faulty; share = no_overflow pages } ∷ [])
 
 -- how many pixels the legend takes, with the room around it
 abbrev pub height : List Line → ℕ → ℕ

@@ -8,6 +8,7 @@ pub mod FaultyPages
 pub mod FramedPages
 pub mod Grids
 pub mod KeptFaults
+pub mod LegendLines
 pub mod Legends
 pub mod MapSink
 pub mod Maps

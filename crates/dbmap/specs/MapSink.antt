@@ -21,6 +21,7 @@ module _ {A O : Type 0} where
     pub count : t.faults ≡ counted (s.faults + 1)
     pub kept : Keeps x s.kept.now t.kept.now
     pub out : t.out.now ≡ s.out.now
+    pub name : t.name ≡ s.name
 
   -- a notice was taken: a fault was added, and nothing else changes it
   abbrev pub Hears : MapSink A O → Notice → MapSink A O → Type 0
@@ -38,4 +39,4 @@ map_held held s = record { lent = s.out.ghost_name ∷ []; failures = (held s.ou
 abbrev pub LeavesMap : {A O : Type 0} → (O → OutState) → List ℕ → List Reference → Result Verdict RunError → MapSink A O → MapSink A O → Type 0
 LeavesMap held file V r s t =
     s.faults ≡ 0 → HearsNone (geometry file).pages s.kept.now
-    → IfOk r (λ v. v ≡ verdict (faults file V)) × DrawsMap r (held s.out.now).bytes (held t.out.now).bytes file V
+    → IfOk r (λ v. v ≡ verdict (faults file V)) × DrawsMap r (held s.out.now).bytes (held t.out.now).bytes s.name.now file V

@@ -23,6 +23,10 @@ share_in is_meant is_over pages = record {
 abbrev pub one_page : Bool → Share → Share
 one_page over s = record { pages = counted_pages (s.pages + 1); overflow = counted_pages (s.overflow + (if over then 1 else 0)) }
 
+-- those of two together
+abbrev pub joined : Share → Share → Share
+joined s t = record { pages = counted_pages (s.pages + t.pages); overflow = counted_pages (s.overflow + t.overflow) }
+
 -- whether the owner of page p has this number
 abbrev pub is_numbered : List Mark → OwnersGround → ℕ → ℕ → Bool
 is_numbered marks o number p = number_of (owner_at marks o p) == number

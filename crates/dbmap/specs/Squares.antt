@@ -1,10 +1,18 @@
 -- The squares of a picture, and their text, row by row.
 use Rattle.std.specs.Prelude.{◌≡◌, ℕ, ◌+◌, ◌-◌, ◌≤◌, Bool, List, [], ◌∷◌, ◌++◌, length, Option, Some, None, codes, decimal}
 use Rattle.std.specs.List.{concat}
+use Rattle.std.specs.Option.{option_map_or}
+use Rattle.dbformat.specs.FixedPages.{fixed_use, geometry_of}
 use Rattle.dbformat.specs.Reference.{Reference}
+use Rattle.dbformat.specs.declared.Fixed.{Fixed}
+use Rattle.dbformat.specs.declared.Geometry.{Geometry}
 use Rattle.dbmarks.specs.Marking.{page_mark}
 use Rattle.dbmarks.specs.declared.marks.Mark.{Mark}
 use Rattle.dbowner.specs.Climbs.{place_by}
+use Rattle.dbowner.specs.Texts.{place_tree}
+use Rattle.dbowner.specs.declared.place.Place.{Place}
+use Rattle.dbowner.specs.declared.place.Place.TheVariants as place
+use Rattle.dbxml.specs.Names.{tree_name}
 use Rattle.dbmap.specs.FaultyPages.{FaultsGround, IsFaulty}
 use Rattle.dbmap.specs.Grids.{cells_of_row, run_of, top_of, x_of}
 use Rattle.dbmap.specs.Outlines.{outlines_text}
@@ -21,11 +29,15 @@ use Rattle.dbmap.specs.declared.layout.Layout.{Layout}
 use Rattle.dbmap.specs.declared.page.PageSquare.{PageSquare}
 use Rattle.dbmap.specs.declared.run.Run.{Run}
 use Rattle.dbmap.specs.declared.squares.Squares.{Squares}
+use Rattle.dbmap.specs.declared.walk.Walk.{Walk}
 
--- What squares are drawn by: where they are, the names of the largest trees, what is remembered of the pages, and their faults.
+-- What squares are drawn by: where they are, the names of the largest trees by rank and of all by start, the sizes of the file, what is
+-- remembered of the pages, and their faults.
 pub record Ground : Type 0 where
   pub grid : Grid
   pub names : List (List ℕ)
+  pub tree : ℕ → List ℕ
+  pub shape : Geometry
   pub marks : List Mark
   pub faults : FaultsGround
   pub owners : OwnersGround
@@ -39,6 +51,8 @@ abbrev pub ground_of : {A : Type 0} → Squares A → Layout → Ground
 ground_of s layout = record {
   grid = layout.grid;
   names = layout.labels.names.items;
+  tree = tree_name s.names.encoding s.names.roots.now.rows;
+  shape = geometry_of s.header.now.bytes s.header.now.file_len;
   marks = s.marks.now;
   faults = faults_ground s;
   owners = record { start = λ p. None; largest = starts_of s.largest.items };
@@ -47,6 +61,10 @@ ground_of s layout = record {
 -- the same where V is the survey of the file: each page belongs to the start of its visit
 abbrev pub surveyed : Ground → List Reference → Ground
 surveyed g V = record g { owners = owners_by V g.owners.largest }
+
+-- what was named last is the tree of the start that was named last
+abbrev pub IsNamed : {A : Type 0} → (ℕ → List ℕ) → Walk A → Type 0
+IsNamed tree walk = walk.name ≡ option_map_or tree walk.named []
 
 -- A square: of a page, whose tree has this name, filled for its owner; of a run of pages that all have one owner; or of one that have
 -- several, divided in bands.
@@ -97,12 +115,23 @@ abbrev pub rows_text : Ground → ℕ → List (List Square) → List ℕ
 rows_text g row [] = []
 rows_text g row (squares ∷ rows) = row_text g row squares ++ rows_text g (row + 1) rows
 
--- What a square of a page is at a place of the grid: it is there, is of the page of this place, says of it what is remembered, is filled
--- for its owner, and says which faults it has.
-pub record IsPage (g : Ground) (cell : ℕ) (s : PageSquare) (fill : Owner × Bool) : Type 0 where
+-- the fixed use of a page that is this
+abbrev pub fixed_in : Geometry → Place → ℕ → Option Fixed
+fixed_in shape place.Fixed p = fixed_use shape p
+fixed_in shape _ p = None
+
+-- the name of the tree that a page is said to be in, where it is this and belongs to this start; or nothing
+abbrev pub tree_of : (ℕ → List ℕ) → Place → Option ℕ → List ℕ
+tree_of tree place start = option_map_or tree (place_tree place start) []
+
+-- What a square of a page is at a place of the grid: it is there, is of the page of this place, says of it what is remembered, names its
+-- fixed use or the tree that it is in, is filled for its owner, and says which faults it has.
+pub record IsPage (g : Ground) (cell : ℕ) (s : PageSquare) (named : List ℕ) (fill : Owner × Bool) : Type 0 where
   pub x : s.x ≡ x_of g.grid cell
   pub page : s.page ≡ (run_of g.grid cell g.grid.pages).0
   pub place : s.place ≡ place_by (page_mark g.marks s.page)
+  pub fixed : s.fixed ≡ fixed_in g.shape s.place s.page
+  pub tree : named ≡ tree_of g.tree s.place (g.owners.start s.page)
   pub faulty : IsFaulty g.faults s.page s.page s.faulty
   pub shade : fill ≡ shade_at g.marks g.owners s.page
 
@@ -117,7 +146,7 @@ pub record IsRun (g : Ground) (cell : ℕ) (r : Run) : Type 0 where
 -- A square is that of a place: of a page, where a square is a page, and else of a run, in one fill where all its pages have one owner,
 -- and in bands where they have several.
 abbrev pub IsSquare : Ground → ℕ → Square → Type 0
-IsSquare g cell (of_page shade s tree) = (g.grid.run ≡ 1) × IsPage g cell s shade
+IsSquare g cell (of_page shade s tree) = (g.grid.run ≡ 1) × IsPage g cell s tree shade
 IsSquare g cell (of_one shade r) = (2 ≤ g.grid.run) × IsRun g cell r × IsOfOne g.marks g.owners r shade
 IsSquare g cell (of_several r bands) = (2 ≤ g.grid.run) × IsRun g cell r × IsOfSeveral g.marks g.owners r
 

@@ -2,7 +2,7 @@
 ghost use Rattle.std.specs.Prelude.{◌≡◌, ◌≤◌, ◌<◌, ◌⊎◌, ◌==◌, ℕ, IfSome, if◌then◌else◌};
 ghost use Rattle.dbmap.specs.Cells.{has_pages, is_shaded, no_share, number_of, owner_numbered, share_of};
 ghost use Rattle.dbmap.specs.Owners.{is_overflow};
-ghost use Rattle.dbmap.specs.Shares.{HasNone, HasTwo, IsOnly, one_page};
+ghost use Rattle.dbmap.specs.Shares.{HasNone, HasTwo, IsOnly, joined, one_page};
 
 use dbowner::Place;
 
@@ -64,7 +64,9 @@ impl Share {
     }
 
     /// Counts those of another.
-    pub(crate) fn join(&mut self, other: Share) {
+    pub(crate) fn join(&mut self, other: Share)
+        ensures { self.new ≡ joined self.old other }
+    {
         self.pages = self.pages.saturating_add(other.pages);
         self.overflow = self.overflow.saturating_add(other.overflow);
     }

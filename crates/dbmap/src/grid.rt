@@ -28,7 +28,9 @@ pub(crate) struct Grid {
 }
 
 // How many squares are in a row, by how many there are.
-fn width_of(cells: u32) -> Width {
+fn width_of(cells: u32) -> Width
+    ensures { result ≡ grids.width_of cells }
+{
     match cells {
         0..=512 => Width::Few,
         513..=2048 => Width::Some,
@@ -43,6 +45,8 @@ impl Grid {
         ensures pages { result.pages ≡ pages }
         ensures stated { result.stated ≡ stated }
         ensures run { 1 ≤ result.run }
+        ensures least { grids.IsLeastRun pages result.run }
+        ensures width { result.width ≡ grids.width_of result.cells }
         ensures cells { result.cells ≡ div_ceil pages result.run }
     {
         let run = pages.div_ceil(MOST_CELLS).next_power_of_two();

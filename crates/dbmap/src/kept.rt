@@ -1,12 +1,11 @@
 // What a map keeps of a file beside what a check keeps.
-ghost use Rattle.std.specs.Prelude.{◌≡◌, ℕ, ◌++◌, List, IfOk, map, take, vec_len};
-ghost use Rattle.dbformat.specs.FixedPages.{IsInRange};
+ghost use Rattle.std.specs.Prelude.{◌≡◌, ℕ, ◌++◌, List, map, take, vec_len};
 ghost use Rattle.dbformat.specs.declared.FaultCode.{FaultCode};
 ghost use Rattle.dbentries.specs.Kept.{kept_of};
 ghost use Rattle.dbentries.specs.Listing as listing;
 ghost use Rattle.dbentries.specs.Woven.{KeepsFirst, woven};
 ghost use Rattle.dbmap.specs.FramedPages.{first_faults, framed};
-ghost use Rattle.dbmap.specs.KeptFaults.{HearsNone, Keeps};
+ghost use Rattle.dbmap.specs.KeptFaults.{Keeps};
 ghost use Rattle.dbmap.specs.PageSets.{AreNoted};
 
 use crate::listed::note_listed;
@@ -17,11 +16,9 @@ use dbentries::{Entries, Reported};
 use dbformat::FaultCode;
 use dblisting::LOST_ENTRIES;
 use dbowner::PageTrees;
+use dbreport::Extra;
 use dbsource::Geometry;
 use std::alloc::{AllocError, Allocator, Global};
-
-// How many entries are kept: as many as `explain` lists where no other number is given.
-const LIMIT: u32 = 100;
 
 /// What a map keeps of a file beside what a check keeps.
 #[derive(Drop)]
@@ -40,21 +37,19 @@ pub(crate) struct Kept<A: Allocator = Global> {
     pub(crate) lost: Entries<A>,
 }
 
-impl<A: Allocator + Copy> Kept<A> {
-    /// That of a file of which nothing is known yet, each part in one growth.
-    ///
-    /// # Errors
-    ///
-    /// [`AllocError`] where a growth was refused.
-    pub(crate) fn new_in(alloc: A, geometry: &Geometry) -> Result<Kept<A>, AllocError>
-        requires { IsInRange geometry.now }
-        ensures { IfOk result (HearsNone geometry.now.pages) }
-    {
+impl<A: Allocator + Copy> Extra<A> for Kept<A> {
+    ghost use Rattle.std.specs.Prelude.{◌≡◌};
+    ghost use Rattle.dbmap.specs.KeptFaults.{HearsNone};
+
+    ghost begins = { λ limit g k. limit ≡ 100 → HearsNone g.pages k };
+
+    // Each part is one growth.
+    fn new_in(alloc: A, limit: u32, geometry: &Geometry) -> Result<Kept<A>, AllocError> {
         let trees = PageTrees::new_in(alloc, geometry)?;
         let tally = Tally::new_in(alloc)?;
         let faulty = PageSet::new_in(alloc, geometry.pages)?;
         let strong = PageSet::new_in(alloc, geometry.pages)?;
-        let entries = Entries::new_in(alloc, LIMIT)?;
+        let entries = Entries::new_in(alloc, limit)?;
         let lost = Entries::new_in(alloc, LOST_ENTRIES)?;
         Ok(Kept {
             walk: Walk::new(trees),

@@ -1,6 +1,9 @@
 // The names of the largest trees.
-ghost use Rattle.std.specs.Prelude.{◌≡◌, slice_get, option_map};
+ghost use Rattle.std.specs.Prelude.{◌≡◌, ◌≤◌, length, map, slice_get, option_map};
+ghost use Rattle.dbxml.specs.Names.{tree_name};
 ghost use Rattle.dbxml.specs.Pieces.{piece_text};
+ghost use Rattle.dbmap.specs.LegendLines.{is_twice};
+ghost use Rattle.dbmap.specs.Owners.{starts_of};
 ghost use Rattle.dbmap.specs.Runs.{name_text};
 
 use crate::tally::{COLOURED, Tree};
@@ -17,7 +20,10 @@ pub(crate) struct Labels {
 
 impl Labels {
     /// Those of some trees.
-    pub(crate) fn new<A: Allocator>(names: &TreeNames<'_, A>, largest: &[Tree]) -> Labels {
+    pub(crate) fn new<A: Allocator>(names: &TreeNames<'_, A>, largest: &[Tree]) -> Labels
+        requires { length largest.now ≤ 12 }
+        ensures { result.names.items ≡ map (tree_name names.now.encoding names.now.roots.now.rows) (starts_of largest.now) }
+    {
         let mut labels = Labels {
             names: ArrayVec::new(),
         };
@@ -45,7 +51,9 @@ impl Labels {
     }
 
     /// Whether another of the trees has the same name as far as it is shown in a number of columns.
-    pub(crate) fn is_twice(&self, rank: usize, width: u32) -> bool {
+    pub(crate) fn is_twice(&self, rank: usize, width: u32) -> bool
+        ensures { result ≡ is_twice self.now.names.items rank width }
+    {
         let names = self.names.as_slice();
         let Some(name) = names.get(rank) else {
             return false;

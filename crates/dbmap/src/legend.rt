@@ -1,9 +1,14 @@
 // The legend of the picture.
-ghost use Rattle.std.specs.Prelude.{◌≡◌, ◌+◌, ◌≤◌, ◌<◌, [], filter, length};
+ghost use Rattle.std.specs.Prelude.{◌≡◌, ◌+◌, ◌≤◌, ◌<◌, ◌++◌, [], length, map};
 ghost use Rattle.dbxml.specs.Pieces.{piece_text};
 ghost use Rattle.dbmap.specs.Canvas.{Draws};
+ghost use Rattle.dbmap.specs.LegendLines.{line_if, owner_lines, root_if_twice, root_page};
 ghost use Rattle.dbmap.specs.Legends as legends;
+ghost use Rattle.dbmap.specs.Owners.{starts_of};
 ghost use Rattle.dbmap.specs.Sizes.{tenths_of_percent};
+ghost use Rattle.dbmap.specs.Tallies.{share_at};
+ghost use Rattle.dbmap.specs.TreeLists.{tree_at};
+ghost use Rattle.dbmap.specs.declared.legend.Label.TheVariants.{Faulty};
 
 use crate::canvas::Canvas;
 use crate::cell::{Owner, Share};
@@ -68,8 +73,10 @@ impl Legend {
         labels: &Labels,
         faulty: u32,
     ) -> Legend
-        requires { length largest.now ≤ 12 }
-        ensures { legends.HasFaultyLine faulty result.lines.items }
+        requires few { length largest.now ≤ 12 }
+        requires shares { largest.now ≡ map (tree_at tally.now.starts) (starts_of largest.now) }
+        ensures { result.lines.items ≡ owner_lines labels.now.names.items names.now.roots.now.rows (share_at tally.now.starts)
+            (starts_of largest.now) tally.now.trees tally.now.fixed tally.now.nobody ++ line_if Faulty (legends.no_overflow faulty) }
     {
         let mut legend = Legend::of_owners(tally, largest, names, labels);
         legend.add(Label::Faulty, no_overflow(faulty));
@@ -83,8 +90,10 @@ impl Legend {
         names: &TreeNames<'_, B>,
         labels: &Labels,
     ) -> Legend
-        requires { length largest.now ≤ 12 }
-        ensures none { filter legends.is_of_faulty result.lines.items ≡ [] }
+        requires few { length largest.now ≤ 12 }
+        requires shares { largest.now ≡ map (tree_at tally.now.starts) (starts_of largest.now) }
+        ensures lines { result.lines.items ≡ owner_lines labels.now.names.items names.now.roots.now.rows (share_at tally.now.starts)
+            (starts_of largest.now) tally.now.trees tally.now.fixed tally.now.nobody }
         ensures room { length result.lines.items ≤ 16 }
     {
         let mut legend = Legend {
@@ -104,7 +113,7 @@ impl Legend {
 
     // Adds a line, if there is a page of it.
     fn add(&mut self, label: Label, share: Share)
-        ensures line { length self.old.lines.items < 17 → self.new.lines.items ≡ legends.with_line self.old.lines.items label share }
+        ensures line { length self.old.lines.items < 17 → self.new.lines.items ≡ self.old.lines.items ++ line_if label share }
         ensures room { length self.new.lines.items ≤ length self.old.lines.items + 1 }
     {
         if share.pages != 0 {
@@ -419,7 +428,9 @@ fn root_if_twice<A: Allocator>(
     labels: &Labels,
     rank: usize,
     start: u32,
-) -> Option<u32> {
+) -> Option<u32>
+    ensures { result ≡ root_if_twice labels.now.names.items names.now.roots.now.rows rank start }
+{
     if labels.is_twice(rank, NAME_WIDTH) {
         Some(root_page(names, start))
     } else {
@@ -428,7 +439,9 @@ fn root_if_twice<A: Allocator>(
 }
 
 // The root page of the tree of a start.
-fn root_page<A: Allocator>(names: &TreeNames<'_, A>, start: u32) -> u32 {
+fn root_page<A: Allocator>(names: &TreeNames<'_, A>, start: u32) -> u32
+    ensures { result ≡ root_page names.now.roots.now.rows start }
+{
     if start == 0 {
         return 1;
     }

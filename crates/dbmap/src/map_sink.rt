@@ -30,6 +30,7 @@ impl<'a, A: Allocator, O: Out> MapSink<'a, A, O> {
         ensures out { result.out.now ≡ out.old }
         ensures kept { result.kept.now ≡ kept.old }
         ensures faults { result.faults ≡ 0 }
+        ensures name { result.name.now ≡ name.now }
     {
         MapSink {
             name,

@@ -26,11 +26,14 @@ use crate::picture::{Heading, draw_picture};
 use crate::squares::Squares;
 use dbformat::Verdict;
 use dbowner::TreeNames;
-use dbreport::open_in;
+use dbreport::open_with;
 use dbscan::{Desk, run_over};
 use dbsource::{Header, Out, RunError, Source, WriteFailed};
 use dbxml::shown_file;
 use std::alloc::{Allocator, Global};
+
+// How many entries are kept: as many as `explain` lists where no other number is given.
+const ENTRIES: u32 = 100;
 
 // The number of pages that the header states, where it counts.
 fn stated_pages(header: &Header) -> u32
@@ -55,7 +58,7 @@ pub(crate) fn put_map<A: Allocator, O: Out>(
     faults: u64,
     out: &mut O,
 ) -> Result<(), WriteFailed>
-    ensures { PutsPicture result (O.held out.old) (O.held out.new) desk.now kept.old faults }
+    ensures { PutsPicture result (O.held out.old) (O.held out.new) name.now desk.now kept.old faults }
 {
     kept.note_listed();
     kept.walk.begin(desk.marks(), desk.roots());
@@ -113,7 +116,7 @@ fn map_on<A: Allocator, S: Source, O: Out>(
     requires { HearsNone (shape_of desk.old).pages kept.old }
     ensures read { HasReadBehind S.step (IsPageLog (shape_of desk.old)) desk.old.header
         (λ file. (V : List Reference) → Survey file V → IfOk result (λ v. v ≡ verdict (faults file V))
-        × DrawsMap result (O.held out.old).bytes (O.held out.new).bytes file V)
+        × DrawsMap result (O.held out.old).bytes (O.held out.new).bytes name.now file V)
         (S.held source.old) (S.held source.new) }
     ensures reads { (S.held source.new).failures ≡ failures_after is_read_failed result (S.held source.old).failures }
     ensures writes { (O.held out.new).failures ≡ failures_after is_write_failed result (O.held out.old).failures }
@@ -136,12 +139,11 @@ pub fn map_in<A: Allocator + Copy, S: Source, O: Out>(
 ) -> Result<Verdict, RunError>
     // What is kept of the file is no larger than memory, as is so unless the allocator itself is about that large.
     requires fits { DeskFitsInMemory A.row A.Allocator }
-    ensures read { HasMap S.Source O.Out result (source.old, out.old) (source.new, out.new) }
+    ensures read { HasMap S.Source O.Out name.now result (source.old, out.old) (source.new, out.new) }
     ensures failed { FailsOnce S.Source O.Out result (source.old, out.old) (source.new, out.new) }
     ensures refused { IsUntouched S.Source O.Out result (source.old, out.old) (source.new, out.new) }
 {
-    let mut desk = open_in(alloc, source)?;
-    let mut kept = Kept::new_in(alloc, &desk.geometry())?;
+    let (mut desk, mut kept) = open_with(alloc, ENTRIES, source)?;
     map_on(name, &mut desk, &mut kept, source, out)
 }
 
@@ -165,7 +167,7 @@ pub fn map<S: Source, O: Out>(
 ) -> Result<Verdict, RunError>
     // Whatever the source answers: there is a file, of the length that it answered, that agrees with every byte that was used,
     // and of each such file the verdict is that on its faults, and a picture of it was put.
-    ensures read { HasMap S.Source O.Out result (source.old, out.old) (source.new, out.new) }
+    ensures read { HasMap S.Source O.Out name.now result (source.old, out.old) (source.new, out.new) }
     ensures failed { FailsOnce S.Source O.Out result (source.old, out.old) (source.new, out.new) }
     ensures refused { IsUntouched S.Source O.Out result (source.old, out.old) (source.new, out.new) }
 {

@@ -3,7 +3,7 @@ ghost use Rattle.std.specs.Prelude.{◌≡◌, ◌≤◌, None};
 ghost use Rattle.dbmap.specs.Canvas.{Draws};
 ghost use Rattle.dbmap.specs.Drawings.{DrawsPicture};
 ghost use Rattle.dbmap.specs.Pictures as pictures;
-ghost use Rattle.dbmap.specs.Squares.{ground_of};
+ghost use Rattle.dbmap.specs.Squares.{IsNamed, ground_of};
 
 use crate::canvas::Canvas;
 use crate::grid::Grid;
@@ -174,6 +174,7 @@ pub(crate) fn draw_picture<A: Allocator, O: Out>(
 )
     requires group { walk.old.pen.group ≡ None }
     requires run { 1 ≤ layout.now.grid.run }
+    requires named { IsNamed (ground_of squares.now layout.now).tree walk.old }
     ensures { DrawsPicture O.held heading.now (ground_of squares.now layout.now) walk.old.trees.known legend.now.lines.items canvas.old canvas.new }
 {
     let grid = &layout.grid;

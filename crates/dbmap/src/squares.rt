@@ -1,5 +1,6 @@
 // The squares of the picture, row by row.
 ghost use Rattle.std.specs.Prelude.{◌≡◌, ◌-◌, ◌≤◌, ℕ, List, None};
+ghost use Rattle.dbformat.specs.FixedPages.{geometry_of};
 ghost use Rattle.dbformat.specs.Reference.{Reference};
 ghost use Rattle.dbmap.specs.Canvas.{Draws};
 ghost use Rattle.dbmap.specs.Drawings.{DrawsRow, DrawsRows, DrawsSquare, DrawsSquares};
@@ -7,7 +8,7 @@ ghost use Rattle.dbmap.specs.FaultyPages.{IsFaulty, frame_of};
 ghost use Rattle.dbmap.specs.Owners.{IsOf, StaysOf, owner_by, owners_by, starts_of};
 ghost use Rattle.dbmap.specs.PageSets.{any_page, has_page, pages_between};
 ghost use Rattle.dbmap.specs.Shares.{AreShares};
-ghost use Rattle.dbmap.specs.Squares.{faults_ground, front_text, ground_of};
+ghost use Rattle.dbmap.specs.Squares.{IsNamed, faults_ground, fixed_in, front_text, ground_of};
 
 use crate::canvas::Canvas;
 use crate::cell::{Cell, Owner, is_overflow};
@@ -64,6 +65,7 @@ impl<'a, A: Allocator> Squares<'a, A> {
         ensures shares { (file : List ℕ) (V : List Reference) → IsOf self.now.marks.now walk.old.trees.known file V
             → AreShares self.now.marks.now (owners_by V (starts_of self.now.largest.items)) (pages_between first last) result }
         ensures pen { walk.new.pen ≡ walk.old.pen }
+        ensures named { (walk.new.name ≡ walk.old.name) × (walk.new.named ≡ walk.old.named) }
         ensures trees { StaysOf self.now.marks.now walk.old.trees.known walk.new.trees.known }
     {
         let mut cell = Cell::new();
@@ -109,6 +111,7 @@ impl<'a, A: Allocator> Squares<'a, A> {
     )
         requires group { walk.old.pen.group ≡ None }
         requires run { 1 ≤ layout.now.grid.run }
+        requires named { IsNamed (ground_of self.now layout.now).tree walk.old }
         ensures { DrawsRows O.held (ground_of self.now layout.now) walk.old.trees.known canvas.old canvas.new }
     {
         for row in 0..layout.grid.rows() {
@@ -126,8 +129,10 @@ impl<'a, A: Allocator> Squares<'a, A> {
     )
         requires group { walk.old.pen.group ≡ None }
         requires run { 1 ≤ layout.now.grid.run }
+        requires named { IsNamed (ground_of self.now layout.now).tree walk.old }
         ensures draws { DrawsRow O.held (ground_of self.now layout.now) walk.old.trees.known row canvas.old canvas.new }
         ensures group { walk.new.pen.group ≡ None }
+        ensures named { IsNamed (ground_of self.now layout.now).tree walk.new }
         ensures trees { StaysOf self.now.marks.now walk.old.trees.known walk.new.trees.known }
     {
         let grid = &layout.grid;
@@ -150,8 +155,10 @@ impl<'a, A: Allocator> Squares<'a, A> {
     )
         requires order { first ≤ end }
         requires run { 1 ≤ layout.now.grid.run }
+        requires named { IsNamed (ground_of self.now layout.now).tree walk.old }
         ensures draws { DrawsSquares O.held (ground_of self.now layout.now) walk.old.trees.known first (end - first)
             walk.old.pen.group walk.new.pen.group canvas.old canvas.new }
+        ensures named { IsNamed (ground_of self.now layout.now).tree walk.new }
         ensures trees { StaysOf self.now.marks.now walk.old.trees.known walk.new.trees.known }
     {
         for cell in first..end {
@@ -167,9 +174,11 @@ impl<'a, A: Allocator> Squares<'a, A> {
         walk: &mut Walk<A>,
         cell: u32,
     )
-        requires { 1 ≤ layout.now.grid.run }
+        requires run { 1 ≤ layout.now.grid.run }
+        requires named { IsNamed (ground_of self.now layout.now).tree walk.old }
         ensures draws { DrawsSquare O.held (ground_of self.now layout.now) walk.old.trees.known cell
             walk.old.pen.group walk.new.pen.group canvas.old canvas.new }
+        ensures named { IsNamed (ground_of self.now layout.now).tree walk.new }
         ensures trees { StaysOf self.now.marks.now walk.old.trees.known walk.new.trees.known }
     {
         if layout.grid.run == 1 {
@@ -187,9 +196,11 @@ impl<'a, A: Allocator> Squares<'a, A> {
         walk: &mut Walk<A>,
         cell: u32,
     )
-        requires { 2 ≤ layout.now.grid.run }
+        requires run { 2 ≤ layout.now.grid.run }
+        requires named { IsNamed (ground_of self.now layout.now).tree walk.old }
         ensures draws { DrawsSquare O.held (ground_of self.now layout.now) walk.old.trees.known cell
             walk.old.pen.group walk.new.pen.group canvas.old canvas.new }
+        ensures named { IsNamed (ground_of self.now layout.now).tree walk.new }
         ensures trees { StaysOf self.now.marks.now walk.old.trees.known walk.new.trees.known }
     {
         let grid = &layout.grid;
@@ -225,9 +236,11 @@ impl<'a, A: Allocator> Squares<'a, A> {
         walk: &mut Walk<A>,
         cell: u32,
     )
-        requires { layout.now.grid.run ≡ 1 }
+        requires run { layout.now.grid.run ≡ 1 }
+        requires named { IsNamed (ground_of self.now layout.now).tree walk.old }
         ensures draws { DrawsSquare O.held (ground_of self.now layout.now) walk.old.trees.known cell
             walk.old.pen.group walk.new.pen.group canvas.old canvas.new }
+        ensures named { IsNamed (ground_of self.now layout.now).tree walk.new }
         ensures trees { StaysOf self.now.marks.now walk.old.trees.known walk.new.trees.known }
     {
         let grid = &layout.grid;
@@ -248,7 +261,9 @@ impl<'a, A: Allocator> Squares<'a, A> {
     }
 
     // The fixed use of a page, if it has one.
-    fn fixed(&self, place: Place, page: u32) -> Option<Fixed> {
+    fn fixed(&self, place: Place, page: u32) -> Option<Fixed>
+        ensures { result ≡ fixed_in (geometry_of self.now.header.now.bytes self.now.header.now.file_len) place page }
+    {
         match place {
             Place::Fixed => self.header.geometry().fixed(page),
             _ => None,

@@ -2,6 +2,7 @@
 ghost use Rattle.std.specs.Prelude.{◌≡◌, ◌↔◌, ◌≤◌, ℕ, List, IfOk, IfSome, IsTrue, map, option_map, replicate, vec_len};
 ghost use Rattle.dbformat.specs.Reference.{Reference};
 ghost use Rattle.dbmap.specs.Cells.{no_share};
+ghost use Rattle.dbmap.specs.LegendLines.{other_trees, others_share};
 ghost use Rattle.dbmap.specs.Owners.{IsOf, StaysOf, rank_of, starts_of};
 ghost use Rattle.dbmap.specs.Tallies.{AreLargest, IsNext, IsNone, IsTallyOf, page_counted, pages_at, share_at, start_counted, used_counted};
 ghost use Rattle.dbmap.specs.TreeLists.{IsAfterTree, IsBeforeTree, IsFirstTree, IsOfTally, tree_at};
@@ -233,7 +234,10 @@ impl<A: Allocator> Tally<A> {
     }
 
     /// How many trees there are beside some, and what they have.
-    pub(crate) fn others(&self, largest: &[Tree]) -> (u32, Share) {
+    pub(crate) fn others(&self, largest: &[Tree]) -> (u32, Share)
+        ensures trees { result.0 ≡ other_trees (share_at self.now.starts) (starts_of largest.now) self.now.trees }
+        ensures share { result.1 ≡ others_share (share_at self.now.starts) (starts_of largest.now) self.now.trees }
+    {
         let mut count = 0u32;
         let mut all = Share::default();
         for start in 0..self.trees {

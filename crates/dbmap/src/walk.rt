@@ -1,10 +1,13 @@
 // What changes from one square to the next.
-ghost use Rattle.std.specs.Prelude.{◌≡◌, ◌≤◌, None, List, ℕ, length};
+ghost use Rattle.std.specs.Prelude.{◌≡◌, ◌≤◌, [], None, List, ℕ, length};
+ghost use Rattle.std.specs.Option.{option_map_or};
 ghost use Rattle.dbformat.specs.Reference.{Reference};
 ghost use Rattle.dbformat.specs.Survey.{Survey};
 ghost use Rattle.dbmarks.specs.Marking.{AreMarksOf};
 ghost use Rattle.dbowner.specs.Climbs.{AreTrees};
 ghost use Rattle.dbscan.specs.Roots.{AreListed};
+ghost use Rattle.dbxml.specs.Names.{tree_name};
+ghost use Rattle.dbmap.specs.Squares.{IsNamed};
 
 use crate::pen::Pen;
 use dbowner::{PageTrees, RootList, TreeNames};
@@ -42,6 +45,8 @@ impl<A: Allocator> Walk<A> {
         roots: &RootList<C>,
     )
         ensures group { self.new.pen.group ≡ None }
+        ensures name { self.new.name ≡ [] }
+        ensures named { self.new.named ≡ None }
         ensures trees { (file : List ℕ) (V : List Reference) → Survey file V → AreMarksOf file V marks.now → AreListed file V roots.now.rows
             → length marks.now ≤ length self.old.trees.known → AreTrees file V self.new.trees.known }
     {
@@ -53,6 +58,9 @@ impl<A: Allocator> Walk<A> {
 
     /// Makes the name that of the tree of a start, or nothing. Pages that follow one another are mostly of one tree.
     pub(crate) fn name<B: Allocator>(&mut self, names: &TreeNames<'_, B>, start: Option<u32>)
+        requires { IsNamed (tree_name names.now.encoding names.now.roots.now.rows) self.old }
+        ensures name { self.new.name ≡ option_map_or (tree_name names.now.encoding names.now.roots.now.rows) start [] }
+        ensures named { self.new.named ≡ start }
         ensures pen { self.new.pen ≡ self.old.pen }
         ensures trees { self.new.trees ≡ self.old.trees }
     {

@@ -1,4 +1,4 @@
-use Rattle.std.proofs.Common.{rules, ◌≡◌, ap, sym, subst, ◌∙◌}
+use Rattle.std.proofs.Common.{rules, ◌≡◌, ℕ, List, ap, sym, subst, ◌∙◌}
 use Rattle.dbformat.specs.File.{geometry}
 use Rattle.dbformat.specs.declared.Geometry.{Geometry}
 use Rattle.dbsource.specs.Errors.{is_write_failed}
@@ -22,8 +22,9 @@ returns-clause-read g c =
     let here = subst (HearsNone (geometry file).pages) (sym c.new-sink.ensures.kept) empty in
     let h = map_left file V s c.new-sink.result c.run_over.new.sink c.new-sink.ensures.faults here held r (left V s) in (
       h.0,
-      subst (λ (o : g.row.O.Denot). DrawsMap r (held o).bytes (held c.out-1.given.0).bytes file V) c.new-sink.ensures.out
-          (subst (λ (o : g.row.O.Denot). DrawsMap r (held c.new-sink.result.out.now).bytes (held o).bytes file V) (sym k) h.1),
+      subst (λ (o : g.row.O.Denot). DrawsMap r (held o).bytes (held c.out-1.given.0).bytes c.args.name.now file V) c.new-sink.ensures.out
+          (subst (λ (o : g.row.O.Denot). DrawsMap r (held c.new-sink.result.out.now).bytes (held o).bytes c.args.name.now file V) (sym k)
+          (subst (λ (n : List ℕ). DrawsMap r (held c.new-sink.result.out.now).bytes (held c.run_over.new.sink.out.now).bytes n file V) c.new-sink.ensures.name h.1)),
     ))
 
 pub returns-clause-writes : goal.returns-clause-writes

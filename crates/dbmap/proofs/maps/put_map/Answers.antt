@@ -1,4 +1,4 @@
-use Rattle.std.proofs.Common.{rules, ◌≡◌, ℕ, List, [], None, length, min, refl, ap, subst, ◌∙◌, arith}
+use Rattle.std.proofs.Common.{rules, ◌≡◌, ℕ, List, [], None, length, map, min, refl, ap, ap₂, subst, ◌∙◌, arith}
 use Rattle.std.specs.Prelude.{count_by}
 use Rattle.std.specs.Int.{div_ceil}
 use Rattle.dbformat.specs.File.{geometry}
@@ -9,13 +9,19 @@ use Rattle.dbscan.specs.Roots.{Listed}
 use Rattle.dbsource.specs.HeaderBytes.{HeaderBytes}
 use Rattle.dbscan.specs.Desks.{shape_of}
 use Rattle.dbscan.specs.Finishes.{IsDeskOf}
+use Rattle.dbformat.specs.FixedPages.{geometry_of}
+use Rattle.dbformat.specs.Header.{encoding}
+use Rattle.dbxml.specs.Names.{tree_name}
 use Rattle.dbmap.specs.Drawings.{stated_of}
 use Rattle.dbmap.specs.KeptFaults.{HasRoom}
-use Rattle.dbmap.specs.Legends.{HasFaultyLine}
+use Rattle.dbmap.specs.Grids.{IsLeastRun}
+use Rattle.dbmap.specs.LegendLines.{legend_lines}
 use Rattle.dbmap.specs.Owners.{IsOf, starts_of}
 use Rattle.dbmap.specs.PageSets.{has_page, is_noted, shown_codes}
 use Rattle.dbmap.specs.declared.page_set.PageSet.{PageSet}
+use Rattle.dbmap.specs.declared.tally.Tree.{Tree}
 use Rattle.dbmap.specs.declared.walk.Walk.{Walk}
+use Rattle.dbmap.proofs.LegendLines.{legend_is}
 use Rattle.dbmap.proofs.Tallying.{largest_of}
 use Rattle.dbmap.proofs.Drawing.{put_drawn}
 use Rattle.dbmap.proofs.maps.put_map.Goals as goal
@@ -43,6 +49,8 @@ returns g c =
       ground = record {
         grid = c.new.result;
         names = c.new-2.result.names.items;
+        tree = tree_name c.encoding.result c.roots-2.result.now.rows;
+        shape = geometry_of c.header-3.result.now.bytes c.header-3.result.now.file_len;
         marks = c.marks-3.result.now;
         faults = record { has = has_page c.note_listed.new.self.faulty; codes = shown_codes c.note_listed.new.self.faulty; strong = has_page c.note_listed.new.self.strong };
         owners = record { start = λ p. None; largest = starts_of c.largest-largest.result.items };
@@ -50,13 +58,18 @@ returns g c =
       all = c.draw_picture.ensures.all;
       lines = c.new-legend.result.lines.items;
       is = record {
+        named = c.shown_file.ensures;
         geometry = c.geometry-geometry.ensures.shape;
         found = refl;
         pages = c.new.ensures.pages ∙ ap (λ (g : Geometry). g.pages) c.geometry-geometry.ensures.shape;
         stated = c.new.ensures.stated ∙ c.stated_pages.ensures ∙ ap (λ (h : HeaderBytes). stated_of h.bytes) c.header-2.ensures.value;
-        run = c.new.ensures.run;
+        run = subst (λ (s : Geometry). IsLeastRun s.pages c.new.result.run) c.geometry-geometry.ensures.shape c.new.ensures.least;
+        width = c.new.ensures.width;
         cells = c.new.ensures.cells ∙ ap (λ (s : Geometry). div_ceil s.pages c.new.result.run) c.geometry-geometry.ensures.shape;
         marks = c.marks-3.ensures;
+        shape = ap (λ (h : HeaderBytes). geometry_of h.bytes h.file_len) c.header-3.ensures.value;
+        tree = ap₂ tree_name (c.encoding.ensures ∙ ap (λ (h : HeaderBytes). encoding h.bytes) c.header.ensures.value) (ap (λ (l : Listed). l.rows) c.roots-2.ensures);
+        names = c.new-2.ensures ∙ ap (λ (ts : List Tree). map (tree_name c.encoding.result c.roots-2.result.now.rows) (starts_of ts)) c.as_slice.ensures.value;
         many = c.draw_picture.ensures.many;
         are = λ file V d room. c.draw_picture.ensures.are file V (known file V d room);
         largest = λ file V d room. largest_of file V c.count.new.self (starts_of c.largest-largest.result.items) (c.count.ensures.tally file V (begun file V d room)) c.largest-largest.ensures.largest;
@@ -66,7 +79,11 @@ returns g c =
           strong = record { set = c.note_listed.new.self.strong; noted = λ es ls first lost none. c.note_listed.ensures.strong [] es ls first lost none; pages = c.note_listed.ensures.pages; is = λ p. refl };
         };
       };
-      faulty_line = subst (λ n. HasFaultyLine n c.new-legend.result.lines.items)
-          (c.count-2.ensures ∙ ap (λ (s : PageSet _). min (count_by is_noted s.noted.items) 4294967295) c.note_listed.ensures.faulty) c.new-legend.ensures;
+      legend = λ file V d room.
+          (rw c.as_slice-2.ensures.value at c.new-legend.ensures)
+          ∙ legend_is file V c.count.new.self c.new-2.result.names.items c.roots-2.result.now.rows (starts_of c.largest-largest.result.items) c.count-2.result
+          (c.count.ensures.tally file V (begun file V d room)) c.largest-largest.ensures.largest (ap (λ (l : Listed). l.rows) c.roots-2.ensures ∙ d.rows)
+          ∙ ap (legend_lines file V c.new-2.result.names.items (starts_of c.largest-largest.result.items))
+          (c.count-2.ensures ∙ ap (λ (s : PageSet _). min (count_by is_noted s.noted.items) 4294967295) c.note_listed.ensures.faulty);
       puts = rw k (put_drawn c.end.result _ _ _ _ _ c.new-canvas.ensures.fresh c.end.ensures (rw (ap g.O.Out.held c.new-canvas.ensures.out) at drawn.drawn));
     }

@@ -1,26 +1,47 @@
-use Rattle.std.proofs.Common.{◌≡◌, [], refl, ap, ◌∙◌, arith}
-use Rattle.std.specs.Prelude.{filter}
-use Rattle.dbmap.specs.Legends.{is_of_faulty}
+use Rattle.std.proofs.Common.{◌≡◌, ◌++◌, get_or, ap, ap₂, ◌∙◌, arith}
+use Rattle.dbformat.specs.Address.{freelist_start}
+use Rattle.dbmap.specs.LegendLines.{line_if, other_trees, others_share, root_if_twice}
+use Rattle.dbmap.specs.Legends.{no_overflow}
+use Rattle.dbmap.specs.Owners.{starts_of}
+use Rattle.dbmap.specs.Tallies.{share_at}
+use Rattle.dbmap.specs.declared.legend.Label.TheVariants as label
 use Rattle.dbmap.specs.declared.legend.Label.TheVariants.{Fixed, Freelist, Nobody, Others}
-use Rattle.dbmap.proofs.LegendLines.{none_more}
+use Rattle.dbmap.specs.declared.tally.Tree.{Tree}
+use Rattle.dbmap.proofs.LegendLines.{four_more, tree_more, trees_end}
 use Rattle.dbmap.proofs.legend.Legend.of_owners.Goals as goal
 
-pub returns-clause-none : goal.returns-clause-none
-returns-clause-none g c =
+pub loop-rank-preserved : goal.loop-rank-preserved
+loop-rank-preserved g c =
+    let names = c.args.labels.now.names.items in
+    let rows = c.args.names.now.roots.now.rows in
+    let starts = c.args.tally.now.starts in
+    let i = c.loop-rank.rank in
+    let none : Tree = record { start = 0; share = record { pages = 0; overflow = 0 } } in
+    let tree : Tree = get_or c.args.largest.now i none in
+    let room = c.loop-rank.invariant.room in
+    let few = c.requires.few in
+    let more = c.add.ensures.room in
+    let line : c.add.new.self.lines.items ≡ c.loop-rank.legend.lines.items ++ line_if (label.Tree i (root_if_twice names rows i tree.start)) tree.share =
+    c.add.ensures.line (omega (arith, room, few, c.loop-rank-test.true)) ∙ ap (λ root. c.loop-rank.legend.lines.items ++ line_if (label.Tree i root) tree.share) c.root_if_twice-root.ensures in
+    record {
+      lines = tree_more names rows starts c.args.largest.now i none c.loop-rank.legend.lines.items c.loop-rank-test.true line c.requires.shares c.loop-rank.invariant.lines;
+      room = omega (arith, room, more);
+    }
+
+pub returns-clause-lines : goal.returns-clause-lines
+returns-clause-lines g c =
+    let names = c.args.labels.now.names.items in
+    let rows = c.args.names.now.roots.now.rows in
+    let starts = c.args.tally.now.starts in
     let few = c.loop-rank.invariant.room in
     let end = c.loop-rank.auto.rank-end in
-    let most = c.requires in
+    let most = c.requires.few in
     let room2 = c.add-2.ensures.room in
     let room3 = c.add-3.ensures.room in
     let room4 = c.add-4.ensures.room in
-    let two : filter is_of_faulty c.add-2.new.self.lines.items ≡ [] =
-    ap (filter is_of_faulty) (c.add-2.ensures.line (omega (arith, few, end, most)))
-    ∙ none_more c.loop-rank.legend.lines.items (Others c.others-count.result.0) c.others-count.result.1 refl c.loop-rank.invariant.none in
-    let three : filter is_of_faulty c.add-3.new.self.lines.items ≡ [] =
-    ap (filter is_of_faulty) (c.add-3.ensures.line (omega (arith, few, end, most, room2)))
-    ∙ none_more c.add-2.new.self.lines.items Freelist c.share.result refl two in
-    let four : filter is_of_faulty c.add-4.new.self.lines.items ≡ [] =
-    ap (filter is_of_faulty) (c.add-4.ensures.line (omega (arith, few, end, most, room2, room3)))
-    ∙ none_more c.add-3.new.self.lines.items Fixed c.no_overflow.result refl three in
-    ap (filter is_of_faulty) (c.add-5.ensures.line (omega (arith, few, end, most, room2, room3, room4)))
-    ∙ none_more c.add-4.new.self.lines.items Nobody c.no_overflow-2.result refl four
+    four_more (line_if (Others (other_trees (share_at starts) (starts_of c.args.largest.now) c.args.tally.now.trees)) (others_share (share_at starts) (starts_of c.args.largest.now) c.args.tally.now.trees))
+    (line_if Freelist (share_at starts freelist_start)) (line_if Fixed (no_overflow c.args.tally.now.fixed)) (line_if Nobody (no_overflow c.args.tally.now.nobody)) (trees_end names rows (share_at starts) c.args.largest.now c.loop-rank.rank c.loop-rank-test.false c.loop-rank.invariant.lines)
+    (c.add-2.ensures.line (omega (arith, few, end, most)) ∙ ap₂ (λ n s. c.loop-rank.legend.lines.items ++ line_if (Others n) s) c.others-count.ensures.trees c.others-count.ensures.share)
+    (c.add-3.ensures.line (omega (arith, few, end, most, room2)) ∙ ap (λ s. c.add-2.new.self.lines.items ++ line_if Freelist s) c.share.ensures)
+    (c.add-4.ensures.line (omega (arith, few, end, most, room2, room3)) ∙ ap (λ s. c.add-3.new.self.lines.items ++ line_if Fixed s) (c.no_overflow.ensures ∙ ap no_overflow c.fixed.ensures))
+    (c.add-5.ensures.line (omega (arith, few, end, most, room2, room3, room4)) ∙ ap (λ s. c.add-4.new.self.lines.items ++ line_if Nobody s) (c.no_overflow-2.ensures ∙ ap no_overflow c.nobody.ensures))

@@ -1,15 +1,15 @@
 use Rattle.std.proofs.Common.{ℕ, Ok, Err, [], ◌∷◌, ap, inl, inr, refl, subst, ◌∙◌}
 use Rattle.std.proofs.lemmas.Result.{err_from_is_err_and}
 use Rattle.dbformat.specs.declared.Verdict.{Verdict}
-use Rattle.dbsource.specs.declared.error.RunError.{RunError}
 use Rattle.dbsource.specs.declared.error.RunError.TheVariants.{ReadFailed, WriteFailed}
 use Rattle.dbsource.proofs.Logs.{asks_weaker}
 use Rattle.dbwalk.specs.Telling.{SinkState}
 use Rattle.dbscan.specs.Desks.{Things}
+use Rattle.dbscan.specs.Notices.{run_notices}
 use Rattle.dblisting.proofs.Desks.{desk_kept}
 use Rattle.dbmap.specs.Maps.{DrawsMap}
 use Rattle.dbmap.proofs.Counting.{map_counts, map_finds, map_keeps, map_unput, map_untouched, map_unused}
-use Rattle.dbmap.proofs.Pictured.{pictured}
+use Rattle.dbmap.proofs.Pictured.{named, pictured}
 use Rattle.dbmap.proofs.map_sink.MapSinkFinishDesk.finish.Goals as goal
 
 pub returns-in_err-look_at_lost : goal.returns-in_err-look_at_lost
@@ -19,7 +19,7 @@ returns-in_err-look_at_lost g c =
     rw q.1 (rw q.2 (record {
       kept = (ap (λ (d : Things). d.header) look.desk, ap (λ (d : Things). d.roots) look.desk);
       asks = asks_weaker _ _ (Err ReadFailed) (λ n. refl) look.asks (λ log l. l)
-          (λ file way V first heard none empty. (tt, inl (map_unput file V heard.desk.survey first c.args.self.now none empty heard.heard g.O.Out.held)));
+          (λ file way V first heard none empty. (tt, map_unput file V heard.desk.survey first c.args.self.now none empty heard.heard g.O.Out.held));
       writes = refl;
       only = inl refl;
     }))
@@ -37,10 +37,10 @@ returns-in_err-put_map g c =
           let here = desk_kept c.args.desk.now c.look_at_lost.new.desk file V look.desk heard.desk in
           let lost = way V heard.desk (map_unused file V s first c.args.self.now none empty heard.heard) in (
             tt,
-            subst (λ (o : g.row.O.Denot). DrawsMap {A = Verdict} {E = RunError} (Err WriteFailed) (held o).bytes (held c.put_map.new.out).bytes file V)
+            subst (λ (o : g.row.O.Denot). DrawsMap {A = Verdict} (Err WriteFailed) (held o).bytes (held c.put_map.new.out).bytes first.name.now file V)
                 (map_untouched file V s first c.args.self.now none empty heard.heard)
-                (inr (pictured file V put here (map_counts file V s first c.args.self.now none empty heard.heard)
-                (map_keeps file V s first c.args.self.now none empty heard.heard c.look_at_lost.new.lost look.limit lost))),
+                (inr (named (run_notices file V) first c.args.self.now heard.heard file V
+                (pictured file V put here (map_counts file V s first c.args.self.now none empty heard.heard) (map_keeps file V s first c.args.self.now none empty heard.heard c.look_at_lost.new.lost look.limit lost)))),
           ));
       writes = record { lent = refl; failures = inl (put.puts.count, refl) };
       only = inr refl;
@@ -57,10 +57,10 @@ returns g c =
           let here = desk_kept c.args.desk.now c.look_at_lost.new.desk file V look.desk heard.desk in
           let lost = way V heard.desk (map_unused file V s first c.args.self.now none empty heard.heard) in (
             c.verdict.ensures ∙ map_finds file V s first c.args.self.now none empty heard.heard,
-            subst (λ (o : g.row.O.Denot). DrawsMap {A = Verdict} {E = RunError} (Ok c.verdict.result) (held o).bytes (held c.put_map.new.out).bytes file V)
+            subst (λ (o : g.row.O.Denot). DrawsMap {A = Verdict} (Ok c.verdict.result) (held o).bytes (held c.put_map.new.out).bytes first.name.now file V)
                 (map_untouched file V s first c.args.self.now none empty heard.heard)
-                (pictured file V put here (map_counts file V s first c.args.self.now none empty heard.heard)
-                (map_keeps file V s first c.args.self.now none empty heard.heard c.look_at_lost.new.lost look.limit lost)),
+                (named (run_notices file V) first c.args.self.now heard.heard file V
+                (pictured file V put here (map_counts file V s first c.args.self.now none empty heard.heard) (map_keeps file V s first c.args.self.now none empty heard.heard c.look_at_lost.new.lost look.limit lost))),
           ));
       writes = ap (λ (n : ℕ). let x : SinkState = record { lent = c.args.self.now.out.ghost_name ∷ []; failures = n ∷ [] } in x) put.puts.count;
       only = tt;

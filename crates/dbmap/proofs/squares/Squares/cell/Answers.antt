@@ -12,6 +12,7 @@ loop-page-init g c = record {
       subst (λ n. AreShares c.args.self.now.marks.now (owners_by V (starts_of c.args.self.now.largest.items)) (range_with_len c.args.first n) c.new-cell.result) (sym none) c.new-cell.ensures);
   at = inl refl;
   pen = refl;
+  named = (refl, refl);
   trees = λ file V of. of;
 }
 
@@ -27,6 +28,7 @@ loop-page-preserved g c = record {
       (over_is marks p c.place_of-place.ensures.mark c.is_overflow.ensures) c.add.ensures (c.loop-page.invariant.shares file V of));
   at = inr (omega arith);
   pen = c.loop-page.invariant.pen;
+  named = c.loop-page.invariant.named;
   trees = λ file V of. (let was = c.loop-page.invariant.trees file V of in record {
     survey = was.survey;
     marks = was.marks;

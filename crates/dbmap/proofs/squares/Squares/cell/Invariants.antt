@@ -11,5 +11,6 @@ invariant-loop-page g l = record {
       → AreShares l.self.marks.now (owners_by V (starts_of l.self.largest.items)) (range_with_len l.first (l.page - l.first)) l.cell;
   at : (l.page ≡ l.first) ⊎ (l.page ≤ l.last);
   pen : l.walk.pen ≡ l.initial.walk.pen;
+  named : (l.walk.name ≡ l.initial.walk.name) × (l.walk.named ≡ l.initial.walk.named);
   trees : StaysOf l.self.marks.now l.initial.walk.trees.known l.walk.trees.known;
 }

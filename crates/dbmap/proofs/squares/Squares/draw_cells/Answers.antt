@@ -11,6 +11,7 @@ loop-cell-init g c =
     record {
       draws = subst (λ (n : ℕ). DrawsSquares g.O.Out.held (ground_of c.args.self.now c.args.layout.now) old.trees.known c.args.first n old.pen.group old.pen.group c.args.canvas.now c.args.canvas.now)
           (sym none) (no_squares c.args.first old.pen.group c.args.canvas.now);
+      named = c.requires.named;
       trees = λ file V of. of;
     }
 
@@ -28,5 +29,6 @@ loop-cell-preserved g c =
     record {
       draws = subst (λ (n : ℕ). DrawsSquares held ground old first n c.args.walk.now.pen.group c.draw_square.new.walk.pen.group c.args.canvas.now c.draw_square.new.canvas) next
           (squares_more c.loop-cell.invariant.trees c.loop-cell.invariant.draws square);
+      named = c.draw_square.ensures.named;
       trees = λ file V of. c.draw_square.ensures.trees file V (c.loop-cell.invariant.trees file V of);
     }
