@@ -180,6 +180,11 @@ module _ (marks : List Mark) (o : OwnersGround) (first last : ℕ) (c : Cell) (h
           by_case true e = eqb-true _ _ e
           by_case false e = absurd (false≢true (sym (only.others n few (λ f. false≢true (sym e ∙ eq-eqb n number f))) ∙ has))
 
+  -- where no owner is the only one, two have pages
+  pub has_two : first ≤ last → HasTwo c ⊎ HasNone c → HasTwo c
+  has_two l (inl two) = two
+  has_two l (inr none) = absurd (false≢true (sym (none (number_of (owner_at marks o first)) (few_numbers (owner_at marks o first))) ∙ has_its_own first (omega arith) l))
+
   -- where no owner is the only one, two pages are of different owners
   pub several : first ≤ last → HasTwo c ⊎ HasNone c → (p q : ℕ) × ((first ≤ p) × (p ≤ last)) × ((first ≤ q) × (q ≤ last)) × (owner_at marks o p ≡ owner_at marks o q → ⊥)
   several l (inl two) =

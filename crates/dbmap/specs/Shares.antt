@@ -1,8 +1,9 @@
 -- How many of some pages each owner has, and how many of these are overflow pages.
-use Rattle.std.specs.Prelude.{◌≡◌, ℕ, ◌+◌, ◌<◌, ◌≤◌, min, Bool, true, false, ◌&&◌, List, count_by, ◌==◌, if◌then◌else◌}
+use Rattle.std.specs.Prelude.{◌≡◌, ℕ, ◌+◌, ◌<◌, ◌≤◌, min, Bool, true, false, ◌&&◌, List, get_or, sum, count_by, ◌==◌, if◌then◌else◌}
 use Rattle.dbmarks.specs.declared.marks.Mark.{Mark}
 use Rattle.dbmap.specs.Cells.{has_pages, is_shaded, number_of, share_of}
 use Rattle.dbmap.specs.Owners.{OwnersGround, is_overflow, owner_at, place_at}
+use Rattle.dbmap.specs.declared.bands.Bands.{Bands}
 use Rattle.dbmap.specs.declared.cell.Cell.{Cell}
 use Rattle.dbmap.specs.declared.cell.Owner.{Owner}
 use Rattle.dbmap.specs.declared.cell.Share.{Share}
@@ -54,6 +55,11 @@ pub record HasTwo (c : Cell) : Type 0 where
 -- no owner has
 abbrev pub HasNone : Cell → Type 0
 HasNone c = (m : ℕ) → m < 16 → has_pages c m ≡ false
+
+-- A square of several owners has six bands, and each is of an owner of one of its pages.
+pub record AreBands (c : Cell) (b : Bands) : Type 0 where
+  pub six : sum b.heights ≡ 6
+  pub own : (number : ℕ) → number < 16 → 0 < get_or b.heights number 0 → has_pages c number ≡ true
 
 -- ---- runs
 

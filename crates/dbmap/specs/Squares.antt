@@ -21,7 +21,7 @@ use Rattle.dbmap.specs.Pages.{page_text}
 use Rattle.dbmap.specs.PageSets.{has_page, pages_between, shown_codes}
 use Rattle.dbmap.specs.Pens.{change_text, end_text}
 use Rattle.dbmap.specs.Runs.{mixed_text, plain_text}
-use Rattle.dbmap.specs.Shares.{AreShares, IsOfOne, IsOfSeveral}
+use Rattle.dbmap.specs.Shares.{AreBands, AreShares, IsOfOne, IsOfSeveral}
 use Rattle.dbmap.specs.declared.bands.Bands.{Bands}
 use Rattle.dbmap.specs.declared.cell.Owner.{Owner}
 use Rattle.dbmap.specs.declared.grid.Grid.{Grid}
@@ -148,7 +148,7 @@ pub record IsRun (g : Ground) (cell : ℕ) (r : Run) : Type 0 where
 abbrev pub IsSquare : Ground → ℕ → Square → Type 0
 IsSquare g cell (of_page shade s tree) = (g.grid.run ≡ 1) × IsPage g cell s tree shade
 IsSquare g cell (of_one shade r) = (2 ≤ g.grid.run) × IsRun g cell r × IsOfOne g.marks g.owners r shade
-IsSquare g cell (of_several r bands) = (2 ≤ g.grid.run) × IsRun g cell r × IsOfSeveral g.marks g.owners r
+IsSquare g cell (of_several r bands) = (2 ≤ g.grid.run) × IsRun g cell r × IsOfSeveral g.marks g.owners r × AreBands r.cell bands
 
 -- squares are those of the places from one on
 abbrev pub AreSquares : Ground → ℕ → List Square → Type 0

@@ -1,5 +1,7 @@
 // How a square of several owners is divided in bands.
-ghost use Rattle.std.specs.Prelude.{◌≡◌, ◌≤◌, ◌<◌, get_or};
+ghost use Rattle.std.specs.Prelude.{◌≡◌, ◌≤◌, ◌<◌, true, get_or};
+ghost use Rattle.dbmap.specs.Cells.{has_pages};
+ghost use Rattle.dbmap.specs.Shares.{AreBands, HasTwo};
 
 use crate::cell::{Cell, OWNERS};
 
@@ -51,7 +53,8 @@ impl Credits {
 
     // The owner of a page of the square with the most credit; of several the first.
     fn most(&self, cell: &Cell) -> usize
-        ensures { result ≤ 15 }
+        ensures most { result ≤ 15 }
+        ensures own { HasTwo cell.now → has_pages cell.now result ≡ true }
     {
         let mut most = OWNERS;
         for number in 0..OWNERS {
@@ -63,7 +66,9 @@ impl Credits {
     }
 
     /// Divides the square of a run of pages.
-    pub(crate) fn divide(&mut self, cell: &Cell, run: u32) -> Bands {
+    pub(crate) fn divide(&mut self, cell: &Cell, run: u32) -> Bands
+        ensures { HasTwo cell.now → AreBands cell.now result }
+    {
         let mut heights = [0u32; OWNERS];
         self.add(cell);
         for _ in 0..BANDS {

@@ -6,7 +6,7 @@ use Rattle.dbmap.specs.Squares.{ground_of, of_one, of_several}
 use Rattle.dbmap.specs.declared.pen.Pen.{Pen}
 use Rattle.dbmap.specs.declared.run.Run.{Run}
 use Rattle.dbmap.proofs.Drawing.{draws_then}
-use Rattle.dbmap.proofs.Shares.{all_of_one, number_is, run_order, several}
+use Rattle.dbmap.proofs.Shares.{all_of_one, has_two, number_is, run_order, several}
 use Rattle.dbmap.proofs.squares.Squares.draw_run.Goals as goal
 
 pub returns-in-Some-clause-draws : goal.returns-in-Some-clause-draws
@@ -42,6 +42,7 @@ returns-in-None-clause-draws g c =
         record { x = c.x_of.ensures.x; first = ap (λ p. p.0) c.pages_of-first.ensures; last = ap (λ p. p.1) c.pages_of-first.ensures; faulty = c.faulty.ensures; shares = c.cell.ensures.shares file V of },
         (let w = several c.args.self.now.marks.now (owners_by V (starts_of c.args.self.now.largest.items)) r.first r.last r.cell (c.cell.ensures.shares file V of) order (c.in-None.ensures.several refl) in
             record { one = w.0; other = w.1; one_within = w.2; other_within = w.3; apart = w.4 }),
+        c.divide-bands.ensures (has_two c.args.self.now.marks.now (owners_by V (starts_of c.args.self.now.largest.items)) r.first r.last r.cell (c.cell.ensures.shares file V of) order (c.in-None.ensures.several refl)),
       );
       group = ap (λ (p : Pen). p.group) c.cell.ensures.pen;
       draws = c.draw_mixed.ensures;
