@@ -5,9 +5,9 @@ use Rattle.std.specs.List.{range_with_len}
 use Rattle.std.specs.Result.{result_ok}
 use Rattle.std.proofs.lemmas.Bool.{cases_lt}
 use Rattle.std.proofs.lemmas.List.{map-append}
-use Rattle.std.proofs.lemmas.List.FromFn.{map-range_with_len_more}
 use Rattle.std.proofs.lemmas.List.Sums.{sum_by-append, fold-append}
 use Rattle.std.proofs.lemmas.List.Elements.{filter_map-append}
+use Rattle.dbsurvey.proofs.Ranges.{range_push}
 use Rattle.dbformat.specs.Head.{View}
 use Rattle.dbformat.specs.Cell.{Cell, cell, count}
 use Rattle.dbformat.specs.Coverage.{coverage, coverage_of, first_overlap, items}
@@ -33,19 +33,12 @@ none_read v = record {
   few = omega arith;
 }
 
-range_more : (a n : ℕ) → range_with_len a (n + 1) ≡ range_with_len a n ++ (a + n) ∷ []
-range_more a n = sym (map_same (range_with_len a (n + 1))) ∙ map-range_with_len_more (λ (i : ℕ). i) a n (a + n) refl ∙ ap (λ (xs : List ℕ). xs ++ (a + n) ∷ []) (map_same (range_with_len a n))
-  where
-    map_same : (xs : List ℕ) → map (λ (i : ℕ). i) xs ≡ xs
-    map_same [] = refl
-    map_same (x ∷ xs) = ap (λ (ys : List ℕ). x ∷ ys) (map_same xs)
-
 abbrev numbered : View → ℕ → Option (ℕ × Cell)
 numbered v i = option_map (λ c. (i, c)) (result_ok (cell v i))
 
 pub first_cells_more : (v : View) (n : ℕ) (c : Cell) → cell v n ≡ Ok c → first_cells v (n + 1) ≡ first_cells v n ++ (n, c) ∷ []
 first_cells_more v n c readable =
-    ap (filter_map (numbered v)) (range_more 0 n)
+    ap (filter_map (numbered v)) (range_push 0 n)
     ∙ filter_map-append (numbered v) (range_with_len 0 n) ((0 + n) ∷ [])
     ∙ ap (λ (xs : List (ℕ × Cell)). first_cells v n ++ xs) (ap (λ (k : ℕ). filter_map (numbered v) (k ∷ [])) at ∙ one (numbered v) (rw readable refl))
   where
