@@ -1,6 +1,6 @@
 -- Faults with the causes of their codes; and that those of a page for itself, but for an unknown type, and of a row of the schema,
 -- go back to nothing else.
-use Rattle.std.proofs.Common.{◌≡◌, ℕ, Bool, true, false, cond, List, [], ◌∷◌, ◌++◌, map, length, Option, Some, None, Result, Ok, Err, refl, sym, ap, ◌∙◌}
+use Rattle.std.proofs.Common.{◌≡◌, ℕ, Bool, true, false, cond, List, [], ◌∷◌, ◌++◌, map, length, get_or, replicate, Option, Some, None, Result, Ok, Err, refl, sym, ap, ◌∙◌}
 use Rattle.std.specs.Prelude.{flat_map, is_none, ◌==◌}
 use Rattle.std.specs.List.{range_with_len}
 use Rattle.std.proofs.lemmas.List.{append-nil, map-append}
@@ -41,22 +41,15 @@ abbrev pub AreAlone : (FaultCode → Cause) → List Fault → Type 0
 AreAlone why fs = told_by why fs ≡ map told_alone fs
 
 -- the codes of a page for itself but for an unknown type, and those of a row of the schema, have no cause
-pub record IsOfPage (why : FaultCode → Cause) : Type 0 where
-  pub p02 : why P02 ≡ Itself
-  pub p03 : why P03 ≡ Itself
-  pub p04 : why P04 ≡ Itself
-  pub p05 : why P05 ≡ Itself
-  pub p06 : why P06 ≡ Itself
-  pub p07 : why P07 ≡ Itself
-  pub p08 : why P08 ≡ Itself
-  pub p09 : why P09 ≡ Itself
-  pub p10 : why P10 ≡ Itself
+abbrev pub IsOfPage : (FaultCode → Cause) → Type 0
+IsOfPage why = map why (P02 ∷ P03 ∷ P04 ∷ P05 ∷ P06 ∷ P07 ∷ P08 ∷ P09 ∷ P10 ∷ []) ≡ replicate 9 Itself
 
-pub record IsOfRow (why : FaultCode → Cause) : Type 0 where
-  pub s01 : why S01 ≡ Itself
-  pub s02 : why S02 ≡ Itself
-  pub s03 : why S03 ≡ Itself
-  pub s04 : why S04 ≡ Itself
+abbrev pub IsOfRow : (FaultCode → Cause) → Type 0
+IsOfRow why = map why (S01 ∷ S02 ∷ S03 ∷ S04 ∷ []) ≡ replicate 4 Itself
+
+-- the same of one code, by its place in a list
+cause_at : (i : ℕ) {found wanted : List Cause} → found ≡ wanted → get_or found i Itself ≡ get_or wanted i Itself
+cause_at i e = ap (λ causes. get_or causes i Itself) e
 
 module _ (why : FaultCode → Cause) where
   alone-append : (xs ys : List Fault) → AreAlone why xs → AreAlone why ys → AreAlone why (xs ++ ys)
@@ -79,10 +72,10 @@ module _ (why : FaultCode → Cause) where
         alone-append (fragment_fault v ++ cell_faults v ++ freeblock_fault v ++ coverage_fault v good) (empty_fault v is_child)
         (alone-append (fragment_fault v ++ cell_faults v ++ freeblock_fault v) (coverage_fault v good)
         (alone-append (fragment_fault v ++ cell_faults v) (freeblock_fault v)
-        (alone-append (fragment_fault v) (cell_faults v) (alone_if _ _ h.p04) (alone-each (cell_fault v) (range_with_len 0 (count v)) at_cell))
+        (alone-append (fragment_fault v) (cell_faults v) (alone_if _ _ (cause_at 2 h)) (alone-each (cell_fault v) (range_with_len 0 (count v)) at_cell))
         (at_freeblock (bad_freeblock v) refl))
         (at_coverage good (coverage v) refl))
-        (alone_if _ _ h.p10)
+        (alone_if _ _ (cause_at 8 h))
       where
         good : Bool
         good = length (cell_faults v ++ freeblock_fault v) == 0
@@ -92,24 +85,24 @@ module _ (why : FaultCode → Cause) where
           where
             by_cell : (c : Result Cell CellFault) → cell v i ≡ c → AreAlone why (cell_fault v i)
             by_cell (Ok c) e = rw e refl
-            by_cell (Err Offset) e = rw e (alone_one _ h.p05)
-            by_cell (Err Unreadable) e = rw e (alone_one _ h.p06)
+            by_cell (Err Offset) e = rw e (alone_one _ (cause_at 3 h))
+            by_cell (Err Unreadable) e = rw e (alone_one _ (cause_at 4 h))
 
         at_freeblock : (o : Option (ℕ × ℕ)) → bad_freeblock v ≡ o → AreAlone why (freeblock_fault v)
         at_freeblock None e = rw e refl
-        at_freeblock (Some b) e = rw e (alone_one _ h.p07)
+        at_freeblock (Some b) e = rw e (alone_one _ (cause_at 5 h))
 
         at_coverage : (is_good : Bool) (c : Coverage) → coverage v ≡ c → AreAlone why (coverage_fault v is_good)
-        at_coverage is_good (Overlap k) e = rw e (alone_one _ h.p08)
-        at_coverage is_good (Unheld n) e = rw e (alone_if _ _ h.p09)
+        at_coverage is_good (Overlap k) e = rw e (alone_one _ (cause_at 6 h))
+        at_coverage is_good (Unheld n) e = rw e (alone_if _ _ (cause_at 7 h))
 
   pub row_alone : IsOfRow why → (is_full : Bool) (c : SchemaCell) → AreAlone why (row_faults_if is_full c)
   row_alone h is_full c = by_row c.row
     where
       by_row : (row : Result SchemaRow RowFault) → AreAlone why (row_faults_if is_full (record c { row = row }))
-      by_row (Err Malformed) = alone_one _ h.s01
-      by_row (Err (Root value)) = alone_one _ h.s03
-      by_row (Ok r) = alone-append (told_if (is_none r.name) (fault S02 c.page c.item c.rowid)) _ (alone_if _ _ h.s02) (alone_if _ _ h.s04)
+      by_row (Err Malformed) = alone_one _ (cause_at 0 h)
+      by_row (Err (Root value)) = alone_one _ (cause_at 2 h)
+      by_row (Ok r) = alone-append (told_if (is_none r.name) (fault S02 c.page c.item c.rowid)) _ (alone_if _ _ (cause_at 1 h)) (alone_if _ _ (cause_at 3 h))
 
   pub rows_alone : IsOfRow why → (is_full : Bool) (rows : List SchemaCell) → AreAlone why (flat_map (row_faults_if is_full) rows)
   rows_alone h is_full rows = alone-each (row_faults_if is_full) rows (row_alone h is_full)
@@ -131,8 +124,8 @@ tree_same why other h k looks kind is_child p usable page = by_view (view p usab
 
     by_view : (v : Result View HeadFault) → told_by why (faults_of_view kind is_child p page v) ≡ told_by other (faults_of_view kind is_child p page v)
     by_view (Err UnknownType) = one_same _ looks
-    by_view (Err ContentStart) = one_same _ (h.p03 ∙ sym k.p03)
-    by_view (Ok v) = by_tree v (is_same_tree (tree_of v.kind) kind) _ (h.p02 ∙ sym k.p02)
+    by_view (Err ContentStart) = one_same _ (cause_at 1 h ∙ sym (cause_at 1 k))
+    by_view (Ok v) = by_tree v (is_same_tree (tree_of v.kind) kind) _ (cause_at 0 h ∙ sym (cause_at 0 k))
 
 -- of any
 pub page_same : (file : List ℕ) (why other : FaultCode → Cause) → IsOfPage why → IsOfPage other → why P01 ≡ other P01 → why O01 ≡ other O01 → why L01 ≡ other L01 → (r : Reference)

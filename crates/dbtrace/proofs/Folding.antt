@@ -50,16 +50,16 @@ use Rattle.dbtrace.proofs.Told.{visited, trace, tells, IsOf, told_as, below_star
 -- which codes have a cause at an event
 
 pub page_of_progress : (file : List ℕ) (U : List Reference) (p : Progress) (r : Reference) → IsOfPage (cause_by file U p (at_page r))
-page_of_progress file U p r = record { p02 = refl; p03 = refl; p04 = refl; p05 = refl; p06 = refl; p07 = refl; p08 = refl; p09 = refl; p10 = refl }
+page_of_progress file U p r = refl
 
 pub page_of_visits : (file : List ℕ) (U : List Reference) (r : Reference) → IsOfPage (cause_of file U (at_page r))
-page_of_visits file U r = record { p02 = refl; p03 = refl; p04 = refl; p05 = refl; p06 = refl; p07 = refl; p08 = refl; p09 = refl; p10 = refl }
+page_of_visits file U r = refl
 
 pub row_of_progress : (file : List ℕ) (U : List Reference) (p : Progress) (r : Reference) (v : View) (x : ℕ × Cell) → IsOfRow (cause_by file U p (at_key r v x))
-row_of_progress file U p r v x = record { s01 = refl; s02 = refl; s03 = refl; s04 = refl }
+row_of_progress file U p r v x = refl
 
 pub row_of_visits : (file : List ℕ) (U : List Reference) (r : Reference) (v : View) (x : ℕ × Cell) → IsOfRow (cause_of file U (at_key r v x))
-row_of_visits file U r v x = record { s01 = refl; s02 = refl; s03 = refl; s04 = refl }
+row_of_visits file U r v x = refl
 
 -- items, by what they are for
 

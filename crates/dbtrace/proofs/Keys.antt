@@ -75,13 +75,13 @@ ascending_keys (t ∷ A) asc at = EachPair-append (λ (j : Key) (k : Key). IsBef
 
 -- the two tests for a key out of order are one
 
-by_both : (a b : Bool) → (a ≡ true → b ≡ true) → (b ≡ true → a ≡ true) → a ≡ b
-by_both true b f g = sym (f refl)
-by_both false true f g = g refl
-by_both false false f g = refl
+pub same_tests : (a b : Bool) → (a ≡ true → b ≡ true) → (b ≡ true → a ≡ true) → a ≡ b
+same_tests true b f g = sym (f refl)
+same_tests false true f g = g refl
+same_tests false false f g = refl
 
 pub le_is : (a b : ℤ) → int_le a b ≡ not (int_lt b a)
-le_is a b = by_both (int_le a b) (not (int_lt b a)) (λ e. grind (arith, ints)) (λ e. grind (arith, ints))
+le_is a b = same_tests (int_le a b) (not (int_lt b a)) (λ e. grind (arith, ints)) (λ e. grind (arith, ints))
 
 same_test : (key k : Key) → is_out_of_order key k ≡ cond key.is_rowid (not (int_lt k.value key.value)) (int_lt key.value k.value)
 same_test key k = ap (λ b. cond key.is_rowid b (int_lt key.value k.value)) (le_is key.value k.value)
@@ -148,7 +148,7 @@ module _ (file : List ℕ) (k : ℕ) (W : List Reference) (c : Reference) (at : 
 
     -- by the greatest key so far
     late : list_any (is_out_of_order key) (earlier_keys file U key) ≡ is_out int_lt (value_of top) (key_entry key)
-    late = by_both (list_any (is_out_of_order key) (earlier_keys file U key)) (is_out int_lt (value_of top) (key_entry key)) (λ e. by_value.1 (exact.1 (there e))) (λ e. back (exact.0 (by_value.0 e)))
+    late = same_tests (list_any (is_out_of_order key) (earlier_keys file U key)) (is_out int_lt (value_of top) (key_entry key)) (λ e. by_value.1 (exact.1 (there e))) (λ e. back (exact.0 (by_value.0 e)))
       where
         out : Option ℤ → Type 0
         out v = is_out int_lt v (key_entry key) ≡ true

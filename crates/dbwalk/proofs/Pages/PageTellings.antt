@@ -51,7 +51,7 @@ is_child _ = false
 
 -- by the progress of a walk the faults of the page have the same causes
 pub page_of_look : (look : Look) (leaf : Option TreeLeaf) → IsOfPage (page_cause look leaf)
-page_of_look look leaf = record { p02 = refl; p03 = refl; p04 = refl; p05 = refl; p06 = refl; p07 = refl; p08 = refl; p09 = refl; p10 = refl }
+page_of_look look leaf = refl
 
 pub page_causes : (file : List ℕ) (U : List Reference) (p : Progress) (c : Reference) {kind : TreeKind} → tree_kind (role_of c) ≡ Some kind
     → told_by (cause_by file U p (at_page c)) (page_faults file [] c ++ depth_faults file p.leaf c) ≡ told_by (page_cause (look_at file c.page) p.leaf) (page_faults file [] c ++ depth_faults file p.leaf c)
