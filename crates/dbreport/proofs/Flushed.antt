@@ -1,7 +1,7 @@
 -- What is known of an Out that was flushed, beside the bytes that were put to others.
 use Rattle.std.proofs.Common.{List, [], ℕ, Bool, true, false, Option, refl, sym, subst}
 use Rattle.std.specs.Io.KnownBytes.{Appends, Keeps}
-use Rattle.dbsource.proofs.Puts.{appends_append, appends_kept, appends_nothing, keeps_same}
+use Rattle.dbsource.proofs.Puts.{appends_kept, appends_nothing, keeps_same}
 use Rattle.dbsource.specs.Outs.{Begins, OutState}
 use Rattle.dbreport.specs.StatSink.{IsFlushedIf}
 
@@ -11,10 +11,6 @@ nothing_put o n k = appends_kept o o n [] (appends_nothing o) k
 -- what stays is a beginning, to which nothing is added
 pub keeps_begins : (o n : Option (List ℕ)) (a : List ℕ) → Keeps o n → Begins o n a
 keeps_begins o n a k = record { part = []; rest = a; whole = refl; added = nothing_put o n k }
-
--- what was appended to what stayed
-pub kept_appends : (o m n : Option (List ℕ)) (a : List ℕ) → Keeps o m → Appends m n a → Appends o n a
-kept_appends o m n a k h = appends_append o m n [] a (nothing_put o m k) h
 
 -- flushed or not, the bytes that it has stay
 pub kept_if : (b : Bool) (old new : OutState) → IsFlushedIf b old new → Keeps old.bytes new.bytes

@@ -10,7 +10,7 @@ use Rattle.dbsource.specs.Outs.{Begins, OutState}
 use Rattle.dbsource.specs.declared.error.RunError.{RunError}
 use Rattle.dbsource.specs.declared.error.RunError.TheVariants.{ReadFailed, WriteFailed, OutOfMemory, Refused}
 use Rattle.dbsource.proofs.Beginnings.{begins_more}
-use Rattle.dbsource.proofs.Puts.{appends_nothing}
+use Rattle.dbsource.proofs.Puts.{appends_nothing, kept_appends}
 use Rattle.dbtrace.specs.Finding.{told_row, told_fault}
 use Rattle.dbwalk.specs.Telling.{Tells}
 use Rattle.dbscan.specs.Notices.{Notice, whole, found, ended, walked, faults_heard}
@@ -20,7 +20,7 @@ use Rattle.dbreport.specs.Sums.{sums_of}
 use Rattle.dbreport.specs.TreeNames.{name_at}
 use Rattle.dbreport.specs.declared.statistics.Form.{Form}
 use Rattle.dbreport.specs.declared.statistics.sink.StatSink.{StatSink}
-use Rattle.dbreport.proofs.Flushed.{keeps_begins, kept_appends, kept_if}
+use Rattle.dbreport.proofs.Flushed.{keeps_begins, kept_if}
 use Rattle.dbreport.proofs.StatWrites.{begun_first, begun_none, begun_then, written_none, written_then}
 
 counted_more : (n : ℕ) → counted (counted n + 1) ≡ counted (n + 1)

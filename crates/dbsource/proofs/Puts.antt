@@ -26,6 +26,13 @@ appends_kept (Some x) None n a h k = absurd h
 appends_kept (Some x) (Some y) None a h k = absurd k
 appends_kept (Some x) (Some y) (Some z) a h k = k ∙ h
 
+-- what was kept, and then something appended
+pub kept_appends : (o m n : Option (List ℕ)) (a : List ℕ) → Keeps o m → Appends m n a → Appends o n a
+kept_appends None m n a h k = tt
+kept_appends (Some x) None n a h k = absurd h
+kept_appends (Some x) (Some y) None a h k = absurd k
+kept_appends (Some x) (Some y) (Some z) a h k = k ∙ ap (λ w. w ++ a) h
+
 -- a write of nothing keeps what is held
 pub keeps_from_nothing : (o n : Option (List ℕ)) → Appends o n [] → Keeps o n
 keeps_from_nothing None n h = tt
