@@ -262,13 +262,13 @@ explain_exit : (limit : ℕ) (file : List ℕ) (outcome : Result Verdict RunErro
     → IfErr outcome (λ error. EndsWithLine (error_line error) 2 mid err')
     → (V : List Reference) → Survey file V → IsExplainExit (exit_status outcome) limit file V out out' err err'
 explain_exit limit file outcome out out' err mid err' run unwritten kept quiet few line V s =
-    let k = run.written V s in
+    let k = (run.0 V s).0 in
     let rep = explain_report limit file V in record {
       found = found_at_4 limit file V outcome out out' k;
       begun = begun_not_at_4 limit file V outcome out out' k;
-      says = status_by_outcome rep file (explain_answers limit file V) outcome out out' err mid err' run.answer
+      says = status_by_outcome rep file (explain_answers limit file V) outcome out out' err mid err' run.1
           (whole_text limit file V outcome out out' k) (kept_writes outcome err.bytes mid.bytes rep.err (explain_err limit file V) kept)
-          (run.verdict V s) unwritten quiet few line;
+          ((run.0 V s).1) unwritten quiet few line;
     }
 
 -- and of what was asked

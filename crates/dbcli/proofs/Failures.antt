@@ -1,9 +1,10 @@
 -- Counts of the failures of an Out.
-use Rattle.std.proofs.Common.{◌≡◌, ◌∙◌, ℕ, ◌+◌, ◌%◌, ◌^◌, ◌≤◌, List, ◌++◌, Option, Some, None, refl, sym, ap, arith, inl, inr}
+use Rattle.std.proofs.Common.{◌≡◌, ◌∙◌, ℕ, ◌+◌, ◌%◌, ◌^◌, ◌≤◌, List, refl, sym, ap, arith, inl, inr}
 use Rattle.std.specs.Prelude.{◌≢◌}
-use Rattle.std.specs.Io.KnownBytes.{Appends, Keeps}
+use Rattle.std.specs.Io.KnownBytes.{Keeps}
 use Rattle.std.proofs.Math.Nat.{mod-add-mod, mod-mod}
 use Rattle.dbreport.specs.StatSink.{failures_of_each}
+use Rattle.dbsource.proofs.Puts.{kept_appends}
 use Rattle.dbsource.specs.Failures.{HasOneMore, one_more}
 use Rattle.dbsource.specs.Outs.{OutState}
 use Rattle.dbcli.specs.Exit.{EndsWithLine, HasFailed, IsHandedOnOrFailed}
@@ -82,13 +83,6 @@ few_then most old mid new f t = failed_then f.moved 2 most old mid new f.bound f
 -- where a count is the same in the end, none failed in either part
 pub none_failed : (n a b : ℕ) → n % 2 ^ 64 ≡ (n + a + b) % 2 ^ 64 → a + b ≤ 9 → b ≡ 0
 none_failed n a b h k = omega (arith, h, k)
-
--- what was kept, and then something appended
-pub kept_appends : (o m n : Option (List ℕ)) (a : List ℕ) → Keeps o m → Appends m n a → Appends o n a
-kept_appends None m n a h k = tt
-kept_appends (Some x) None n a h k = absurd h
-kept_appends (Some x) (Some y) None a h k = absurd k
-kept_appends (Some x) (Some y) (Some z) a h k = k ∙ ap (λ w. w ++ a) h
 
 -- a line after a few failures
 pub few_then_line : (line : List ℕ) (most : ℕ) (old mid new : OutState) → Keeps old.bytes mid.bytes → FewFailed most old mid → EndsWithLine line 2 mid new

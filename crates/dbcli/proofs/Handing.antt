@@ -11,7 +11,7 @@ use Rattle.dbformat.specs.declared.Verdict.TheVariants.{Clean, Faulty}
 use Rattle.dbreport.specs.Runs.{AsksHeaderAlone, IsAnswerOf, IsRunBy, IsUnwritten}
 use Rattle.dbreport.specs.StatSink.{failures_of_each}
 use Rattle.dbsource.proofs.Beginnings.{all_begun}
-use Rattle.dbsource.proofs.Puts.{appends_kept, keeps_same}
+use Rattle.dbsource.proofs.Puts.{appends_kept, kept_appends, keeps_same}
 use Rattle.dbsource.specs.Answers.{Step, Trail}
 use Rattle.dbsource.specs.Errors.{is_read_failed}
 use Rattle.dbsource.specs.Failures.{HasOneMore, failures_after, one_more}
@@ -21,7 +21,7 @@ use Rattle.dbsource.specs.declared.error.RunError.TheVariants.{Refused, ReadFail
 use Rattle.dbmap.specs.Maps.{DrawsMap, HasPicture}
 use Rattle.dbmap.specs.Pictures.{picture_text}
 use Rattle.dbcli.proofs.Explaining.{IsEndFor, LeavesText, gets_found}
-use Rattle.dbcli.proofs.Failures.{FewFailed, after_one, failed_then, few_then, few_then_line, kept_appends, more_count, more_failures, none_moved, not_same, one_moved, same_count}
+use Rattle.dbcli.proofs.Failures.{FewFailed, after_one, failed_then, few_then, few_then_line, more_count, more_failures, none_moved, not_same, one_moved, same_count}
 use Rattle.dbcli.specs.ErrorLines.{error_line}
 use Rattle.dbcli.specs.Exit.{EndsWithLine, HasFailed, IsHandedOn, IsHandedOnOrFailed, failures_at_4, first_most, second_most, unread_most}
 use Rattle.dbcli.specs.Handing.{IsHanded, StopsFlushing, TriesToFlush}
@@ -164,12 +164,10 @@ module _ (out out' err err' : OutState) where
   pub still_for : (asked : Request) (file : List ℕ) (o r : Result Verdict RunError) (first second : OutState) → IsHanded o r out out' err err'
       → IsRunFor asked file o first out second err → IsEndFor asked file r first out' second err'
   still_for (request.Report command) file o r first second h run = still_run (report command) file o r first.bytes second.bytes h run
-  still_for (request.Explain limit) file o r first second h run = record {
-    written = λ V s. still_explained limit file V o r first h (run.written V s);
-    verdict = λ V s. still_of (λ v. (explain_report limit file V).answer ≡ Ok v) o r h (run.verdict V s);
-    answer = still_answers o r file h run.answer;
-    sound = still_of (λ v. v ≡ Clean ↔ Sound file) o r h run.sound;
-  }
+  still_for (request.Explain limit) file o r first second h run = (
+    λ V s. (still_explained limit file V o r first h (run.written V s), still_of (λ v. (explain_report limit file V).answer ≡ Ok v) o r h (run.verdict V s)),
+    still_answers o r file h run.answer,
+  )
   still_for (request.Map name) file o r first second h run = record {
     survey = run.survey;
     verdict = λ V s. still_of (λ v. v ≡ verdict (faults file V)) o r h (run.verdict V s);

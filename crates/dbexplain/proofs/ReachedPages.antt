@@ -13,6 +13,7 @@ use Rattle.dbformat.specs.Address.{freelist_start}
 use Rattle.dbformat.specs.FixedPages.{most_pages}
 use Rattle.dbformat.specs.Lines.{counted}
 use Rattle.dbformat.specs.Reference.{Reference}
+use Rattle.dbsurvey.proofs.Ranges.{count_push}
 use Rattle.dbtrace.specs.declared.Reported.{Reported}
 use Rattle.dbformat.specs.Starts.{start_at}
 use Rattle.dbowner.proofs.Slots.{get_set, get_set_other}
@@ -22,16 +23,6 @@ use Rattle.dbexplain.specs.TallySteps.{reached_counted}
 use Rattle.dbexplain.specs.declared.tally.StartCount.{StartCount}
 
 -- ---- counts along a range
-
-range_more : (p : ℕ → Bool) (a n j : ℕ) → a + n ≡ j → count_by p (range_with_len a (suc n)) ≡ count_by p (range_with_len a n) + cond (p j) 1 0
-range_more p a zero j e =
-    let same : a ≡ j = omega arith in
-    let c = count_more p a [] in c ∙ ap (λ i. cond (p i) 1 0 + 0) same ∙ (let f : cond (p j) 1 0 + 0 ≡ 0 + cond (p j) 1 0 = omega arith in f)
-range_more p a (suc n) j e =
-    let deeper = range_more p (a + 1) n j (omega arith) in
-    let c = count_more p a (range_with_len (a + 1) (suc n)) in
-    let d = count_more p a (range_with_len (a + 1) n) in
-    omega (arith, deeper, c, d)
 
 pub at_most : (p : ℕ → Bool) (a n : ℕ) → count_by p (range_with_len a n) ≤ n
 at_most p a n = let b = count_by-le-length p (range_with_len a n) in let l = length-range_with_len a n in omega (arith, b, l)
@@ -47,7 +38,7 @@ module _ (V : List Reference) (ts : List Reported) (n : ℕ) (few : n < most_pag
   both k q = is_reached V k q && is_told ts q
 
   more : (f : ℕ → Bool) → count_by f (range_with_len 1 (n + 1)) ≡ count_by f (range_with_len 1 n) + cond (f p) 1 0
-  more f = ap (λ m. count_by f (range_with_len 1 m)) (let e : n + 1 ≡ suc n = omega arith in e) ∙ range_more f 1 n p (omega arith)
+  more f = count_push f 1 n p (omega arith)
 
   -- where the page was not reached from start k
   same_start : (k : ℕ) → is_reached V k p ≡ false → counted_start V ts n k ≡ counted_start V ts (n + 1) k

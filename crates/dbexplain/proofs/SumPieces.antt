@@ -7,7 +7,8 @@ use Rattle.dbformat.specs.Lines.{counted, line_feed}
 use Rattle.dbformat.specs.SchemaRow.{SchemaRow}
 use Rattle.dbformat.specs.declared.Encoding.{Encoding}
 use Rattle.dbowner.specs.Texts.{tree_of_row}
-use Rattle.dbexplain.specs.Summary.{aligned, indented, pages_text, root_page, start_name}
+use Rattle.dbentries.specs.Lines.{indented}
+use Rattle.dbexplain.specs.Summary.{aligned, pages_text, root_page, start_name}
 use Rattle.dbexplain.specs.Sums.{code_sum, numbered_sum, start_sum, sum_front}
 use Rattle.dbexplain.specs.declared.tally.CodeCount.{CodeCount}
 use Rattle.dbexplain.specs.declared.tally.StartCount.{StartCount}

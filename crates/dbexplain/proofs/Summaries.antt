@@ -30,6 +30,7 @@ use Rattle.dbformat.proofs.HeaderPrefix.{encoding_within}
 use Rattle.dbsource.specs.HeaderBytes.{HeaderBytes}
 use Rattle.dbsource.specs.Headers.{IsHeaderOf}
 use Rattle.dbscan.specs.Roots.{AreListed}
+use Rattle.dbtrace.proofs.Keys.{same_tests}
 use Rattle.dbtrace.specs.declared.Part.{Part}
 use Rattle.dbtrace.specs.declared.Part.TheVariants as part
 use Rattle.dbtrace.specs.declared.Reported.{Reported}
@@ -38,7 +39,8 @@ use Rattle.dbowner.proofs.RootPages.{starts_are}
 use Rattle.dbformat.proofs.BelowStarts.{length_taken, rows_start}
 use Rattle.dbscan.specs.Placed.{told_faults}
 use Rattle.dbscan.proofs.Reached.{of_starts}
-use Rattle.dbexplain.specs.Summary.{aligned, code_count, code_line, count_text, faulty_pages, indented, is_faulty, is_reached, is_start, is_whole, listed_rows, pages_text, reached_pages, start_count, start_line, start_name, sum_line, summary, tree_count, trees_text, whole_count, whole_line, whole_trees}
+use Rattle.dbentries.specs.Lines.{indented}
+use Rattle.dbexplain.specs.Summary.{aligned, code_count, code_line, count_text, faulty_pages, is_faulty, is_reached, is_start, is_whole, listed_rows, pages_text, reached_pages, start_count, start_line, start_name, sum_line, summary, tree_count, trees_text, whole_count, whole_line, whole_trees}
 use Rattle.dbexplain.specs.Sums.{code_sum, freelist_count, numbered_sum, start_sum, summary_by, tree_counts, without_fault}
 use Rattle.dbexplain.specs.Tallies.{Tallied, IsTallyTo, counted_code, counted_start, is_told, no_count}
 use Rattle.dbexplain.specs.declared.tally.StartCount.{StartCount}
@@ -89,11 +91,6 @@ points f a (suc n) (x ∷ xs) h =
     ap₂ (λ y ys. y ∷ ys) (first ∙ ap f same) (points f (a + 1) n xs (λ k l. h (suc k) (omega arith) ∙ ap (λ i. Some (f i)) (let e : a + suc k ≡ a + 1 + k = omega arith in e)))
 
 -- ---- tests
-
-same_tests : (a b : Bool) → (a ≡ true → b ≡ true) → (b ≡ true → a ≡ true) → a ≡ b
-same_tests true b f g = sym (f refl)
-same_tests false true f g = g refl
-same_tests false false f g = refl
 
 start_is : (k : ℕ) (p : Part) → is_start k p ≡ true → p ≡ part.Start k
 start_is k part.Header e = cc

@@ -14,6 +14,7 @@ use Rattle.dbformat.specs.Schema.{schema, rooted_rows, starts}
 use Rattle.dbformat.specs.SchemaRow.{SchemaRow}
 use Rattle.dbformat.specs.declared.Encoding.{Encoding}
 use Rattle.dbformat.specs.declared.FaultCode.{FaultCode}
+use Rattle.dbentries.specs.Lines.{indented}
 use Rattle.dbtrace.specs.declared.Part.{Part}
 use Rattle.dbtrace.specs.declared.Part.TheVariants as part
 use Rattle.dbtrace.specs.declared.Reported.{Reported}
@@ -87,10 +88,6 @@ abbrev pub whole_trees : List SchemaRow → List Reported → ℕ
 whole_trees rows ts = count_by (λ k. start_count ts k == 0) (range_with_len 0 (tree_count rows))
 
 -- Lines.
-
--- a line below that of the number of faults
-abbrev pub indented : List ℕ → List ℕ
-indented text = codes "    " ++ text ++ line_feed ∷ []
 
 -- a number with blanks before it, to the width of another
 abbrev pub aligned : ℕ → ℕ → List ℕ

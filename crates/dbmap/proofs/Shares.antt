@@ -4,11 +4,11 @@ use Rattle.std.specs.Prelude.{◌==◌, nat_le}
 use Rattle.std.specs.List.{range_with_len}
 use Rattle.std.proofs.lemmas.Bool.{eqb-true, false≢true}
 use Rattle.std.proofs.lemmas.Bool.Decides.{nat_tests}
-use Rattle.std.proofs.lemmas.List.FromFn.{map-range_with_len_more}
 use Rattle.std.proofs.lemmas.List.Sums.{sum_by-cons, sum_by_push}
 use Rattle.dbsurvey.specs.Address.{IsIn}
 use Rattle.dbsurvey.proofs.Elements.{IsIn-from_range, IsIn-range}
 use Rattle.dbmarks.specs.declared.marks.Mark.{Mark}
+use Rattle.dbsurvey.proofs.Ranges.{range_push}
 use Rattle.dbowner.specs.declared.place.Place.{Place}
 use Rattle.dbowner.specs.declared.place.Place.TheVariants as place
 use Rattle.dbmap.specs.Cells.{has_pages, number_of, owner_numbered, share_of}
@@ -66,14 +66,6 @@ some_counted mine (q ∷ ps) h = by_case (mine q) refl (some_counted mine ps)
         (k.0, inr k.1, k.2)
 
 -- ---- cells
-
--- one more page of a range
-pub range_push : (a n : ℕ) → range_with_len a (n + 1) ≡ range_with_len a n ++ (a + n) ∷ []
-range_push a n = sym (same (range_with_len a (n + 1))) ∙ map-range_with_len_more (λ x. x) a n (a + n) refl ∙ ap (λ l. l ++ (a + n) ∷ []) (same (range_with_len a n))
-  where
-    same : (xs : List ℕ) → map (λ x. x) xs ≡ xs
-    same [] = refl
-    same (x ∷ xs) = ap (λ l. x ∷ l) (same xs)
 
 -- one more page is counted for its owner
 pub shares_push : (marks : List Mark) (o : OwnersGround) (ps : List ℕ) (p : ℕ) (owner : Owner) (over : Bool) (c d : Cell) → owner ≡ owner_at marks o p → over ≡ is_overflow (place_at marks p)

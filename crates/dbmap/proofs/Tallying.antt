@@ -23,7 +23,8 @@ use Rattle.dbmap.specs.Shares.{counted_pages, one_page, share_in}
 use Rattle.dbmap.specs.Tallies.{AreLargest, AreLargestOf, IsNone, IsTallyOf, IsTallyTo, Tallied, is_nowhere, is_of_start, page_counted, pages_at, share_at, start_counted, start_share, tree_pages, used_counted}
 use Rattle.dbmap.specs.declared.cell.Share.{Share}
 use Rattle.dbmap.proofs.Largest.{largest_by}
-use Rattle.dbmap.proofs.Shares.{range_push, share_push}
+use Rattle.dbsurvey.proofs.Ranges.{count_push, range_push}
+use Rattle.dbmap.proofs.Shares.{share_push}
 
 -- ---- what a page is, three ways
 
@@ -60,19 +61,16 @@ page_case file V p = by_case (is_fixed (geometry file) p) (visit_of V p) refl re
 -- ---- one page more
 
 module _ (file : List ℕ) (V : List Reference) (n p : ℕ) (next : p ≡ 1 + n) where
-  count_push : (f : ℕ → Bool) → count_by f (range_with_len 1 (n + 1)) ≡ count_by f (range_with_len 1 n) + cond (f p) 1 0
-  count_push f = ap (count_by f) (range_push 1 n) ∙ sum_by_push (λ x. cond (f x) 1 0) (range_with_len 1 n) (1 + n) ∙ ap (λ x. count_by f (range_with_len 1 n) + cond (f x) 1 0) (sym next)
-
   counted_same : (f : ℕ → Bool) → f p ≡ false → counted_pages (count_by f (range_with_len 1 n)) ≡ counted_pages (count_by f (range_with_len 1 (n + 1)))
   counted_same f e =
-      let c = count_push f in
+      let c = count_push f 1 n p (sym next) in
       let none : cond {A = ℕ} (f p) 1 0 ≡ 0 = ap (λ b. cond {A = ℕ} b 1 0) e in
       let same : count_by f (range_with_len 1 n) ≡ count_by f (range_with_len 1 (n + 1)) = omega (arith, c, none) in
       ap counted_pages same
 
   counted_more : (f : ℕ → Bool) → f p ≡ true → counted_pages (counted_pages (count_by f (range_with_len 1 n)) + 1) ≡ counted_pages (count_by f (range_with_len 1 (n + 1)))
   counted_more f e =
-      let c = count_push f in
+      let c = count_push f 1 n p (sym next) in
       let one : cond {A = ℕ} (f p) 1 0 ≡ 1 = ap (λ b. cond {A = ℕ} b 1 0) e in
       omega (arith, c, one)
 
