@@ -6,5 +6,6 @@ pub mod LeafLoop
 pub mod Visits
 pub mod TreeSteps
 pub mod TreeTurns
+pub mod Passing
 pub mod WalkedTrees
 pub mod Walks

@@ -53,3 +53,8 @@ IsNextStep v s (Child page) = IsChildAt v s page
 pub record HasNext (usable : ℕ) (kind : TreeKind) (levels : List (List ℕ)) (level page s : ℕ) (next : Next) : Type 0 where
   pub few : (bytes : List ℕ) (v : View) → slice_get levels level ≡ Some bytes → undamaged kind page usable bytes ≡ Some v → count v ≤ 32768
   pub stands : (bytes : List ℕ) (v : View) → slice_get levels level ≡ Some bytes → undamaged kind page usable bytes ≡ Some v → IsNextStep v s next
+
+-- at the steps from one up to another the page has nothing
+pub record AreEmpty (usable : ℕ) (kind : TreeKind) (levels : List (List ℕ)) (level page start end : ℕ) : Type 0 where
+  pub rise : start ≤ end
+  pub empty : (s : ℕ) → start ≤ s → s < end → HasNext usable kind levels level page s Nothing

@@ -1,9 +1,9 @@
 // The steps of an interior page: at each cell its overflow chain, its left child and its key, and after the cells the right
 // child.
-ghost use Rattle.std.specs.Prelude.{◌≡◌, ◌<◌, suc};
+ghost use Rattle.std.specs.Prelude.{◌≡◌, ℕ, ◌<◌, ◌≤◌, suc};
 ghost use Rattle.dbformat.specs.Address.{overflow_step, child_step, key_step};
 ghost use Rattle.dbformat.specs.Cell.{count};
-ghost use Rattle.dbwalk.specs.Steps.{HasNext, IsNextStep};
+ghost use Rattle.dbwalk.specs.Steps.{AreEmpty, HasNext, IsEmptyAt, IsNextStep};
 
 use crate::cells::overflow_size;
 use crate::page::undamaged;
@@ -48,26 +48,55 @@ pub(crate) enum Next {
     Child(u32),
 }
 
-/// What the page at a level has at the step of its frame; a damaged page has no more steps.
+/// The first step from that of a frame on at which the page at a level has something, as a frame, and what it has there. A damaged
+/// page has no more steps.
 pub(crate) fn step_of<A: Allocator>(
     bench: &Bench<A>,
     kind: TreeKind,
     level: usize,
     frame: Frame,
-) -> Next
+) -> (Frame, Next)
     requires { level < 20 }
-    ensures { HasNext bench.now.geometry.usable kind bench.now.levels level frame.page frame.next result }
+    ensures page { result.0.page ≡ frame.page }
+    ensures empty { AreEmpty bench.now.geometry.usable kind bench.now.levels level frame.page frame.next result.0.next }
+    ensures next { HasNext bench.now.geometry.usable kind bench.now.levels level frame.page result.0.next result.1 }
 {
     let usable = bench.geometry().usable;
     let Ok(view) = undamaged(bench.page(level), frame.page, usable, kind) else {
-        return Next::Behind;
+        return (frame, Next::Behind);
     };
-    let cells = view.cells();
-    let i = frame.next / 3;
-    match frame.next % 3 {
-        0 => chain_at(&view, cells, i),
-        1 => child_at(&view, cells, i),
-        _ => key_at(&view, cells, i),
+    let (next, what) = next_from(&view, view.cells(), frame.next);
+    let page = frame.page;
+    (Frame { page, next }, what)
+}
+
+// The first step from one on at which there is something, and what is there.
+fn next_from(view: &PageView<'_>, cells: u32, from: u32) -> (u32, Next)
+    requires cells { cells ≡ count view.now }
+    requires few { cells ≤ 32768 }
+    ensures rise { from ≤ result.0 }
+    ensures empty { (s : ℕ) → from ≤ s → s < result.0 → IsEmptyAt view.now s }
+    ensures next { IsNextStep view.now result.0 result.1 }
+{
+    let mut step = from;
+    let mut next = at_step(view, cells, step);
+    while let Next::Nothing = next {
+        step += 1;
+        next = at_step(view, cells, step);
+    }
+    (step, next)
+}
+
+// What a page has at a step.
+fn at_step(view: &PageView<'_>, cells: u32, step: u32) -> Next
+    requires { cells ≡ count view.now }
+    ensures { IsNextStep view.now step result }
+{
+    let i = step / 3;
+    match step % 3 {
+        0 => chain_at(view, cells, i),
+        1 => child_at(view, cells, i),
+        _ => key_at(view, cells, i),
     }
 }
 

@@ -12,7 +12,7 @@ ghost use Rattle.dbwalk.specs.Standing.{AtStep};
 
 use crate::chain::{Chain, walk_unfed};
 use crate::state::Tree;
-use crate::steps::{Frame, Next, step_of};
+use crate::steps::{Frame, Next};
 use crate::{Marks, Sink, Taker};
 use arrayvec::ArrayVec;
 use dbformat::Encoding;
@@ -66,7 +66,7 @@ impl<A: Allocator, S: Source, K: Sink, T: Taker> TreeWalk<'_, '_, '_, '_, A, S, 
         Ok(())
     }
 
-    /// One turn: the next step of a frame that was taken from the stack.
+    /// One turn: what was found at the step of a frame that was taken from the stack.
     ///
     /// # Errors
     ///
@@ -77,10 +77,12 @@ impl<A: Allocator, S: Source, K: Sink, T: Taker> TreeWalk<'_, '_, '_, '_, A, S, 
         bench: &mut Bench<A>,
         frames: &mut ArrayVec<Frame, 20>,
         frame: Frame,
+        next: Next,
     ) -> Result<(), RunError>
         requires few { array_vec_len frames.old < 20 }
         requires open { AreOpen bench.old.geometry.usable self.old.tree.kind bench.old.levels 0 (frames.old.items ++ (frame ∷ [])) }
         requires path { self.old.tree.path.items ≡ path_of frames.old.items }
+        requires step { HasNext bench.old.geometry.usable self.old.tree.kind bench.old.levels (array_vec_len frames.old) frame.page frame.next next }
         ensures walked { Walked S.held K.held T.refusals result bench.old.geometry bench.new.geometry self.old self.new }
         ensures few { OnOk result (array_vec_len frames.new ≤ 20) }
         ensures open { OnOk result (AreOpen bench.new.geometry.usable self.new.tree.kind bench.new.levels 0 frames.new.items) }
@@ -91,7 +93,7 @@ impl<A: Allocator, S: Source, K: Sink, T: Taker> TreeWalk<'_, '_, '_, '_, A, S, 
             HasTurned (watches K.takes T.takes) (fails K.drops T.refuses) file (W, c, before) result (frames.new.items, bench.new.levels)
             (self.new.marks.now, self.new.tree) (self.new.sink.now, self.new.taker.now))) }
     {
-        match step_of(bench, self.tree.kind, frames.len(), frame) {
+        match next {
             Next::Behind => {
                 // The path ends at the page above.
                 let _ = self.tree.path.pop();

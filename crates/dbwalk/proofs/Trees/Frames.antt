@@ -130,6 +130,9 @@ cost_push (g ∷ fs) f = let r = cost_push fs f in omega arith
 pub ends_behind : (marks : List Mark) (fs : List Frame) (f : Frame) → f.next ≤ 98306 → cost marks fs < cost marks (fs ++ (f ∷ []))
 ends_behind marks fs f l = let p = cost_push fs f in omega arith
 
+pub ends_past : (marks : List Mark) (fs : List Frame) (f g : Frame) → f.next ≤ g.next → cost marks (fs ++ (g ∷ [])) ≤ cost marks (fs ++ (f ∷ []))
+ends_past marks fs f g l = let p = cost_push fs f in let q = cost_push fs g in omega arith
+
 pub ends_on : (marks marks' : List Mark) (fs : List Frame) (f g : Frame) {items : List Frame} → items ≡ fs ++ (g ∷ []) → unmarked_pages marks' ≤ unmarked_pages marks → g.next ≡ suc f.next → f.next ≤ 98306 → cost marks' items < cost marks (fs ++ (f ∷ []))
 ends_on marks marks' fs f g are fewer next l = let p = cost_push fs f in let q = ap frames_cost are ∙ cost_push fs g in omega arith
 

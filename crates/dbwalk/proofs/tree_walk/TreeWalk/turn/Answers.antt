@@ -24,22 +24,22 @@ use Rattle.dbwalk.proofs.tree_walk.TreeWalk.turn.Goals as goal
 
 pub stepped-requires : goal.stepped-requires
 stepped-requires g c =
-    let most = (at_step c.args.frames.now.items c.args.frame c.requires.«open» (next_at c.len.ensures.value c.in-Nothing.is c.step_of.ensures)).most in
+    let most = (at_step c.args.frames.now.items c.args.frame c.requires.«open» (next_at refl c.in-Nothing.is c.requires.step)).most in
     omega arith
 
 pub stepped-requires-in-Key : goal.stepped-requires-in-Key
 stepped-requires-in-Key g c =
-    let most = (at_step c.args.frames.now.items c.args.frame c.requires.«open» (next_at c.len.ensures.value c.in-Key.is c.step_of.ensures)).most in
+    let most = (at_step c.args.frames.now.items c.args.frame c.requires.«open» (next_at refl c.in-Key.is c.requires.step)).most in
     omega arith
 
 pub stepped-requires-in-Chain : goal.stepped-requires-in-Chain
 stepped-requires-in-Chain g c =
-    let most = (at_step c.args.frames.now.items c.args.frame c.requires.«open» (next_at c.len.ensures.value c.in-Chain.is c.step_of.ensures)).most in
+    let most = (at_step c.args.frames.now.items c.args.frame c.requires.«open» (next_at refl c.in-Chain.is c.requires.step)).most in
     omega arith
 
 pub walk_unfed-requires : goal.walk_unfed-requires
 walk_unfed-requires g c =
-    let s = at_step c.args.frames.now.items c.args.frame c.requires.«open» (next_at c.len.ensures.value c.in-Chain.is c.step_of.ensures) in
+    let s = at_step c.args.frames.now.items c.args.frame c.requires.«open» (next_at refl c.in-Chain.is c.requires.step) in
     let low : IsPageNumber c.args.frame.page = s.low in
     let size = cell_size s.last.view s.stands.n s.stands.x s.stands.read in
     let rest = s.stands.rest in
@@ -47,30 +47,30 @@ walk_unfed-requires g c =
     search rules
 
 pub returns-in-Behind-clause-open : goal.returns-in-Behind-clause-open
-returns-in-Behind-clause-open g c = (at_step c.args.frames.now.items c.args.frame c.requires.«open» (next_at c.len.ensures.value c.in-Behind.is c.step_of.ensures)).front
+returns-in-Behind-clause-open g c = (at_step c.args.frames.now.items c.args.frame c.requires.«open» (next_at refl c.in-Behind.is c.requires.step)).front
 
 pub returns-in-Behind-clause-ends : goal.returns-in-Behind-clause-ends
-returns-in-Behind-clause-ends g c = ends_behind c.args.self.now.marks.now c.args.frames.now.items c.args.frame (at_step c.args.frames.now.items c.args.frame c.requires.«open» (next_at c.len.ensures.value c.in-Behind.is c.step_of.ensures)).most
+returns-in-Behind-clause-ends g c = ends_behind c.args.self.now.marks.now c.args.frames.now.items c.args.frame (at_step c.args.frames.now.items c.args.frame c.requires.«open» (next_at refl c.in-Behind.is c.requires.step)).most
 
 pub returns-in-Behind-clause-log : goal.returns-in-Behind-clause-log
 returns-in-Behind-clause-log g c = log_none c.args.bench.now.geometry.page_size c.args.self.now.marks.now c.args.self.now.marks.now (g.S.Source.held c.args.self.now.source.now) refl (λ file e coded W d before candidate walk held empty.
-    let here = next_here c.args.frames.now.items c.args.frame walk candidate (ap (λ s. s.usable) e) (next_at c.len.ensures.value c.in-Behind.is c.step_of.ensures) in
+    let here = next_here c.args.frames.now.items c.args.frame walk candidate (ap (λ s. s.usable) e) (next_at refl c.in-Behind.is c.requires.step) in
     (by_other (turned_behind c.args.frames.now.items c.args.frame walk candidate here) refl refl refl refl (λ n l. refl), tt))
 
 pub returns-in-Nothing-clause-open : goal.returns-in-Nothing-clause-open
-returns-in-Nothing-clause-open g c = step_on c.args.frames.now.items c.args.frame (at_step c.args.frames.now.items c.args.frame c.requires.«open» (next_at c.len.ensures.value c.in-Nothing.is c.step_of.ensures)) c.stepped.result c.stepped.ensures.page c.stepped.ensures.next (λ x. cc) c.push.ensures.items c.args.bench.now.geometry.usable c.args.self.now.tree.kind c.args.bench.now.levels refl refl (λ n l. refl)
+returns-in-Nothing-clause-open g c = step_on c.args.frames.now.items c.args.frame (at_step c.args.frames.now.items c.args.frame c.requires.«open» (next_at refl c.in-Nothing.is c.requires.step)) c.stepped.result c.stepped.ensures.page c.stepped.ensures.next (λ x. cc) c.push.ensures.items c.args.bench.now.geometry.usable c.args.self.now.tree.kind c.args.bench.now.levels refl refl (λ n l. refl)
 
 pub returns-in-Nothing-clause-ends : goal.returns-in-Nothing-clause-ends
-returns-in-Nothing-clause-ends g c = ends_on c.args.self.now.marks.now c.args.self.now.marks.now c.args.frames.now.items c.args.frame c.stepped.result c.push.ensures.items (omega arith) c.stepped.ensures.next (at_step c.args.frames.now.items c.args.frame c.requires.«open» (next_at c.len.ensures.value c.in-Nothing.is c.step_of.ensures)).most
+returns-in-Nothing-clause-ends g c = ends_on c.args.self.now.marks.now c.args.self.now.marks.now c.args.frames.now.items c.args.frame c.stepped.result c.push.ensures.items (omega arith) c.stepped.ensures.next (at_step c.args.frames.now.items c.args.frame c.requires.«open» (next_at refl c.in-Nothing.is c.requires.step)).most
 
 pub returns-in-Nothing-clause-log : goal.returns-in-Nothing-clause-log
 returns-in-Nothing-clause-log g c = log_none c.args.bench.now.geometry.page_size c.args.self.now.marks.now c.args.self.now.marks.now (g.S.Source.held c.args.self.now.source.now) refl (λ file e coded W d before candidate walk held empty.
-    let here = next_here c.args.frames.now.items c.args.frame walk candidate (ap (λ s. s.usable) e) (next_at c.len.ensures.value c.in-Nothing.is c.step_of.ensures) in
+    let here = next_here c.args.frames.now.items c.args.frame walk candidate (ap (λ s. s.usable) e) (next_at refl c.in-Nothing.is c.requires.step) in
     (by_other (turned_empty c.args.frames.now.items c.args.frame walk candidate c.stepped.result c.stepped.ensures.page c.stepped.ensures.next here) c.push.ensures.items refl refl refl (λ n l. refl), tt))
 
 pub returns-in_err-tell_key-in-Key-clause-log : goal.returns-in_err-tell_key-in-Key-clause-log
 returns-in_err-tell_key-in-Key-clause-log g c = log_none c.args.bench.now.geometry.page_size c.args.self.now.marks.now c.args.self.now.marks.now (g.S.Source.held c.args.self.now.source.now) refl (λ file e coded W d before candidate walk held empty.
-    let here = next_here c.args.frames.now.items c.args.frame walk candidate (ap (λ s. s.usable) e) (next_at c.len.ensures.value c.in-Key.is c.step_of.ensures) in
+    let here = next_here c.args.frames.now.items c.args.frame walk candidate (ap (λ s. s.usable) e) (next_at refl c.in-Key.is c.requires.step) in
     let n = c.tell_key.new in
     let q = err_from_is_err_and c.from_residual.result c.from_residual.ensures.1 in
     let told = subst (λ z. Stops g.K.Sink.takes g.K.Sink.drops c.args.self.now.sink.now (order_told false c.args.self.now.tree.greatest c.args.frame.page (c.args.frame.next / 3) z) n.sink) (to_z-of_z w64 c.in-Key.key (search rules)) c.in_err-tell_key-in-Key.ensures.told.items in
@@ -79,14 +79,14 @@ returns-in_err-tell_key-in-Key-clause-log g c = log_none c.args.bench.now.geomet
     (found_stops g.K.Sink.takes g.K.Sink.drops g.T.Taker.takes g.T.Taker.refuses (order_told false c.args.self.now.tree.greatest c.args.frame.page (c.args.frame.next / 3) c.in-Key.key) c.args.self.now.sink.now n.sink c.args.self.now.taker.now told)))
 
 pub returns-in_ok-tell_key-in-Key-clause-open : goal.returns-in_ok-tell_key-in-Key-clause-open
-returns-in_ok-tell_key-in-Key-clause-open g c = step_on c.args.frames.now.items c.args.frame (at_step c.args.frames.now.items c.args.frame c.requires.«open» (next_at c.len.ensures.value c.in-Key.is c.step_of.ensures)) c.stepped-in-Key.result c.stepped-in-Key.ensures.page c.stepped-in-Key.ensures.next (λ x. cc) c.push-in-Key.ensures.items c.args.bench.now.geometry.usable c.tell_key.new.self.kind c.args.bench.now.levels refl c.tell_key.ensures.others.1 (λ n l. refl)
+returns-in_ok-tell_key-in-Key-clause-open g c = step_on c.args.frames.now.items c.args.frame (at_step c.args.frames.now.items c.args.frame c.requires.«open» (next_at refl c.in-Key.is c.requires.step)) c.stepped-in-Key.result c.stepped-in-Key.ensures.page c.stepped-in-Key.ensures.next (λ x. cc) c.push-in-Key.ensures.items c.args.bench.now.geometry.usable c.tell_key.new.self.kind c.args.bench.now.levels refl c.tell_key.ensures.others.1 (λ n l. refl)
 
 pub returns-in_ok-tell_key-in-Key-clause-ends : goal.returns-in_ok-tell_key-in-Key-clause-ends
-returns-in_ok-tell_key-in-Key-clause-ends g c = ends_on c.args.self.now.marks.now c.args.self.now.marks.now c.args.frames.now.items c.args.frame c.stepped-in-Key.result c.push-in-Key.ensures.items (omega arith) c.stepped-in-Key.ensures.next (at_step c.args.frames.now.items c.args.frame c.requires.«open» (next_at c.len.ensures.value c.in-Key.is c.step_of.ensures)).most
+returns-in_ok-tell_key-in-Key-clause-ends g c = ends_on c.args.self.now.marks.now c.args.self.now.marks.now c.args.frames.now.items c.args.frame c.stepped-in-Key.result c.push-in-Key.ensures.items (omega arith) c.stepped-in-Key.ensures.next (at_step c.args.frames.now.items c.args.frame c.requires.«open» (next_at refl c.in-Key.is c.requires.step)).most
 
 pub returns-in_ok-tell_key-in-Key-clause-log : goal.returns-in_ok-tell_key-in-Key-clause-log
 returns-in_ok-tell_key-in-Key-clause-log g c = log_none c.args.bench.now.geometry.page_size c.args.self.now.marks.now c.args.self.now.marks.now (g.S.Source.held c.args.self.now.source.now) refl (λ file e coded W d before candidate walk held empty.
-    let here = next_here c.args.frames.now.items c.args.frame walk candidate (ap (λ s. s.usable) e) (next_at c.len.ensures.value c.in-Key.is c.step_of.ensures) in
+    let here = next_here c.args.frames.now.items c.args.frame walk candidate (ap (λ s. s.usable) e) (next_at refl c.in-Key.is c.requires.step) in
     let n = c.tell_key.new in
     let same = to_z-of_z w64 c.in-Key.key (search rules) in
     let told = subst (λ z. Moves g.K.Sink.takes c.args.self.now.sink.now (order_told false c.args.self.now.tree.greatest c.args.frame.page (c.args.frame.next / 3) z) n.sink) same c.in_ok-tell_key-in-Key.ensures.told.items in
@@ -100,16 +100,16 @@ pub returns-in-Chain-clause-open : goal.returns-in-Chain-clause-open
 returns-in-Chain-clause-open g c =
     let n = c.walk_unfed.new.bench in
     let same = c.walk_unfed.ensures.bench in
-    on_ok_all c.walk_unfed.result (step_on c.args.frames.now.items c.args.frame (at_step c.args.frames.now.items c.args.frame c.requires.«open» (next_at c.len.ensures.value c.in-Chain.is c.step_of.ensures)) c.stepped-in-Chain.result c.stepped-in-Chain.ensures.page c.stepped-in-Chain.ensures.next (λ x. cc) c.push-in-Chain.ensures.items n.geometry.usable c.args.self.now.tree.kind n.levels (ap (λ (p : Pages). p.geometry.usable) same) refl (λ m l. ap (λ (p : Pages). slice_get p.levels m) same))
+    on_ok_all c.walk_unfed.result (step_on c.args.frames.now.items c.args.frame (at_step c.args.frames.now.items c.args.frame c.requires.«open» (next_at refl c.in-Chain.is c.requires.step)) c.stepped-in-Chain.result c.stepped-in-Chain.ensures.page c.stepped-in-Chain.ensures.next (λ x. cc) c.push-in-Chain.ensures.items n.geometry.usable c.args.self.now.tree.kind n.levels (ap (λ (p : Pages). p.geometry.usable) same) refl (λ m l. ap (λ (p : Pages). slice_get p.levels m) same))
 
 pub returns-in-Chain-clause-ends : goal.returns-in-Chain-clause-ends
 returns-in-Chain-clause-ends g c =
     let fewer = keeps_fewer c.args.self.now.marks.now c.walk_unfed.new.marks c.walk_unfed.ensures.log.holds.kept in
-    on_ok_all c.walk_unfed.result (ends_on c.args.self.now.marks.now c.walk_unfed.new.marks c.args.frames.now.items c.args.frame c.stepped-in-Chain.result c.push-in-Chain.ensures.items fewer c.stepped-in-Chain.ensures.next (at_step c.args.frames.now.items c.args.frame c.requires.«open» (next_at c.len.ensures.value c.in-Chain.is c.step_of.ensures)).most)
+    on_ok_all c.walk_unfed.result (ends_on c.args.self.now.marks.now c.walk_unfed.new.marks c.args.frames.now.items c.args.frame c.stepped-in-Chain.result c.push-in-Chain.ensures.items fewer c.stepped-in-Chain.ensures.next (at_step c.args.frames.now.items c.args.frame c.requires.«open» (next_at refl c.in-Chain.is c.requires.step)).most)
 
 pub returns-in-Chain-clause-log : goal.returns-in-Chain-clause-log
 returns-in-Chain-clause-log g c = has_weaker _ _ c.walk_unfed.ensures.log (λ log r. r) (λ file h e coded W d before candidate walk held empty.
-    let here = next_here c.args.frames.now.items c.args.frame walk candidate (ap (λ s. s.usable) e) (next_at c.len.ensures.value c.in-Chain.is c.step_of.ensures) in
+    let here = next_here c.args.frames.now.items c.args.frame walk candidate (ap (λ s. s.usable) e) (next_at refl c.in-Chain.is c.requires.step) in
     let n = c.walk_unfed.new in
     let r = c.walk_unfed.result in
     let is = chain_is c.args.frames.now.items c.args.frame walk candidate c.stepped-in-Chain.result c.stepped-in-Chain.ensures.page c.stepped-in-Chain.ensures.next c.in-Chain.first c.in-Chain.left here _ refl (c.as_slice.ensures.value ∙ c.requires.path) refl refl refl refl in

@@ -6,7 +6,8 @@ use Rattle.dbwalk.specs.Found.{StandsAt}
 use Rattle.dbwalk.specs.Walking.{IsCandidate, IsOpen, AreOpen, path_of, cost}
 use Rattle.dbsource.proofs.Logs.{has_weaker}
 use Rattle.dbmarks.proofs.Readings.{log_then}
-use Rattle.dbwalk.proofs.Trees.Frames.{path_last}
+use Rattle.dbwalk.specs.Steps.{HasNext}
+use Rattle.dbwalk.proofs.Trees.Frames.{ends_past, next_at, path_last}
 use Rattle.dbtrace.specs.Walk.{begin}
 use Rattle.dbwalk.proofs.Pages.PageVisits.{kind_is}
 use Rattle.dbwalk.proofs.Underway.WalkedTrees.{candidate_as, none_left, tree_started, tree_ended}
@@ -14,6 +15,7 @@ use Rattle.dbwalk.proofs.RootTakings.{empty_room}
 use Rattle.dbwalk.proofs.Underway.Handing.{stopped_as}
 use Rattle.dbwalk.proofs.Underway.TreeSteps.{by_other}
 use Rattle.dbwalk.proofs.Underway.Visits.{entered_done}
+use Rattle.dbwalk.proofs.Underway.Passing.{open_past, walking_past}
 use Rattle.dbwalk.proofs.Underway.Walks.{walked_as, walked_as_ok, walked_behind}
 use Rattle.dbwalk.proofs.tree_walk.TreeWalk.walk_pages.Goals as goal
 
@@ -58,16 +60,22 @@ loop-frame-init g c =
 pub turn-requires : goal.turn-requires
 turn-requires g c =
     let inv = c.loop-frame.invariant in
+    let bench = c.loop-frame.bench in
+    let at = c.step_of-next in
     let popped = c.pop.ensures.items ∙ ap (λ o. c.pop.new.self.items ++ option_to_list o) c.in-Some.is in
     let few : length c.pop.new.self.items < 20 = (let l = c.in-Some.ensures.len in let m = inv.few in omega arith) in
-    let opened : AreOpen c.loop-frame.bench.geometry.usable c.loop-frame.self.tree.kind c.loop-frame.bench.levels 0 (c.pop.new.self.items ++ (c.in-Some.frame ∷ [])) = subst (λ l. AreOpen c.loop-frame.bench.geometry.usable c.loop-frame.self.tree.kind c.loop-frame.bench.levels 0 l) popped inv.opened in
+    let opened : AreOpen bench.geometry.usable c.loop-frame.self.tree.kind bench.levels 0 (c.pop.new.self.items ++ (at.result.0 ∷ [])) = open_past c.pop.new.self.items c.in-Some.frame at.result.0 c.len.ensures.value at.ensures.page at.ensures.empty (subst (λ l. AreOpen bench.geometry.usable c.loop-frame.self.tree.kind bench.levels 0 l) popped inv.opened) in
     let path : c.loop-frame.self.tree.path.items ≡ path_of c.pop.new.self.items = inv.path c.pop.new.self.items c.in-Some.frame popped in
+    let step : HasNext bench.geometry.usable c.loop-frame.self.tree.kind bench.levels (length c.pop.new.self.items) at.result.0.page at.result.0.next at.result.1 =
+    subst (λ p. HasNext bench.geometry.usable c.loop-frame.self.tree.kind bench.levels (length c.pop.new.self.items) p at.result.0.next at.result.1) (sym at.ensures.page) (next_at c.len.ensures.value refl at.ensures.next) in
     search rules
 
 pub loop-frame-smaller : goal.loop-frame-smaller
 loop-frame-smaller g c =
     let popped = c.pop.ensures.items ∙ ap (λ o. c.pop.new.self.items ++ option_to_list o) c.in-Some.is in
-    subst (λ l. cost c.turn.new.self.marks.now c.turn.new.frames.items < cost c.loop-frame.self.marks.now l) (sym popped) c.in_ok-turn.ensures.ends
+    let past = ends_past c.loop-frame.self.marks.now c.pop.new.self.items c.in-Some.frame c.step_of-next.result.0 c.step_of-next.ensures.empty.rise in
+    let ends = c.in_ok-turn.ensures.ends in
+    subst (λ l. cost c.turn.new.self.marks.now c.turn.new.frames.items < cost c.loop-frame.self.marks.now l) (sym popped) (omega arith)
 
 pub loop-frame-preserved : goal.loop-frame-preserved
 loop-frame-preserved g c =
@@ -82,7 +90,8 @@ loop-frame-preserved g c =
       path = c.in_ok-turn.ensures.path;
       log = log_then _ _ (ap (λ x. x.page_size) inv.walked.shape) inv.log c.in_ok-turn.ensures.log (λ file walking turned e coded W d candidate there followed next m held empty.
           (turned (inv.walked.shape ∙ e) (inv.walked.coded ∙ coded) W d _ (candidate_as t.kind s.self.tree.kind t.start s.self.tree.start [] [] c.args.page d.page 0 t.start s.self.tree.start d inv.walked.kind inv.walked.start refl candidate.page inv.walked.start candidate)
-          (by_other (walking e coded W d candidate there followed next m held empty) (sym popped) refl refl refl (λ n l. refl)) held (λ z. empty (sym inv.walked.start ∙ z))).0);
+          (walking_past c.pop.new.self.items (ap (λ x. x.usable) (inv.walked.shape ∙ e)) (candidate_as t.kind s.self.tree.kind t.start s.self.tree.start [] [] c.args.page d.page 0 t.start s.self.tree.start d inv.walked.kind inv.walked.start refl candidate.page inv.walked.start candidate) c.in-Some.frame c.step_of-next.result.0 c.len.ensures.value c.step_of-next.ensures.page c.step_of-next.ensures.empty
+          (by_other (walking e coded W d candidate there followed next m held empty) (sym popped) refl refl refl (λ n l. refl))) held (λ z. empty (sym inv.walked.start ∙ z))).0);
     }
 
 pub returns-in_err-turn-clause-log : goal.returns-in_err-turn-clause-log
@@ -94,7 +103,8 @@ returns-in_err-turn-clause-log g c =
     log_then _ _ (ap (λ x. x.page_size) inv.walked.shape) inv.log c.in_err-turn.ensures.log (λ file walking turned e coded W d candidate there followed next m held empty.
     let q = err_from_is_err_and c.from_residual-in_err-turn.result c.from_residual-in_err-turn.ensures.1 in
     let stopped = turned (inv.walked.shape ∙ e) (inv.walked.coded ∙ coded) W d _ (candidate_as t.kind s.self.tree.kind t.start s.self.tree.start [] [] c.args.page d.page 0 t.start s.self.tree.start d inv.walked.kind inv.walked.start refl candidate.page inv.walked.start candidate)
-    (by_other (walking e coded W d candidate there followed next m held empty) (sym popped) refl refl refl (λ n l. refl)) held (λ z. empty (sym inv.walked.start ∙ z)) in
+    (walking_past c.pop.new.self.items (ap (λ x. x.usable) (inv.walked.shape ∙ e)) (candidate_as t.kind s.self.tree.kind t.start s.self.tree.start [] [] c.args.page d.page 0 t.start s.self.tree.start d inv.walked.kind inv.walked.start refl candidate.page inv.walked.start candidate) c.in-Some.frame c.step_of-next.result.0 c.len.ensures.value c.step_of-next.ensures.page c.step_of-next.ensures.empty
+    (by_other (walking e coded W d candidate there followed next m held empty) (sym popped) refl refl refl (λ n l. refl))) held (λ z. empty (sym inv.walked.start ∙ z)) in
     stopped_as (q.1 ∙ ap Err q.2) stopped.1)
 
 pub returns-clause-log : goal.returns-clause-log
