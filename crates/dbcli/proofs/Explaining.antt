@@ -13,7 +13,7 @@ use Rattle.dbformat.specs.declared.Verdict.TheVariants.{Clean, Faulty}
 use Rattle.dbmap.specs.Maps.{IsMapOf}
 use Rattle.dbreport.proofs.RunAnswers.{first_failures}
 use Rattle.dbreport.specs.Runs.{IsAnswerOf, IsRunBy}
-use Rattle.dbreport.specs.StatSink.{failures_of_each}
+use Rattle.dbreport.specs.StatReporter.{failures_of_each}
 use Rattle.dbsource.proofs.Beginnings.{all_begun}
 use Rattle.dbsource.proofs.Puts.{appends_kept, appends_nothing}
 use Rattle.dbsource.specs.Errors.{is_write_failed}

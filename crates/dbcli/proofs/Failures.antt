@@ -3,11 +3,11 @@ use Rattle.std.proofs.Common.{◌≡◌, ◌∙◌, ℕ, ◌+◌, ◌%◌, ◌^�
 use Rattle.std.specs.Prelude.{◌≢◌}
 use Rattle.std.specs.Io.KnownBytes.{Keeps}
 use Rattle.std.proofs.Math.Nat.{mod-add-mod, mod-mod}
-use Rattle.dbreport.specs.StatSink.{failures_of_each}
+use Rattle.dbreport.specs.StatReporter.{failures_of_each}
 use Rattle.dbsource.proofs.Puts.{kept_appends}
 use Rattle.dbsource.specs.Failures.{HasOneMore, one_more}
 use Rattle.dbsource.specs.Outs.{OutState}
-use Rattle.dbcli.specs.Exit.{EndsWithLine, HasFailed, IsHandedOnOrFailed}
+use Rattle.dbcli.specs.Exit.{EndsWithLine, OutHasFailed, IsHandedOnOrFailed}
 
 -- a count is not the one before it
 pub not_same : (m n : ℕ) → n ≡ one_more m → n ≢ m
@@ -68,7 +68,7 @@ failed_then a most n old mid new room count t = let b = t.bound in record {
 }
 
 -- a count that moved, and then perhaps a little more
-pub after_one : (most : ℕ) (old mid new : OutState) → mid.failures ≡ one_more old.failures → most ≤ 2 → IsHandedOnOrFailed most mid new → HasFailed old new
+pub after_one : (most : ℕ) (old mid new : OutState) → mid.failures ≡ one_more old.failures → most ≤ 2 → IsHandedOnOrFailed most mid new → OutHasFailed old new
 after_one most old mid new one little t = λ e. let c = t.count in let b = t.bound in absurd (omega (arith, one, little, c, b, e))
 
 -- a few calls failed, and two more may

@@ -9,7 +9,7 @@ use Rattle.dbformat.specs.Sound.{Sound}
 use Rattle.dbformat.specs.declared.Verdict.{Verdict}
 use Rattle.dbformat.specs.declared.Verdict.TheVariants.{Clean, Faulty}
 use Rattle.dbreport.specs.Runs.{AsksHeaderAlone, IsAnswerOf, IsRunBy, IsUnwritten}
-use Rattle.dbreport.specs.StatSink.{failures_of_each}
+use Rattle.dbreport.specs.StatReporter.{failures_of_each}
 use Rattle.dbsource.proofs.Beginnings.{all_begun}
 use Rattle.dbsource.proofs.Puts.{appends_kept, kept_appends, keeps_same}
 use Rattle.dbsource.specs.Answers.{Step, Trail}
@@ -23,7 +23,7 @@ use Rattle.dbmap.specs.Pictures.{picture_text}
 use Rattle.dbcli.proofs.Explaining.{IsEndFor, LeavesText, gets_found}
 use Rattle.dbcli.proofs.Failures.{FewFailed, after_one, failed_then, few_then, few_then_line, more_count, more_failures, none_moved, not_same, one_moved, same_count}
 use Rattle.dbcli.specs.ErrorLines.{error_line}
-use Rattle.dbcli.specs.Exit.{EndsWithLine, HasFailed, IsHandedOn, IsHandedOnOrFailed, failures_at_4, first_most, second_most, unread_most}
+use Rattle.dbcli.specs.Exit.{EndsWithLine, OutHasFailed, IsHandedOn, IsHandedOnOrFailed, failures_at_4, first_most, second_most, unread_most}
 use Rattle.dbcli.specs.Handing.{IsHanded, StopsFlushing, TriesToFlush}
 use Rattle.dbexplain.specs.Explained.{explain_report}
 use Rattle.dbexplain.specs.Runs.{WritesReport}
@@ -309,20 +309,20 @@ module _ (out err out1 err1 out2 err2 err3 : OutState) where
   second_kept (Err WriteFailed) r h e = subst (λ x. Keeps err.bytes x.bytes) (sym (h.2 ∙ e)) (keeps_same err.bytes)
 
   run_failed : HasOneMore (failures_of_each out err) (failures_of_each out1 err1) → TriesToFlush out1 out2 → IsHandedOnOrFailed 2 err1 err3
-      → HasFailed out out2 ⊎ HasFailed err err3
+      → OutHasFailed out out2 ⊎ OutHasFailed err err3
   run_failed (inl (first, same)) f t = inl (after_one 1 out out1 out2 first (omega arith) f.once)
   run_failed (inr (same, inl (second, none))) f t = inr (after_one 2 err err1 err3 second (omega arith) t)
   run_failed (inr (same, inr (also, none))) f t = absurd none
 
   flush_failed : out1.failures ≡ out.failures → err1.failures ≡ err.failures → HasOneMore (failures_of_each out1 err1) (failures_of_each out2 err2)
-      → IsHandedOnOrFailed 2 err2 err3 → HasFailed out out2 ⊎ HasFailed err err3
+      → IsHandedOnOrFailed 2 err2 err3 → OutHasFailed out out2 ⊎ OutHasFailed err err3
   flush_failed e f (inl (first, same)) t = inl (not_same out.failures out2.failures (first ∙ ap one_more e))
   flush_failed e f (inr (same, inl (second, none))) t = inr (after_one 2 err err2 err3 (second ∙ ap one_more f) (omega arith) t)
   flush_failed e f (inr (same, inr (also, none))) t = absurd none
 
   -- one of them failed
   pub failed_at_6 : (asked : Request) (o r : Result Verdict RunError) → OutsFail o asked out out1 err err1
-      → IsHanded o r out1 out2 err1 err2 → OnErr r (IsHandedOnOrFailed 2 err2 err3) → exit_status r ≡ 6 → HasFailed out out2 ⊎ HasFailed err err3
+      → IsHanded o r out1 out2 err1 err2 → OnErr r (IsHandedOnOrFailed 2 err2 err3) → exit_status r ≡ 6 → OutHasFailed out out2 ⊎ OutHasFailed err err3
   failed_at_6 asked (Ok v) (Ok w) same h t k = let q = at_verdict w in absurd (omega arith)
   failed_at_6 asked (Ok v) (Err e) same h t k =
       let e : out1.failures ≡ out.failures = cc in

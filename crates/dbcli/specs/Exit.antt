@@ -68,8 +68,8 @@ abbrev pub second_most : ℕ → ℕ
 second_most status = if status == 6 then 3 else 2
 
 -- its count of failures has moved
-abbrev pub HasFailed : OutState → OutState → Type 0
-HasFailed old new = new.failures ≢ old.failures
+abbrev pub OutHasFailed : OutState → OutState → Type 0
+OutHasFailed old new = new.failures ≢ old.failures
 
 -- how many calls of the source failed: one more at 4, and no more at another status
 abbrev pub failures_at_4 : ℕ → ℕ → ℕ

@@ -17,7 +17,7 @@ use Rattle.dbsource.specs.declared.out.Out.{Ghosts as OutWords}
 use Rattle.dbsource.specs.declared.source.ReadFailed.{ReadFailed as Unread}
 use Rattle.dbsource.specs.declared.source.Source.{Ghosts as SourceWords}
 use Rattle.dbcli.specs.ErrorLines.{error_line}
-use Rattle.dbcli.specs.Exit.{EndsWithLine, HasFailed, IsFinishOf, IsHandedOn, IsHandedOnOrFailed, IsKnown, failures_at_4, first_most, second_most}
+use Rattle.dbcli.specs.Exit.{EndsWithLine, OutHasFailed, IsFinishOf, IsHandedOn, IsHandedOnOrFailed, IsKnown, failures_at_4, first_most, second_most}
 use Rattle.dbcli.specs.Requests.{WritesToFirst}
 use Rattle.dbcli.specs.Status.{exit_status}
 use Rattle.dbcli.specs.declared.request.Request.{Request}
@@ -45,7 +45,7 @@ module _ {S O E : Type 0} (source : SourceWords S) (out : OutWords O) (err : Out
     -- the source, once, exactly at 4
     pub reads : (source.held new.0).failures ≡ failures_at_4 status (source.held old.0).failures
     -- at 6 one of the Outs
-    pub writes : status ≡ 6 → HasFailed (out.held old.1) (out.held new.1) ⊎ HasFailed (err.held old.2) (err.held new.2)
+    pub writes : status ≡ 6 → OutHasFailed (out.held old.1) (out.held new.1) ⊎ OutHasFailed (err.held old.2) (err.held new.2)
 
   -- What is on the first Out, beside what the status says of a file.
   pub record LeavesFirst (asked : Request) (status : ℕ) (old new : O) : Type 0 where

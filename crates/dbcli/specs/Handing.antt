@@ -2,7 +2,7 @@
 use Rattle.std.specs.Prelude.{◌≡◌, ℕ, ◌-◌, List, [], length, slice_get, Some, Result, Ok, Err}
 use Rattle.std.specs.Io.KnownBytes.{Keeps}
 use Rattle.dbformat.specs.declared.Verdict.{Verdict}
-use Rattle.dbreport.specs.StatSink.{IsFlushed, failures_of_each}
+use Rattle.dbreport.specs.StatReporter.{IsFlushed, failures_of_each}
 use Rattle.dbsource.specs.Failures.{HasOneMore}
 use Rattle.dbsource.specs.Outs.{OutState}
 use Rattle.dbsource.specs.declared.error.RunError.{RunError}

@@ -9,7 +9,7 @@ use Rattle.dbsource.specs.declared.error.RunError.{RunError}
 use Rattle.dbsource.specs.declared.error.RunError.TheVariants.{ReadFailed}
 use Rattle.dbexplain.specs.Runs.{IsExplained, OutFailures}
 use Rattle.dbreport.specs.Runs.{IsCheck, IsRunBy}
-use Rattle.dbreport.specs.StatSink.{failures_of_each}
+use Rattle.dbreport.specs.StatReporter.{failures_of_each}
 use Rattle.dbmap.specs.Maps.{IsMapOf}
 use Rattle.dbcli.specs.declared.request.Request.{Request}
 use Rattle.dbcli.specs.declared.request.Request.TheVariants as request

@@ -11,8 +11,8 @@ use Rattle.dbcli.specs.declared.command_line.LineError.{LineError}
 use Rattle.dbcli.specs.declared.request.Request.{Request}
 
 -- the status of an error of the words, or 6 where they ask for help or the version, which could not be printed
-abbrev pub IsTold : ℕ → LineError → Type 0
-IsTold status error = (status ≡ line_status error) ⊎ ((line_status error ≡ 0) × (status ≡ 6))
+abbrev pub IsErrorStatus : ℕ → LineError → Type 0
+IsErrorStatus status error = (status ≡ line_status error) ⊎ ((line_status error ≡ 0) × (status ≡ 6))
 
 module _ {F S O E : Type 0} (opens : F → List ℕ → Result S Unread → F → Type 0) (source : SourceWords S) (out : OutWords O) (err : OutWords E) where
   -- What became of a line that asks this of the file at this path.
@@ -41,4 +41,4 @@ module _ {F S O E : Type 0} (opens : F → List ℕ → Result S Unread → F �
   abbrev pub AnswersWords : List Text → ℕ → F × O × E → F × O × E → Type 0
   AnswersWords words status old new =
       RunsWords words status old new
-      ⊎ ((error : LineError) × IsErrorOf error words × IsTold status error × IsUnrun old new)
+      ⊎ ((error : LineError) × IsErrorOf error words × IsErrorStatus status error × IsUnrun old new)

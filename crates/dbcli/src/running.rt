@@ -2,7 +2,7 @@
 ghost use Rattle.std.specs.Prelude.{◌≡◌, [], Ok, Err, IfErr, IfOk, OnErr, map};
 ghost use Rattle.clap.specs.Words.{fault_of};
 ghost use Rattle.dbcli.specs.CommandLine.{IsErrorOf, dbck_app};
-ghost use Rattle.dbcli.specs.Running.{AnswersWords, IsTold, IsUnrun, RunsLine, RunsWords};
+ghost use Rattle.dbcli.specs.Running.{AnswersWords, IsErrorStatus, IsUnrun, RunsLine, RunsWords};
 
 use crate::command_line::{Line, LineError, line_of, shown_error};
 use crate::finishing::finish;
@@ -157,7 +157,7 @@ fn print_error<R: Eprint + Print + AllocGlobal>(rt: &R, words: &clap::Error) -> 
 /// Prints why the words are no command line, or the help that they ask for, and answers the exit status: 6 where the
 /// help cannot be printed.
 pub fn tell<R: Print + Eprint + AllocGlobal>(rt: &R, error: &LineError) -> u8
-    ensures { IsTold result error.now }
+    ensures { IsErrorStatus result error.now }
 {
     let status = line_status(error);
     let printed = match error {

@@ -9,7 +9,7 @@ use Rattle.dbformat.specs.Codes.{code_index}
 use Rattle.dbformat.specs.Lines.{counted}
 use Rattle.dbentries.specs.Kept.{kept_of}
 use Rattle.dbentries.specs.Listing.{Entry, entries, is_of, rank, size}
-use Rattle.dbentries.specs.Store.{IsNoted, Keeps, Stored, added, no_note, numbers_of, turned}
+use Rattle.dbentries.specs.Store.{IsNoted, KeepsEntries, Stored, added, no_note, numbers_of, turned}
 use Rattle.dbtrace.specs.declared.Reported.{Reported}
 use Rattle.dbentries.proofs.Numbers.{in-take, numbers-none}
 use Rattle.dbentries.proofs.Noting.{entries_more}
@@ -17,7 +17,7 @@ use Rattle.dbentries.proofs.Placing.{placed}
 
 -- ---- a part that is new
 
-module _ (es : List Entry) (s : Stored) (part : ℕ) (is : Keeps es s) (rises : s.part ≤ part) where
+module _ (es : List Entry) (s : Stored) (part : ℕ) (is : KeepsEntries es s) (rises : s.part ≤ part) where
   -- what is noted of a new part
   abbrev cleared : Stored
   cleared = record s { part = part; notes = replicate 35 no_note }
@@ -32,7 +32,7 @@ module _ (es : List Entry) (s : Stored) (part : ℕ) (is : Keeps es s) (rises : 
       off : (e : Entry) → rank e.first.part ≤ s.part → is_of c part e ≡ false
       off e k = by_case e (code_index e.first.fault.code == c) (grind (arith, nat_tests, k, l))
 
-  fresh : s.part < part → Keeps es cleared
+  fresh : s.part < part → KeepsEntries es cleared
   fresh l = record {
     listed = is.listed;
     rest = is.rest;
@@ -51,10 +51,10 @@ module _ (es : List Entry) (s : Stored) (part : ℕ) (is : Keeps es s) (rises : 
             cut = ap₂ (λ a b. nat_lt (length a) (length b)) (sym kept) (sym all);
           }
 
-  pub turned_is : Keeps es (turned part s) × ((turned part s).part ≡ part) × ((turned part s).limit ≡ s.limit)
+  pub turned_is : KeepsEntries es (turned part s) × ((turned part s).part ≡ part) × ((turned part s).limit ≡ s.limit)
   turned_is = by_case (s.part == part) refl
     where
-      by_case : (b : Bool) → (s.part == part) ≡ b → Keeps es (cond b s cleared) × ((cond b s cleared).part ≡ part) × ((cond b s cleared).limit ≡ s.limit)
+      by_case : (b : Bool) → (s.part == part) ≡ b → KeepsEntries es (cond b s cleared) × ((cond b s cleared).part ≡ part) × ((cond b s cleared).limit ≡ s.limit)
       by_case true e = (is, grind (arith, nat_tests, e), refl)
       by_case false e = let l : s.part < part = grind (arith, nat_tests, e, rises) in (fresh l, refl, refl)
 
@@ -71,7 +71,7 @@ nothing_left : (n : ℕ) → drop n no_entries ≡ no_entries
 nothing_left zero = refl
 nothing_left (suc n) = refl
 
-pub none_kept : (limit : ℕ) → Keeps [] (record { limit = limit; listed = []; rest = 0; part = 0; notes = replicate 35 no_note })
+pub none_kept : (limit : ℕ) → KeepsEntries [] (record { limit = limit; listed = []; rest = 0; part = 0; notes = replicate 35 no_note })
 none_kept limit = record {
   listed = ap (map kept_of) (sym (nothing_first limit));
   rest = ap (λ es. counted (sum_by size es)) (sym (nothing_left limit));
@@ -86,7 +86,7 @@ none_kept limit = record {
 }
 
 -- a fault more, of a part that comes after none of the others
-pub added_is : (xs : List Reported) (x : Reported) (s : Stored) → Keeps (entries xs) s → s.part ≤ rank x.part → Keeps (entries (xs ++ x ∷ [])) (added x s)
+pub added_is : (xs : List Reported) (x : Reported) (s : Stored) → KeepsEntries (entries xs) s → s.part ≤ rank x.part → KeepsEntries (entries (xs ++ x ∷ [])) (added x s)
 added_is xs x s is rises =
     let t = turned_is (entries xs) s (rank x.part) is rises in
-    subst (λ es. Keeps es (added x s)) (sym (entries_more xs x)) (placed (entries xs) x (turned (rank x.part) s) t.0 t.1)
+    subst (λ es. KeepsEntries es (added x s)) (sym (entries_more xs x)) (placed (entries xs) x (turned (rank x.part) s) t.0 t.1)

@@ -11,11 +11,11 @@ use Rattle.dbformat.specs.Lines.{counted}
 use Rattle.dbtrace.specs.declared.Cause.{Cause}
 use Rattle.dbtrace.specs.declared.Cause.TheVariants as cause
 use Rattle.dbtrace.specs.declared.Reported.{Reported}
-use Rattle.dbentries.specs.Kept.{cells_of, entry_added, entry_of, is_next, kept_of, no_run, no_runs, others_added, run_added, run_begun, run_grown}
+use Rattle.dbentries.specs.Kept.{look_cells, entry_added, lone_entry, is_next, kept_of, no_run, no_runs, others_added, run_added, run_begun, run_grown}
 use Rattle.dbentries.specs.Lines.{indented}
 use Rattle.dbentries.specs.Listing as listing
 use Rattle.dbentries.specs.Listing.{changed_at}
-use Rattle.dbentries.specs.Others.{alike_text, belonging_text, last_text, kept_line, kept_text, next_run_text, others_text, run_before, run_text, runs, shown_runs_text}
+use Rattle.dbentries.specs.Others.{alike_text, belonging_text, last_text, kept_faults_line, kept_text, next_run_text, others_text, run_before, run_text, runs, shown_runs_text}
 use Rattle.dbentries.specs.declared.entry.Entry.{Entry}
 use Rattle.dbentries.specs.declared.entry.Others.{Others}
 use Rattle.dbentries.specs.declared.runs.Run.{Run}
@@ -240,7 +240,7 @@ abbrev pages_of : List Reported → List ℕ
 pages_of = map (λ x. x.fault.page)
 
 abbrev cells_in : List Reported → ℕ
-cells_in = sum_by (λ x. cells_of x.cause)
+cells_in = sum_by (λ x. look_cells x.cause)
 
 -- This is kept of these faults.
 record AreOf (xs : List Reported) (o : Others) : Type 0 where
@@ -268,7 +268,7 @@ others_more xs o x is = record {
       (sym (ap runs (map-append (λ (z : Reported). z.fault.page) xs (x ∷ [])) ∙ runs_more (pages_of xs) x.fault.page))
       (kept_more (runs (pages_of xs)) o.runs x.fault.page is.runs);
   cells =
-      let l = sum_by-append (λ (z : Reported). cells_of z.cause) xs (x ∷ []) in
+      let l = sum_by-append (λ (z : Reported). look_cells z.cause) xs (x ∷ []) in
       let c = is.cells in omega (arith, l, c);
 }
 
@@ -285,8 +285,8 @@ others_kept (y ∷ ys) k = others_kept ys (entry_added k y)
 -- what is kept of those of an entry
 others_are : (e : listing.Entry) → AreOf e.others (kept_of e).others
 others_are e =
-    subst (AreOf e.others) (sym (others_kept e.others (entry_of e.first)))
-    (others_all [] e.others (entry_of e.first).others (record {
+    subst (AreOf e.others) (sym (others_kept e.others (lone_entry e.first)))
+    (others_all [] e.others (lone_entry e.first).others (record {
       count = refl;
       place = λ x q. absurd (let no : ⊥ = cc in no);
       runs = none_kept;
@@ -310,7 +310,7 @@ text_is c xs x o is e = by_cause c
         ∙ ap₂ (λ rs n. alike_text l (counted (length xs)) (counted (cells_in xs)) ++ shown_runs_text rs (n - 10)) is.runs.kept is.runs.count
     by_cause _ = by_place
 
-pub line_is : (e : listing.Entry) → kept_line (kept_of e).first.cause (kept_of e).others ≡ others_text e
+pub line_is : (e : listing.Entry) → kept_faults_line (kept_of e).first.cause (kept_of e).others ≡ others_text e
 line_is e = by_case e.others (others_are e) ∙ same
   where
     line : List Reported → List ℕ
@@ -319,9 +319,9 @@ line_is e = by_case e.others (others_are e) ∙ same
     same : line e.others ≡ others_text e
     same =
         ap (λ (f : Reported). option_map_or (λ x. indented (belonging_text f.cause e.others x)) (last_or None e.others) [])
-        (first_kept e.others (entry_of e.first))
+        (first_kept e.others (lone_entry e.first))
 
-    by_case : (xs : List Reported) → AreOf xs (kept_of e).others → kept_line (kept_of e).first.cause (kept_of e).others ≡ line xs
+    by_case : (xs : List Reported) → AreOf xs (kept_of e).others → kept_faults_line (kept_of e).first.cause (kept_of e).others ≡ line xs
     by_case [] is = ap (λ n. cond (n == 0) [] (indented (kept_text (kept_of e).first.cause (kept_of e).others))) is.count
     by_case (y ∷ ys) is =
         let last = last-exists y ys in

@@ -11,7 +11,7 @@ use Rattle.dbformat.specs.Codes.{all_codes, code_index}
 use Rattle.dbformat.proofs.CodeTables.{listed}
 use Rattle.dbformat.specs.declared.FaultCode.{FaultCode}
 use Rattle.dbtrace.specs.declared.Reported.{Reported}
-use Rattle.dbentries.specs.Listing.{Entry, beside, changed_at, entries, home, home_among, is_cause, is_of, joined, last_of, most, numbers_from, rank, same_cause, with_fault}
+use Rattle.dbentries.specs.Listing.{Entry, beside, changed_at, entries, home, home_among, is_cause, is_of, joined, last_of, most, entry_numbers_from, rank, same_cause, with_fault}
 use Rattle.dbentries.proofs.Noting.{alone}
 use Rattle.dbentries.proofs.Numbers.{find-same, last-in, numbers_within}
 
@@ -38,21 +38,21 @@ last-map f (i ∷ is) = ap (λ o. option_or o (Some (f i))) (last-map f is) ∙ 
     by_case None = refl
     by_case (Some j) = refl
 
-numbers-suc : {X : Type 0} (p : X → Bool) (i : ℕ) (xs : List X) → numbers_from p (suc i) xs ≡ map suc (numbers_from p i xs)
+numbers-suc : {X : Type 0} (p : X → Bool) (i : ℕ) (xs : List X) → entry_numbers_from p (suc i) xs ≡ map suc (entry_numbers_from p i xs)
 numbers-suc p i [] = refl
 numbers-suc p i (x ∷ xs) = by_case (p x) (numbers-suc p (suc i) xs)
   where
-    by_case : (b : Bool) → numbers_from p (suc (suc i)) xs ≡ map suc (numbers_from p (suc i) xs)
-        → cond b (suc i ∷ numbers_from p (suc (suc i)) xs) (numbers_from p (suc (suc i)) xs) ≡ map suc (cond b (i ∷ numbers_from p (suc i) xs) (numbers_from p (suc i) xs))
+    by_case : (b : Bool) → entry_numbers_from p (suc (suc i)) xs ≡ map suc (entry_numbers_from p (suc i) xs)
+        → cond b (suc i ∷ entry_numbers_from p (suc (suc i)) xs) (entry_numbers_from p (suc (suc i)) xs) ≡ map suc (cond b (i ∷ entry_numbers_from p (suc i) xs) (entry_numbers_from p (suc i) xs))
     by_case true h = ap (λ l. suc i ∷ l) h
     by_case false h = h
 
 -- an element that is numbered passes
-numbers-pass : {X : Type 0} (p : X → Bool) (i j : ℕ) (xs : List X) (x : X) → IsIn (i + j) (numbers_from p i xs) → slice_get xs j ≡ Some x → p x ≡ true
+numbers-pass : {X : Type 0} (p : X → Bool) (i j : ℕ) (xs : List X) (x : X) → IsIn (i + j) (entry_numbers_from p i xs) → slice_get xs j ≡ Some x → p x ≡ true
 numbers-pass p i j [] x m e = absurd m
 numbers-pass p i zero (y ∷ ys) x m e = by_case (p y) refl m
   where
-    by_case : (b : Bool) → p y ≡ b → IsIn (i + 0) (cond b (i ∷ numbers_from p (suc i) ys) (numbers_from p (suc i) ys)) → p x ≡ true
+    by_case : (b : Bool) → p y ≡ b → IsIn (i + 0) (cond b (i ∷ entry_numbers_from p (suc i) ys) (entry_numbers_from p (suc i) ys)) → p x ≡ true
     by_case true f m = let q : x ≡ y = cc in ap p q ∙ f
     by_case false f m = let w = numbers_within p (suc i) ys (i + 0) m in absurd (let no : ⊥ = omega (arith, w.0) in no)
 numbers-pass p i (suc j) (y ∷ ys) x m e = by_case (p y) (λ k. numbers-pass p (suc i) j ys x k e) m
@@ -60,11 +60,11 @@ numbers-pass p i (suc j) (y ∷ ys) x m e = by_case (p y) (λ k. numbers-pass p 
     next : i + suc j ≡ suc i + j
     next = omega arith
 
-    by_case : (b : Bool) → (IsIn (suc i + j) (numbers_from p (suc i) ys) → p x ≡ true)
-        → IsIn (i + suc j) (cond b (i ∷ numbers_from p (suc i) ys) (numbers_from p (suc i) ys)) → p x ≡ true
+    by_case : (b : Bool) → (IsIn (suc i + j) (entry_numbers_from p (suc i) ys) → p x ≡ true)
+        → IsIn (i + suc j) (cond b (i ∷ entry_numbers_from p (suc i) ys) (entry_numbers_from p (suc i) ys)) → p x ≡ true
     by_case true more (inl f) = absurd (let no : ⊥ = omega (arith, f) in no)
-    by_case true more (inr k) = more (subst (λ n. IsIn n (numbers_from p (suc i) ys)) next k)
-    by_case false more k = more (subst (λ n. IsIn n (numbers_from p (suc i) ys)) next k)
+    by_case true more (inr k) = more (subst (λ n. IsIn n (entry_numbers_from p (suc i) ys)) next k)
+    by_case false more k = more (subst (λ n. IsIn n (entry_numbers_from p (suc i) ys)) next k)
 
 module _ {X : Type 0} (t : X → Bool) where
   -- 0 at 0, and else one more than f has at the number before
@@ -77,23 +77,23 @@ module _ {X : Type 0} (t : X → Bool) where
   place [] = λ j. 0
   place (x ∷ xs) = cond (t x) (shifted (place xs)) (λ j. suc (place xs j))
 
-  numbers-place : (p : X → Bool) → ((x : X) → p x ≡ true → t x ≡ true) → (xs : List X) → numbers_from p 0 xs ≡ map (place xs) (numbers_from p 0 (filter t xs))
+  numbers-place : (p : X → Bool) → ((x : X) → p x ≡ true → t x ≡ true) → (xs : List X) → entry_numbers_from p 0 xs ≡ map (place xs) (entry_numbers_from p 0 (filter t xs))
   numbers-place p h [] = refl
   numbers-place p h (x ∷ xs) =
       by_case (t x) (p x) refl refl
-      (numbers-suc p 0 xs ∙ ap (map suc) (numbers-place p h xs) ∙ map-map suc (place xs) (numbers_from p 0 (filter t xs)))
-      (ap (map (shifted (place xs))) (numbers-suc p 0 (filter t xs)) ∙ map-map (shifted (place xs)) suc (numbers_from p 0 (filter t xs)))
+      (numbers-suc p 0 xs ∙ ap (map suc) (numbers-place p h xs) ∙ map-map suc (place xs) (entry_numbers_from p 0 (filter t xs)))
+      (ap (map (shifted (place xs))) (numbers-suc p 0 (filter t xs)) ∙ map-map (shifted (place xs)) suc (entry_numbers_from p 0 (filter t xs)))
     where
       by_case : (a b : Bool) → t x ≡ a → p x ≡ b
-          → numbers_from p 1 xs ≡ map (λ j. suc (place xs j)) (numbers_from p 0 (filter t xs))
-          → map (shifted (place xs)) (numbers_from p 1 (filter t xs)) ≡ map (λ j. suc (place xs j)) (numbers_from p 0 (filter t xs))
-          → cond b (0 ∷ numbers_from p 1 xs) (numbers_from p 1 xs)
-          ≡ map (cond a (shifted (place xs)) (λ j. suc (place xs j))) (numbers_from p 0 (cond a (x ∷ filter t xs) (filter t xs)))
+          → entry_numbers_from p 1 xs ≡ map (λ j. suc (place xs j)) (entry_numbers_from p 0 (filter t xs))
+          → map (shifted (place xs)) (entry_numbers_from p 1 (filter t xs)) ≡ map (λ j. suc (place xs j)) (entry_numbers_from p 0 (filter t xs))
+          → cond b (0 ∷ entry_numbers_from p 1 xs) (entry_numbers_from p 1 xs)
+          ≡ map (cond a (shifted (place xs)) (λ j. suc (place xs j))) (entry_numbers_from p 0 (cond a (x ∷ filter t xs) (filter t xs)))
       by_case true true e f rest moved =
           ap (λ l. 0 ∷ l) (rest ∙ sym moved)
-          ∙ ap (λ b. map (shifted (place xs)) (cond b (0 ∷ numbers_from p 1 (filter t xs)) (numbers_from p 1 (filter t xs)))) (sym f)
+          ∙ ap (λ b. map (shifted (place xs)) (cond b (0 ∷ entry_numbers_from p 1 (filter t xs)) (entry_numbers_from p 1 (filter t xs)))) (sym f)
       by_case true false e f rest moved =
-          rest ∙ sym moved ∙ ap (λ b. map (shifted (place xs)) (cond b (0 ∷ numbers_from p 1 (filter t xs)) (numbers_from p 1 (filter t xs)))) (sym f)
+          rest ∙ sym moved ∙ ap (λ b. map (shifted (place xs)) (cond b (0 ∷ entry_numbers_from p 1 (filter t xs)) (entry_numbers_from p 1 (filter t xs)))) (sym f)
       by_case false false e f rest moved = rest
       by_case false true e f rest moved = let q = h x f in absurd (let no : ⊥ = cc in no)
 

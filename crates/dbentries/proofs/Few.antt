@@ -9,17 +9,17 @@ use Rattle.dbsurvey.proofs.Order.{IsIn-cases}
 use Rattle.dbformat.specs.Codes.{code_index}
 use Rattle.dbformat.specs.declared.FaultCode.{FaultCode}
 use Rattle.dbtrace.specs.declared.Reported.{Reported}
-use Rattle.dbentries.specs.Listing.{Entry, beside, entries, home, is_cause, is_of, joined, last_of, most, numbers_from, rank, with_fault}
+use Rattle.dbentries.specs.Listing.{Entry, beside, entries, home, is_cause, is_of, joined, last_of, most, entry_numbers_from, rank, with_fault}
 use Rattle.dbentries.proofs.Noting.{alone, few, with_home, with_none}
 use Rattle.dbentries.proofs.Numbers.{changed-length, in-changed, last-some}
 
 -- ---- lists
 
 -- where all elements pass, each is numbered
-numbers-all : {X : Type 0} (p : X → Bool) (i : ℕ) (xs : List X) → ((x : X) → IsIn x xs → p x ≡ true) → length (numbers_from p i xs) ≡ length xs
+numbers-all : {X : Type 0} (p : X → Bool) (i : ℕ) (xs : List X) → ((x : X) → IsIn x xs → p x ≡ true) → length (entry_numbers_from p i xs) ≡ length xs
 numbers-all p i [] h = refl
 numbers-all p i (x ∷ xs) h =
-    ap (λ b. length (cond b (i ∷ numbers_from p (suc i) xs) (numbers_from p (suc i) xs))) (h x (inl refl))
+    ap (λ b. length (cond b (i ∷ entry_numbers_from p (suc i) xs) (entry_numbers_from p (suc i) xs))) (h x (inl refl))
     ∙ ap suc (numbers-all p (suc i) xs (λ y m. h y (inr m)))
 
 -- ---- a fault that is an entry

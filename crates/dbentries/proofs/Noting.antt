@@ -9,7 +9,7 @@ use Rattle.dbformat.specs.Codes.{code_index}
 use Rattle.dbformat.specs.Lines.{counted}
 use Rattle.dbformat.specs.declared.FaultCode.{FaultCode}
 use Rattle.dbformat.specs.declared.FaultCode.TheVariants.{N01}
-use Rattle.dbentries.specs.Kept.{entry_added, entry_of, kept_of}
+use Rattle.dbentries.specs.Kept.{entry_added, lone_entry, kept_of}
 use Rattle.dbentries.specs.Listing.{Entry, changed_at, entries, home, is_of, joined, most, rank, size, with_fault}
 use Rattle.dbentries.specs.Store.{IsNoted, no_note, numbers_of}
 use Rattle.dbentries.specs.declared.note.Note.{Note}
@@ -33,7 +33,7 @@ with_none es x e = ap (λ o. option_map_or (λ j. changed_at (joined x) j es) o 
 
 -- what is kept of an entry, with one more
 pub kept_more : (x : Reported) (e : Entry) → kept_of (joined x e) ≡ entry_added (kept_of e) x
-kept_more x e = fold-append entry_added (entry_of e.first) e.others (x ∷ [])
+kept_more x e = fold-append entry_added (lone_entry e.first) e.others (x ∷ [])
 
 pub first_kept : (ys : List Reported) (k : _) → (fold entry_added k ys).first ≡ k.first
 first_kept [] k = refl

@@ -8,46 +8,46 @@ use Rattle.std.proofs.lemmas.List.Sums.{sum_by-append, sum_by-cons}
 use Rattle.std.proofs.lemmas.List.{take-append-drop, take_all}
 use Rattle.std.proofs.lemmas.Bool.Decides.{nat_tests}
 use Rattle.dbsurvey.specs.Address.{IsIn}
-use Rattle.dbentries.specs.Listing.{changed_at, last_of, numbers_from}
+use Rattle.dbentries.specs.Listing.{changed_at, last_of, entry_numbers_from}
 
 -- ---- numbers
 
-pub numbers-append : {X : Type 0} (p : X → Bool) (i : ℕ) (xs ys : List X) → numbers_from p i (xs ++ ys) ≡ numbers_from p i xs ++ numbers_from p (i + length xs) ys
-numbers-append p i [] ys = let e : i ≡ i + 0 = omega arith in ap (λ n. numbers_from p n ys) e
+pub numbers-append : {X : Type 0} (p : X → Bool) (i : ℕ) (xs ys : List X) → entry_numbers_from p i (xs ++ ys) ≡ entry_numbers_from p i xs ++ entry_numbers_from p (i + length xs) ys
+numbers-append p i [] ys = let e : i ≡ i + 0 = omega arith in ap (λ n. entry_numbers_from p n ys) e
 numbers-append p i (x ∷ xs) ys = by_case (p x) (numbers-append p (suc i) xs ys)
   where
     same : suc i + length xs ≡ i + suc (length xs)
     same = omega arith
 
-    by_case : (b : Bool) → numbers_from p (suc i) (xs ++ ys) ≡ numbers_from p (suc i) xs ++ numbers_from p (suc i + length xs) ys
-        → cond b (i ∷ numbers_from p (suc i) (xs ++ ys)) (numbers_from p (suc i) (xs ++ ys))
-        ≡ cond b (i ∷ numbers_from p (suc i) xs) (numbers_from p (suc i) xs) ++ numbers_from p (i + suc (length xs)) ys
-    by_case true h = ap (λ l. i ∷ l) h ∙ ap (λ n. i ∷ numbers_from p (suc i) xs ++ numbers_from p n ys) same
-    by_case false h = h ∙ ap (λ n. numbers_from p (suc i) xs ++ numbers_from p n ys) same
+    by_case : (b : Bool) → entry_numbers_from p (suc i) (xs ++ ys) ≡ entry_numbers_from p (suc i) xs ++ entry_numbers_from p (suc i + length xs) ys
+        → cond b (i ∷ entry_numbers_from p (suc i) (xs ++ ys)) (entry_numbers_from p (suc i) (xs ++ ys))
+        ≡ cond b (i ∷ entry_numbers_from p (suc i) xs) (entry_numbers_from p (suc i) xs) ++ entry_numbers_from p (i + suc (length xs)) ys
+    by_case true h = ap (λ l. i ∷ l) h ∙ ap (λ n. i ∷ entry_numbers_from p (suc i) xs ++ entry_numbers_from p n ys) same
+    by_case false h = h ∙ ap (λ n. entry_numbers_from p (suc i) xs ++ entry_numbers_from p n ys) same
 
 -- the same from number 0 on
-pub numbers-join : {X : Type 0} (p : X → Bool) (xs ys : List X) → numbers_from p 0 (xs ++ ys) ≡ numbers_from p 0 xs ++ numbers_from p (length xs) ys
-numbers-join p xs ys = let e : 0 + length xs ≡ length xs = omega arith in numbers-append p 0 xs ys ∙ ap (λ n. numbers_from p 0 xs ++ numbers_from p n ys) e
+pub numbers-join : {X : Type 0} (p : X → Bool) (xs ys : List X) → entry_numbers_from p 0 (xs ++ ys) ≡ entry_numbers_from p 0 xs ++ entry_numbers_from p (length xs) ys
+numbers-join p xs ys = let e : 0 + length xs ≡ length xs = omega arith in numbers-append p 0 xs ys ∙ ap (λ n. entry_numbers_from p 0 xs ++ entry_numbers_from p n ys) e
 
 -- a change that the test does not see
-pub numbers-changed : {X : Type 0} (p : X → Bool) (f : X → X) → ((x : X) → p (f x) ≡ p x) → (i j : ℕ) (xs : List X) → numbers_from p i (changed_at f j xs) ≡ numbers_from p i xs
+pub numbers-changed : {X : Type 0} (p : X → Bool) (f : X → X) → ((x : X) → p (f x) ≡ p x) → (i j : ℕ) (xs : List X) → entry_numbers_from p i (changed_at f j xs) ≡ entry_numbers_from p i xs
 numbers-changed p f h i j [] = refl
-numbers-changed p f h i zero (x ∷ xs) = ap (λ b. cond b (i ∷ numbers_from p (suc i) xs) (numbers_from p (suc i) xs)) (h x)
+numbers-changed p f h i zero (x ∷ xs) = ap (λ b. cond b (i ∷ entry_numbers_from p (suc i) xs) (entry_numbers_from p (suc i) xs)) (h x)
 numbers-changed p f h i (suc j) (x ∷ xs) = ap (λ l. cond (p x) (i ∷ l) l) (numbers-changed p f h (suc i) j xs)
 
 -- no element passes
-pub numbers-none : {X : Type 0} (p : X → Bool) (i : ℕ) (xs : List X) → ((x : X) → IsIn x xs → p x ≡ false) → numbers_from p i xs ≡ []
+pub numbers-none : {X : Type 0} (p : X → Bool) (i : ℕ) (xs : List X) → ((x : X) → IsIn x xs → p x ≡ false) → entry_numbers_from p i xs ≡ []
 numbers-none p i [] h = refl
 numbers-none p i (x ∷ xs) h =
-    ap (λ b. cond b (i ∷ numbers_from p (suc i) xs) (numbers_from p (suc i) xs)) (h x (inl refl)) ∙ numbers-none p (suc i) xs (λ y m. h y (inr m))
+    ap (λ b. cond b (i ∷ entry_numbers_from p (suc i) xs) (entry_numbers_from p (suc i) xs)) (h x (inl refl)) ∙ numbers-none p (suc i) xs (λ y m. h y (inr m))
 
 -- they are those of elements of the list
-pub numbers_within : {X : Type 0} (p : X → Bool) (i : ℕ) (xs : List X) (k : ℕ) → IsIn k (numbers_from p i xs) → (i ≤ k) × (k < i + length xs)
+pub numbers_within : {X : Type 0} (p : X → Bool) (i : ℕ) (xs : List X) (k : ℕ) → IsIn k (entry_numbers_from p i xs) → (i ≤ k) × (k < i + length xs)
 numbers_within p i [] k m = absurd m
 numbers_within p i (x ∷ xs) k m = by_case (p x) (numbers_within p (suc i) xs k) m
   where
-    by_case : (b : Bool) → (IsIn k (numbers_from p (suc i) xs) → (suc i ≤ k) × (k < suc i + length xs))
-        → IsIn k (cond b (i ∷ numbers_from p (suc i) xs) (numbers_from p (suc i) xs)) → (i ≤ k) × (k < i + suc (length xs))
+    by_case : (b : Bool) → (IsIn k (entry_numbers_from p (suc i) xs) → (suc i ≤ k) × (k < suc i + length xs))
+        → IsIn k (cond b (i ∷ entry_numbers_from p (suc i) xs) (entry_numbers_from p (suc i) xs)) → (i ≤ k) × (k < i + suc (length xs))
     by_case true h (inl e) = (omega (arith, e), omega (arith, e))
     by_case true h (inr m) = let r = h m in (omega (arith, r.0, r.1), omega (arith, r.0, r.1))
     by_case false h m = let r = h m in (omega (arith, r.0, r.1), omega (arith, r.0, r.1))

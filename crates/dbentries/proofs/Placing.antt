@@ -14,9 +14,9 @@ use Rattle.dbformat.specs.Codes.{all_codes, code_index}
 use Rattle.dbformat.proofs.CodeTables.{listed}
 use Rattle.dbformat.specs.Lines.{counted}
 use Rattle.dbformat.specs.declared.FaultCode.{FaultCode}
-use Rattle.dbentries.specs.Kept.{entry_added, entry_of, kept_of}
-use Rattle.dbentries.specs.Listing.{Entry, changed_at, home, home_among, is_cause, is_of, joined, last_of, most, numbers_from, rank, same_cause, size, with_fault}
-use Rattle.dbentries.specs.Store.{IsNoted, Keeps, Stored, has_room, home_at, home_by, home_of, home_uncut, is_listed_cause, no_note, note_changed, note_of, numbers_of, put_in, put_kept, put_new, put_unkept, slots_of, with_slot, with_unkept}
+use Rattle.dbentries.specs.Kept.{entry_added, lone_entry, kept_of}
+use Rattle.dbentries.specs.Listing.{Entry, changed_at, home, home_among, is_cause, is_of, joined, last_of, most, entry_numbers_from, rank, same_cause, size, with_fault}
+use Rattle.dbentries.specs.Store.{IsNoted, KeepsEntries, Stored, has_room, home_at, home_by, home_of, home_uncut, is_listed_cause, no_note, note_changed, note_of, numbers_of, put_at_home, put_kept, put_new, put_unkept, slots_of, with_slot, with_unkept}
 use Rattle.dbentries.specs.declared.entries.Home.{Home}
 use Rattle.dbentries.specs.declared.entries.Home.TheVariants as at
 use Rattle.dbentries.specs.declared.note.Note.{Note}
@@ -29,7 +29,7 @@ use Rattle.dbentries.proofs.Noting.{alone, counted_next, few, first_kept, kept_m
 index_below : (c : FaultCode) → code_index c < 35
 index_below c = slice_get_within all_codes (code_index c) c (listed c)
 
-module _ (es : List Entry) (x : Reported) (s : Stored) (is : Keeps es s) (here : s.part ≡ rank x.part) where
+module _ (es : List Entry) (x : Reported) (s : Stored) (is : KeepsEntries es s) (here : s.part ≡ rank x.part) where
   abbrev code : ℕ
   code = code_index x.fault.code
 
@@ -41,7 +41,7 @@ module _ (es : List Entry) (x : Reported) (s : Stored) (is : Keeps es s) (here :
   kept = numbers_of code s.part (take s.limit es)
 
   abbrev others : List ℕ
-  others = numbers_from (is_of code s.part) (length (take s.limit es)) (drop s.limit es)
+  others = entry_numbers_from (is_of code s.part) (length (take s.limit es)) (drop s.limit es)
 
   parts : numbers_of code s.part es ≡ kept ++ others
   parts =
@@ -74,7 +74,7 @@ module _ (es : List Entry) (x : Reported) (s : Stored) (is : Keeps es s) (here :
   before_joined i = in-changed (λ e. rank e.first.part ≤ s.part) (joined x) (λ e h. h) i es is.before
 
   -- it belongs to an entry that is kept
-  joined_kept : (i : ℕ) → i < s.limit → Keeps (changed_at (joined x) i es) (put_kept i x s)
+  joined_kept : (i : ℕ) → i < s.limit → KeepsEntries (changed_at (joined x) i es) (put_kept i x s)
   joined_kept i l = record {
     listed =
         ap (changed_at (λ e. entry_added e x) i) is.listed
@@ -87,7 +87,7 @@ module _ (es : List Entry) (x : Reported) (s : Stored) (is : Keeps es s) (here :
   }
 
   -- or to one that is not
-  joined_other : (i : ℕ) → s.limit ≤ i → i < length es → Keeps (changed_at (joined x) i es) (put_unkept s)
+  joined_other : (i : ℕ) → s.limit ≤ i → i < length es → KeepsEntries (changed_at (joined x) i es) (put_unkept s)
   joined_other i l within = record {
     listed = is.listed ∙ ap (map kept_of) (sym same);
     rest = ap (λ n. counted (n + 1)) is.rest ∙ counted_next _ _ more;
@@ -160,10 +160,10 @@ module _ (es : List Entry) (x : Reported) (s : Stored) (is : Keeps es s) (here :
         even a b n e =
             let q = ap (λ es. length (numbers_of code s.part es)) e in grind (arith, nat_tests, q)
 
-    new_kept : note.kept < 6 → Keeps now (record s { listed = s.listed ++ entry_of x ∷ []; notes = note_changed (with_slot (length s.listed)) x.fault.code s.notes })
+    new_kept : note.kept < 6 → KeepsEntries now (record s { listed = s.listed ++ lone_entry x ∷ []; notes = note_changed (with_slot (length s.listed)) x.fault.code s.notes })
     new_kept few = record {
       listed =
-          ap (λ l. l ++ entry_of x ∷ []) (is.listed ∙ ap (map kept_of) all_before)
+          ap (λ l. l ++ lone_entry x ∷ []) (is.listed ∙ ap (map kept_of) all_before)
           ∙ sym (map-append kept_of es (alone x ∷ []))
           ∙ ap (map kept_of) (sym all_now);
       rest = is.rest ∙ ap (λ es. counted (sum_by size es)) (sym none_left);
@@ -216,7 +216,7 @@ module _ (es : List Entry) (x : Reported) (s : Stored) (is : Keeps es s) (here :
     other_noted c l q = noted_same es now s.limit s.part c (get_or s.notes c no_note) (ap (numbers_of c s.part) first_same) (other_code es c q) (is.notes c l)
 
     -- it was noted before
-    new_cut : note.cut ≡ true → Keeps now (put_unkept s)
+    new_cut : note.cut ≡ true → KeepsEntries now (put_unkept s)
     new_cut cut = record {
       listed = is.listed ∙ ap (map kept_of) (sym first_same);
       rest = ap (λ n. counted (n + 1)) is.rest ∙ counted_next _ _ one_left;
@@ -232,7 +232,7 @@ module _ (es : List Entry) (x : Reported) (s : Stored) (is : Keeps es s) (here :
         by_case c l false e = other_noted c l (λ (h : c ≡ code). absurd (let no : ⊥ = grind (arith, nat_tests, e, h) in no))
 
     -- or it is noted now
-    new_unkept : Keeps now (record s { rest = counted (s.rest + 1); notes = note_changed with_unkept x.fault.code s.notes })
+    new_unkept : KeepsEntries now (record s { rest = counted (s.rest + 1); notes = note_changed with_unkept x.fault.code s.notes })
     new_unkept = record {
       listed = is.listed ∙ ap (map kept_of) (sym first_same);
       rest = ap (λ n. counted (n + 1)) is.rest ∙ counted_next _ _ one_left;
@@ -259,7 +259,7 @@ module _ (es : List Entry) (x : Reported) (s : Stored) (is : Keeps es s) (here :
     where
       by_entry : (o : Option Entry) → option_map_or (λ e. same_cause x.cause e.first.cause) (option_map kept_of o) false ≡ option_map_or (λ (e : Entry). same_cause x.cause e.first.cause) o false
       by_entry None = refl
-      by_entry (Some e) = ap (λ (f : Reported). same_cause x.cause f.cause) (first_kept e.others (entry_of e.first))
+      by_entry (Some e) = ap (λ (f : Reported). same_cause x.cause f.cause) (first_kept e.others (lone_entry e.first))
 
       same : (k : ℕ) → k < s.limit → is_listed_cause x s.listed k ≡ is_cause x es k
       same k l =
@@ -271,14 +271,14 @@ module _ (es : List Entry) (x : Reported) (s : Stored) (is : Keeps es s) (here :
   home_is : home x es ≡ home_among x es (kept ++ others)
   home_is = ap (home_among x es) (ap (λ part. numbers_of code part es) (sym here) ∙ parts)
 
-  goes : (h : Home) → home_of x s ≡ h → Keeps (with_fault es x) (put_in h x s) → Keeps (with_fault es x) (put_in (home_of x s) x s)
-  goes h e k = subst (λ h. Keeps (with_fault es x) (put_in h x s)) (sym e) k
+  goes : (h : Home) → home_of x s ≡ h → KeepsEntries (with_fault es x) (put_at_home h x s) → KeepsEntries (with_fault es x) (put_at_home (home_of x s) x s)
+  goes h e k = subst (λ h. KeepsEntries (with_fault es x) (put_at_home h x s)) (sym e) k
 
-  to_entry : (i : ℕ) → home_among x es (kept ++ others) ≡ Some i → (t : Stored) → Keeps (changed_at (joined x) i es) t → Keeps (with_fault es x) t
-  to_entry i e t k = subst (λ now. Keeps now t) (sym (with_home es x i (home_is ∙ e))) k
+  to_entry : (i : ℕ) → home_among x es (kept ++ others) ≡ Some i → (t : Stored) → KeepsEntries (changed_at (joined x) i es) t → KeepsEntries (with_fault es x) t
+  to_entry i e t k = subst (λ now. KeepsEntries now t) (sym (with_home es x i (home_is ∙ e))) k
 
-  to_new : home_among x es (kept ++ others) ≡ None → (t : Stored) → Keeps now t → Keeps (with_fault es x) t
-  to_new e t k = subst (λ now. Keeps now t) (sym (with_none es x (home_is ∙ e))) k
+  to_new : home_among x es (kept ++ others) ≡ None → (t : Stored) → KeepsEntries now t → KeepsEntries (with_fault es x) t
+  to_new e t k = subst (λ now. KeepsEntries now t) (sym (with_none es x (home_is ∙ e))) k
 
   -- where none goes back to the same
   abbrev else_home : Option ℕ
@@ -315,7 +315,7 @@ module _ (es : List Entry) (x : Reported) (s : Stored) (is : Keeps es s) (here :
     is_unkept = home_found None none ∙ ap (λ b. cond b at.Unkept (home_uncut x note)) cut
 
     by_others : (o : Option ℕ) → find (is_cause x es) others ≡ o → (b : Bool) → nat_lt (length (kept ++ others)) (most x.fault.code) ≡ b
-        → Keeps (with_fault es x) (put_unkept s)
+        → KeepsEntries (with_fault es x) (put_unkept s)
     by_others (Some j) f b g =
         let w = in_others j (find-some (is_cause x es) others j f).0 in
         to_entry j (found_none none ∙ ap (λ o. option_or o else_home) f) (put_unkept s) (joined_other j w.0 w.1)
@@ -327,7 +327,7 @@ module _ (es : List Entry) (x : Reported) (s : Stored) (is : Keeps es s) (here :
         to_entry k.0 (found_none none ∙ ap₂ (λ o b. option_or o (cond b None (last_of (kept ++ others)))) f g ∙ last-append kept others k.0 k.1)
         (put_unkept s) (joined_other k.0 w.0 w.1)
 
-    placed_cut : Keeps (with_fault es x) (put_in (home_of x s) x s)
+    placed_cut : KeepsEntries (with_fault es x) (put_at_home (home_of x s) x s)
     placed_cut = goes at.Unkept is_unkept (by_others (find (is_cause x es) others) refl (nat_lt (length (kept ++ others)) (most x.fault.code)) refl)
 
   -- all of them are kept
@@ -357,8 +357,8 @@ module _ (es : List Entry) (x : Reported) (s : Stored) (is : Keeps es s) (here :
     kept_size : length s.listed ≡ length (take s.limit es)
     kept_size = ap length is.listed ∙ length-map (take s.limit es) kept_of
 
-    by_room : (b : Bool) → has_room s ≡ b → note.kept < most x.fault.code → Keeps now (cond b
-        (record s { listed = s.listed ++ entry_of x ∷ []; notes = note_changed (with_slot (length s.listed)) x.fault.code s.notes })
+    by_room : (b : Bool) → has_room s ≡ b → note.kept < most x.fault.code → KeepsEntries now (cond b
+        (record s { listed = s.listed ++ lone_entry x ∷ []; notes = note_changed (with_slot (length s.listed)) x.fault.code s.notes })
         (record s { rest = counted (s.rest + 1); notes = note_changed with_unkept x.fault.code s.notes }))
     by_room true e l =
         let a : length s.listed < s.limit = ltb-true _ _ e in
@@ -367,7 +367,7 @@ module _ (es : List Entry) (x : Reported) (s : Stored) (is : Keeps es s) (here :
         let a : s.limit ≤ length s.listed = ltb-false _ _ e in
         let t = length-take s.limit es in new_unkept (omega (arith, a, kept_size, t))
 
-    by_most : (b : Bool) → nat_lt note.kept (most x.fault.code) ≡ b → Keeps (with_fault es x) (put_in (home_of x s) x s)
+    by_most : (b : Bool) → nat_lt note.kept (most x.fault.code) ≡ b → KeepsEntries (with_fault es x) (put_at_home (home_of x s) x s)
     by_most true e =
         let l : note.kept < most x.fault.code = ltb-true _ _ e in
         let k : nat_lt (length kept) (most x.fault.code) ≡ true = ap (λ n. nat_lt n (most x.fault.code)) (sym noted.kept) ∙ e in
@@ -383,17 +383,17 @@ module _ (es : List Entry) (x : Reported) (s : Stored) (is : Keeps es s) (here :
         (to_entry last.0 (by_kept ∙ ap (λ b. cond b None (last_of kept)) k ∙ last.1) (put_kept last.0 x s)
         (joined_kept last.0 (in_kept last.0 (last-in kept last.0 last.1)).0))
 
-    placed_whole : Keeps (with_fault es x) (put_in (home_of x s) x s)
+    placed_whole : KeepsEntries (with_fault es x) (put_at_home (home_of x s) x s)
     placed_whole = by_most (nat_lt note.kept (most x.fault.code)) refl
 
-  pub placed : Keeps (with_fault es x) (put_in (home_of x s) x s)
+  pub placed : KeepsEntries (with_fault es x) (put_at_home (home_of x s) x s)
   placed = by_found (find (is_cause x es) kept) refl
     where
-      by_cut : (b : Bool) → note.cut ≡ b → find (is_cause x es) kept ≡ None → Keeps (with_fault es x) (put_in (home_of x s) x s)
+      by_cut : (b : Bool) → note.cut ≡ b → find (is_cause x es) kept ≡ None → KeepsEntries (with_fault es x) (put_at_home (home_of x s) x s)
       by_cut true c e = placed_cut e c
       by_cut false c e = placed_whole e c
 
-      by_found : (o : Option ℕ) → find (is_cause x es) kept ≡ o → Keeps (with_fault es x) (put_in (home_of x s) x s)
+      by_found : (o : Option ℕ) → find (is_cause x es) kept ≡ o → KeepsEntries (with_fault es x) (put_at_home (home_of x s) x s)
       by_found (Some i) e =
           goes (at.Kept i) (home_found (Some i) e) (to_entry i (found_kept i e) (put_kept i x s) (joined_kept i (in_kept i (find-some (is_cause x es) kept i e).0).0))
       by_found None e = by_cut note.cut refl e

@@ -6,10 +6,10 @@ use Rattle.std.proofs.lemmas.Bool.Decides.{nat_tests}
 use Rattle.std.proofs.lemmas.List.{drop-append-le, drop-map, drop_all, length-append, length-map, length-take, take-append-le, take-map, take_all, take_more_set}
 use Rattle.std.proofs.lemmas.List.Sums.{sum_by-cons}
 use Rattle.dbformat.specs.Lines.{counted}
-use Rattle.dbentries.specs.Kept.{entry_added, entry_of, kept_of}
+use Rattle.dbentries.specs.Kept.{entry_added, lone_entry, kept_of}
 use Rattle.dbentries.specs.Listing as listing
 use Rattle.dbentries.specs.Listing.{size}
-use Rattle.dbentries.specs.Store.{Keeps, Stored}
+use Rattle.dbentries.specs.Store.{KeepsEntries, Stored}
 use Rattle.dbentries.specs.Woven.{comes_after, follows, kept_after, kept_in, pending, put_before, put_last, woven_in, KeepsFirst}
 use Rattle.dbentries.specs.declared.entry.Entry.{Entry}
 use Rattle.dbtrace.specs.declared.Reported.{Reported}
@@ -128,11 +128,11 @@ count_kept (y ∷ ys) k n e =
 
 kept_count : (e : listing.Entry) → (kept_of e).others.count ≡ counted (length e.others)
 kept_count e =
-    count_kept e.others (entry_of e.first) 0 refl
+    count_kept e.others (lone_entry e.first) 0 refl
     ∙ ap counted (let q : 0 + length e.others ≡ length e.others = omega arith in q)
 
 same_order : (e other : listing.Entry) → kept_after (kept_of e) (kept_of other) ≡ comes_after e other
-same_order e other = ap₂ follows (first_kept e.others (entry_of e.first)) (first_kept other.others (entry_of other.first))
+same_order e other = ap₂ follows (first_kept e.others (lone_entry e.first)) (first_kept other.others (lone_entry other.first))
 
 module _ (es : List listing.Entry) (e : listing.Entry) (s : Stored) (now : List Entry) (last : Entry) (is : KeepsFirst es s)
     (through : now ++ last ∷ [] ≡ kept_in (kept_of e) s.listed) where
@@ -202,5 +202,5 @@ module _ (es : List listing.Entry) (e : listing.Entry) (s : Stored) (now : List 
       by_case false q = without_room (grind (arith, nat_tests, q))
 
 -- what is kept of the entries of some faults is the first of them
-pub keeps_first : (es : List listing.Entry) (s : Stored) → Keeps es s → KeepsFirst es s
+pub keeps_first : (es : List listing.Entry) (s : Stored) → KeepsEntries es s → KeepsFirst es s
 keeps_first es s is = record { listed = is.listed; rest = is.rest }

@@ -42,13 +42,13 @@ run_added r page =
 -- ---- an entry
 
 -- how many cells a page has that looks like one of a tree
-abbrev pub cells_of : Cause → ℕ
-cells_of (cause.Look (look.Tree t)) = t.cells
-cells_of _ = 0
+abbrev pub look_cells : Cause → ℕ
+look_cells (cause.Look (look.Tree t)) = t.cells
+look_cells _ = 0
 
 -- of one fault alone
-abbrev pub entry_of : Reported → Entry
-entry_of x = record { first = x; others = record { count = 0; page = 0; item = 0; runs = no_runs; cells = 0 } }
+abbrev pub lone_entry : Reported → Entry
+lone_entry x = record { first = x; others = record { count = 0; page = 0; item = 0; runs = no_runs; cells = 0 } }
 
 -- with one more
 abbrev pub others_added : Others → Reported → Others
@@ -57,7 +57,7 @@ others_added o x = record {
   page = x.fault.page;
   item = x.fault.item;
   runs = run_added o.runs x.fault.page;
-  cells = counted (o.cells + cells_of x.cause);
+  cells = counted (o.cells + look_cells x.cause);
 }
 
 abbrev pub entry_added : Entry → Reported → Entry
@@ -65,4 +65,4 @@ entry_added e x = record e { others = others_added e.others x }
 
 -- what is kept of an entry
 abbrev pub kept_of : listing.Entry → Entry
-kept_of e = fold entry_added (entry_of e.first) e.others
+kept_of e = fold entry_added (lone_entry e.first) e.others

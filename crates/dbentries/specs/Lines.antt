@@ -31,8 +31,8 @@ abbrev pub leaf_text : ℕ → List ℕ
 leaf_text page = indented (codes "the first leaf of the tree is page " ++ decimal page)
 
 -- the overflow chain that is broken, and how much of it was found
-abbrev pub chain_text : CellChain → List ℕ
-chain_text c = indented (codes "chain of page " ++ decimal c.page ++ codes " item " ++ decimal c.item ++ codes ": " ++ decimal c.found ++ codes " of "
+abbrev pub broken_chain_text : CellChain → List ℕ
+broken_chain_text c = indented (codes "chain of page " ++ decimal c.page ++ codes " item " ++ decimal c.item ++ codes ": " ++ decimal c.found ++ codes " of "
     ++ decimal c.pages ++ (if c.pages == 1 then codes " page" else codes " pages"))
 
 -- the kind of a page of a tree
@@ -70,5 +70,5 @@ abbrev pub cause_text : Cause → List ℕ
 cause_text cause.Itself = []
 cause_text (cause.Key k) = key_text k
 cause_text (cause.Leaf page) = leaf_text page
-cause_text (cause.Chain c) = chain_text c
+cause_text (cause.Chain c) = broken_chain_text c
 cause_text (cause.Look l) = look_text l

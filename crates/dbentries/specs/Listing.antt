@@ -60,13 +60,13 @@ abbrev pub is_of : ℕ → ℕ → Entry → Bool
 is_of code part e = (code_index e.first.fault.code == code) && (rank e.first.part == part)
 
 -- the numbers of the entries that pass a test, from number i on
-abbrev pub numbers_from : {X : Type 0} → (X → Bool) → ℕ → List X → List ℕ
-numbers_from test i [] = []
-numbers_from test i (x ∷ xs) = if test x then i ∷ numbers_from test (suc i) xs else numbers_from test (suc i) xs
+abbrev pub entry_numbers_from : {X : Type 0} → (X → Bool) → ℕ → List X → List ℕ
+entry_numbers_from test i [] = []
+entry_numbers_from test i (x ∷ xs) = if test x then i ∷ entry_numbers_from test (suc i) xs else entry_numbers_from test (suc i) xs
 
 -- the entries of the code and the part of a fault
 abbrev pub beside : Reported → List Entry → List ℕ
-beside x es = numbers_from (is_of (code_index x.fault.code) (rank x.part)) 0 es
+beside x es = entry_numbers_from (is_of (code_index x.fault.code) (rank x.part)) 0 es
 
 -- whether entry i goes back to what a fault goes back to
 abbrev pub is_cause : Reported → List Entry → ℕ → Bool

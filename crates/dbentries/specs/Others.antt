@@ -8,7 +8,7 @@ use Rattle.dbformat.specs.declared.Look.TheVariants as look
 use Rattle.dbtrace.specs.declared.Cause.{Cause}
 use Rattle.dbtrace.specs.declared.Cause.TheVariants as cause
 use Rattle.dbtrace.specs.declared.Reported.{Reported}
-use Rattle.dbentries.specs.Kept.{cells_of}
+use Rattle.dbentries.specs.Kept.{look_cells}
 use Rattle.dbentries.specs.Lines.{cells_text, indented}
 use Rattle.dbentries.specs.Listing.{Entry}
 use Rattle.dbentries.specs.declared.entry.Others.{Others}
@@ -63,13 +63,13 @@ abbrev pub alike_text : Look → ℕ → ℕ → List ℕ
 alike_text l n cells = codes "and " ++ more_pages_text n ++ all_cells_text l cells ++ codes ": "
 
 -- faults of pages that look like this one: how many there are, and the pages
-abbrev pub pages_text : Look → List Reported → List ℕ
-pages_text l others =
-    alike_text l (counted (length others)) (counted (sum_by (λ x. cells_of x.cause) others)) ++ runs_text (runs (map (λ x. x.fault.page) others))
+abbrev pub alike_pages_text : Look → List Reported → List ℕ
+alike_pages_text l others =
+    alike_text l (counted (length others)) (counted (sum_by (λ x. look_cells x.cause) others)) ++ runs_text (runs (map (λ x. x.fault.page) others))
 
 -- the faults that belong to one with this cause, and the last of them
 abbrev pub belonging_text : Cause → List Reported → Reported → List ℕ
-belonging_text (cause.Look l) others last = pages_text l others
+belonging_text (cause.Look l) others last = alike_pages_text l others
 belonging_text _ others last = last_text (counted (length others)) last.fault.page last.fault.item
 
 -- the faults that belong to an entry, if there are any
@@ -88,5 +88,5 @@ kept_text (cause.Look l) o = alike_text l o.count o.cells ++ shown_runs_text (ta
 kept_text _ o = last_text o.count o.page o.item
 
 -- if there are any
-abbrev pub kept_line : Cause → Others → List ℕ
-kept_line c o = if o.count == 0 then [] else indented (kept_text c o)
+abbrev pub kept_faults_line : Cause → Others → List ℕ
+kept_faults_line c o = if o.count == 0 then [] else indented (kept_text c o)

@@ -7,8 +7,8 @@ use Rattle.dbsurvey.specs.Address.{IsIn}
 use Rattle.dbformat.specs.Codes.{code_index}
 use Rattle.dbformat.specs.declared.FaultCode.{FaultCode}
 use Rattle.dbentries.specs.Listing as listing
-use Rattle.dbentries.specs.Listing.{rank, most, same_cause, last_of, changed_at, numbers_from, is_of, entries, size}
-use Rattle.dbentries.specs.Kept.{entry_added, entry_of, kept_of}
+use Rattle.dbentries.specs.Listing.{rank, most, same_cause, last_of, changed_at, entry_numbers_from, is_of, entries, size}
+use Rattle.dbentries.specs.Kept.{entry_added, lone_entry, kept_of}
 use Rattle.dbtrace.specs.declared.Reported.{Reported}
 use Rattle.dbentries.specs.declared.entry.Entry.{Entry}
 use Rattle.dbentries.specs.declared.note.Note.{Note}
@@ -96,22 +96,22 @@ put_unkept s = record s { rest = counted (s.rest + 1) }
 
 abbrev pub put_new : Reported → Stored → Stored
 put_new x s = if has_room s
-    then record s { listed = s.listed ++ entry_of x ∷ []; notes = note_changed (with_slot (length s.listed)) x.fault.code s.notes }
+    then record s { listed = s.listed ++ lone_entry x ∷ []; notes = note_changed (with_slot (length s.listed)) x.fault.code s.notes }
     else record s { rest = counted (s.rest + 1); notes = note_changed with_unkept x.fault.code s.notes }
 
-abbrev pub put_in : Home → Reported → Stored → Stored
-put_in (home.Kept i) x s = put_kept i x s
-put_in home.New x s = put_new x s
-put_in home.Unkept x s = put_unkept s
+abbrev pub put_at_home : Home → Reported → Stored → Stored
+put_at_home (home.Kept i) x s = put_kept i x s
+put_at_home home.New x s = put_new x s
+put_at_home home.Unkept x s = put_unkept s
 
 abbrev pub added : Reported → Stored → Stored
-added x s = put_in (home_of x (turned (rank x.part) s)) x (turned (rank x.part) s)
+added x s = put_at_home (home_of x (turned (rank x.part) s)) x (turned (rank x.part) s)
 
 -- ---- what it all means
 
 -- the numbers of the entries of the code with this index, in the part with this number
 abbrev pub numbers_of : ℕ → ℕ → List listing.Entry → List ℕ
-numbers_of code part es = numbers_from (is_of code part) 0 es
+numbers_of code part es = entry_numbers_from (is_of code part) 0 es
 
 -- What is noted of a code in a part: the numbers of its entries among those that are kept, and whether it has others.
 pub record IsNoted (es : List listing.Entry) (limit part code : ℕ) (n : Note) : Type 0 where
@@ -121,7 +121,7 @@ pub record IsNoted (es : List listing.Entry) (limit part code : ℕ) (n : Note) 
   pub cut : n.cut ≡ nat_lt (length (numbers_of code part (take limit es))) (length (numbers_of code part es))
 
 -- Of these entries the first are kept, and the faults of the others are counted. What is noted is of the last part that has one.
-pub record Keeps (es : List listing.Entry) (s : Stored) : Type 0 where
+pub record KeepsEntries (es : List listing.Entry) (s : Stored) : Type 0 where
   pub listed : s.listed ≡ map kept_of (take s.limit es)
   pub rest : s.rest ≡ counted (sum_by size (drop s.limit es))
   pub before : (e : listing.Entry) → IsIn e es → rank e.first.part ≤ s.part
@@ -130,4 +130,4 @@ pub record Keeps (es : List listing.Entry) (s : Stored) : Type 0 where
 
 -- what is kept is that of the entries of these faults, in whose order the parts rise
 abbrev pub AreEntriesOf : List Reported → Stored → Type 0
-AreEntriesOf xs s = Keeps (entries xs) s
+AreEntriesOf xs s = KeepsEntries (entries xs) s

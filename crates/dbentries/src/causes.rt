@@ -1,6 +1,6 @@
 // Whether two faults go back to the same, and how many of a code are listed.
 ghost use Rattle.std.specs.Prelude.{◌≡◌, ◌≤◌};
-ghost use Rattle.dbentries.specs.Kept.{cells_of};
+ghost use Rattle.dbentries.specs.Kept.{look_cells};
 ghost use Rattle.dbentries.specs.Listing.{most, same_cause, same_kind, same_look};
 
 use dbformat::{FaultCode, Look, PageKind};
@@ -42,7 +42,7 @@ fn same_kind(one: PageKind, other: PageKind) -> bool
 
 // How many cells a page has if it looks like one of a tree, else 0.
 pub(crate) fn cells_of(cause: Cause) -> u64
-    ensures { result ≡ cells_of cause }
+    ensures { result ≡ look_cells cause }
 {
     match cause {
         Cause::Look(Look::Tree(look)) => u64::from(look.cells),

@@ -4,7 +4,7 @@ ghost use Rattle.dbentries.specs.Kept.{kept_of};
 ghost use Rattle.dbentries.specs.Listing as listing;
 ghost use Rattle.dbentries.specs.Listing.{rank};
 ghost use Rattle.dbentries.specs.Store.{added, home_by, home_of, is_listed_cause, note_of, slots_of, AreEntriesOf};
-ghost use Rattle.dbentries.specs.Store.{put_in, put_kept, put_new, put_unkept, turned};
+ghost use Rattle.dbentries.specs.Store.{put_at_home, put_kept, put_new, put_unkept, turned};
 ghost use Rattle.dbentries.specs.Woven.{kept_in, put_last, woven, woven_in, KeepsFirst};
 
 use crate::causes::{most, same_cause};
@@ -191,7 +191,7 @@ impl<A: Allocator> Entries<A> {
     // Puts a fault where it goes.
     fn put(&mut self, home: Home, told: &Reported)
         requires { home ≡ home_of told.now self.old }
-        ensures { self.new ≡ put_in home told.now self.old }
+        ensures { self.new ≡ put_at_home home told.now self.old }
     {
         match home {
             Home::Kept(slot) => self.put_kept(slot, told),

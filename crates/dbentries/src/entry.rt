@@ -1,6 +1,6 @@
 // A fault that leads, and what is kept of those that belong to it.
 ghost use Rattle.std.specs.Prelude.{◌≡◌};
-ghost use Rattle.dbentries.specs.Kept.{entry_added, entry_of};
+ghost use Rattle.dbentries.specs.Kept.{entry_added, lone_entry};
 
 use crate::causes::cells_of;
 use crate::runs::{NO_RUNS, Runs};
@@ -33,7 +33,7 @@ pub struct Entry {
 impl Entry {
     // An entry of this fault alone.
     pub(crate) fn of(first: &Reported) -> Entry
-        ensures { result ≡ entry_of first.now }
+        ensures { result ≡ lone_entry first.now }
     {
         Entry {
             first: *first,

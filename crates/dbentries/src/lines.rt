@@ -4,7 +4,7 @@ ghost use Rattle.std.specs.Prelude.{◌≡◌, ◌+◌, ◌≤◌, [], ◌++◌,
 ghost use Rattle.std.specs.Fmt.{signed_decimal};
 ghost use Rattle.std.specs.Option.{option_map_or};
 ghost use Rattle.dbsource.specs.Outs.{Puts};
-ghost use Rattle.dbentries.specs.Lines.{cause_text, cells_text, chain_text, key_text, leaf_text, look_text, page_kind_text, rowids_text, tree_look_text};
+ghost use Rattle.dbentries.specs.Lines.{cause_text, cells_text, broken_chain_text, key_text, leaf_text, look_text, page_kind_text, rowids_text, tree_look_text};
 
 use crate::first_bytes::first_bytes_text;
 use arrayvec::ArrayVec;
@@ -59,7 +59,7 @@ fn leaf_text(page: u32) -> ArrayVec<u8, 64>
 }
 
 fn chain_text(chain: CellChain) -> ArrayVec<u8, 160>
-    ensures { result.items ≡ chain_text chain }
+    ensures { result.items ≡ broken_chain_text chain }
 {
     let mut line = ArrayVec::new();
     append(&mut line, "    chain of page ");

@@ -8,7 +8,7 @@ ghost use Rattle.dbentries.specs.Kept.{kept_of};
 ghost use Rattle.dbentries.specs.Lines.{indented};
 ghost use Rattle.dbentries.specs.Listing as listing;
 ghost use Rattle.dbtrace.specs.declared.Cause.TheVariants as cause;
-ghost use Rattle.dbentries.specs.Others.{all_cells_text, alike_text, kept_line, kept_text, last_text, more_pages_text};
+ghost use Rattle.dbentries.specs.Others.{all_cells_text, alike_text, kept_faults_line, kept_text, last_text, more_pages_text};
 ghost use Rattle.dbentries.specs.Others.{more_runs_text, next_run_text, others_text, run_text, shown_runs_text};
 
 use crate::entry::{Entry, Others};
@@ -150,7 +150,7 @@ fn last_text(others: &Others) -> ArrayVec<u8, 128>
 
 // Puts the line of the faults that belong to one with this cause, if there are any.
 fn put_kept<O: Out>(out: &mut O, cause: &Cause, others: &Others) -> Result<(), WriteFailed>
-    ensures { Puts result (O.held out.old) (O.held out.new) (kept_line cause.now others.now) }
+    ensures { Puts result (O.held out.old) (O.held out.new) (kept_faults_line cause.now others.now) }
 {
     if others.count == 0 {
         return Ok(());

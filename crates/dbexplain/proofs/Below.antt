@@ -26,7 +26,7 @@ use Rattle.dbformat.proofs.HeaderPrefix.{encoding_within}
 use Rattle.dbowner.specs.Texts.{tree_of_row, tree_text}
 use Rattle.dbexplain.specs.Below.{own_line, both_lines, header_line, line_of_entry, entry_line, lines_below}
 use Rattle.dbexplain.specs.Notes.{below_of, wanted_entry, notes_text}
-use Rattle.dbexplain.specs.declared.notes.Note.{Note}
+use Rattle.dbexplain.specs.declared.notes.LineBelow.{LineBelow}
 use Rattle.dbexplain.specs.declared.owners.Below.{Below}
 use Rattle.dbexplain.specs.declared.owners.Below.TheVariants as below
 use Rattle.dbowner.proofs.PageMarks.{mark_here, no_visit, unused}
@@ -94,7 +94,7 @@ pub known_trees : (file : List ℕ) (V : List Reference) (h : HeaderBytes) (rows
 known_trees file V h rows e header listed texts =
     ap (λ e. tree_of_row e rows) (texts ∙ ap encoding header.begins ∙ encoding_within file) ∙ ap (tree_of_row (encoding file)) listed
 
-pub known_text : (file : List ℕ) (V : List Reference) (h : HeaderBytes) (rows : List SchemaRow) (g : Geometry) (e : Encoding) (n : Option Note × Option Note)
+pub known_text : (file : List ℕ) (V : List Reference) (h : HeaderBytes) (rows : List SchemaRow) (g : Geometry) (e : Encoding) (n : Option LineBelow × Option LineBelow)
     → IsHeaderOf h file → AreListed file V rows → g ≡ geometry_of h.bytes h.file_len → e ≡ encoding h.bytes
     → notes_text g (tree_of_row e rows) n ≡ notes_text (geometry file) (tree_text file V) n
 known_text file V h rows g e n header listed shape texts =

@@ -28,7 +28,7 @@ use Rattle.dbscan.specs.Finishes.{Leaves}
 use Rattle.dbreport.specs.Runs.{FailsOnce, IsAnswerOf}
 use Rattle.dbreport.proofs.RunAnswers.{if_ok, read_answer}
 use Rattle.dbreport.proofs.RunReports.{check_answer}
-use Rattle.dblisting.specs.Listed.{listed, lost_faults, other_faults}
+use Rattle.dblisting.specs.Listed.{listed_entries, lost_faults, other_faults}
 use Rattle.dblisting.proofs.Woven.{all_lost}
 use Rattle.dbexplain.specs.Explained.{explain_report, explain_text, found_text}
 use Rattle.dbexplain.specs.Keeping.{HasFound, IsEmpty}
@@ -41,13 +41,13 @@ use Rattle.dbexplain.proofs.Left.{is_left}
 
 module _ (limit : ℕ) (file : List ℕ) (V : List Reference) (read : refusal file ≡ None) where
   abbrev read_report : Report
-  read_report = record { out = explain_text limit file V (listed file V); err = []; answer = Ok (verdict (faults file V)) }
+  read_report = record { out = explain_text limit file V (listed_entries file V); err = []; answer = Ok (verdict (faults file V)) }
 
   explain_is : explain_report limit file V ≡ read_report
   unfolding explain_report
   explain_is = rw read refl
 
-  out_is : explain_text limit file V (listed file V) ≡ (explain_report limit file V).out
+  out_is : explain_text limit file V (listed_entries file V) ≡ (explain_report limit file V).out
   out_is = sym (ap (λ (r : Report). r.out) explain_is)
 
   answer_is : (v : Verdict) → v ≡ verdict (faults file V) → (explain_report limit file V).answer ≡ Ok v
@@ -83,7 +83,7 @@ module _ {A O : Type 0} (held : O → OutState) (file : List ℕ) (V : List Refe
       }
 
   -- at any other answer nothing is put after the run
-  as_left : (r : Result Verdict RunError) → Writes r (held first.out.now).bytes (held now.out.now).bytes (explain_text limit file V (listed file V)) → after.out.now ≡ now.out.now
+  as_left : (r : Result Verdict RunError) → Writes r (held first.out.now).bytes (held now.out.now).bytes (explain_text limit file V (listed_entries file V)) → after.out.now ≡ now.out.now
       → Writes r (held first.out.now).bytes (held after.out.now).bytes (explain_report limit file V).out
   as_left r w e =
       subst (λ o. Writes r (held first.out.now).bytes (held o).bytes (explain_report limit file V).out) (sym e)

@@ -5,7 +5,7 @@ use Rattle.std.specs.Option.{option_map_or}
 use Rattle.std.proofs.lemmas.List.{drop_all}
 use Rattle.dbformat.specs.Lines.{fault_line}
 use Rattle.dbtrace.specs.declared.Reported.{Reported}
-use Rattle.dbentries.specs.Kept.{entry_of, kept_of}
+use Rattle.dbentries.specs.Kept.{lone_entry, kept_of}
 use Rattle.dbentries.specs.Listing as listing
 use Rattle.dbentries.specs.Listing.{changed_at, entries, home, joined, most, with_fault}
 use Rattle.dbentries.specs.Store.{Stored}
@@ -18,7 +18,7 @@ use Rattle.dbexplain.specs.Keeping.{lines_of}
 
 -- the fault of an entry is its first
 pub first_of : (k : Entry) (e : listing.Entry) → k ≡ kept_of e → k.first ≡ e.first
-first_of k e is = ap (λ (k : Entry). k.first) is ∙ first_kept e.others (entry_of e.first)
+first_of k e is = ap (λ (k : Entry). k.first) is ∙ first_kept e.others (lone_entry e.first)
 
 -- the text of entries, by the next one
 pub next_text : (text : listing.Entry → List ℕ) (es : List listing.Entry) (i : ℕ) → i < length es
@@ -35,7 +35,7 @@ next_line kept i none h = rw (add-one, drop-cons kept i none h) refl
 -- those of what is kept are those of the entries
 pub same_lines : (es : List listing.Entry) → lines_of (map kept_of es) ≡ flat_map (λ (e : listing.Entry). fault_line e.first.fault) es
 same_lines [] = refl
-same_lines (e ∷ es) = ap₂ (λ (f : Reported) text. fault_line f.fault ++ text) (first_kept e.others (entry_of e.first)) (same_lines es)
+same_lines (e ∷ es) = ap₂ (λ (f : Reported) text. fault_line f.fault ++ text) (first_kept e.others (lone_entry e.first)) (same_lines es)
 
 -- the lines of the first entries, by what is kept of them
 pub found_lines : (es : List listing.Entry) (s : Stored) (limit : ℕ) → KeepsFirst es s → s.limit ≡ limit → lines_of s.listed ≡ found_text limit es

@@ -20,7 +20,7 @@ use Rattle.dbscan.specs.Finishes.{Leaves}
 use Rattle.dbscan.specs.Notices.{run_notices}
 use Rattle.dbscan.specs.Placed.{told_faults}
 use Rattle.dbscan.proofs.AllTold.{all_told}
-use Rattle.dblisting.specs.Listed.{IsBeginning, listed, lost_faults, other_faults}
+use Rattle.dblisting.specs.Listed.{IsBeginning, listed_entries, lost_faults, other_faults}
 use Rattle.dblisting.specs.Lost.{IsUnused}
 use Rattle.dblisting.proofs.Heard.{never_stops}
 use Rattle.dblisting.proofs.Woven.{all_begins}
@@ -50,7 +50,7 @@ module _ {A O : Type 0} (held : O → OutState) (file : List ℕ) (V : List Refe
   all_counted = all.tally.all ∙ ap counted (sym (length-map (told_faults file V) (λ (t : Reported). t.fault)) ∙ ap length (all_told file V))
 
   abbrev text : List ℕ
-  text = explain_text first.kept.now.entries.limit file V (listed file V)
+  text = explain_text first.kept.now.entries.limit file V (listed_entries file V)
 
   -- what was put after it was heard
   written : {X E : Type 0} (r : Result X E) (after : O) (t : List ℕ) → t ≡ text → Writes r (held now.out.now).bytes (held after).bytes t → Writes r (held first.out.now).bytes (held after).bytes text
@@ -70,9 +70,9 @@ module _ {A O : Type 0} (held : O → OutState) (file : List ℕ) (V : List Refe
     pub told_some : told_faults file V ≡ [] → ⊥
     told_some e = some (all.tally.all ∙ ap (λ (ts : List Reported). counted (length ts)) e)
 
-    pub faulty_put : {X E : Type 0} (r : Result X E) (after : O) → Writes r (held now.out.now).bytes (held after).bytes (explain_text now.kept.now.entries.limit file V (listed file V))
+    pub faulty_put : {X E : Type 0} (r : Result X E) (after : O) → Writes r (held now.out.now).bytes (held after).bytes (explain_text now.kept.now.entries.limit file V (listed_entries file V))
         → Writes r (held first.out.now).bytes (held after).bytes text
-    faulty_put r after w = written r after _ (ap (λ n. explain_text n file V (listed file V)) all.limit) w
+    faulty_put r after w = written r after _ (ap (λ n. explain_text n file V (listed_entries file V)) all.limit) w
 
     -- ---- with the lost pages
     pub unused : IsUnused now.kept.now.lost
@@ -117,9 +117,9 @@ module _ {A O : Type 0} (held : O → OutState) (file : List ℕ) (V : List Refe
 module _ {A O : Type 0} (held : O → OutState) (file : List ℕ) (V : List Reference) (survey : Survey file V) (first now : ExplainReporter A O)
     (empty : IsEmpty first.kept.now.entries.limit (geometry file) first.kept.now) where
   nothing_put : MovesBySome Hears first (run_notices file V) now
-      → Begins (held first.out.now).bytes (held now.out.now).bytes (explain_text first.kept.now.entries.limit file V (listed file V))
-  nothing_put m = subst (λ o. Begins (held first.out.now).bytes (held o).bytes (explain_text first.kept.now.entries.limit file V (listed file V))) (sym (first_out file V survey first now first.kept.now.entries.limit (geometry file) empty m).0)
-      (begins_nothing (held first.out.now).bytes (explain_text first.kept.now.entries.limit file V (listed file V)))
+      → Begins (held first.out.now).bytes (held now.out.now).bytes (explain_text first.kept.now.entries.limit file V (listed_entries file V))
+  nothing_put m = subst (λ o. Begins (held first.out.now).bytes (held o).bytes (explain_text first.kept.now.entries.limit file V (listed_entries file V))) (sym (first_out file V survey first now first.kept.now.entries.limit (geometry file) empty m).0)
+      (begins_nothing (held first.out.now).bytes (explain_text first.kept.now.entries.limit file V (listed_entries file V)))
 
   stopped : (e : RunError) → StopsBy Hears Never e first (run_notices file V) now → IsLeft held file V (Err e) first now
   stopped ReadFailed m = let k = first_out file V survey first now first.kept.now.entries.limit (geometry file) empty m in (k.0, found_first file V survey first now first.kept.now.entries.limit (geometry file) empty m, k.1)

@@ -10,7 +10,7 @@ use Rattle.dbowner.specs.declared.place.Place.{Place}
 use Rattle.dbowner.specs.declared.place.Place.TheVariants as place
 use Rattle.dbentries.specs.Lines.{indented}
 use Rattle.dbowner.specs.Texts.{place_text}
-use Rattle.dbexplain.specs.Below.{page_line}
+use Rattle.dbexplain.specs.Below.{page_place_line}
 use Rattle.dbowner.specs.Texts.{place_front, place_tree}
 use Rattle.dbexplain.specs.Notes.{place_end, page_front}
 
@@ -35,7 +35,7 @@ place_pieces fixed tree start place.Nowhere = refl
 
 -- where a page is: what comes before its tree, the tree, and the rest
 pub page_pieces : (g : Geometry) (tree : ℕ → List ℕ) (p : ℕ) (what : Place) (start : Option ℕ) → is_page g p ≡ true
-    → page_front g p what ++ (option_map_or tree (place_tree what start) [] ++ place_end what) ≡ page_line g tree p what start
+    → page_front g p what ++ (option_map_or tree (place_tree what start) [] ++ place_end what) ≡ page_place_line g tree p what start
 page_pieces g tree p what start h = sym (ap (λ b. cond b line []) h ∙ joined)
   where
     page : List ℕ

@@ -18,7 +18,7 @@ use Rattle.dbtrace.specs.declared.Reported.{Reported}
 use Rattle.dbformat.specs.Starts.{start_at}
 use Rattle.dbowner.proofs.Slots.{get_set, get_set_other}
 use Rattle.dbexplain.specs.Summary.{start_count, is_reached}
-use Rattle.dbexplain.specs.Tallies.{Tallied, IsTallyOf, IsTallyTo, HasRoom, counted_start, has_bit, is_told, no_count, one_page}
+use Rattle.dbexplain.specs.Tallies.{Tallied, IsTallyOf, IsTallyTo, HasPageBit, counted_start, has_bit, is_told, no_count, one_reached_page}
 use Rattle.dbexplain.specs.TallySteps.{reached_counted}
 use Rattle.dbexplain.specs.declared.tally.StartCount.{StartCount}
 
@@ -53,7 +53,7 @@ module _ (V : List Reference) (ts : List Reported) (n : ℕ) (few : n < most_pag
       none m = omega arith
 
   -- where it was
-  next_start : (k : ℕ) → is_reached V k p ≡ true → one_page (is_told ts p) (counted_start V ts n k) ≡ counted_start V ts (n + 1) k
+  next_start : (k : ℕ) → is_reached V k p ≡ true → one_reached_page (is_told ts p) (counted_start V ts n k) ≡ counted_start V ts (n + 1) k
   next_start k on = ap₂ (λ x y. record { faults = counted (start_count ts k); reached = x; faulty = y }) reached (faulty (is_told ts p) refl)
     where
       reached : min (count_by (is_reached V k) (range_with_len 1 n) + 1) (2 ^ 32 - 1) ≡ count_by (is_reached V k) (range_with_len 1 (n + 1))
@@ -71,7 +71,7 @@ module _ (V : List Reference) (ts : List Reported) (n : ℕ) (few : n < most_pag
       faulty false e =
           sym (more (both k) ∙ ap₂ (λ a b. count_by (both k) (range_with_len 1 n) + cond (a && b) 1 0) on e ∙ (let f : count_by (both k) (range_with_len 1 n) + 0 ≡ count_by (both k) (range_with_len 1 n) = omega arith in f))
 
-  pub page_more : (t : Tallied) → IsTallyTo V ts n t → HasRoom t.pages p → IsTallyTo V ts (n + 1) (reached_counted (start_at V p) p t)
+  pub page_more : (t : Tallied) → IsTallyTo V ts n t → HasPageBit t.pages p → IsTallyTo V ts (n + 1) (reached_counted (start_at V p) p t)
   page_more t is room = by_start (start_at V p) refl
     where
       by_start : (o : Option ℕ) → start_at V p ≡ o → IsTallyTo V ts (n + 1) (reached_counted o p t)
@@ -94,7 +94,7 @@ module _ (V : List Reference) (ts : List Reported) (n : ℕ) (few : n < most_pag
           reached_is k = ap (λ o. option_map_or (λ j. j == k) o false) e
 
           new : StartCount
-          new = one_page (has_bit t.pages p) (slice_index_or t.starts j no_count)
+          new = one_reached_page (has_bit t.pages p) (slice_index_or t.starts j no_count)
 
           at_each : (k : ℕ) → k ≤ freelist_start → (b : Bool) → (j == k) ≡ b → slice_get (slice_set t.starts j new) k ≡ Some (counted_start V ts (n + 1) k)
           at_each k l true h =
@@ -104,7 +104,7 @@ module _ (V : List Reference) (ts : List Reported) (n : ℕ) (few : n < most_pag
               let on : is_reached V j p ≡ true = reached_is j ∙ ap (λ i. j == i) same ∙ h in
               ap (slice_get (slice_set t.starts j new)) (sym same)
               ∙ get_set t.starts j new (slice_get_within t.starts j (counted_start V ts n j) here)
-              ∙ ap₂ (λ b c. Some (one_page b c)) (is.pages p room) v
+              ∙ ap₂ (λ b c. Some (one_reached_page b c)) (is.pages p room) v
               ∙ ap Some (next_start j on)
               ∙ ap (λ i. Some (counted_start V ts (n + 1) i)) same
           at_each k l false h =
@@ -113,7 +113,7 @@ module _ (V : List Reference) (ts : List Reported) (n : ℕ) (few : n < most_pag
               ∙ ap Some (same_start k (reached_is k ∙ h))
 
 -- there is room for the pages before the last
-pub room_before : (words : List ℕ) (p q : ℕ) → HasRoom words q → p ≤ q → HasRoom words p
+pub room_before : (words : List ℕ) (p q : ℕ) → HasPageBit words q → p ≤ q → HasPageBit words p
 room_before words p q h l = omega (arith, h, l)
 
 -- words are as many

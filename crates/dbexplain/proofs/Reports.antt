@@ -15,7 +15,7 @@ use Rattle.dbentries.specs.Store.{Stored}
 use Rattle.dbentries.specs.Woven.{KeepsFirst}
 use Rattle.dbscan.specs.Placed.{told_faults}
 use Rattle.dbreport.proofs.Checks.{more_counted}
-use Rattle.dblisting.specs.Listed.{listed, looked_at, reported}
+use Rattle.dblisting.specs.Listed.{listed_entries, looked_at, reported}
 use Rattle.dbexplain.specs.Explained.{entry_text, explain_text}
 use Rattle.dbexplain.specs.Summary.{summary}
 use Rattle.dbexplain.proofs.KeptEntries.{some_listed}
@@ -31,7 +31,7 @@ pub rest_line : (es : List listing.Entry) (s : Stored) (limit : ℕ) → KeepsFi
 rest_line es s limit k e = ap more_text k.rest ∙ more_counted (sum_by size (drop s.limit es)) ∙ ap (λ n. more_text (sum_by size (drop n es))) e
 
 -- where faults were reported, there are entries
-pub none_told : (file : List ℕ) (V : List Reference) → listed file V ≡ [] → told_faults file V ≡ []
+pub none_told : (file : List ℕ) (V : List Reference) → listed_entries file V ≡ [] → told_faults file V ≡ []
 none_told file V h = unmapped (told_faults file V) (some_listed (reported file V) h)
   where
     unmapped : (ts : List Reported) → map (looked_at file) ts ≡ [] → ts ≡ []
@@ -44,10 +44,10 @@ text_some limit file V [] h = absurd (h refl)
 text_some limit file V (e ∷ es) h = refl
 
 pub report_text : (limit : ℕ) (file : List ℕ) (V : List Reference) → (told_faults file V ≡ [] → ⊥)
-    → flat_map (entry_text file V) (take limit (listed file V)) ++ (more_text (sum_by size (drop limit (listed file V))) ++ summary file V (told_faults file V))
-    ≡ explain_text limit file V (listed file V)
-report_text limit file V some = text_some limit file V (listed file V) (λ e. some (none_told file V e))
+    → flat_map (entry_text file V) (take limit (listed_entries file V)) ++ (more_text (sum_by size (drop limit (listed_entries file V))) ++ summary file V (told_faults file V))
+    ≡ explain_text limit file V (listed_entries file V)
+report_text limit file V some = text_some limit file V (listed_entries file V) (λ e. some (none_told file V e))
 
 -- and else there is the line of a file without a fault
-pub ok_text : (limit : ℕ) (file : List ℕ) (V : List Reference) → told_faults file V ≡ [] → explain_text limit file V (listed file V) ≡ ok_line
+pub ok_text : (limit : ℕ) (file : List ℕ) (V : List Reference) → told_faults file V ≡ [] → explain_text limit file V (listed_entries file V) ≡ ok_line
 ok_text limit file V none = ap (λ ts. explain_text limit file V (entries (map (looked_at file) ts))) none

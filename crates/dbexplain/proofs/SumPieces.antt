@@ -8,7 +8,7 @@ use Rattle.dbformat.specs.SchemaRow.{SchemaRow}
 use Rattle.dbformat.specs.declared.Encoding.{Encoding}
 use Rattle.dbowner.specs.Texts.{tree_of_row}
 use Rattle.dbentries.specs.Lines.{indented}
-use Rattle.dbexplain.specs.Summary.{aligned, pages_text, root_page, start_name}
+use Rattle.dbexplain.specs.Summary.{aligned, faulty_pages_text, root_page, start_name}
 use Rattle.dbexplain.specs.Sums.{code_sum, numbered_sum, start_sum, sum_front}
 use Rattle.dbexplain.specs.declared.tally.CodeCount.{CodeCount}
 use Rattle.dbexplain.specs.declared.tally.StartCount.{StartCount}
@@ -54,13 +54,13 @@ tree_name e rows k h =
 
 -- the line of a start
 pub start_pieces : (all : ℕ) (name : List ℕ) (c : StartCount) → all < 2 ^ 64 → c.faults < 2 ^ 64 → (c.faults == 0) ≡ false
-    → (sum_front all c.faults ++ codes "in ") ++ (name ++ (pages_text c.faulty c.reached ++ line_feed ∷ [])) ≡ start_sum all name c
+    → (sum_front all c.faults ++ codes "in ") ++ (name ++ (faulty_pages_text c.faulty c.reached ++ line_feed ∷ [])) ≡ start_sum all name c
 start_pieces all name c a n some =
     let all_fits : all ≡ counted all = omega arith in
     let fits : c.faults ≡ counted c.faults = omega arith in
-    joined (codes "    ") (aligned all c.faults) (codes " ") (codes "in ") name (pages_text c.faulty c.reached) (line_feed ∷ [])
-    ∙ ap₂ (λ x y. indented (aligned x y ++ codes " " ++ (codes "in " ++ name ++ pages_text c.faulty c.reached))) all_fits fits
-    ∙ sym (ap (λ b. cond b [] (indented (aligned (counted all) (counted c.faults) ++ codes " " ++ (codes "in " ++ name ++ pages_text c.faulty c.reached)))) some)
+    joined (codes "    ") (aligned all c.faults) (codes " ") (codes "in ") name (faulty_pages_text c.faulty c.reached) (line_feed ∷ [])
+    ∙ ap₂ (λ x y. indented (aligned x y ++ codes " " ++ (codes "in " ++ name ++ faulty_pages_text c.faulty c.reached))) all_fits fits
+    ∙ sym (ap (λ b. cond b [] (indented (aligned (counted all) (counted c.faults) ++ codes " " ++ (codes "in " ++ name ++ faulty_pages_text c.faulty c.reached)))) some)
   where
     joined : (a b c d e f g : List ℕ) → ((a ++ b ++ c) ++ d) ++ (e ++ (f ++ g)) ≡ a ++ (b ++ c ++ (d ++ e ++ f)) ++ g
     joined a b c d e f g = simp append_assoc

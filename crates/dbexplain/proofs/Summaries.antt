@@ -40,8 +40,8 @@ use Rattle.dbformat.proofs.BelowStarts.{length_taken, rows_start}
 use Rattle.dbscan.specs.Placed.{told_faults}
 use Rattle.dbscan.proofs.Reached.{of_starts}
 use Rattle.dbentries.specs.Lines.{indented}
-use Rattle.dbexplain.specs.Summary.{aligned, code_count, code_line, count_text, faulty_pages, is_faulty, is_reached, is_start, is_whole, listed_rows, pages_text, reached_pages, start_count, start_line, start_name, sum_line, summary, tree_count, trees_text, whole_count, whole_line, whole_trees}
-use Rattle.dbexplain.specs.Sums.{code_sum, freelist_count, numbered_sum, start_sum, summary_by, tree_counts, without_fault}
+use Rattle.dbexplain.specs.Summary.{aligned, code_count, code_line, count_text, faulty_pages_at, is_faulty_at, is_reached, is_part_of_start, is_whole, listed_rows, faulty_pages_text, reached_pages, start_count, start_sum_line, start_name, sum_line, summary, tree_count, trees_text, whole_count, whole_line, whole_trees}
+use Rattle.dbexplain.specs.Sums.{code_sum, freelist_start_count, numbered_sum, start_sum, summary_by, tree_counts, without_fault}
 use Rattle.dbexplain.specs.Tallies.{Tallied, IsTallyTo, counted_code, counted_start, is_told, no_count}
 use Rattle.dbexplain.specs.declared.tally.StartCount.{StartCount}
 
@@ -92,7 +92,7 @@ points f a (suc n) (x ∷ xs) h =
 
 -- ---- tests
 
-start_is : (k : ℕ) (p : Part) → is_start k p ≡ true → p ≡ part.Start k
+start_is : (k : ℕ) (p : Part) → is_part_of_start k p ≡ true → p ≡ part.Start k
 start_is k part.Header e = cc
 start_is k (part.Start j) e = ap part.Start (eqb-true j k e)
 start_is k part.End e = cc
@@ -114,13 +114,13 @@ module _ (file : List ℕ) (V : List Reference) (s : Survey file V) where
   n = (geometry file).pages
 
   -- a page has a fault of start k where it was reached from there and has a fault of some start
-  page_same : (k p : ℕ) → 1 ≤ p → (is_reached V k p && is_told ts p) ≡ is_faulty ts k p
-  page_same k p above = same_tests (is_reached V k p && is_told ts p) (is_faulty ts k p) one other
+  page_same : (k p : ℕ) → 1 ≤ p → (is_reached V k p && is_told ts p) ≡ is_faulty_at ts k p
+  page_same k p above = same_tests (is_reached V k p && is_told ts p) (is_faulty_at ts k p) one other
     where
       at_page : (t : Reported) → IsIn t ts → (j : ℕ) → t.part ≡ part.Start j → t.fault.page ≡ p → start_at V p ≡ Some j
       at_page t i j e f = ap (start_at V) (sym f) ∙ (of_starts file V s t i j e).reached (λ z. let x : ⊥ = omega (arith, f, z, above) in x)
 
-      one : (is_reached V k p && is_told ts p) ≡ true → is_faulty ts k p ≡ true
+      one : (is_reached V k p && is_told ts p) ≡ true → is_faulty_at ts k p ≡ true
       one e =
           let parts = and_parts (is_reached V k p) (is_told ts p) e in
           let t = any_one (λ (t : Reported). not (is_whole t.part) && (t.fault.page == p)) ts parts.1 in
@@ -130,13 +130,13 @@ module _ (file : List ℕ) (V : List Reference) (s : Survey file V) where
           let here : start_at V p ≡ Some j.0 = at_page t.0 t.1 j.0 j.1 page in
           let there : start_at V p ≡ Some k = reached_is k (start_at V p) parts.0 in
           let same : j.0 ≡ k = cc in
-          any_true (λ (t : Reported). is_start k t.part && (t.fault.page == p)) ts t.0 t.1
-          (and_from (is_start k t.0.part) (t.0.fault.page == p) (ap (is_start k) j.1 ∙ eq-eqb j.0 k same) both.1)
+          any_true (λ (t : Reported). is_part_of_start k t.part && (t.fault.page == p)) ts t.0 t.1
+          (and_from (is_part_of_start k t.0.part) (t.0.fault.page == p) (ap (is_part_of_start k) j.1 ∙ eq-eqb j.0 k same) both.1)
 
-      other : is_faulty ts k p ≡ true → (is_reached V k p && is_told ts p) ≡ true
+      other : is_faulty_at ts k p ≡ true → (is_reached V k p && is_told ts p) ≡ true
       other e =
-          let t = any_one (λ (t : Reported). is_start k t.part && (t.fault.page == p)) ts e in
-          let both = and_parts (is_start k t.0.part) (t.0.fault.page == p) t.2 in
+          let t = any_one (λ (t : Reported). is_part_of_start k t.part && (t.fault.page == p)) ts e in
+          let both = and_parts (is_part_of_start k t.0.part) (t.0.fault.page == p) t.2 in
           let at = start_is k t.0.part both.0 in
           let page : t.0.fault.page ≡ p = eqb-true t.0.fault.page p both.1 in
           let here : start_at V p ≡ Some k = at_page t.0 t.1 k at page in
@@ -144,27 +144,27 @@ module _ (file : List ℕ) (V : List Reference) (s : Survey file V) where
           (any_true (λ (t : Reported). not (is_whole t.part) && (t.fault.page == p)) ts t.0 t.1
           (and_from (not (is_whole t.0.part)) (t.0.fault.page == p) (ap (λ p. not (is_whole p)) at) both.1))
 
-  pages_same : (k : ℕ) → count_by (λ p. is_reached V k p && is_told ts p) (range_with_len 1 n) ≡ faulty_pages file ts k
-  pages_same k = same_counts (λ p. is_reached V k p && is_told ts p) (is_faulty ts k) (page_numbers (geometry file))
+  pages_same : (k : ℕ) → count_by (λ p. is_reached V k p && is_told ts p) (range_with_len 1 n) ≡ faulty_pages_at file ts k
+  pages_same k = same_counts (λ p. is_reached V k p && is_told ts p) (is_faulty_at ts k) (page_numbers (geometry file))
       (λ p i. page_same k p (IsIn-from_range 1 n p i).0)
 
   abbrev name : ℕ → List ℕ
   name = start_name (encoding file) (listed_rows file V)
 
-  line_same : (k : ℕ) → start_sum (counted (length ts)) (name k) (counted_start V ts n k) ≡ start_line file V ts k
+  line_same : (k : ℕ) → start_sum (counted (length ts)) (name k) (counted_start V ts n k) ≡ start_sum_line file V ts k
   line_same k =
-      sum_same (length ts) (start_count ts k) (codes "in " ++ name k ++ pages_text (count_by (λ p. is_reached V k p && is_told ts p) (range_with_len 1 n)) (reached_pages file V k))
-      ∙ ap (λ m. sum_line (length ts) (start_count ts k) (codes "in " ++ name k ++ pages_text m (reached_pages file V k))) (pages_same k)
+      sum_same (length ts) (start_count ts k) (codes "in " ++ name k ++ faulty_pages_text (count_by (λ p. is_reached V k p && is_told ts p) (range_with_len 1 n)) (reached_pages file V k))
+      ∙ ap (λ m. sum_line (length ts) (start_count ts k) (codes "in " ++ name k ++ faulty_pages_text m (reached_pages file V k))) (pages_same k)
 
   lines_same : (m k : ℕ) → flat_map (numbered_sum (counted (length ts)) name) (enumerate_from k (map (counted_start V ts n) (range_with_len k m)))
-      ≡ flat_map (start_line file V ts) (range_with_len k m)
+      ≡ flat_map (start_sum_line file V ts) (range_with_len k m)
   lines_same zero k = refl
   lines_same (suc m) k = ap₂ (λ a b. a ++ b) (line_same k) (lines_same m (k + 1))
 
   rows_lines : (k : ℕ) (rows : List SchemaRow)
-      → flat_map (λ (l : Link Way). start_line file V ts l.step) (map (root_start file) (enumerate_from k rows)) ≡ flat_map (start_line file V ts) (range_with_len k (length rows))
+      → flat_map (λ (l : Link Way). start_sum_line file V ts l.step) (map (root_start file) (enumerate_from k rows)) ≡ flat_map (start_sum_line file V ts) (range_with_len k (length rows))
   rows_lines k [] = refl
-  rows_lines k (row ∷ rows) = ap (λ w. start_line file V ts k ++ w) (rows_lines (k + 1) rows)
+  rows_lines k (row ∷ rows) = ap (λ w. start_sum_line file V ts k ++ w) (rows_lines (k + 1) rows)
 
   few : length (listed_rows file V) ≤ 65536
   few = length_taken last_root_start (rooted_rows (schema file V))
@@ -177,7 +177,7 @@ module _ (file : List ℕ) (V : List Reference) (s : Survey file V) where
 
   -- no fault was reported at the freelist's start where there is no first trunk
   none_free : freelist_starts file ≡ [] → start_count ts freelist_start ≡ 0
-  none_free none = count_none (λ (t : Reported). is_start freelist_start t.part) ts (λ t i. by_case t i (is_start freelist_start t.part) refl)
+  none_free none = count_none (λ (t : Reported). is_part_of_start freelist_start t.part) ts (λ t i. by_case t i (is_part_of_start freelist_start t.part) refl)
     where
       no_step : (l : Link Way) → IsIn l (schema_link ∷ (map (root_start file) (enumerate_from 1 rows) ++ freelist_starts file)) → freelist_start ≡ l.step → ⊥
       no_step l (inl e) f = let d : l.step ≡ 0 = ap (λ (l : Link Way). l.step) e in let x : ⊥ = omega (arith, d, f) in x
@@ -186,28 +186,28 @@ module _ (file : List ℕ) (V : List Reference) (s : Survey file V) where
         | inr j ↦ subst (IsIn l) none j
       ]
 
-      by_case : (t : Reported) → IsIn t ts → (b : Bool) → is_start freelist_start t.part ≡ b → is_start freelist_start t.part ≡ false
+      by_case : (t : Reported) → IsIn t ts → (b : Bool) → is_part_of_start freelist_start t.part ≡ b → is_part_of_start freelist_start t.part ≡ false
       by_case t i false e = e
       by_case t i true e =
           let at = (of_starts file V s t i freelist_start (start_is freelist_start t.part e)).start in
           let m = IsIn-from_map (λ (l : Link Way). l.step) (starts file V) freelist_start at in
           absurd (no_step m.0 (subst (IsIn m.0) are m.1) m.2)
 
-  free_line : start_line file V ts freelist_start ≡ flat_map (λ (l : Link Way). start_line file V ts l.step) (freelist_starts file)
+  free_line : start_sum_line file V ts freelist_start ≡ flat_map (λ (l : Link Way). start_sum_line file V ts l.step) (freelist_starts file)
   free_line = by_case (first_trunk file == 0) none_free
     where
       by_case : (b : Bool) → (cond b [] (start freelist_start trunk (first_trunk file) ∷ []) ≡ [] → start_count ts freelist_start ≡ 0)
-          → start_line file V ts freelist_start ≡ flat_map (λ (l : Link Way). start_line file V ts l.step) (cond b [] (start freelist_start trunk (first_trunk file) ∷ []))
-      by_case true h = ap (λ m. sum_line (length ts) m (codes "in " ++ name freelist_start ++ pages_text (faulty_pages file ts freelist_start) (reached_pages file V freelist_start))) (h refl)
-      by_case false h = sym (append-nil (start_line file V ts freelist_start))
+          → start_sum_line file V ts freelist_start ≡ flat_map (λ (l : Link Way). start_sum_line file V ts l.step) (cond b [] (start freelist_start trunk (first_trunk file) ∷ []))
+      by_case true h = ap (λ m. sum_line (length ts) m (codes "in " ++ name freelist_start ++ faulty_pages_text (faulty_pages_at file ts freelist_start) (reached_pages file V freelist_start))) (h refl)
+      by_case false h = sym (append-nil (start_sum_line file V ts freelist_start))
 
-  start_lines : start_line file V ts 0 ++ (flat_map (start_line file V ts) (range_with_len 1 (length rows)) ++ start_line file V ts freelist_start)
-      ≡ flat_map (λ (l : Link Way). start_line file V ts l.step) (starts file V)
+  start_lines : start_sum_line file V ts 0 ++ (flat_map (start_sum_line file V ts) (range_with_len 1 (length rows)) ++ start_sum_line file V ts freelist_start)
+      ≡ flat_map (λ (l : Link Way). start_sum_line file V ts l.step) (starts file V)
   start_lines =
-      let f : Link Way → List ℕ = λ l. start_line file V ts l.step in
+      let f : Link Way → List ℕ = λ l. start_sum_line file V ts l.step in
       let M = map (root_start file) (enumerate_from 1 rows) in
-      ap₂ (λ a b. start_line file V ts 0 ++ (a ++ b)) (sym (rows_lines 1 rows)) free_line
-      ∙ ap (λ w. start_line file V ts 0 ++ w) (sym (flat_map-append f M (freelist_starts file)))
+      ap₂ (λ a b. start_sum_line file V ts 0 ++ (a ++ b)) (sym (rows_lines 1 rows)) free_line
+      ∙ ap (λ w. start_sum_line file V ts 0 ++ w) (sym (flat_map-append f M (freelist_starts file)))
       ∙ ap (flat_map f) (sym are)
 
   module _ (t : Tallied) (is : IsTallyTo V ts n t) where
@@ -215,7 +215,7 @@ module _ (file : List ℕ) (V : List Reference) (s : Survey file V) where
     trees_are = points (counted_start V ts n) 0 (tree_count rows) t.starts
         (λ k l. is.starts k (let w = few in omega (arith, l, w)) ∙ ap (λ i. Some (counted_start V ts n i)) (let e : k ≡ 0 + k = omega arith in e))
 
-    free_is : freelist_count t ≡ counted_start V ts n freelist_start
+    free_is : freelist_start_count t ≡ counted_start V ts n freelist_start
     free_is = get_or_from_slice_get t.starts freelist_start (counted_start V ts n freelist_start) no_count (is.starts freelist_start (omega arith))
 
     whole_is : without_fault (tree_counts rows t) ≡ whole_trees rows ts
@@ -227,10 +227,10 @@ module _ (file : List ℕ) (V : List Reference) (s : Survey file V) where
     all_are : length (tree_counts rows t) ≡ tree_count rows
     all_are = ap length trees_are ∙ length-map-range_with_len (counted_start V ts n) 0 (tree_count rows)
 
-    first_part : flat_map (numbered_sum t.all name) (enumerate_from 0 (tree_counts rows t)) ≡ start_line file V ts 0 ++ flat_map (start_line file V ts) (range_with_len 1 (length rows))
+    first_part : flat_map (numbered_sum t.all name) (enumerate_from 0 (tree_counts rows t)) ≡ start_sum_line file V ts 0 ++ flat_map (start_sum_line file V ts) (range_with_len 1 (length rows))
     first_part = ap₂ (λ n cs. flat_map (numbered_sum n name) (enumerate_from 0 cs)) is.all trees_are ∙ lines_same (tree_count rows) 0
 
-    free_part : start_sum t.all (name freelist_start) (freelist_count t) ≡ start_line file V ts freelist_start
+    free_part : start_sum t.all (name freelist_start) (freelist_start_count t) ≡ start_sum_line file V ts freelist_start
     free_part = ap₂ (λ n c. start_sum n (name freelist_start) c) is.all free_is ∙ line_same freelist_start
 
     whole_part : sum_line t.all t.whole (codes "in the whole file") ≡ whole_line ts
@@ -242,8 +242,8 @@ module _ (file : List ℕ) (V : List Reference) (s : Survey file V) where
         (ap count_text is.all ∙ count_same (length ts))
         (ap₂ (λ n cs. flat_map (code_sum n) cs) is.all is.codes ∙ codes_same ts all_codes)
         first_part free_part whole_part (ap₂ trees_text whole_is all_are)
-        ∙ parts (count_text (length ts)) (flat_map (code_line ts) all_codes) (start_line file V ts 0) (flat_map (start_line file V ts) (range_with_len 1 (length rows)))
-        (start_line file V ts freelist_start) (whole_line ts) (trees_text (whole_trees rows ts) (tree_count rows))
+        ∙ parts (count_text (length ts)) (flat_map (code_line ts) all_codes) (start_sum_line file V ts 0) (flat_map (start_sum_line file V ts) (range_with_len 1 (length rows)))
+        (start_sum_line file V ts freelist_start) (whole_line ts) (trees_text (whole_trees rows ts) (tree_count rows))
         ∙ ap (λ w. count_text (length ts) ++ flat_map (code_line ts) all_codes ++ w ++ whole_line ts ++ trees_text (whole_trees rows ts) (tree_count rows)) start_lines
       where
         joined : {a b c d e f a' b' c' d' e' f' : List ℕ} → a ≡ a' → b ≡ b' → c ≡ c' → d ≡ d' → e ≡ e' → f ≡ f'

@@ -21,9 +21,9 @@ use Rattle.dbtrace.specs.declared.Part.{Part}
 use Rattle.dbtrace.specs.declared.Part.TheVariants as part
 use Rattle.dbtrace.specs.declared.Reported.{Reported}
 use Rattle.dbowner.proofs.Slots.{get_set, get_set_other}
-use Rattle.dbexplain.specs.Summary.{code_count, start_count, is_start, is_whole}
-use Rattle.dbexplain.specs.Tallies.{Tallied, IsTallyOf, counted_code, counted_in, counted_start, has_bit, is_told, no_count, one_fault, one_more}
-use Rattle.dbexplain.specs.TallySteps.{bit_set, start_counted}
+use Rattle.dbexplain.specs.Summary.{code_count, start_count, is_part_of_start, is_whole}
+use Rattle.dbexplain.specs.Tallies.{Tallied, IsTallyOf, counted_code, counted_in, counted_start, has_bit, is_told, no_count, one_fault, one_more_of_code}
+use Rattle.dbexplain.specs.TallySteps.{bit_set, start_fault_counted}
 use Rattle.dbexplain.specs.declared.tally.CodeCount.{CodeCount}
 use Rattle.dbexplain.specs.declared.tally.StartCount.{StartCount}
 use Rattle.dbexplain.proofs.TallyBits.{room_kept, set_is}
@@ -46,7 +46,7 @@ module _ (ts : List Reported) (r : Reported) where
   same_count : (c : FaultCode) → is_code r.fault.code c ≡ false → counted_code ts c ≡ counted_code more c
   same_count c e = ap (λ n. record { code = c; count = counted n }) (sym (none_more (λ (t : Reported). is_code t.fault.code c) ts r e))
 
-  next_count : one_more (counted_code ts r.fault.code) ≡ counted_code more r.fault.code
+  next_count : one_more_of_code (counted_code ts r.fault.code) ≡ counted_code more r.fault.code
   next_count = ap (λ n. record { code = r.fault.code; count = n })
       (counted_next (code_count ts r.fault.code) (code_count more r.fault.code)
       (one_longer (λ (t : Reported). is_code t.fault.code r.fault.code) ts r (is_itself r.fault.code)))
@@ -56,7 +56,7 @@ module _ (ts : List Reported) (r : Reported) where
   codes_more cs e =
       let code = r.fault.code in
       ap (counted_in code) e
-      ∙ ap (λ c. slice_set (map (counted_code ts) all_codes) (code_index code) (one_more c))
+      ∙ ap (λ c. slice_set (map (counted_code ts) all_codes) (code_index code) (one_more_of_code c))
       (get_or_from_slice_get (map (counted_code ts) all_codes) (code_index code) (counted_code ts code) (record { code = code; count = 0 }) (entry_at (counted_code ts) code))
       ∙ ap (slice_set (map (counted_code ts) all_codes) (code_index code)) next_count
       ∙ entry_set (counted_code ts) (counted_code more) code same_count
@@ -79,7 +79,7 @@ faults_of n = record { faults = counted n; reached = 0; faulty = 0 }
 -- the tally with this fault counted, and its page noted
 abbrev pub told_in : Part → Fault → Tallied → Tallied
 told_in p f t =
-    let u = start_counted p (record t { all = counted (t.all + 1); codes = counted_in f.code t.codes }) in
+    let u = start_fault_counted p (record t { all = counted (t.all + 1); codes = counted_in f.code t.codes }) in
     record u { pages = if is_whole p then u.pages else bit_set f.page u.pages }
 
 module _ (ts : List Reported) (f : Fault) (why : Cause) (t : Tallied) (is : IsTallyOf ts t) where
@@ -96,12 +96,12 @@ module _ (ts : List Reported) (f : Fault) (why : Cause) (t : Tallied) (is : IsTa
       ∙ ap (λ b. is_told ts q || b) (or-false (not (is_whole p) && (f.page == q)))
 
   -- a fault of the whole file
-  of_file : (p : Part) → is_whole p ≡ true → ((k : ℕ) → is_start k p ≡ false)
+  of_file : (p : Part) → is_whole p ≡ true → ((k : ℕ) → is_part_of_start k p ≡ false)
       → IsTallyOf (with p) (record t { all = counted (t.all + 1); codes = counted_in f.code t.codes; whole = counted (t.whole + 1) })
   of_file p on off = record {
     all = all_more ts (told p) t.all is.all;
     codes = codes_more ts (told p) t.codes is.codes;
-    starts = λ k l. is.starts k l ∙ ap (λ n. Some (faults_of n)) (sym (none_more (λ (t : Reported). is_start k t.part) ts (told p) (off k)));
+    starts = λ k l. is.starts k l ∙ ap (λ n. Some (faults_of n)) (sym (none_more (λ (t : Reported). is_part_of_start k t.part) ts (told p) (off k)));
     whole = rises ts (told p) (λ (t : Reported). is_whole t.part) t.whole on is.whole;
     pages = λ q room. is.pages q room ∙ sym (any_more p q ∙ ap (λ b. is_told ts q || (not b && (f.page == q))) on ∙ or-false (is_told ts q));
   }
@@ -127,12 +127,12 @@ module _ (ts : List Reported) (f : Fault) (why : Cause) (t : Tallied) (is : IsTa
           ap (slice_get (slice_set t.starts j (one_fault (slice_index_or t.starts j no_count)))) (sym same)
           ∙ get_set t.starts j (one_fault (slice_index_or t.starts j no_count)) (slice_get_within t.starts j (faults_of (start_count ts j)) here)
           ∙ ap (λ c. Some (one_fault c)) v
-          ∙ ap (λ n. Some (record { faults = n; reached = 0; faulty = 0 })) (rises ts (told (part.Start j)) (λ (t : Reported). is_start j t.part) (counted (start_count ts j)) on refl)
+          ∙ ap (λ n. Some (record { faults = n; reached = 0; faulty = 0 })) (rises ts (told (part.Start j)) (λ (t : Reported). is_part_of_start j t.part) (counted (start_count ts j)) on refl)
           ∙ ap (λ i. Some (counted_start [] (with (part.Start j)) 0 i)) same
       at_each k l false h =
           get_set_other t.starts j k (one_fault (slice_index_or t.starts j no_count)) (λ e. let d : (j == k) ≡ true = grind (arith, nat_tests) in cc)
           ∙ is.starts k l
-          ∙ ap (λ n. Some (faults_of n)) (sym (none_more (λ (t : Reported). is_start k t.part) ts (told (part.Start j)) h))
+          ∙ ap (λ n. Some (faults_of n)) (sym (none_more (λ (t : Reported). is_part_of_start k t.part) ts (told (part.Start j)) h))
 
   pub told_more : (p : Part) → IsTallyOf (with p) (told_in p f t)
   told_more part.Header = of_file part.Header refl (λ k. refl)

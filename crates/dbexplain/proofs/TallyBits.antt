@@ -8,10 +8,10 @@ use Rattle.std.proofs.Math.Bool.{or-false}
 use Rattle.std.proofs.lemmas.Bool.{eqb-true, eq-eqb}
 use Rattle.std.proofs.lemmas.List.{get_or-set_same, get_or-set_other}
 use Rattle.std.proofs.lemmas.Nat.Bits.{bit_at_set_same, bit_at_set_other}
-use Rattle.dbexplain.specs.Tallies.{has_bit, HasRoom}
+use Rattle.dbexplain.specs.Tallies.{has_bit, HasPageBit}
 use Rattle.dbexplain.specs.TallySteps.{bit_set}
 
-module _ (words : List ℕ) (q p : ℕ) (room : HasRoom words p) where
+module _ (words : List ℕ) (q p : ℕ) (room : HasPageBit words p) where
   abbrev word : ℕ
   word = get_or words (q / 64) 0
 
@@ -64,5 +64,5 @@ module _ (words : List ℕ) (q p : ℕ) (room : HasRoom words p) where
       by_case false e = elsewhere (λ f. let g : (q == p) ≡ true = eq-eqb q p f in cc) ∙ sym (or-false (has_bit words p)) ∙ ap (λ b. has_bit words p || b) (sym e)
 
 -- there is room as before
-pub room_kept : (words : List ℕ) (q p : ℕ) → HasRoom (bit_set q words) p → HasRoom words p
+pub room_kept : (words : List ℕ) (q p : ℕ) → HasPageBit (bit_set q words) p → HasPageBit words p
 room_kept words q p h = let l : length (bit_set q words) ≡ length words = length-set words (q / 64) _ in omega (arith, l, h)

@@ -19,8 +19,8 @@ use Rattle.dbowner.specs.declared.place.Place.{Place}
 
 -- Where page p begins and what it is, by the shape of the file, the texts of its trees, and the page's place and start. A
 -- number that no page has gets no line.
-abbrev pub page_line : Geometry → (ℕ → List ℕ) → ℕ → Place → Option ℕ → List ℕ
-page_line g tree p place start =
+abbrev pub page_place_line : Geometry → (ℕ → List ℕ) → ℕ → Place → Option ℕ → List ℕ
+page_place_line g tree p place start =
     if is_page g p
     then indented (codes "page " ++ decimal p ++ codes " at byte " ++ decimal ((p - 1) * g.page_size) ++ codes ": "
     ++ place_text (fixed_use g p) (option_map_or tree start []) place)
@@ -28,7 +28,7 @@ page_line g tree p place start =
 
 -- the line of page p of a file
 abbrev pub place_line : List ℕ → List Reference → ℕ → List ℕ
-place_line file V p = page_line (geometry file) (tree_text file V) p (place_of file V p) (start_at V p)
+place_line file V p = page_place_line (geometry file) (tree_text file V) p (place_of file V p) (start_at V p)
 
 -- what start k is
 abbrev pub line_of_start : (ℕ → List ℕ) → ℕ → List ℕ

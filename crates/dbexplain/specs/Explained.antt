@@ -18,7 +18,7 @@ use Rattle.dbentries.specs.Lines.{cause_text, indented, key_text}
 use Rattle.dbentries.specs.Listing.{Entry, entries, size}
 use Rattle.dbentries.specs.Others.{others_text}
 use Rattle.dbentries.specs.Woven.{woven}
-use Rattle.dblisting.specs.Listed.{IsBeginning, listed, lost_faults, other_faults}
+use Rattle.dblisting.specs.Listed.{IsBeginning, listed_entries, lost_faults, other_faults}
 use Rattle.dbexplain.specs.Below.{lines_below, place_line}
 use Rattle.dbscan.specs.Placed.{told_faults}
 use Rattle.dbexplain.specs.Summary.{summary}
@@ -59,7 +59,7 @@ explain_text limit file V (e ∷ es) =
 -- the report of `explain` with at most `limit` entries: its verdict is that of `check`
 unfoldable pub explain_report : ℕ → List ℕ → List Reference → Report
 explain_report limit file V = option_map_or refused_report (refusal file)
-    (record { out = explain_text limit file V (listed file V); err = []; answer = Ok (verdict (faults file V)) })
+    (record { out = explain_text limit file V (listed_entries file V); err = []; answer = Ok (verdict (faults file V)) })
 
 -- ---- what is written after a failed read
 

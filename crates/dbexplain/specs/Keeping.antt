@@ -10,7 +10,7 @@ use Rattle.dbentries.specs.declared.entry.Entry.{Entry}
 use Rattle.dblisting.specs.Listed.{IsBeginning, lost_faults, other_faults}
 use Rattle.dblisting.specs.Lost.{IsUnused}
 use Rattle.dbscan.specs.Placed.{told_faults}
-use Rattle.dbexplain.specs.Tallies.{HasRoom, IsTallyOf}
+use Rattle.dbexplain.specs.Tallies.{HasPageBit, IsTallyOf}
 use Rattle.dbexplain.specs.declared.kept.Kept.{Kept}
 
 -- the fault lines of what is kept of some entries
@@ -24,7 +24,7 @@ pub record IsEmpty {A : Type 0} (limit : ℕ) (g : Geometry) (k : Kept A) : Type
   pub lost : IsUnused k.lost
   pub most_lost : k.lost.limit ≡ 6
   pub tally : IsTallyOf [] k.tally
-  pub bits : HasRoom k.tally.pages g.pages
+  pub bits : HasPageBit k.tally.pages g.pages
   pub room : g.pages ≤ length k.trees.known
 
 -- all faults of a file were counted, and are listed
@@ -33,7 +33,7 @@ pub record HasAll {A : Type 0} (file : List ℕ) (V : List Reference) (k : Kept 
   pub lost : AreEntriesOf (lost_faults file V) k.lost
   pub most_lost : k.lost.limit ≡ 6
   pub tally : IsTallyOf (told_faults file V) k.tally
-  pub bits : HasRoom k.tally.pages (geometry file).pages
+  pub bits : HasPageBit k.tally.pages (geometry file).pages
   pub room : (geometry file).pages ≤ length k.trees.known
 
 -- the first faults of a file are listed

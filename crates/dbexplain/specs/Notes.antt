@@ -18,10 +18,10 @@ use Rattle.dbmarks.specs.declared.marks.Mark.TheVariants.{Unmarked}
 use Rattle.dbmarks.specs.declared.marks.Mark.TheVariants as mark
 use Rattle.dbscan.specs.Roots.{AreListed}
 use Rattle.dbowner.specs.Texts.{place_from, place_front, place_words}
-use Rattle.dbexplain.specs.Below.{page_line, line_of_start, header_line, line_of_entry, value_page}
+use Rattle.dbexplain.specs.Below.{page_place_line, line_of_start, header_line, line_of_entry, value_page}
 use Rattle.dbowner.specs.declared.place.Place.{Place}
-use Rattle.dbexplain.specs.declared.notes.Note.{Note}
-use Rattle.dbexplain.specs.declared.notes.Note.TheVariants as note
+use Rattle.dbexplain.specs.declared.notes.LineBelow.{LineBelow}
+use Rattle.dbexplain.specs.declared.notes.LineBelow.TheVariants as note
 use Rattle.dbexplain.specs.declared.owners.Below.{Below}
 use Rattle.dbexplain.specs.declared.owners.Below.TheVariants as below
 use Rattle.dbexplain.specs.declared.owners.Owners.{Owners}
@@ -51,14 +51,14 @@ wanted_entry (Some mark.Fixed) = None
 wanted_entry (Some m) = Some (mark_entry m)
 
 -- the line of a note, by the shape of the file and the texts of its trees
-abbrev pub note_text : Geometry → (ℕ → List ℕ) → Note → List ℕ
-note_text g tree (note.Page s) = page_line g tree s.page s.place s.start
+abbrev pub note_text : Geometry → (ℕ → List ℕ) → LineBelow → List ℕ
+note_text g tree (note.Page s) = page_place_line g tree s.page s.place s.start
 note_text g tree (note.Start k) = line_of_start tree k
 note_text g tree (note.Header n) = header_line n
 note_text g tree (note.Entry e) = line_of_entry (entry_value e)
 
 -- the lines of two notes
-abbrev pub notes_text : Geometry → (ℕ → List ℕ) → Option Note × Option Note → List ℕ
+abbrev pub notes_text : Geometry → (ℕ → List ℕ) → Option LineBelow × Option LineBelow → List ℕ
 notes_text g tree n = option_map_or (note_text g tree) n.0 [] ++ option_map_or (note_text g tree) n.1 []
 
 -- what is written below a fault with this code
@@ -86,7 +86,7 @@ abbrev pub page_or_none : Geometry → ℤ → ℕ
 page_or_none g value = if is_page g (value_page value) then value_page value else 0
 
 -- All this is of a file and its survey: the header, the marks of the visits, and the rows of the schema.
-pub record IsOf {A : Type 0} (o : Owners A) (file : List ℕ) (V : List Reference) : Type 0 where
+pub record AreOwnersOf {A : Type 0} (o : Owners A) (file : List ℕ) (V : List Reference) : Type 0 where
   pub header : IsHeaderOf o.header.now file
   pub survey : Survey file V
   pub marks : AreMarksOf file V o.marks.now

@@ -18,7 +18,7 @@ use Rattle.dbentries.specs.Listing as listing
 use Rattle.dbentries.specs.Listing.{rank}
 use Rattle.dbentries.specs.Store.{AreEntriesOf}
 use Rattle.dbentries.specs.Woven.{KeepsFirst, woven}
-use Rattle.dblisting.specs.Listed.{listed}
+use Rattle.dblisting.specs.Listed.{listed_entries}
 use Rattle.dblisting.specs.Told.{HearsReported, listed_now}
 use Rattle.dbexplain.specs.Explained.{explain_text, found_text}
 use Rattle.dbexplain.specs.Keeping.{HasFound, IsEmpty}
@@ -54,9 +54,9 @@ module _ {A O : Type 0} where
     -- faults are listed; and at another error a beginning of the report was put.
     abbrev pub IsLeft : List ℕ → List Reference → Result Verdict RunError → ExplainReporter A O → ExplainReporter A O → Type 0
     IsLeft file V (Ok v) s t =
-        Appends (held s.out.now).bytes (held t.out.now).bytes (explain_text s.kept.now.entries.limit file V (listed file V)) × (v ≡ verdict (faults file V))
+        Appends (held s.out.now).bytes (held t.out.now).bytes (explain_text s.kept.now.entries.limit file V (listed_entries file V)) × (v ≡ verdict (faults file V))
     IsLeft file V (Err ReadFailed) s t = (t.out.now ≡ s.out.now) × HasFound file V t.kept.now × (t.kept.now.entries.limit ≡ s.kept.now.entries.limit)
-    IsLeft file V (Err e) s t = Begins (held s.out.now).bytes (held t.out.now).bytes (explain_text s.kept.now.entries.limit file V (listed file V))
+    IsLeft file V (Err e) s t = Begins (held s.out.now).bytes (held t.out.now).bytes (explain_text s.kept.now.entries.limit file V (listed_entries file V))
 
     -- what a run leaves of a reporter of which nothing had been heard
     abbrev pub LeavesExplained : List ℕ → List Reference → Result Verdict RunError → ExplainReporter A O → ExplainReporter A O → Type 0

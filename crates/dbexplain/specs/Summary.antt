@@ -25,9 +25,9 @@ use Rattle.dbscan.specs.Placed.{told_faults}
 -- Faults.
 
 -- whether a part of a report is that of start k
-abbrev pub is_start : ℕ → Part → Bool
-is_start k (part.Start j) = j == k
-is_start k _ = false
+abbrev pub is_part_of_start : ℕ → Part → Bool
+is_part_of_start k (part.Start j) = j == k
+is_part_of_start k _ = false
 
 -- whether it is of the whole file: its header, or its end
 abbrev pub is_whole : Part → Bool
@@ -40,7 +40,7 @@ code_count ts code = count_by (λ t. is_code t.fault.code code) ts
 
 -- how many were reported at start k
 abbrev pub start_count : List Reported → ℕ → ℕ
-start_count ts k = count_by (λ t. is_start k t.part) ts
+start_count ts k = count_by (λ t. is_part_of_start k t.part) ts
 
 -- and how many of the whole file
 abbrev pub whole_count : List Reported → ℕ
@@ -57,12 +57,12 @@ abbrev pub reached_pages : List ℕ → List Reference → ℕ → ℕ
 reached_pages file V k = count_by (is_reached V k) (page_numbers (geometry file))
 
 -- whether page p has a fault that was reported at start k
-abbrev pub is_faulty : List Reported → ℕ → ℕ → Bool
-is_faulty ts k p = list_any (λ t. is_start k t.part && (t.fault.page == p)) ts
+abbrev pub is_faulty_at : List Reported → ℕ → ℕ → Bool
+is_faulty_at ts k p = list_any (λ t. is_part_of_start k t.part && (t.fault.page == p)) ts
 
 -- how many pages of a file have one
-abbrev pub faulty_pages : List ℕ → List Reported → ℕ → ℕ
-faulty_pages file ts k = count_by (is_faulty ts k) (page_numbers (geometry file))
+abbrev pub faulty_pages_at : List ℕ → List Reported → ℕ → ℕ
+faulty_pages_at file ts k = count_by (is_faulty_at ts k) (page_numbers (geometry file))
 
 -- Trees.
 
@@ -106,15 +106,15 @@ abbrev pub code_line : List Reported → FaultCode → List ℕ
 code_line ts code = sum_line (length ts) (code_count ts code) (code_text code ++ codes " " ++ code_words code)
 
 -- on how many of the pages that were reached from a start
-abbrev pub pages_text : ℕ → ℕ → List ℕ
-pages_text faulty n =
+abbrev pub faulty_pages_text : ℕ → ℕ → List ℕ
+faulty_pages_text faulty n =
     if n == 0 then codes ", of which no page was reached"
     else codes ", on " ++ decimal faulty ++ codes " of its " ++ decimal n ++ (if n == 1 then codes " page" else codes " pages")
 
 -- how many were reported at start k
-abbrev pub start_line : List ℕ → List Reference → List Reported → ℕ → List ℕ
-start_line file V ts k = sum_line (length ts) (start_count ts k)
-    (codes "in " ++ start_name (encoding file) (listed_rows file V) k ++ pages_text (faulty_pages file ts k) (reached_pages file V k))
+abbrev pub start_sum_line : List ℕ → List Reference → List Reported → ℕ → List ℕ
+start_sum_line file V ts k = sum_line (length ts) (start_count ts k)
+    (codes "in " ++ start_name (encoding file) (listed_rows file V) k ++ faulty_pages_text (faulty_pages_at file ts k) (reached_pages file V k))
 
 -- how many of the whole file
 abbrev pub whole_line : List Reported → List ℕ
@@ -127,7 +127,7 @@ trees_text whole all = indented (decimal whole ++ codes " of " ++ decimal all ++
 -- the summary of these faults of a file with survey V: their number, by code, by start in the order of the starts, and the trees
 abbrev pub summary : List ℕ → List Reference → List Reported → List ℕ
 summary file V ts =
-    count_text (length ts) ++ flat_map (code_line ts) all_codes ++ flat_map (λ l. start_line file V ts l.step) (starts file V) ++ whole_line ts
+    count_text (length ts) ++ flat_map (code_line ts) all_codes ++ flat_map (λ l. start_sum_line file V ts l.step) (starts file V) ++ whole_line ts
     ++ trees_text (whole_trees (listed_rows file V) ts) (tree_count (listed_rows file V))
 
 -- Laws.

@@ -5,7 +5,7 @@ use Rattle.dbformat.specs.Address.{freelist_start}
 use Rattle.dbformat.specs.Lines.{code_text, code_words}
 use Rattle.dbformat.specs.SchemaRow.{SchemaRow}
 use Rattle.dbformat.specs.declared.Encoding.{Encoding}
-use Rattle.dbexplain.specs.Summary.{aligned, count_text, pages_text, start_name, sum_line, tree_count, trees_text}
+use Rattle.dbexplain.specs.Summary.{aligned, count_text, faulty_pages_text, start_name, sum_line, tree_count, trees_text}
 use Rattle.dbexplain.specs.Tallies.{Tallied, no_count}
 use Rattle.dbexplain.specs.declared.tally.CodeCount.{CodeCount}
 use Rattle.dbexplain.specs.declared.tally.StartCount.{StartCount}
@@ -20,7 +20,7 @@ code_sum all c = sum_line all c.count (code_text c.code ++ codes " " ++ code_wor
 
 -- the line of a start with this name
 abbrev pub start_sum : ℕ → List ℕ → StartCount → List ℕ
-start_sum all name c = sum_line all c.faults (codes "in " ++ name ++ pages_text c.faulty c.reached)
+start_sum all name c = sum_line all c.faults (codes "in " ++ name ++ faulty_pages_text c.faulty c.reached)
 
 -- the same of a start by its number
 abbrev pub numbered_sum : ℕ → (ℕ → List ℕ) → ℕ × StartCount → List ℕ
@@ -35,12 +35,12 @@ abbrev pub tree_counts : List SchemaRow → Tallied → List StartCount
 tree_counts rows t = take (tree_count rows) t.starts
 
 -- that of the freelist
-abbrev pub freelist_count : Tallied → StartCount
-freelist_count t = slice_index_or t.starts freelist_start no_count
+abbrev pub freelist_start_count : Tallied → StartCount
+freelist_start_count t = slice_index_or t.starts freelist_start no_count
 
 -- the summary
 abbrev pub summary_by : Encoding → List SchemaRow → Tallied → List ℕ
 summary_by e rows t =
     count_text t.all ++ (flat_map (code_sum t.all) t.codes ++ (flat_map (numbered_sum t.all (start_name e rows)) (enumerate_from 0 (tree_counts rows t))
-    ++ (start_sum t.all (start_name e rows freelist_start) (freelist_count t) ++ (sum_line t.all t.whole (codes "in the whole file")
+    ++ (start_sum t.all (start_name e rows freelist_start) (freelist_start_count t) ++ (sum_line t.all t.whole (codes "in the whole file")
     ++ trees_text (without_fault (tree_counts rows t)) (length (tree_counts rows t))))))

@@ -35,12 +35,12 @@ abbrev pub counted_code : List Reported → FaultCode → CodeCount
 counted_code ts code = record { code = code; count = counted (code_count ts code) }
 
 -- the same where one fault more was reported
-abbrev pub one_more : CodeCount → CodeCount
-one_more c = record c { count = counted (c.count + 1) }
+abbrev pub one_more_of_code : CodeCount → CodeCount
+one_more_of_code c = record c { count = counted (c.count + 1) }
 
 -- the counts of all codes, where one fault more with this code was reported
 abbrev pub counted_in : FaultCode → List CodeCount → List CodeCount
-counted_in code cs = slice_set cs (code_index code) (one_more (slice_index_or cs (code_index code) (record { code = code; count = 0 })))
+counted_in code cs = slice_set cs (code_index code) (one_more_of_code (slice_index_or cs (code_index code) (record { code = code; count = 0 })))
 
 -- nothing is counted of a start
 abbrev pub no_count : StartCount
@@ -51,16 +51,16 @@ abbrev pub one_fault : StartCount → StartCount
 one_fault c = record c { faults = counted (c.faults + 1) }
 
 -- a page more was reached from it, with a fault or without one
-abbrev pub one_page : Bool → StartCount → StartCount
-one_page faulty c = record c { reached = min (c.reached + 1) (2 ^ 32 - 1); faulty = if faulty then min (c.faulty + 1) (2 ^ 32 - 1) else c.faulty }
+abbrev pub one_reached_page : Bool → StartCount → StartCount
+one_reached_page faulty c = record c { reached = min (c.reached + 1) (2 ^ 32 - 1); faulty = if faulty then min (c.faulty + 1) (2 ^ 32 - 1) else c.faulty }
 
 -- whether page p has its bit
 abbrev pub has_bit : List ℕ → ℕ → Bool
 has_bit words p = bit_at (slice_index words (p / 64)) (p % 64) == 1
 
 -- there is a bit for page p
-abbrev pub HasRoom : List ℕ → ℕ → Type 0
-HasRoom words p = p < 64 * length words
+abbrev pub HasPageBit : List ℕ → ℕ → Type 0
+HasPageBit words p = p < 64 * length words
 
 -- whether some fault that was reported at a start is of page p
 abbrev pub is_told : List Reported → ℕ → Bool
@@ -80,7 +80,7 @@ pub record IsTallyTo (V : List Reference) (ts : List Reported) (n : ℕ) (t : Ta
   pub codes : t.codes ≡ map (counted_code ts) all_codes
   pub starts : (k : ℕ) → k ≤ freelist_start → slice_get t.starts k ≡ Some (counted_start V ts n k)
   pub whole : t.whole ≡ counted (whole_count ts)
-  pub pages : (p : ℕ) → HasRoom t.pages p → has_bit t.pages p ≡ is_told ts p
+  pub pages : (p : ℕ) → HasPageBit t.pages p → has_bit t.pages p ≡ is_told ts p
 
 -- The tally is that of these faults, where no page is counted yet.
 abbrev pub IsTallyOf : List Reported → Tallied → Type 0

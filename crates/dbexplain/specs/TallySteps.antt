@@ -4,22 +4,22 @@ use Rattle.std.specs.Int.RustNames.{bit_or}
 use Rattle.dbformat.specs.Lines.{counted}
 use Rattle.dbtrace.specs.declared.Part.{Part}
 use Rattle.dbtrace.specs.declared.Part.TheVariants as part
-use Rattle.dbexplain.specs.Tallies.{Tallied, has_bit, no_count, one_fault, one_page}
+use Rattle.dbexplain.specs.Tallies.{Tallied, has_bit, no_count, one_fault, one_reached_page}
 
 -- a fault more was reported at a start, or of the whole file
-abbrev pub start_counted : Part → Tallied → Tallied
-start_counted (part.Start k) t = record t { starts = slice_set t.starts k (one_fault (slice_index_or t.starts k no_count)) }
-start_counted _ t = record t { whole = counted (t.whole + 1) }
+abbrev pub start_fault_counted : Part → Tallied → Tallied
+start_fault_counted (part.Start k) t = record t { starts = slice_set t.starts k (one_fault (slice_index_or t.starts k no_count)) }
+start_fault_counted _ t = record t { whole = counted (t.whole + 1) }
 
 -- the words, where the bit of page p is set
 abbrev pub bit_set : ℕ → List ℕ → List ℕ
 bit_set p words = slice_set words (p / 64) (bit_or (slice_index words (p / 64)) (1 * 2 ^ (p % 64) % 2 ^ 64))
 
 -- a page more was reached from a start
-abbrev pub page_counted : ℕ → ℕ → Tallied → Tallied
-page_counted k p t = record t { starts = slice_set t.starts k (one_page (has_bit t.pages p) (slice_index_or t.starts k no_count)) }
+abbrev pub page_of_start_counted : ℕ → ℕ → Tallied → Tallied
+page_of_start_counted k p t = record t { starts = slice_set t.starts k (one_reached_page (has_bit t.pages p) (slice_index_or t.starts k no_count)) }
 
 -- a page more was reached from a start, if it was reached
 abbrev pub reached_counted : Option ℕ → ℕ → Tallied → Tallied
 reached_counted None p t = t
-reached_counted (Some k) p t = page_counted k p t
+reached_counted (Some k) p t = page_of_start_counted k p t

@@ -6,7 +6,7 @@ ghost use Rattle.dbsource.specs.Outs.{Puts, Writes};
 ghost use Rattle.dbentries.specs.Kept.{kept_of};
 ghost use Rattle.dbentries.specs.Listing as listing;
 ghost use Rattle.dbowner.specs.Climbs.{AreTrees};
-ghost use Rattle.dbexplain.specs.Notes.{IsOf};
+ghost use Rattle.dbexplain.specs.Notes.{AreOwnersOf};
 ghost use Rattle.dbexplain.specs.Explained.{cause_lines, entry_text, front_text};
 ghost use Rattle.dbexplain.specs.Keeping.{lines_of};
 
@@ -26,9 +26,9 @@ fn put_front<A: Allocator, O: Out>(
     out: &mut O,
     fault: &Fault,
 ) -> Result<(), WriteFailed>
-    ensures lines { (file : List ℕ) (V : List Reference) → IsOf owners.now file V → AreTrees file V trees.old.known
+    ensures lines { (file : List ℕ) (V : List Reference) → AreOwnersOf owners.now file V → AreTrees file V trees.old.known
         → Writes result (O.held out.old).bytes (O.held out.new).bytes (front_text file V fault.now) }
-    ensures trees { (file : List ℕ) (V : List Reference) → IsOf owners.now file V → AreTrees file V trees.old.known → AreTrees file V trees.new.known }
+    ensures trees { (file : List ℕ) (V : List Reference) → AreOwnersOf owners.now file V → AreTrees file V trees.old.known → AreTrees file V trees.new.known }
     ensures count { (O.held out.new).failures ≡ failures_after is_any result (O.held out.old).failures }
 {
     put_fault(out, fault)?;
@@ -43,9 +43,9 @@ fn put_cause_lines<A: Allocator, O: Out>(
     out: &mut O,
     cause: &Cause,
 ) -> Result<(), WriteFailed>
-    ensures lines { (file : List ℕ) (V : List Reference) → IsOf owners.now file V → AreTrees file V trees.old.known
+    ensures lines { (file : List ℕ) (V : List Reference) → AreOwnersOf owners.now file V → AreTrees file V trees.old.known
         → Writes result (O.held out.old).bytes (O.held out.new).bytes (cause_lines file V cause.now) }
-    ensures trees { (file : List ℕ) (V : List Reference) → IsOf owners.now file V → AreTrees file V trees.old.known → AreTrees file V trees.new.known }
+    ensures trees { (file : List ℕ) (V : List Reference) → AreOwnersOf owners.now file V → AreTrees file V trees.old.known → AreTrees file V trees.new.known }
     ensures count { (O.held out.new).failures ≡ failures_after is_any result (O.held out.old).failures }
 {
     put_cause(out, cause)?;
@@ -62,9 +62,9 @@ fn put_entry<A: Allocator, O: Out>(
     out: &mut O,
     entry: &Entry,
 ) -> Result<(), WriteFailed>
-    ensures lines { (file : List ℕ) (V : List Reference) (e : listing.Entry) → IsOf owners.now file V → AreTrees file V trees.old.known
+    ensures lines { (file : List ℕ) (V : List Reference) (e : listing.Entry) → AreOwnersOf owners.now file V → AreTrees file V trees.old.known
         → entry.now ≡ kept_of e → Writes result (O.held out.old).bytes (O.held out.new).bytes (entry_text file V e) }
-    ensures trees { (file : List ℕ) (V : List Reference) → IsOf owners.now file V → AreTrees file V trees.old.known → AreTrees file V trees.new.known }
+    ensures trees { (file : List ℕ) (V : List Reference) → AreOwnersOf owners.now file V → AreTrees file V trees.old.known → AreTrees file V trees.new.known }
     ensures count { (O.held out.new).failures ≡ failures_after is_any result (O.held out.old).failures }
 {
     put_front(owners, trees, out, &entry.first.fault)?;
@@ -83,9 +83,9 @@ pub(crate) fn put_entries<A: Allocator, O: Out>(
     out: &mut O,
     entries: &[Entry],
 ) -> Result<(), WriteFailed>
-    ensures lines { (file : List ℕ) (V : List Reference) (es : List listing.Entry) → IsOf owners.now file V → AreTrees file V trees.old.known
+    ensures lines { (file : List ℕ) (V : List Reference) (es : List listing.Entry) → AreOwnersOf owners.now file V → AreTrees file V trees.old.known
         → entries.now ≡ map kept_of es → Writes result (O.held out.old).bytes (O.held out.new).bytes (flat_map (entry_text file V) es) }
-    ensures trees { (file : List ℕ) (V : List Reference) → IsOf owners.now file V → AreTrees file V trees.old.known → AreTrees file V trees.new.known }
+    ensures trees { (file : List ℕ) (V : List Reference) → AreOwnersOf owners.now file V → AreTrees file V trees.old.known → AreTrees file V trees.new.known }
     ensures count { (O.held out.new).failures ≡ failures_after is_any result (O.held out.old).failures }
 {
     for entry in entries {

@@ -19,7 +19,7 @@ use std::alloc::Allocator;
 
 /// What a line below a fault says.
 #[derive(Clone, Copy, Debug, PartialEq, Eq)]
-pub(crate) enum Note {
+pub(crate) enum LineBelow {
     /// Where a page is.
     Page(Spot),
     /// What a start is.
@@ -67,16 +67,16 @@ fn put_note<A: Allocator, O: Out>(
     names: &TreeNames<'_, A>,
     out: &mut O,
     shape: Geometry,
-    note: Note,
+    note: LineBelow,
 ) -> Result<(), WriteFailed>
     requires { IsInRange shape }
     ensures { Puts result (O.held out.old) (O.held out.new) (note_text shape (tree_of_row names.now.encoding names.now.roots.now.rows) note) }
 {
     match note {
-        Note::Page(spot) => put_page_line(names, out, shape, spot),
-        Note::Start(start) => put_start_line(names, out, start),
-        Note::Header(number) => out.put(header_line(number).as_slice()),
-        Note::Entry(entry) => out.put(entry_line(entry).as_slice()),
+        LineBelow::Page(spot) => put_page_line(names, out, shape, spot),
+        LineBelow::Start(start) => put_start_line(names, out, start),
+        LineBelow::Header(number) => out.put(header_line(number).as_slice()),
+        LineBelow::Entry(entry) => out.put(entry_line(entry).as_slice()),
     }
 }
 
@@ -85,7 +85,7 @@ fn put_note_of<A: Allocator, O: Out>(
     names: &TreeNames<'_, A>,
     out: &mut O,
     shape: Geometry,
-    note: Option<Note>,
+    note: Option<LineBelow>,
 ) -> Result<(), WriteFailed>
     requires { IsInRange shape }
     ensures { Puts result (O.held out.old) (O.held out.new)
@@ -102,7 +102,7 @@ pub(crate) fn put_notes<A: Allocator, O: Out>(
     names: &TreeNames<'_, A>,
     out: &mut O,
     shape: Geometry,
-    notes: (Option<Note>, Option<Note>),
+    notes: (Option<LineBelow>, Option<LineBelow>),
 ) -> Result<(), WriteFailed>
     requires { IsInRange shape }
     ensures { Puts result (O.held out.old) (O.held out.new) (notes_text shape (tree_of_row names.now.encoding names.now.roots.now.rows) notes) }

@@ -11,9 +11,9 @@ ghost use Rattle.dbsource.specs.Outs.{Writes};
 ghost use Rattle.dbowner.specs.Climbs.{AreTrees};
 ghost use Rattle.dbowner.specs.Texts.{tree_text};
 ghost use Rattle.dbexplain.specs.Below.{entry_line, lines_below, own_line, place_line};
-ghost use Rattle.dbexplain.specs.Notes.{IsOf, below_of, note_text, notes_text, page_or_none};
+ghost use Rattle.dbexplain.specs.Notes.{AreOwnersOf, below_of, note_text, notes_text, page_or_none};
 
-use crate::notes::{Note, put_notes, wanted_entry};
+use crate::notes::{LineBelow, put_notes, wanted_entry};
 use crate::page_lines::Spot;
 use dbformat::{Fault, FaultCode};
 use dbowner::{PageTrees, RootList, TreeNames, mark_of, place_of};
@@ -90,12 +90,12 @@ impl<A: Allocator> Owners<'_, A> {
     }
 
     // Where a page is.
-    fn spot(&self, trees: &mut PageTrees<A>, page: u32) -> Note
-        ensures line { (file : List ℕ) (V : List Reference) → IsOf self.now file V → AreTrees file V trees.old.known
+    fn spot(&self, trees: &mut PageTrees<A>, page: u32) -> LineBelow
+        ensures line { (file : List ℕ) (V : List Reference) → AreOwnersOf self.now file V → AreTrees file V trees.old.known
             → note_text (geometry file) (tree_text file V) result ≡ place_line file V page }
-        ensures trees { (file : List ℕ) (V : List Reference) → IsOf self.now file V → AreTrees file V trees.old.known → AreTrees file V trees.new.known }
+        ensures trees { (file : List ℕ) (V : List Reference) → AreOwnersOf self.now file V → AreTrees file V trees.old.known → AreTrees file V trees.new.known }
     {
-        Note::Page(Spot {
+        LineBelow::Page(Spot {
             page,
             place: place_of(self.marks, page),
             start: trees.start_of(self.marks, page),
@@ -103,40 +103,44 @@ impl<A: Allocator> Owners<'_, A> {
     }
 
     // Where a fault is.
-    fn own_note(&self, trees: &mut PageTrees<A>, fault: &Fault) -> Note
-        ensures line { (file : List ℕ) (V : List Reference) → IsOf self.now file V → AreTrees file V trees.old.known
+    fn own_note(&self, trees: &mut PageTrees<A>, fault: &Fault) -> LineBelow
+        ensures line { (file : List ℕ) (V : List Reference) → AreOwnersOf self.now file V → AreTrees file V trees.old.known
             → note_text (geometry file) (tree_text file V) result ≡ own_line file V fault.now }
-        ensures trees { (file : List ℕ) (V : List Reference) → IsOf self.now file V → AreTrees file V trees.old.known → AreTrees file V trees.new.known }
+        ensures trees { (file : List ℕ) (V : List Reference) → AreOwnersOf self.now file V → AreTrees file V trees.old.known → AreTrees file V trees.new.known }
     {
         if fault.page == 0 {
-            Note::Start(fault.item)
+            LineBelow::Start(fault.item)
         } else {
             self.spot(trees, fault.page)
         }
     }
 
     // The entry of the pointer map that a page has, if it is in use.
-    fn entry_note(&self, page: u32) -> Option<Note>
-        ensures { (file : List ℕ) (V : List Reference) → IsOf self.now file V
+    fn entry_note(&self, page: u32) -> Option<LineBelow>
+        ensures { (file : List ℕ) (V : List Reference) → AreOwnersOf self.now file V
             → option_map_or (note_text (geometry file) (tree_text file V)) result [] ≡ entry_line (visit_of V page) }
     {
         match wanted_entry(mark_of(self.marks, page)) {
-            Some(entry) => Some(Note::Entry(entry)),
+            Some(entry) => Some(LineBelow::Entry(entry)),
             None => None,
         }
     }
 
     // What the lines below a fault say.
-    fn notes(&self, trees: &mut PageTrees<A>, fault: &Fault) -> (Option<Note>, Option<Note>)
-        ensures lines { (file : List ℕ) (V : List Reference) → IsOf self.now file V → AreTrees file V trees.old.known
+    fn notes(
+        &self,
+        trees: &mut PageTrees<A>,
+        fault: &Fault,
+    ) -> (Option<LineBelow>, Option<LineBelow>)
+        ensures lines { (file : List ℕ) (V : List Reference) → AreOwnersOf self.now file V → AreTrees file V trees.old.known
             → notes_text (geometry file) (tree_text file V) result ≡ lines_below file V fault.now fault.now.code }
-        ensures trees { (file : List ℕ) (V : List Reference) → IsOf self.now file V → AreTrees file V trees.old.known → AreTrees file V trees.new.known }
+        ensures trees { (file : List ℕ) (V : List Reference) → AreOwnersOf self.now file V → AreTrees file V trees.old.known → AreTrees file V trees.new.known }
     {
         match below_of(fault.code) {
             Below::Nothing => (None, None),
-            Below::StatedPages => (Some(Note::Header(self.header.stated_pages())), None),
-            Below::GreatestRoot => (Some(Note::Header(self.header.greatest_root())), None),
-            Below::FreelistCount => (Some(Note::Header(self.header.freelist_count())), None),
+            Below::StatedPages => (Some(LineBelow::Header(self.header.stated_pages())), None),
+            Below::GreatestRoot => (Some(LineBelow::Header(self.header.greatest_root())), None),
+            Below::FreelistCount => (Some(LineBelow::Header(self.header.freelist_count())), None),
             Below::Own => (Some(self.own_note(trees, fault)), None),
             Below::Both => {
                 let own = self.own_note(trees, fault);
@@ -162,9 +166,9 @@ impl<A: Allocator> Owners<'_, A> {
         out: &mut O,
         fault: &Fault,
     ) -> Result<(), WriteFailed>
-        ensures lines { (file : List ℕ) (V : List Reference) → IsOf self.now file V → AreTrees file V trees.old.known
+        ensures lines { (file : List ℕ) (V : List Reference) → AreOwnersOf self.now file V → AreTrees file V trees.old.known
             → Writes result (O.held out.old).bytes (O.held out.new).bytes (lines_below file V fault.now fault.now.code) }
-        ensures trees { (file : List ℕ) (V : List Reference) → IsOf self.now file V → AreTrees file V trees.old.known → AreTrees file V trees.new.known }
+        ensures trees { (file : List ℕ) (V : List Reference) → AreOwnersOf self.now file V → AreTrees file V trees.old.known → AreTrees file V trees.new.known }
         ensures count { (O.held out.new).failures ≡ failures_after is_any result (O.held out.old).failures }
     {
         let notes = self.notes(trees, fault);
@@ -182,9 +186,9 @@ impl<A: Allocator> Owners<'_, A> {
         out: &mut O,
         page: u32,
     ) -> Result<(), WriteFailed>
-        ensures line { (file : List ℕ) (V : List Reference) → IsOf self.now file V → AreTrees file V trees.old.known
+        ensures line { (file : List ℕ) (V : List Reference) → AreOwnersOf self.now file V → AreTrees file V trees.old.known
             → Writes result (O.held out.old).bytes (O.held out.new).bytes (place_line file V page) }
-        ensures trees { (file : List ℕ) (V : List Reference) → IsOf self.now file V → AreTrees file V trees.old.known → AreTrees file V trees.new.known }
+        ensures trees { (file : List ℕ) (V : List Reference) → AreOwnersOf self.now file V → AreTrees file V trees.old.known → AreTrees file V trees.new.known }
         ensures count { (O.held out.new).failures ≡ failures_after is_any result (O.held out.old).failures }
     {
         let note = self.spot(trees, page);

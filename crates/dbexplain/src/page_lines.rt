@@ -6,7 +6,7 @@ ghost use Rattle.dbformat.specs.Lines.{line_feed};
 ghost use Rattle.dbformat.specs.FixedPages.{IsInRange, fixed_use};
 ghost use Rattle.dbsource.specs.Outs.{Puts};
 ghost use Rattle.dbowner.specs.Texts.{place_from, place_front, place_words, tree_of_row};
-ghost use Rattle.dbexplain.specs.Below.{line_of_start, page_line};
+ghost use Rattle.dbexplain.specs.Below.{line_of_start, page_place_line};
 ghost use Rattle.dbexplain.specs.Notes.{page_front, place_end, start_front, start_tree};
 
 use arrayvec::ArrayVec;
@@ -119,7 +119,7 @@ pub(crate) fn put_page_line<A: Allocator, O: Out>(
 ) -> Result<(), WriteFailed>
     requires { IsInRange shape }
     ensures { Puts result (O.held out.old) (O.held out.new)
-        (page_line shape (tree_of_row names.now.encoding names.now.roots.now.rows) spot.page spot.place spot.start) }
+        (page_place_line shape (tree_of_row names.now.encoding names.now.roots.now.rows) spot.page spot.place spot.start) }
 {
     if spot.page == 0 || spot.page > shape.pages {
         return Ok(());

@@ -7,7 +7,7 @@ ghost use Rattle.dbtrace.specs.declared.Reported.{Reported};
 ghost use Rattle.dbmarks.specs.Marking.{AreMarksOf};
 ghost use Rattle.dbowner.specs.Climbs.{AreTrees};
 ghost use Rattle.dbformat.specs.Starts.{start_at};
-ghost use Rattle.dbexplain.specs.Tallies.{HasRoom, IsTallyOf, IsTallyTo};
+ghost use Rattle.dbexplain.specs.Tallies.{HasPageBit, IsTallyOf, IsTallyTo};
 ghost use Rattle.dbexplain.specs.TallySteps.{reached_counted};
 
 use crate::tally::Tally;
@@ -39,7 +39,7 @@ pub(crate) fn count_pages<A: Allocator, B: Allocator>(
     trees: &mut PageTrees<A>,
 )
     ensures pages { (file : List ℕ) (V : List Reference) (ts : List Reported) → Survey file V → AreMarksOf file V marks.now → AreTrees file V trees.old.known
-        → IsTallyOf ts tally.old → HasRoom tally.old.pages (geometry file).pages → IsTallyTo V ts (geometry file).pages tally.new }
+        → IsTallyOf ts tally.old → HasPageBit tally.old.pages (geometry file).pages → IsTallyTo V ts (geometry file).pages tally.new }
     ensures trees { (file : List ℕ) (V : List Reference) → Survey file V → AreMarksOf file V marks.now → AreTrees file V trees.old.known
         → AreTrees file V trees.new.known }
 {

@@ -6,7 +6,7 @@ ghost use Rattle.dbsource.specs.Outs.{Writes};
 ghost use Rattle.dbentries.specs.Kept.{kept_of};
 ghost use Rattle.dbentries.specs.Listing as listing;
 ghost use Rattle.dbentries.specs.Woven.{KeepsFirst, woven};
-ghost use Rattle.dblisting.specs.Listed.{listed};
+ghost use Rattle.dblisting.specs.Listed.{listed_entries};
 ghost use Rattle.dbowner.specs.Climbs.{AreTrees};
 ghost use Rattle.dbscan.specs.Finishes.{IsDeskOf};
 ghost use Rattle.dbscan.specs.Placed.{told_faults};
@@ -39,7 +39,7 @@ fn owners_of<A: Allocator>(desk: &Desk<A>) -> Owners<'_, A>
 fn make_ready<A: Allocator>(desk: &Desk<A>, kept: &mut Kept<A>)
     ensures trees { (file : List ℕ) (V : List Reference) → IsDeskOf desk.now file V → HasAll file V kept.old → AreTrees file V kept.new.trees.known }
     ensures entries { (file : List ℕ) (V : List Reference) → IsDeskOf desk.now file V → HasAll file V kept.old
-        → KeepsFirst (listed file V) kept.new.entries }
+        → KeepsFirst (listed_entries file V) kept.new.entries }
     ensures limit { kept.new.entries.limit ≡ kept.old.entries.limit }
     ensures tally { kept.new.tally ≡ kept.old.tally }
 {
@@ -59,7 +59,7 @@ pub(crate) fn put_report<A: Allocator, O: Out>(
     out: &mut O,
 ) -> Result<(), WriteFailed>
     ensures report { (file : List ℕ) (V : List Reference) → IsDeskOf desk.now file V → HasAll file V kept.old → (told_faults file V ≡ [] → ⊥)
-        → Writes result (O.held out.old).bytes (O.held out.new).bytes (explain_text kept.old.entries.limit file V (listed file V)) }
+        → Writes result (O.held out.old).bytes (O.held out.new).bytes (explain_text kept.old.entries.limit file V (listed_entries file V)) }
     ensures count { (O.held out.new).failures ≡ failures_after is_any result (O.held out.old).failures }
 {
     make_ready(desk, kept);

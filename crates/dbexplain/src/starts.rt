@@ -4,7 +4,7 @@ ghost use Rattle.std.specs.Prelude.{◌≡◌, ◌+◌, ◌≤◌, ◌∷◌, []
 ghost use Rattle.std.specs.List.{enumerate_from, flat_map};
 ghost use Rattle.dbformat.specs.Lines.{line_feed};
 ghost use Rattle.dbsource.specs.Outs.{Puts};
-ghost use Rattle.dbexplain.specs.Summary.{pages_text, root_page, start_name};
+ghost use Rattle.dbexplain.specs.Summary.{faulty_pages_text, root_page, start_name};
 ghost use Rattle.dbexplain.specs.Sums.{numbered_sum, start_sum, sum_front, without_fault};
 
 use crate::sums::sum_front;
@@ -66,7 +66,7 @@ fn start_front(all: u64, count: u64) -> ArrayVec<u8, 160>
 
 // On how many of its pages the faults of a start are, and the end of the line.
 fn pages_text(faulty: u32, reached: u32) -> ArrayVec<u8, 160>
-    ensures { result.items ≡ pages_text faulty reached ++ line_feed ∷ [] }
+    ensures { result.items ≡ faulty_pages_text faulty reached ++ line_feed ∷ [] }
 {
     let mut text = ArrayVec::new();
     if reached == 0 {

@@ -5,11 +5,11 @@ ghost use Rattle.dbformat.specs.Reference.{Reference};
 ghost use Rattle.dbsource.specs.Failures.{failures_after, is_any};
 ghost use Rattle.dbsource.specs.Outs.{Puts, Writes};
 ghost use Rattle.dbowner.specs.Climbs.{AreTrees};
-ghost use Rattle.dbexplain.specs.Notes.{IsOf};
+ghost use Rattle.dbexplain.specs.Notes.{AreOwnersOf};
 ghost use Rattle.dbscan.specs.Placed.{told_faults};
 ghost use Rattle.dbexplain.specs.Summary.{summary};
 ghost use Rattle.dbexplain.specs.Sums.{summary_by};
-ghost use Rattle.dbexplain.specs.Tallies.{HasRoom, IsTallyOf};
+ghost use Rattle.dbexplain.specs.Tallies.{HasPageBit, IsTallyOf};
 
 use crate::owners::Owners;
 use crate::reached::count_pages;
@@ -52,10 +52,10 @@ pub(crate) fn put_summary<A: Allocator, O: Out>(
     tally: &mut Tally<A>,
 ) -> Result<(), WriteFailed>
     // Where all faults of the file were added.
-    ensures lines { (file : List ℕ) (V : List Reference) → IsOf owners.now file V → AreTrees file V trees.old.known
-        → HasRoom tally.old.pages (geometry file).pages → IsTallyOf (told_faults file V) tally.old
+    ensures lines { (file : List ℕ) (V : List Reference) → AreOwnersOf owners.now file V → AreTrees file V trees.old.known
+        → HasPageBit tally.old.pages (geometry file).pages → IsTallyOf (told_faults file V) tally.old
         → Writes result (O.held out.old).bytes (O.held out.new).bytes (summary file V (told_faults file V)) }
-    ensures trees { (file : List ℕ) (V : List Reference) → IsOf owners.now file V → AreTrees file V trees.old.known → AreTrees file V trees.new.known }
+    ensures trees { (file : List ℕ) (V : List Reference) → AreOwnersOf owners.now file V → AreTrees file V trees.old.known → AreTrees file V trees.new.known }
     ensures count { (O.held out.new).failures ≡ failures_after is_any result (O.held out.old).failures }
 {
     count_pages(tally, owners.marks, trees);

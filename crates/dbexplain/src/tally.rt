@@ -3,9 +3,9 @@ ghost use Rattle.std.specs.Prelude.{◌≡◌, ℕ, ◌+◌, ◌*◌, ◌<◌, �
 ghost use Rattle.dbformat.specs.Codes.{all_codes};
 ghost use Rattle.dbtrace.specs.declared.Reported.{Reported};
 ghost use Rattle.dbexplain.specs.Summary.{is_whole};
-ghost use Rattle.dbexplain.specs.Tallies.{counted_code, counted_in, has_bit, HasRoom, IsTallyOf, one_page};
-ghost use Rattle.dbexplain.specs.Sums.{freelist_count};
-ghost use Rattle.dbexplain.specs.TallySteps.{bit_set, page_counted, start_counted};
+ghost use Rattle.dbexplain.specs.Tallies.{counted_code, counted_in, has_bit, HasPageBit, IsTallyOf, one_reached_page};
+ghost use Rattle.dbexplain.specs.Sums.{freelist_start_count};
+ghost use Rattle.dbexplain.specs.TallySteps.{bit_set, page_of_start_counted, start_fault_counted};
 
 use dbformat::{FREELIST_START, FaultCode, Geometry};
 use dbtrace::{Part, Reported};
@@ -90,7 +90,7 @@ fn count_code(counts: &mut [CodeCount; FaultCode::COUNT], code: FaultCode)
 
 // The counts of a start with one page more, which has a fault or has none.
 fn with_page(count: &StartCount, faulty: bool) -> StartCount
-    ensures { result ≡ one_page faulty count.now }
+    ensures { result ≡ one_reached_page faulty count.now }
 {
     StartCount {
         faults: count.faults,
@@ -111,7 +111,7 @@ impl<A: Allocator + Copy> Tally<A> {
     /// [`AllocError`] where a growth was refused.
     pub fn new_in(alloc: A, geometry: &Geometry) -> Result<Tally<A>, AllocError>
         ensures faults { IfOk result (IsTallyOf []) }
-        ensures room { IfOk result (λ tally. HasRoom tally.pages geometry.now.pages) }
+        ensures room { IfOk result (λ tally. HasPageBit tally.pages geometry.now.pages) }
     {
         let starts = Vec::from_elem(alloc, NO_COUNT, STARTS)?;
         let pages = Vec::from_elem(alloc, 0u64, geometry.pages as usize / 64 + 1)?;
@@ -128,7 +128,7 @@ impl<A: Allocator + Copy> Tally<A> {
 impl<A: Allocator> Tally<A> {
     // Counts a fault of a page at a start, or of the whole file.
     fn count_part(&mut self, part: Part)
-        ensures { self.new ≡ start_counted part self.old }
+        ensures { self.new ≡ start_fault_counted part self.old }
     {
         match part {
             Part::Header | Part::End => self.whole = self.whole.saturating_add(1),
@@ -206,7 +206,7 @@ impl<A: Allocator> Tally<A> {
 
     /// What is counted of the freelist.
     pub(crate) fn freelist(&self) -> &StartCount
-        ensures { result.now ≡ freelist_count self.now }
+        ensures { result.now ≡ freelist_start_count self.now }
     {
         &self.starts[FREELIST_START as usize]
     }
@@ -220,7 +220,7 @@ impl<A: Allocator> Tally<A> {
 
     // Counts a page that was reached from a start.
     pub(crate) fn count_page(&mut self, start: u32, page: u32)
-        ensures { self.new ≡ page_counted start page self.old }
+        ensures { self.new ≡ page_of_start_counted start page self.old }
     {
         let start = start as usize;
         if start < STARTS {

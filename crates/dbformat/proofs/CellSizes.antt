@@ -106,7 +106,7 @@ table_leaf InteriorTable i e = cc
 table_leaf LeafIndex i e = cc
 table_leaf LeafTable i e = refl
 
-pub leaf_sized : {file : List ℕ} {kind : TreeKind} {is_child : Bool} {p : ℕ} {v : View} → Terms.IsWhole file kind is_child p v → kind ≡ tree.Table → is_interior v.kind ≡ false
+pub leaf_sized : {file : List ℕ} {kind : TreeKind} {is_child : Bool} {p : ℕ} {v : View} → Terms.IsFaultlessPage file kind is_child p v → kind ≡ tree.Table → is_interior v.kind ≡ false
     → 480 ≤ usable_size file → usable_size file ≤ length (page_bytes file p) → Each IsSized (cells_of v)
 unfolding view
 leaf_sized {file} {kind} {is_child} {p} {v} w table leaf wide long c i =

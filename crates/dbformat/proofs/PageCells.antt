@@ -8,7 +8,7 @@ use Rattle.dbformat.specs.File.{page_bytes}
 use Rattle.dbformat.specs.Head.{right_number, is_interior, View, view, if_of_tree, is_same_tree, tree_of}
 use Rattle.dbformat.specs.Cell.{right_child, Cell, cell, cells, count}
 use Rattle.dbformat.specs.PageFaults.{tree_page_faults, faults_of_view, inner_faults, cell_fault, cell_faults, fragment_fault, freeblock_fault, coverage_fault, empty_fault}
-use Rattle.dbformat.specs.Terms.{IsWhole, cells_of}
+use Rattle.dbformat.specs.Terms.{IsFaultlessPage, cells_of}
 use Rattle.dbformat.specs.declared.CellFault.{CellFault}
 use Rattle.dbformat.specs.declared.CellFault.TheVariants.{Offset, Unreadable}
 use Rattle.dbformat.specs.declared.HeadFault.{HeadFault}
@@ -73,7 +73,7 @@ inner_none kind is_child p page v same e =
     let c = both_empty (fragment_fault v ++ cell_faults v) (freeblock_fault v) b.0 in
     (both_empty (fragment_fault v) (cell_faults v) c.0).1
 
-pub has_all_cells : {file : List ℕ} {kind : TreeKind} {is_child : Bool} {p : ℕ} {v : View} → IsWhole file kind is_child p v → HasAllCells file kind p v
+pub has_all_cells : {file : List ℕ} {kind : TreeKind} {is_child : Bool} {p : ℕ} {v : View} → IsFaultlessPage file kind is_child p v → HasAllCells file kind p v
 unfolding tree_page_faults cells
 has_all_cells {file} {kind} {is_child} {p} {v} w =
     let parts = undamaged_parts kind (view p (usable_size file) (page_bytes file p)) v w.undamaged in

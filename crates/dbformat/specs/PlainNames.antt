@@ -7,16 +7,16 @@ use Rattle.dbformat.specs.declared.Encoding.{Encoding}
 use Rattle.dbformat.specs.declared.Encoding.TheVariants.{Utf8, Utf16le, Utf16be}
 
 -- the first and the last of a row of characters, and those between
-abbrev pub is_within : ℕ → ℕ → ℕ → Bool
-is_within first last c = nat_le first c && nat_le c last
+abbrev pub is_between : ℕ → ℕ → ℕ → Bool
+is_between first last c = nat_le first c && nat_le c last
 
 -- a control character, or a backslash
 abbrev pub is_control_or_backslash : ℕ → Bool
-is_control_or_backslash c = is_within 0 31 c || is_within 127 159 c || (c == 92)
+is_control_or_backslash c = is_between 0 31 c || is_between 127 159 c || (c == 92)
 
 -- a character that turns the text around it, or one of the two that end the first plane and are none
 abbrev pub is_turning : ℕ → Bool
-is_turning c = is_within 0x202A 0x202E c || is_within 0x2066 0x2069 c || is_within 0xFFFE 0xFFFF c
+is_turning c = is_between 0x202A 0x202E c || is_between 0x2066 0x2069 c || is_between 0xFFFE 0xFFFF c
 
 -- these are written by their codes
 abbrev pub is_coded : ℕ → Bool

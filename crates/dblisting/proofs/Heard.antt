@@ -10,7 +10,7 @@ use Rattle.dbtrace.specs.Finding.{told_row, told_fault}
 use Rattle.dbtrace.specs.declared.Reported.{Reported}
 use Rattle.dbentries.specs.Listing.{rank}
 use Rattle.dbscan.specs.Notices.{Notice, whole, found, ended, walked, run_notices}
-use Rattle.dbscan.specs.Placed.{at_start, of_file, part_of, reported_in, reported_of, told_faults}
+use Rattle.dbscan.specs.Placed.{at_start, of_file, part_of_code, reported_in, reported_of, told_faults}
 use Rattle.dbscan.proofs.HeardFaults.{run_heard}
 use Rattle.dblisting.specs.Listed.{IsBeginning}
 use Rattle.dblisting.specs.Told.{HearsReported}
@@ -43,7 +43,7 @@ module _ {K : Type 0} (adds : Reported → K → K → Type 0) (part : K → ℕ
       → Has (ts ++ reported_in ns) t
   all_heard [] ts s t rise most h m = subst (λ l. Has l t) (sym (append-nil ts)) (subst (Has ts) m h)
   all_heard (whole f ∷ ns) ts s t rise most h m =
-      let x = of_file (part_of f.code) f in
+      let x = of_file (part_of_code f.code) f in
       subst (λ l. Has l t) (append_assoc ts (x ∷ []) (reported_in ns))
       (all_heard ns (ts ++ x ∷ []) m.0 t rise.1 (after_one x (reported_in ns) s m.0 rise (most x (inl refl)) m.1) (one x ts s m.0 (most x (inl refl)) h m.1) m.2)
   all_heard (found at (told_fault f why) ∷ ns) ts s t rise most h m =

@@ -8,7 +8,7 @@ use Rattle.dbentries.specs.Listing.{entries}
 use Rattle.dbentries.specs.Store.{AreEntriesOf, Stored}
 use Rattle.dbentries.specs.Woven.{woven}
 use Rattle.dbentries.proofs.Apart.{weaving_is_listing}
-use Rattle.dblisting.specs.Listed.{IsBeginning, listed, lost_faults, other_faults, reported}
+use Rattle.dblisting.specs.Listed.{IsBeginning, listed_entries, lost_faults, other_faults, reported}
 use Rattle.dblisting.proofs.FewLost.{few_first_lost}
 use Rattle.dblisting.proofs.ReportOrder.{in_report_order}
 
@@ -26,5 +26,5 @@ pub every_lost : (file : List ℕ) (V : List Reference) (s : Stored) → AreEntr
 every_lost file V s are six = all_lost file V (lost_faults file V) s (all_begins (lost_faults file V)) are six
 
 -- with those in their places, they are all entries
-pub all_woven : (file : List ℕ) (V : List Reference) → woven (entries (other_faults file V)) (entries (lost_faults file V)) ≡ listed file V
+pub all_woven : (file : List ℕ) (V : List Reference) → woven (entries (other_faults file V)) (entries (lost_faults file V)) ≡ listed_entries file V
 all_woven file V = sym (weaving_is_listing (reported file V) (in_report_order file V))

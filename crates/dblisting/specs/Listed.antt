@@ -20,8 +20,8 @@ abbrev pub reported : List ℕ → List Reference → List Reported
 reported file V = map (looked_at file) (told_faults file V)
 
 -- what is listed of them
-abbrev pub listed : List ℕ → List Reference → List Entry
-listed file V = entries (reported file V)
+abbrev pub listed_entries : List ℕ → List Reference → List Entry
+listed_entries file V = entries (reported file V)
 
 -- ---- those of lost pages, and the others
 

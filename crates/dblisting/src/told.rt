@@ -1,7 +1,7 @@
 // The fault of a notice.
 ghost use Rattle.std.specs.Prelude.{◌≡◌};
 ghost use Rattle.dbscan.specs.Notices.{notice_of};
-ghost use Rattle.dbscan.specs.Placed.{is_header_code, of_file, part_of, reported_of};
+ghost use Rattle.dbscan.specs.Placed.{is_header_code, of_file, part_of_code, reported_of};
 
 use dbformat::{Fault, FaultCode};
 use dbscan::Notice;
@@ -25,7 +25,7 @@ fn is_header_code(code: FaultCode) -> bool
 
 // A fault of the whole file.
 fn of_file(fault: &Fault) -> Reported
-    ensures { result ≡ of_file (part_of fault.now.code) fault.now }
+    ensures { result ≡ of_file (part_of_code fault.now.code) fault.now }
 {
     Reported {
         part: if is_header_code(fault.code) {

@@ -28,11 +28,11 @@ use Rattle.dblisting.specs.Lost.{IsUnused}
 use Rattle.dblisting.proofs.Heard.{never_stops}
 use Rattle.dblisting.proofs.ListedFaults.{others_are}
 use Rattle.dbmap.specs.FaultyPages.{coded}
-use Rattle.dbmap.specs.KeptFaults.{HasFaults, HasRoom, HearsNone, IsUnnoted}
+use Rattle.dbmap.specs.KeptFaults.{HasFaults, HasTreeRoom, HearsNone, IsUnnoted}
 use Rattle.dbmap.specs.Maps.{DrawsMap}
-use Rattle.dbmap.specs.MapSink.{Hears, LeavesMap, Never}
+use Rattle.dbmap.specs.MapReporter.{Hears, LeavesMap, Never}
 use Rattle.dbmap.specs.PageSets.{AreNoted}
-use Rattle.dbmap.specs.declared.map_sink.MapSink.{MapSink}
+use Rattle.dbmap.specs.declared.map_reporter.MapReporter.{MapReporter}
 use Rattle.dbmap.specs.declared.walk.Walk.{Walk}
 use Rattle.dbmap.proofs.Heard.{HasHeardFaults, all_heard, codes_told, some_untouched}
 
@@ -41,7 +41,7 @@ coded_told : (ts : List Reported) → codes_told ts ≡ map coded (faults_of ts)
 coded_told [] = refl
 coded_told (t ∷ ts) = ap (λ l. coded t.fault ∷ l) (coded_told ts)
 
-module _ {A O : Type 0} (file : List ℕ) (V : List Reference) (survey : Survey file V) (s t : MapSink A O) (none : s.faults ≡ 0)
+module _ {A O : Type 0} (file : List ℕ) (V : List Reference) (survey : Survey file V) (s t : MapReporter A O) (none : s.faults ≡ 0)
     (empty : HearsNone (geometry file).pages s.kept.now) where
   -- all of a run was heard, and nothing before it: its faults were counted, and these are kept
   module _ (heard : Moves Hears s (run_notices file V) t) where
@@ -66,7 +66,7 @@ module _ {A O : Type 0} (file : List ℕ) (V : List Reference) (survey : Survey 
     -- with the lost pages
     pub map_keeps : (lost : Stored) → lost.limit ≡ t.kept.now.lost.limit → AreEntriesOf (lost_faults file V) lost → HasFaults file V (record t.kept.now { lost = lost })
     map_keeps lost kept are = record {
-      room = subst (λ (w : Walk A). HasRoom (geometry file).pages w.trees.known) (sym all.walk) empty.room;
+      room = subst (λ (w : Walk A). HasTreeRoom (geometry file).pages w.trees.known) (sym all.walk) empty.room;
       faulty = subst (λ (fs : List (ℕ × FaultCode)). AreNoted fs t.kept.now.faulty) (coded_told (told_faults file V) ∙ ap (map coded) (all_told file V)) all.faulty;
       pages = all.pages ∙ empty.faulty.pages;
       strong = subst (IsUnnoted (geometry file).pages) (sym all.strong) empty.strong;

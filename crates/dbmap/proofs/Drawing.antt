@@ -3,13 +3,13 @@ use Rattle.std.proofs.Common.{◌≡◌, ℕ, Bool, true, false, List, [], ◌++
 use Rattle.std.proofs.lemmas.Bool.{false≢true}
 use Rattle.dbsource.specs.Outs.{OutState, Puts}
 use Rattle.dbsource.proofs.Puts.{appends_nothing, puts_then, puts_stop}
-use Rattle.dbmap.specs.Canvas.{Draws, IsDrawn, answer, answer_of}
+use Rattle.dbmap.specs.Canvas.{Draws, IsDrawn, failure_answer, answer_of}
 use Rattle.dbmap.specs.declared.canvas.Canvas.{Canvas}
 
 drawn_then : (f g h : Bool) (o m n : OutState) (a b : List ℕ) → IsDrawn f g o m a → IsDrawn g h m n b → IsDrawn f h o n (a ++ b)
 drawn_then true true h o m n a b p q = (q.0 ∙ p.0, q.1)
 drawn_then true false h o m n a b p q = absurd (false≢true p.1)
-drawn_then false false h o m n a b p q = puts_then (answer h) a b refl p q
+drawn_then false false h o m n a b p q = puts_then (failure_answer h) a b refl p q
 drawn_then false true true o m n a b p q = rw q.0 (puts_stop a b refl refl p)
 drawn_then false true false o m n a b p q = absurd (false≢true q.1)
 

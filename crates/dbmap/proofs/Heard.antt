@@ -16,9 +16,9 @@ use Rattle.dblisting.proofs.Heard.{file_begun, file_heard}
 use Rattle.dblisting.proofs.ListedFaults.{listed_of, listed_push}
 use Rattle.dbmap.specs.FaultyPages.{coded}
 use Rattle.dbmap.specs.KeptFaults.{HearsNone}
-use Rattle.dbmap.specs.MapSink.{Adds, Hears}
+use Rattle.dbmap.specs.MapReporter.{Adds, Hears}
 use Rattle.dbmap.specs.PageSets.{AreNoted}
-use Rattle.dbmap.specs.declared.map_sink.MapSink.{MapSink}
+use Rattle.dbmap.specs.declared.map_reporter.MapReporter.{MapReporter}
 
 -- the pages and codes of some faults
 abbrev pub codes_told : List Reported → List (ℕ × FaultCode)
@@ -30,7 +30,7 @@ told_more (t ∷ ts) x = ap (λ l. coded t.fault ∷ l) (told_more ts x)
 
 module _ {A O : Type 0} where
   -- These faults were counted and noted, and listed but for those of lost pages; nothing else changed.
-  pub record HasHeardFaults (ts : List Reported) (first now : MapSink A O) : Type 0 where
+  pub record HasHeardFaults (ts : List Reported) (first now : MapReporter A O) : Type 0 where
     pub count : now.faults ≡ counted (length ts)
     pub faulty : AreNoted (codes_told ts) now.kept.now.faulty
     pub pages : vec_len now.kept.now.faulty.noted ≡ vec_len first.kept.now.faulty.noted
@@ -42,10 +42,10 @@ module _ {A O : Type 0} where
     pub out : now.out.now ≡ first.out.now
 
   -- the part of what was listed last
-  abbrev part : MapSink A O → ℕ
+  abbrev part : MapReporter A O → ℕ
   part s = s.kept.now.entries.part
 
-  one_heard : (first : MapSink A O) (x : Reported) (ts : List Reported) (s t : MapSink A O) → part s ≤ rank x.part → HasHeardFaults ts first s → Adds x s t
+  one_heard : (first : MapReporter A O) (x : Reported) (ts : List Reported) (s t : MapReporter A O) → part s ≤ rank x.part → HasHeardFaults ts first s → Adds x s t
       → HasHeardFaults (ts ++ x ∷ []) first t
   one_heard first x ts s t most h a = record {
     count = let e = a.count in let n = h.count in let l = length-append ts (x ∷ []) in omega (arith, e, n, l);
@@ -59,10 +59,10 @@ module _ {A O : Type 0} where
     out = a.out ∙ h.out;
   }
 
-  last_part : (x : Reported) (s t : MapSink A O) → part s ≤ rank x.part → Adds x s t → part t ≤ rank x.part
+  last_part : (x : Reported) (s t : MapReporter A O) → part s ≤ rank x.part → Adds x s t → part t ≤ rank x.part
   last_part x s t most a = a.kept.part most
 
-module _ {A O : Type 0} (file : List ℕ) (V : List Reference) (survey : Survey file V) (first now : MapSink A O)
+module _ {A O : Type 0} (file : List ℕ) (V : List Reference) (survey : Survey file V) (first now : MapReporter A O)
     (none : first.faults ≡ 0) (empty : HearsNone (geometry file).pages first.kept.now) where
   nothing_heard : HasHeardFaults [] first first
   nothing_heard = record { count = none; faulty = empty.faulty.none; pages = refl; entries = empty.entries.none; limit = refl; lost = refl; strong = refl; walk = refl; out = refl }

@@ -15,14 +15,14 @@ use Rattle.dbformat.specs.SchemaRow.{SchemaRow}
 use Rattle.dbmap.specs.Cells.{no_share}
 use Rattle.dbmap.specs.LegendLines.{file_share, is_other, legend_lines, line_if, other_trees, others_share, owner_lines, root_if_twice, tree_lines}
 use Rattle.dbmap.specs.Legends.{no_overflow}
-use Rattle.dbmap.specs.Owners.{rank_of, starts_of}
-use Rattle.dbmap.specs.Shares.{counted_pages, joined}
-use Rattle.dbmap.specs.Tallies.{AreLargest, IsTallyOf, Tallied, fixed_pages, lost_pages, pages_at, share_at, start_share}
+use Rattle.dbmap.specs.Owners.{rank_of, tree_starts}
+use Rattle.dbmap.specs.Shares.{capped_pages, joined}
+use Rattle.dbmap.specs.Tallies.{AreLargest, IsPageTallyOf, PagesTallied, fixed_count, lost_pages, pages_at, share_at, start_share}
 use Rattle.dbmap.specs.TreeLists.{tree_at}
 use Rattle.dbmap.specs.declared.cell.Share.{Share}
 use Rattle.dbmap.specs.declared.legend.Label.TheVariants.{Faulty, Fixed, Freelist, Nobody, Others, Tree}
-use Rattle.dbmap.specs.declared.legend.Line.{Line}
-use Rattle.dbmap.specs.declared.tally.Tree as tally
+use Rattle.dbmap.specs.declared.legend.LegendLine.{LegendLine}
+use Rattle.dbmap.specs.declared.tally.RankedTree as tally
 use Rattle.dbmap.proofs.Shares.{range_push}
 use Rattle.dbmap.proofs.Trees.{tree_here}
 
@@ -53,26 +53,26 @@ sum_rest f n (suc d) h =
 
 -- ---- other trees
 
-capped_sum : (a b : ℕ) → counted_pages (a + b) ≡ counted_pages (counted_pages a + b)
+capped_sum : (a b : ℕ) → capped_pages (a + b) ≡ capped_pages (capped_pages a + b)
 capped_sum a b = omega arith
 
-nothing_more : (a : ℕ) → counted_pages (a + 0) ≡ counted_pages a
+nothing_more : (a : ℕ) → capped_pages (a + 0) ≡ capped_pages a
 nothing_more a = omega arith
 
 module _ (share : ℕ → Share) (largest : List ℕ) (n : ℕ) where
   -- start n is one of them
   pub other_more : is_other share largest n ≡ true
-      → (other_trees share largest (n + 1) ≡ counted_pages (other_trees share largest n + 1)) × (others_share share largest (n + 1) ≡ joined (others_share share largest n) (share n))
+      → (other_trees share largest (n + 1) ≡ capped_pages (other_trees share largest n + 1)) × (others_share share largest (n + 1) ≡ joined (others_share share largest n) (share n))
   other_more e = (
-    ap counted_pages (sum_more (λ k. cond (is_other share largest k) 1 0) n ∙ ap (λ b. count_by (is_other share largest) (range_with_len 0 n) + cond b 1 0) e)
+    ap capped_pages (sum_more (λ k. cond (is_other share largest k) 1 0) n ∙ ap (λ b. count_by (is_other share largest) (range_with_len 0 n) + cond b 1 0) e)
         ∙ capped_sum (count_by (is_other share largest) (range_with_len 0 n)) 1,
     ap₂ (λ x y. let s : Share = record { pages = x; overflow = y } in s) (here (λ k. (share k).pages)) (here (λ k. (share k).overflow)),
   )
     where
-      here : (f : ℕ → ℕ) → counted_pages (sum_by (λ k. cond (is_other share largest k) (f k) 0) (range_with_len 0 (n + 1)))
-          ≡ counted_pages (counted_pages (sum_by (λ k. cond (is_other share largest k) (f k) 0) (range_with_len 0 n)) + f n)
+      here : (f : ℕ → ℕ) → capped_pages (sum_by (λ k. cond (is_other share largest k) (f k) 0) (range_with_len 0 (n + 1)))
+          ≡ capped_pages (capped_pages (sum_by (λ k. cond (is_other share largest k) (f k) 0) (range_with_len 0 n)) + f n)
       here f =
-          ap counted_pages (sum_more (λ k. cond (is_other share largest k) (f k) 0) n
+          ap capped_pages (sum_more (λ k. cond (is_other share largest k) (f k) 0) n
           ∙ ap (λ b. sum_by (λ k. cond (is_other share largest k) (f k) 0) (range_with_len 0 n) + cond b (f n) 0) e)
           ∙ capped_sum (sum_by (λ k. cond (is_other share largest k) (f k) 0) (range_with_len 0 n)) (f n)
 
@@ -84,10 +84,10 @@ module _ (share : ℕ → Share) (largest : List ℕ) (n : ℕ) where
     ap₂ (λ x y. let s : Share = record { pages = x; overflow = y } in s) (here (λ k. (share k).pages)) (here (λ k. (share k).overflow)),
   )
     where
-      here : (f : ℕ → ℕ) → counted_pages (sum_by (λ k. cond (is_other share largest k) (f k) 0) (range_with_len 0 (n + 1)))
-          ≡ counted_pages (sum_by (λ k. cond (is_other share largest k) (f k) 0) (range_with_len 0 n))
+      here : (f : ℕ → ℕ) → capped_pages (sum_by (λ k. cond (is_other share largest k) (f k) 0) (range_with_len 0 (n + 1)))
+          ≡ capped_pages (sum_by (λ k. cond (is_other share largest k) (f k) 0) (range_with_len 0 n))
       here f =
-          ap counted_pages (sum_more (λ k. cond (is_other share largest k) (f k) 0) n
+          ap capped_pages (sum_more (λ k. cond (is_other share largest k) (f k) 0) n
           ∙ ap (λ b. sum_by (λ k. cond (is_other share largest k) (f k) 0) (range_with_len 0 n) + cond b (f n) 0) e)
           ∙ nothing_more (sum_by (λ k. cond (is_other share largest k) (f k) 0) (range_with_len 0 n))
 
@@ -105,8 +105,8 @@ module _ (s t : ℕ → Share) (largest : List ℕ) (m d : ℕ) (same : (k : ℕ
 
   all_others : (other_trees s largest m ≡ other_trees t largest (m + d)) × (others_share s largest m ≡ others_share t largest (m + d))
   all_others = (
-    ap counted_pages (sums (λ x. 1)),
-    ap₂ (λ x y. let z : Share = record { pages = x; overflow = y } in z) (ap counted_pages (sums (λ x. x.pages))) (ap counted_pages (sums (λ x. x.overflow))),
+    ap capped_pages (sums (λ x. 1)),
+    ap₂ (λ x y. let z : Share = record { pages = x; overflow = y } in z) (ap capped_pages (sums (λ x. x.pages))) (ap capped_pages (sums (λ x. x.overflow))),
   )
 
 -- ---- all lines
@@ -117,20 +117,20 @@ trees_same names rows s t rank [] h = refl
 trees_same names rows s t rank (k ∷ ks) h =
     ap₂ (λ x l. line_if (Tree rank (root_if_twice names rows rank k)) x ++ l) (h k (inl refl)) (trees_same names rows s t (rank + 1) ks (λ j i. h j (inr i)))
 
-pub legend_is : (file : List ℕ) (V : List Reference) (t : Tallied) (names : List (List ℕ)) (rows : List SchemaRow) (ks : List ℕ) (faulty : ℕ)
-    → IsTallyOf file V t → AreLargest t.trees (pages_at t.starts) ks → rows ≡ take last_root_start (rooted_rows (schema file V))
+pub legend_is : (file : List ℕ) (V : List Reference) (t : PagesTallied) (names : List (List ℕ)) (rows : List SchemaRow) (ks : List ℕ) (faulty : ℕ)
+    → IsPageTallyOf file V t → AreLargest t.trees (pages_at t.starts) ks → rows ≡ take last_root_start (rooted_rows (schema file V))
     → owner_lines names rows (share_at t.starts) ks t.trees t.fixed t.nobody ++ line_if Faulty (no_overflow faulty) ≡ legend_lines file V names ks faulty
 legend_is file V t names rows ks faulty h largest listed =
-    ap (λ (l : List Line). l ++ line_if Faulty (no_overflow faulty)) (
+    ap (λ (l : List LegendLine). l ++ line_if Faulty (no_overflow faulty)) (
     ap₂ (λ x y. x ++ y) trees (ap₂ (λ x y. x ++ y) others (ap₂ (λ x y. x ++ y) (ap (line_if Freelist) free)
     (ap₂ (λ x y. line_if Fixed (no_overflow x) ++ line_if Nobody (no_overflow y)) h.all.fixed h.all.nobody)))
     ∙ ap (λ (r : List SchemaRow). owner_lines names r (file_share file V) ks freelist_start fixed nobody) listed)
   where
     fixed : ℕ
-    fixed = counted_pages (fixed_pages file (geometry file).pages)
+    fixed = capped_pages (fixed_count file (geometry file).pages)
 
     nobody : ℕ
-    nobody = counted_pages (lost_pages file V (geometry file).pages)
+    nobody = capped_pages (lost_pages file V (geometry file).pages)
 
     same : (k : ℕ) → k ≤ freelist_start → share_at t.starts k ≡ file_share file V k
     same k l = get_or_from_slice_get t.starts k (start_share file V (geometry file).pages k) no_share (h.all.starts k l)
@@ -162,28 +162,28 @@ legend_is file V t names rows ks faulty h largest listed =
 -- ---- line after line
 
 -- a tree has its line
-pub tree_more : (names : List (List ℕ)) (rows : List SchemaRow) (starts : List Share) (ts : List tally.Tree) (i : ℕ) (d : tally.Tree) (lines : List Line) {new all : List Line} → i < length ts
-    → new ≡ lines ++ line_if (Tree i (root_if_twice names rows i (get_or ts i d).start)) (get_or ts i d).share → ts ≡ map (tree_at starts) (starts_of ts)
-    → lines ++ tree_lines names rows (share_at starts) i (starts_of (drop i ts)) ≡ all
-    → new ++ tree_lines names rows (share_at starts) (i + 1) (starts_of (drop (i + 1) ts)) ≡ all
+pub tree_more : (names : List (List ℕ)) (rows : List SchemaRow) (starts : List Share) (ts : List tally.RankedTree) (i : ℕ) (d : tally.RankedTree) (lines : List LegendLine) {new all : List LegendLine} → i < length ts
+    → new ≡ lines ++ line_if (Tree i (root_if_twice names rows i (get_or ts i d).start)) (get_or ts i d).share → ts ≡ map (tree_at starts) (tree_starts ts)
+    → lines ++ tree_lines names rows (share_at starts) i (tree_starts (drop i ts)) ≡ all
+    → new ++ tree_lines names rows (share_at starts) (i + 1) (tree_starts (drop (i + 1) ts)) ≡ all
 tree_more names rows starts ts i d lines l e shares h =
     let start = (get_or ts i d).start in
-    let rest = tree_lines names rows (share_at starts) (i + 1) (starts_of (drop (i + 1) ts)) in
-    let line : Share → List Line = line_if (Tree i (root_if_twice names rows i start)) in
+    let rest = tree_lines names rows (share_at starts) (i + 1) (tree_starts (drop (i + 1) ts)) in
+    let line : Share → List LegendLine = line_if (Tree i (root_if_twice names rows i start)) in
     let cut : drop i ts ≡ get_or ts i d ∷ drop (i + 1) ts = rw add-one (drop-cons ts i d l) in
     ap (λ x. x ++ rest) (e ∙ ap (λ s. lines ++ line s) (tree_here starts ts i d l shares))
     ∙ append_assoc lines (line (share_at starts start)) rest
-    ∙ ap (λ us. lines ++ tree_lines names rows (share_at starts) i (starts_of us)) (sym cut)
+    ∙ ap (λ us. lines ++ tree_lines names rows (share_at starts) i (tree_starts us)) (sym cut)
     ∙ h
 
 -- all trees have
-pub trees_end : (names : List (List ℕ)) (rows : List SchemaRow) (share : ℕ → Share) (ts : List tally.Tree) (i : ℕ) {lines all : List Line} → length ts ≤ i
-    → lines ++ tree_lines names rows share i (starts_of (drop i ts)) ≡ all → lines ≡ all
+pub trees_end : (names : List (List ℕ)) (rows : List SchemaRow) (share : ℕ → Share) (ts : List tally.RankedTree) (i : ℕ) {lines all : List LegendLine} → length ts ≤ i
+    → lines ++ tree_lines names rows share i (tree_starts (drop i ts)) ≡ all → lines ≡ all
 trees_end names rows share ts i {lines = lines} l h =
-    sym (append-nil lines) ∙ ap (λ us. lines ++ tree_lines names rows share i (starts_of us)) (sym (drop_all i ts l)) ∙ h
+    sym (append-nil lines) ∙ ap (λ us. lines ++ tree_lines names rows share i (tree_starts us)) (sym (drop_all i ts l)) ∙ h
 
 -- four lines more
-pub four_more : (a b c d : List Line) {trees one two three four all : List Line} → trees ≡ all → one ≡ trees ++ a → two ≡ one ++ b → three ≡ two ++ c → four ≡ three ++ d
+pub four_more : (a b c d : List LegendLine) {trees one two three four all : List LegendLine} → trees ≡ all → one ≡ trees ++ a → two ≡ one ++ b → three ≡ two ++ c → four ≡ three ++ d
     → four ≡ all ++ (a ++ (b ++ (c ++ d)))
 four_more a b c d {trees = trees} {one = one} {two = two} {three = three} {all = all} t e f g h =
     h ∙ ap (λ l. l ++ d) (g ∙ ap (λ l. l ++ c) (f ∙ ap (λ l. l ++ b) (e ∙ ap (λ l. l ++ a) t)))

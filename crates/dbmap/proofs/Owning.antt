@@ -7,13 +7,13 @@ use Rattle.dbformat.specs.Reference.{Reference}
 use Rattle.dbmarks.specs.declared.marks.Mark.{Mark}
 use Rattle.dbformat.specs.Starts.{start_at}
 use Rattle.dbowner.specs.declared.place.Place.{Place}
-use Rattle.dbmap.specs.Owners.{is_overflow, owner_at, owner_by, owners_by, place_at, rank_from, shade_at, starts_of}
+use Rattle.dbmap.specs.Owners.{is_overflow, marked_owner, owner_by, owners_by, place_at, rank_from, shade_at, tree_starts}
 use Rattle.dbmap.specs.declared.cell.Owner.{Owner}
-use Rattle.dbmap.specs.declared.tally.Tree.{Tree}
+use Rattle.dbmap.specs.declared.tally.RankedTree.{RankedTree}
 
 -- whose page p is, by its place and its start
 pub owner_is : (marks : List Mark) (V : List Reference) (largest : List ℕ) (p : ℕ) {at : Place} {start : Option ℕ} {owner : Owner} → at ≡ place_at marks p → start ≡ start_at V p
-    → owner ≡ owner_by largest at start → owner ≡ owner_at marks (owners_by V largest) p
+    → owner ≡ owner_by largest at start → owner ≡ marked_owner marks (owners_by V largest) p
 owner_is marks V largest p a s o = o ∙ ap₂ (owner_by largest) a s
 
 pub over_is : (marks : List Mark) (p : ℕ) {at : Place} {over : Bool} → at ≡ place_at marks p → over ≡ is_overflow at → over ≡ is_overflow (place_at marks p)
@@ -39,25 +39,25 @@ late_rank r (j ∷ ks) k h = by_case (j == k) (late_rank (r + 1) ks k (omega ari
     by_case true e = omega arith
     by_case false e = e
 
-module _ (ts : List Tree) (i : ℕ) (d : Tree) where
-  left : i < length ts → starts_of (drop i ts) ≡ (get_or ts i d).start ∷ starts_of (drop (i + 1) ts)
-  left l = let cut : drop i ts ≡ get_or ts i d ∷ drop (i + 1) ts = rw add-one (drop-cons ts i d l) in ap starts_of cut
+module _ (ts : List RankedTree) (i : ℕ) (d : RankedTree) where
+  left : i < length ts → tree_starts (drop i ts) ≡ (get_or ts i d).start ∷ tree_starts (drop (i + 1) ts)
+  left l = let cut : drop i ts ≡ get_or ts i d ∷ drop (i + 1) ts = rw add-one (drop-cons ts i d l) in ap tree_starts cut
 
   -- the tree at rank i is not the one, or is too late
-  next_rank : (start : Option ℕ) → i < length ts → (Some (get_or ts i d).start ≡ start → 12 ≤ i) → rank_after i (starts_of (drop i ts)) start ≡ rank_after (i + 1) (starts_of (drop (i + 1) ts)) start
+  next_rank : (start : Option ℕ) → i < length ts → (Some (get_or ts i d).start ≡ start → 12 ≤ i) → rank_after i (tree_starts (drop i ts)) start ≡ rank_after (i + 1) (tree_starts (drop (i + 1) ts)) start
   next_rank None l other = refl
   next_rank (Some k) l other = ap (λ js. rank_from i js k) (left l) ∙ by_case ((get_or ts i d).start == k) refl
     where
-      by_case : (b : Bool) → ((get_or ts i d).start == k) ≡ b → cond b (min i 12) (rank_from (i + 1) (starts_of (drop (i + 1) ts)) k) ≡ rank_from (i + 1) (starts_of (drop (i + 1) ts)) k
+      by_case : (b : Bool) → ((get_or ts i d).start == k) ≡ b → cond b (min i 12) (rank_from (i + 1) (tree_starts (drop (i + 1) ts)) k) ≡ rank_from (i + 1) (tree_starts (drop (i + 1) ts)) k
       by_case false e = refl
       by_case true e =
           let late : 12 ≤ i = other (ap Some (eqb-true _ _ e)) in
           let twelve : min i 12 ≡ 12 = omega arith in
-          twelve ∙ sym (late_rank (i + 1) (starts_of (drop (i + 1) ts)) k (omega arith))
+          twelve ∙ sym (late_rank (i + 1) (tree_starts (drop (i + 1) ts)) k (omega arith))
 
   -- the same by the test of a start
   pub next_by : (start : Option ℕ) {b : Bool} → i < length ts → b ≡ option_eq eqb (Some (get_or ts i d).start) start → ((b ≡ true) × (12 ≤ i)) ⊎ (b ≡ false)
-      → rank_after i (starts_of (drop i ts)) start ≡ rank_after (i + 1) (starts_of (drop (i + 1) ts)) start
+      → rank_after i (tree_starts (drop i ts)) start ≡ rank_after (i + 1) (tree_starts (drop (i + 1) ts)) start
   next_by start {b = b} l e either = next_rank start l (λ f. (let same : b ≡ true = e ∙ equal start f in elim either [ inl k ↦ k.1 | inr n ↦ absurd (false≢true (sym n ∙ same)) ]))
     where
       equal : (start : Option ℕ) → Some (get_or ts i d).start ≡ start → option_eq eqb (Some (get_or ts i d).start) start ≡ true

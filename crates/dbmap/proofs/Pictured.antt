@@ -23,14 +23,14 @@ use Rattle.dbscan.specs.Notices.{Notice}
 use Rattle.dbscan.specs.Roots.{AreListed}
 use Rattle.dbxml.specs.Names.{kept_text}
 use Rattle.dbmap.specs.Drawings.{PutsPicture, stated_of}
-use Rattle.dbmap.specs.KeptFaults.{HasFaults, HasRoom}
+use Rattle.dbmap.specs.KeptFaults.{HasFaults, HasTreeRoom}
 use Rattle.dbmap.specs.Grids.{IsLeastRun}
 use Rattle.dbmap.specs.LegendLines.{legend_lines}
-use Rattle.dbmap.specs.MapSink.{Hears}
+use Rattle.dbmap.specs.MapReporter.{Hears}
 use Rattle.dbmap.specs.Maps.{HasPicture}
 use Rattle.dbmap.specs.Squares.{surveyed}
-use Rattle.dbmap.specs.declared.kept.Kept.{Kept}
-use Rattle.dbmap.specs.declared.map_sink.MapSink.{MapSink}
+use Rattle.dbmap.specs.declared.kept.KeptFaults.{KeptFaults}
+use Rattle.dbmap.specs.declared.map_reporter.MapReporter.{MapReporter}
 use Rattle.dbmap.proofs.SameName.{same_name}
 use Rattle.dbmap.proofs.ShownFaults.{faults_shown, pages_counted}
 use Rattle.dbmap.proofs.SquareSteps.{same_picture}
@@ -42,15 +42,15 @@ known_trees file V h rows header listed =
     ap (λ e. tree_of_row e rows) (ap encoding header.begins ∙ encoding_within file) ∙ ap (tree_of_row (encoding file)) listed
 
 -- the picture has the name that there was before anything was heard
-pub named : {A O : Type 0} {P : List ℕ → Type 0} (ns : List Notice) (first now : MapSink A O) → Moves Hears first ns now
+pub named : {A O : Type 0} {P : List ℕ → Type 0} (ns : List Notice) (first now : MapReporter A O) → Moves Hears first ns now
     → (file : List ℕ) (V : List Reference) → HasPicture P now.name.now file V → HasPicture P first.name.now file V
 named {P = P} ns first now heard file V h = subst (λ (n : List ℕ). HasPicture P n file V) (ap (λ s. s.now) (same_name ns first now heard)) h
 
-pub pictured : {A E K : Type 0} {r : Result A E} {old new : OutState} {d : Things} {k : Kept K} {n : ℕ} {name : List ℕ} (file : List ℕ) (V : List Reference)
+pub pictured : {A E K : Type 0} {r : Result A E} {old new : OutState} {d : Things} {k : KeptFaults K} {n : ℕ} {name : List ℕ} (file : List ℕ) (V : List Reference)
     → PutsPicture r old new name d k n → IsDeskOf d file V → n ≡ counted (length (faults file V)) → HasFaults file V k → HasPicture (Writes r old.bytes new.bytes) name file V
 pictured {r = r} {old = old} {new = new} {d = d} {k = k} file V put desk count has =
     let shape = desk.header.shape in
-    let room : HasRoom (shape_of d).pages k.walk.trees.known = subst (λ (g : Geometry). HasRoom g.pages k.walk.trees.known) (sym shape) has.room in
+    let room : HasTreeRoom (shape_of d).pages k.walk.trees.known = subst (λ (g : Geometry). HasTreeRoom g.pages k.walk.trees.known) (sym shape) has.room in
     record {
       heading = put.heading;
       ground = surveyed put.ground V;

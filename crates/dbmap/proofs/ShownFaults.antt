@@ -17,11 +17,11 @@ use Rattle.dbentries.proofs.Weaving.{keeps_first}
 use Rattle.dblisting.specs.Listed.{lost_faults, other_faults}
 use Rattle.dblisting.proofs.Woven.{all_woven, every_lost}
 use Rattle.dbmap.specs.CodeSets.{no_codes}
-use Rattle.dbmap.specs.FaultyPages.{AreFaultsOf, FaultsGround, ShowsCodes, faulty_pages, leading_faults, page_faults}
+use Rattle.dbmap.specs.FaultyPages.{AreFaultsOf, FaultsGround, ShowsCodes, faulty_pages, leading_faults, coded_faults}
 use Rattle.dbmap.specs.FramedPages.{first_faults, framed}
 use Rattle.dbmap.specs.KeptFaults.{HasFaults, IsKeptGround, noted_pages}
 use Rattle.dbmap.specs.PageSets.{AreNoted, IsNoteOf, has_page, is_faulty, is_noted, number_at, set_numbered, shown_codes}
-use Rattle.dbmap.specs.declared.kept.Kept.{Kept}
+use Rattle.dbmap.specs.declared.kept.KeptFaults.{KeptFaults}
 use Rattle.dbmap.specs.declared.page_set.Codes.{Codes}
 use Rattle.dbmap.specs.declared.page_set.PageSet.{PageSet}
 use Rattle.dbmap.proofs.PageSets.{known_codes}
@@ -71,7 +71,7 @@ number_next xs i =
 
 -- ---- those that lead
 
-module _ {A : Type 0} (file : List ℕ) (V : List Reference) (k : Kept A) (has : HasFaults file V k) where
+module _ {A : Type 0} (file : List ℕ) (V : List Reference) (k : KeptFaults A) (has : HasFaults file V k) where
   -- the pages of the first entries were noted
   leads : (set : PageSet A) → ((es ls : List listing.Entry) → KeepsFirst es k.entries → k.lost.listed ≡ map kept_of ls → AreNoted [] k.strong
       → AreNoted (framed (first_faults (take k.entries.limit (woven es ls)))) set) → AreNoted (framed (leading_faults file V)) set
@@ -85,8 +85,8 @@ module _ {A : Type 0} (file : List ℕ) (V : List Reference) (k : Kept A) (has :
   -- the squares
   pub faults_shown : (g : FaultsGround) → IsKeptGround k g → AreFaultsOf file V g
   faults_shown g is = record {
-    has = λ p l h. is.has p ∙ has_noted (page_faults file V) k.faulty has.faulty p l (let e = has.pages in omega (arith, h, e));
-    codes = λ p l h. subst (ShowsCodes (page_faults file V) p) (sym (is.codes p)) (codes_noted (page_faults file V) k.faulty has.faulty p l (let e = has.pages in omega (arith, h, e)));
+    has = λ p l h. is.has p ∙ has_noted (coded_faults file V) k.faulty has.faulty p l (let e = has.pages in omega (arith, h, e));
+    codes = λ p l h. subst (ShowsCodes (coded_faults file V) p) (sym (is.codes p)) (codes_noted (coded_faults file V) k.faulty has.faulty p l (let e = has.pages in omega (arith, h, e)));
     strong = λ p l h.
         let room = is.strong.pages in let e = has.strong.pages in
         is.strong.is p ∙ has_noted (framed (leading_faults file V)) is.strong.set (leads is.strong.set is.strong.noted) p l (omega (arith, h, e, room));
@@ -97,13 +97,13 @@ module _ {A : Type 0} (file : List ℕ) (V : List Reference) (k : Kept A) (has :
   pages_counted =
       let noted = k.faulty.noted in
       let long : length noted.items ≡ (geometry file).pages = omega (arith, noted.ok.0, has.pages) in
-      let all = counted_from (is_faulty (page_faults file V)) noted.items 1 (λ i l. at i l) in
+      let all = counted_from (is_faulty (coded_faults file V)) noted.items 1 (λ i l. at i l) in
       let most = count_by-le-length is_noted noted.items in
       let few = has.few in
       let cut : min (count_by is_noted noted.items) 4294967295 ≡ count_by is_noted noted.items = omega (arith, most, long, few) in
-      cut ∙ all ∙ ap (λ n. count_by (is_faulty (page_faults file V)) (range_with_len 1 n)) long
+      cut ∙ all ∙ ap (λ n. count_by (is_faulty (coded_faults file V)) (range_with_len 1 n)) long
     where
-      at : (i : ℕ) → i < length k.faulty.noted.items → is_noted (get_or k.faulty.noted.items i 0) ≡ is_faulty (page_faults file V) (1 + i)
+      at : (i : ℕ) → i < length k.faulty.noted.items → is_noted (get_or k.faulty.noted.items i 0) ≡ is_faulty (coded_faults file V) (1 + i)
       at i l =
           let long = k.faulty.noted.ok.0 in
-          ap is_noted (sym (number_next k.faulty.noted.items i)) ∙ has_noted (page_faults file V) k.faulty has.faulty (1 + i) (omega arith) (omega (arith, l, long))
+          ap is_noted (sym (number_next k.faulty.noted.items i)) ∙ has_noted (coded_faults file V) k.faulty has.faulty (1 + i) (omega arith) (omega (arith, l, long))

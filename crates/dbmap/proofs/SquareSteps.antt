@@ -9,12 +9,12 @@ use Rattle.dbmap.specs.Grids.{rows, top_of}
 use Rattle.dbmap.specs.Legends.{height, legend_text}
 use Rattle.dbmap.specs.Outlines.{outlines_text}
 use Rattle.dbmap.specs.Owners.{IsOf, StaysOf}
-use Rattle.dbmap.specs.Pens.{end_text}
+use Rattle.dbmap.specs.Pens.{group_end_text}
 use Rattle.dbmap.specs.Pictures.{head_text, heading_text, picture_text, row_names}
-use Rattle.dbmap.specs.Squares.{AreRows, AreSquares, Ground, IsRow, IsSquare, Square, of_one, of_page, of_several, before_text, front_text, group_after, last_group, row_text, rows_text, square_text, squares_text, surveyed}
+use Rattle.dbmap.specs.Squares.{AreRows, AreSquares, Ground, IsRow, IsSquare, Square, of_one, of_page, of_several, before_text, row_front_text, group_after, last_group, squares_row_text, squares_rows_text, square_text, squares_text, surveyed}
 use Rattle.dbmap.specs.declared.canvas.Canvas.{Canvas}
 use Rattle.dbmap.specs.declared.cell.Owner.{Owner}
-use Rattle.dbmap.specs.declared.legend.Line.{Line}
+use Rattle.dbmap.specs.declared.legend.LegendLine.{LegendLine}
 use Rattle.dbmap.specs.declared.picture.Heading.{Heading}
 use Rattle.dbmap.proofs.Drawing.{draws_nothing, draws_then}
 
@@ -71,21 +71,21 @@ rows_are_more g row (q ∷ rs) r h k =
     let e : row + suc (length rs) ≡ row + 1 + length rs = omega arith in
     (h.0, rows_are_more g (row + 1) rs r h.1 (subst (λ (n : ℕ). IsRow g n r) e k))
 
-rows_text_more : (g : Ground) (row : ℕ) (rs : List (List Square)) (r : List Square) → rows_text g row (rs ++ r ∷ []) ≡ rows_text g row rs ++ row_text g (row + length rs) r
+rows_text_more : (g : Ground) (row : ℕ) (rs : List (List Square)) (r : List Square) → squares_rows_text g row (rs ++ r ∷ []) ≡ squares_rows_text g row rs ++ squares_row_text g (row + length rs) r
 rows_text_more g row [] r =
     let e : row ≡ row + 0 = omega arith in
-    append-nil (row_text g row r) ∙ ap (λ n. row_text g n r) e
+    append-nil (squares_row_text g row r) ∙ ap (λ n. squares_row_text g n r) e
 rows_text_more g row (q ∷ rs) r =
     let e : row + 1 + length rs ≡ row + suc (length rs) = omega arith in
-    ap (λ l. row_text g row q ++ l) (rows_text_more g (row + 1) rs r ∙ ap (λ n. rows_text g (row + 1) rs ++ row_text g n r) e)
-    ∙ sym (append_assoc (row_text g row q) (rows_text g (row + 1) rs) (row_text g (row + suc (length rs)) r))
+    ap (λ l. squares_row_text g row q ++ l) (rows_text_more g (row + 1) rs r ∙ ap (λ n. squares_rows_text g (row + 1) rs ++ squares_row_text g n r) e)
+    ∙ sym (append_assoc (squares_row_text g row q) (squares_rows_text g (row + 1) rs) (squares_row_text g (row + suc (length rs)) r))
 
 -- the rows before this one have been drawn
 pub record HasRows {O : Type 0} (held : O → OutState) (g : Ground) (known : List (Option (Option ℕ))) (count : ℕ) (s t : Canvas O) : Type 0 where
   pub all : List (List Square)
   pub many : length all ≡ count
   pub are : (file : List ℕ) (V : List Reference) → IsOf g.marks known file V → AreRows (surveyed g V) 0 all
-  pub draws : Draws held s (rows_text g 0 all) t
+  pub draws : Draws held s (squares_rows_text g 0 all) t
 
 module _ {O : Type 0} {held : O → OutState} {g : Ground} {known : List (Option (Option ℕ))} where
   pub no_rows : (s : Canvas O) → HasRows held g known 0 s s
@@ -101,7 +101,7 @@ module _ {O : Type 0} {held : O → OutState} {g : Ground} {known : List (Option
         are = λ file V of. rows_are_more (surveyed g V) 0 h.all k.squares (h.are file V of)
             (subst (λ (n : ℕ). IsRow (surveyed g V) n k.squares) at (k.is file V (stays file V of)));
         draws = subst (λ (l : List ℕ). Draws held s l t) (sym (rows_text_more g 0 h.all k.squares))
-            (draws_then h.draws (subst (λ (n : ℕ). Draws held m (row_text g n k.squares) t) at k.draws));
+            (draws_then h.draws (subst (λ (n : ℕ). Draws held m (squares_row_text g n k.squares) t) at k.draws));
       }
 
 -- ---- the text is the same whatever the survey
@@ -116,15 +116,15 @@ module _ (g : Ground) (V : List Reference) where
   same_squares group [] = refl
   same_squares group (s ∷ ss) = ap₂ (λ a b. (before_text group s ++ a) ++ b) (same_square s) (same_squares (group_after group s) ss)
 
-  same_row : (row : ℕ) (ss : List Square) → row_text g row ss ≡ row_text (surveyed g V) row ss
-  unfolding row_text
-  same_row row ss = ap (λ l. front_text g.grid row ++ (l ++ (end_text (last_group None ss) ++ (outlines_text g.grid row ++ codes "</g>\n")))) (same_squares None ss)
+  same_row : (row : ℕ) (ss : List Square) → squares_row_text g row ss ≡ squares_row_text (surveyed g V) row ss
+  unfolding squares_row_text
+  same_row row ss = ap (λ l. row_front_text g.grid row ++ (l ++ (group_end_text (last_group None ss) ++ (outlines_text g.grid row ++ codes "</g>\n")))) (same_squares None ss)
 
-  same_rows : (row : ℕ) (rs : List (List Square)) → rows_text g row rs ≡ rows_text (surveyed g V) row rs
+  same_rows : (row : ℕ) (rs : List (List Square)) → squares_rows_text g row rs ≡ squares_rows_text (surveyed g V) row rs
   same_rows row [] = refl
   same_rows row (r ∷ rs) = ap₂ (λ a b. a ++ b) (same_row row r) (same_rows (row + 1) rs)
 
-  pub same_picture : (h : Heading) (all : List (List Square)) (lines : List Line) → picture_text h g all lines ≡ picture_text h (surveyed g V) all lines
+  pub same_picture : (h : Heading) (all : List (List Square)) (lines : List LegendLine) → picture_text h g all lines ≡ picture_text h (surveyed g V) all lines
   unfolding picture_text
   same_picture h all lines =
       ap (λ l. head_text h.file (top_of g.grid (rows g.grid) + height lines (g.grid.stated - g.grid.pages))

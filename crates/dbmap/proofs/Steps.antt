@@ -9,42 +9,42 @@ use Rattle.dbmap.specs.Faults.{code_if}
 use Rattle.dbmap.specs.Legends.{line_text, lines_from}
 use Rattle.dbmap.specs.Runs.{band_text, bands_from, owner_text, owners_from}
 use Rattle.dbmap.specs.declared.bands.Bands.{Bands}
-use Rattle.dbmap.specs.declared.cell.Cell.{Cell}
-use Rattle.dbmap.specs.declared.legend.Line.{Line}
+use Rattle.dbmap.specs.declared.cell.OwnerShares.{OwnerShares}
+use Rattle.dbmap.specs.declared.legend.LegendLine.{LegendLine}
 use Rattle.dbmap.specs.declared.page_set.Codes.{Codes}
-use Rattle.dbmap.specs.declared.run.Run.{Run}
+use Rattle.dbmap.specs.declared.run.RunSquare.{RunSquare}
 
 -- one fewer is left
 pub one_less : (n m : ℕ) → n < m → m - n ≡ suc (m - (n + 1))
 one_less n m h = omega arith
 
-pub next_owner : (c : Cell) (names : List (List ℕ)) (f : Bool) (number : ℕ) → number < 16
+pub next_owner : (c : OwnerShares) (names : List (List ℕ)) (f : Bool) (number : ℕ) → number < 16
     → owners_from c names f number (16 - number) ≡ owner_text c names f number ++ owners_from c names (f && not (has_pages c number)) (number + 1) (16 - (number + 1))
 unfolding owners_from
 next_owner c names f number h = ap (owners_from c names f number) (one_less number 16 h)
 
-pub no_owner : (c : Cell) (names : List (List ℕ)) (f : Bool) (number : ℕ) → 16 ≤ number → owners_from c names f number (16 - number) ≡ []
+pub no_owner : (c : OwnerShares) (names : List (List ℕ)) (f : Bool) (number : ℕ) → 16 ≤ number → owners_from c names f number (16 - number) ≡ []
 unfolding owners_from
 no_owner c names f number h = let e : 16 - number ≡ 0 = omega arith in ap (owners_from c names f number) e
 
-pub next_band : (r : Run) (b : Bands) (number top : ℕ) → number < 16
+pub next_band : (r : RunSquare) (b : Bands) (number top : ℕ) → number < 16
     → bands_from r b number (16 - number) top
     ≡ band_text r number top (get_or b.heights number 0) ++ bands_from r b (number + 1) (16 - (number + 1)) (min (top + get_or b.heights number 0) 4294967295)
 unfolding bands_from
 next_band r b number top h = ap (λ n. bands_from r b number n top) (one_less number 16 h)
 
-pub no_band : (r : Run) (b : Bands) (number top : ℕ) → 16 ≤ number → bands_from r b number (16 - number) top ≡ []
+pub no_band : (r : RunSquare) (b : Bands) (number top : ℕ) → 16 ≤ number → bands_from r b number (16 - number) top ≡ []
 unfolding bands_from
 no_band r b number top h = let e : 16 - number ≡ 0 = omega arith in ap (λ n. bands_from r b number n top) e
 
-pub next_line : (names : List (List ℕ)) (g : Geometry) (lines : List Line) (i : ℕ) (none : Line) → i < length lines
+pub next_line : (names : List (List ℕ)) (g : Geometry) (lines : List LegendLine) (i : ℕ) (none : LegendLine) → i < length lines
     → lines_from names g (i + 2) (drop i lines) ≡ line_text names g (get_or lines i none) ((i + 2) * 20) ++ lines_from names g (i + 1 + 2) (drop (i + 1) lines)
 next_line names g lines i none h =
     let cut : drop i lines ≡ get_or lines i none ∷ drop (i + 1) lines = rw add-one (drop-cons lines i none h) in
     let more : i + 2 + 1 ≡ i + 1 + 2 = omega arith in
     ap (lines_from names g (i + 2)) cut ∙ ap (λ n. line_text names g (get_or lines i none) ((i + 2) * 20) ++ lines_from names g n (drop (i + 1) lines)) more
 
-pub no_line : (names : List (List ℕ)) (g : Geometry) (lines : List Line) (i : ℕ) → length lines ≤ i → lines_from names g (i + 2) (drop i lines) ≡ []
+pub no_line : (names : List (List ℕ)) (g : Geometry) (lines : List LegendLine) (i : ℕ) → length lines ≤ i → lines_from names g (i + 2) (drop i lines) ≡ []
 no_line names g lines i h = ap (lines_from names g (i + 2)) (drop_all i lines h)
 
 pub next_code : (known : Codes) (all : List FaultCode) (i : ℕ) (none : FaultCode) → i < length all

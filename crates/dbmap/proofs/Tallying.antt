@@ -19,8 +19,8 @@ use Rattle.dbowner.specs.declared.place.Place.TheVariants as place
 use Rattle.dbowner.proofs.Slots.{get_set, get_set_other}
 use Rattle.dbmap.specs.Cells.{no_share}
 use Rattle.dbmap.specs.Owners.{is_overflow}
-use Rattle.dbmap.specs.Shares.{counted_pages, one_page, share_in}
-use Rattle.dbmap.specs.Tallies.{AreLargest, AreLargestOf, IsNone, IsTallyOf, IsTallyTo, Tallied, is_nowhere, is_of_start, page_counted, pages_at, share_at, start_counted, start_share, tree_pages, used_counted}
+use Rattle.dbmap.specs.Shares.{capped_pages, one_page, share_in}
+use Rattle.dbmap.specs.Tallies.{AreLargest, AreLargestOf, IsNone, IsPageTallyOf, IsPageTallyTo, PagesTallied, is_nowhere, is_of_start, page_counted, pages_at, share_at, start_counted, start_share, tree_pages, used_counted}
 use Rattle.dbmap.specs.declared.cell.Share.{Share}
 use Rattle.dbmap.proofs.Largest.{largest_by}
 use Rattle.dbsurvey.proofs.Ranges.{count_push, range_push}
@@ -33,10 +33,10 @@ data PageCase (file : List ℕ) (V : List Reference) (p : ℕ) : Type 0 where
   is_fixed_page : is_fixed (geometry file) p ≡ true → place_of file V p ≡ place.Fixed → PageCase file V p
   is_lost : is_fixed (geometry file) p ≡ false → place_of file V p ≡ place.Nowhere → start_at V p ≡ None → PageCase file V p
   is_used : (k : ℕ) → is_fixed (geometry file) p ≡ false → start_at V p ≡ Some k → is_nowhere (place_of file V p) ≡ false
-      → ((start : Option ℕ) (t : Tallied) → page_counted (place_of file V p) start t ≡ used_counted start (is_overflow (place_of file V p)) t) → PageCase file V p
+      → ((start : Option ℕ) (t : PagesTallied) → page_counted (place_of file V p) start t ≡ used_counted start (is_overflow (place_of file V p)) t) → PageCase file V p
 
 place_used : (role : Role) (from : ℕ) → (is_nowhere (place_in role from) ≡ false)
-    × ((start : Option ℕ) (t : Tallied) → page_counted (place_in role from) start t ≡ used_counted start (is_overflow (place_in role from)) t)
+    × ((start : Option ℕ) (t : PagesTallied) → page_counted (place_in role from) start t ≡ used_counted start (is_overflow (place_in role from)) t)
 place_used (root kind) from = (refl, λ start t. refl)
 place_used (child kind) from = (refl, λ start t. refl)
 place_used (first_overflow left) from = (refl, λ start t. refl)
@@ -61,14 +61,14 @@ page_case file V p = by_case (is_fixed (geometry file) p) (visit_of V p) refl re
 -- ---- one page more
 
 module _ (file : List ℕ) (V : List Reference) (n p : ℕ) (next : p ≡ 1 + n) where
-  counted_same : (f : ℕ → Bool) → f p ≡ false → counted_pages (count_by f (range_with_len 1 n)) ≡ counted_pages (count_by f (range_with_len 1 (n + 1)))
+  counted_same : (f : ℕ → Bool) → f p ≡ false → capped_pages (count_by f (range_with_len 1 n)) ≡ capped_pages (count_by f (range_with_len 1 (n + 1)))
   counted_same f e =
       let c = count_push f 1 n p (sym next) in
       let none : cond {A = ℕ} (f p) 1 0 ≡ 0 = ap (λ b. cond {A = ℕ} b 1 0) e in
       let same : count_by f (range_with_len 1 n) ≡ count_by f (range_with_len 1 (n + 1)) = omega (arith, c, none) in
-      ap counted_pages same
+      ap capped_pages same
 
-  counted_more : (f : ℕ → Bool) → f p ≡ true → counted_pages (counted_pages (count_by f (range_with_len 1 n)) + 1) ≡ counted_pages (count_by f (range_with_len 1 (n + 1)))
+  counted_more : (f : ℕ → Bool) → f p ≡ true → capped_pages (capped_pages (count_by f (range_with_len 1 n)) + 1) ≡ capped_pages (count_by f (range_with_len 1 (n + 1)))
   counted_more f e =
       let c = count_push f 1 n p (sym next) in
       let one : cond {A = ℕ} (f p) 1 0 ≡ 1 = ap (λ b. cond {A = ℕ} b 1 0) e in
@@ -86,37 +86,37 @@ module _ (file : List ℕ) (V : List Reference) (n p : ℕ) (next : p ≡ 1 + n)
   share_next k e = sym (share_more k ∙ ap (λ b. cond b (one_page (is_overflow (place_of file V p)) (start_share file V n k)) (start_share file V n k)) e)
 
   -- a page of no start
-  of_none : (t : Tallied) → IsTallyTo file V n t → ((k : ℕ) → is_of_start file V k p ≡ false)
+  of_none : (t : PagesTallied) → IsPageTallyTo file V n t → ((k : ℕ) → is_of_start file V k p ≡ false)
       → ((k : ℕ) → k ≤ freelist_start → slice_get t.starts k ≡ Some (start_share file V (n + 1) k)) × ((k : ℕ) → k < freelist_start → t.trees ≤ k → (start_share file V (n + 1) k).pages ≡ 0)
   of_none t h no_start = (
     λ k l. h.starts k l ∙ ap Some (share_same k (no_start k)),
     λ k l m. ap (λ (s : Share). s.pages) (sym (share_same k (no_start k))) ∙ h.trees k l m,
   )
 
-  pub page_more : (t : Tallied) → IsTallyTo file V n t → IsTallyTo file V (n + 1) (page_counted (place_of file V p) (start_at V p) t)
+  pub page_more : (t : PagesTallied) → IsPageTallyTo file V n t → IsPageTallyTo file V (n + 1) (page_counted (place_of file V p) (start_at V p) t)
   page_more t h = by_case (page_case file V p)
     where
-      by_case : PageCase file V p → IsTallyTo file V (n + 1) (page_counted (place_of file V p) (start_at V p) t)
+      by_case : PageCase file V p → IsPageTallyTo file V (n + 1) (page_counted (place_of file V p) (start_at V p) t)
       by_case (is_fixed_page e at) =
           let k = of_none t h (λ k. ap (λ b. not b && option_map_or (λ s. s == k) (start_at V p) false) e) in
-          subst (λ a. IsTallyTo file V (n + 1) (page_counted a (start_at V p) t)) (sym at) (record {
+          subst (λ a. IsPageTallyTo file V (n + 1) (page_counted a (start_at V p) t)) (sym at) (record {
             starts = k.0;
             trees = k.1;
             few = h.few;
-            fixed = ap (λ m. counted_pages (m + 1)) h.fixed ∙ counted_more (is_fixed (geometry file)) e;
+            fixed = ap (λ m. capped_pages (m + 1)) h.fixed ∙ counted_more (is_fixed (geometry file)) e;
             nobody = h.nobody ∙ counted_same (λ p. is_nowhere (place_of file V p)) (ap is_nowhere at);
           })
       by_case (is_lost e at s) =
           let k = of_none t h (λ k. ap₂ (λ b o. not b && option_map_or (λ s. s == k) o false) e s) in
-          subst (λ a. IsTallyTo file V (n + 1) (page_counted a (start_at V p) t)) (sym at) (subst (λ o. IsTallyTo file V (n + 1) (page_counted place.Nowhere o t)) (sym s) (record {
+          subst (λ a. IsPageTallyTo file V (n + 1) (page_counted a (start_at V p) t)) (sym at) (subst (λ o. IsPageTallyTo file V (n + 1) (page_counted place.Nowhere o t)) (sym s) (record {
             starts = k.0;
             trees = k.1;
             few = h.few;
             fixed = h.fixed ∙ counted_same (is_fixed (geometry file)) e;
-            nobody = ap (λ m. counted_pages (m + 1)) h.nobody ∙ counted_more (λ p. is_nowhere (place_of file V p)) (ap is_nowhere at);
+            nobody = ap (λ m. capped_pages (m + 1)) h.nobody ∙ counted_more (λ p. is_nowhere (place_of file V p)) (ap is_nowhere at);
           }))
       by_case (is_used j e s some used) =
-          subst (IsTallyTo file V (n + 1)) (sym (used (start_at V p) t)) (subst (λ o. IsTallyTo file V (n + 1) (used_counted o over t)) (sym s) (record {
+          subst (IsPageTallyTo file V (n + 1)) (sym (used (start_at V p) t)) (subst (λ o. IsPageTallyTo file V (n + 1) (used_counted o over t)) (sym s) (record {
             starts = λ k l. at_each k l (j == k) refl;
             trees = λ k l m. tree_none k l m (nat_lt j freelist_start) refl;
             few = few_trees (nat_lt j freelist_start) refl;
@@ -162,7 +162,7 @@ module _ (file : List ℕ) (V : List Reference) (n p : ℕ) (next : p ≡ 1 + n)
               ap (λ (s : Share). s.pages) (sym (share_same k (of_start k ∙ d))) ∙ h.trees k l m2
 
 -- no page is counted yet
-pub none_counted : (file : List ℕ) (V : List Reference) (t : Tallied) → IsNone t → IsTallyTo file V 0 t
+pub none_counted : (file : List ℕ) (V : List Reference) (t : PagesTallied) → IsNone t → IsPageTallyTo file V 0 t
 none_counted file V t h = record {
   starts = h.starts;
   trees = λ k l m. refl;
@@ -173,10 +173,10 @@ none_counted file V t h = record {
 
 -- ---- the largest trees of a file
 
-pub largest_of : (file : List ℕ) (V : List Reference) (t : Tallied) (ks : List ℕ) → IsTallyOf file V t → AreLargest t.trees (pages_at t.starts) ks → AreLargestOf file V ks
+pub largest_of : (file : List ℕ) (V : List Reference) (t : PagesTallied) (ks : List ℕ) → IsPageTallyOf file V t → AreLargest t.trees (pages_at t.starts) ks → AreLargestOf file V ks
 largest_of file V t ks h largest = largest_by t.trees freelist_start (pages_at t.starts) (tree_pages file V) ks same h.all.few all largest
   where
-    uncapped : (k : ℕ) → counted_pages (tree_pages file V k) ≡ tree_pages file V k
+    uncapped : (k : ℕ) → capped_pages (tree_pages file V k) ≡ tree_pages file V k
     uncapped k =
         let a = count_by-le-length (is_of_start file V k) (range_with_len 1 (geometry file).pages) in
         let b = length-range_with_len 1 (geometry file).pages in

@@ -3,18 +3,18 @@ use Rattle.std.proofs.Common.{◌≡◌, ℕ, zero, suc, ◌+◌, ◌<◌, List,
 use Rattle.std.specs.Prelude.{IsOk, OnOk}
 use Rattle.std.proofs.lemmas.Bool.{false≢true}
 use Rattle.std.proofs.lemmas.List.{take_more}
-use Rattle.dbmap.specs.Owners.{starts_of}
+use Rattle.dbmap.specs.Owners.{tree_starts}
 use Rattle.dbmap.specs.Tallies.{share_at}
 use Rattle.dbmap.specs.TreeLists.{tree_at}
 use Rattle.dbmap.specs.declared.cell.Share.{Share}
-use Rattle.dbmap.specs.declared.tally.Tree.{Tree}
+use Rattle.dbmap.specs.declared.tally.RankedTree.{RankedTree}
 
 pub on_ok : {A E P : Type 0} (r : Result A E) → IsOk r → OnOk r P → P
 on_ok (Ok x) i h = h
 on_ok (Err e) i h = absurd (false≢true i)
 
 -- one tree more
-pub starts_push : (ts : List Tree) (t : Tree) → starts_of (ts ++ t ∷ []) ≡ starts_of ts ++ t.start ∷ []
+pub starts_push : (ts : List RankedTree) (t : RankedTree) → tree_starts (ts ++ t ∷ []) ≡ tree_starts ts ++ t.start ∷ []
 starts_push [] t = refl
 starts_push (u ∷ ts) t = ap (λ l. u.start ∷ l) (starts_push ts t)
 
@@ -22,20 +22,20 @@ map_push : {X : Type 0} (f : ℕ → X) (ks : List ℕ) (k : ℕ) → map f (ks 
 map_push f [] k = refl
 map_push f (j ∷ ks) k = ap (λ l. f j ∷ l) (map_push f ks k)
 
-pub trees_push : (starts : List Share) (ts : List Tree) (t : Tree) {us : List Tree} → us ≡ ts ++ t ∷ [] → ts ≡ map (tree_at starts) (starts_of ts) → t ≡ tree_at starts t.start
-    → us ≡ map (tree_at starts) (starts_of us)
+pub trees_push : (starts : List Share) (ts : List RankedTree) (t : RankedTree) {us : List RankedTree} → us ≡ ts ++ t ∷ [] → ts ≡ map (tree_at starts) (tree_starts ts) → t ≡ tree_at starts t.start
+    → us ≡ map (tree_at starts) (tree_starts us)
 trees_push starts ts t e h k =
-    e ∙ ap₂ (λ l u. l ++ u ∷ []) h k ∙ sym (map_push (tree_at starts) (starts_of ts) t.start) ∙ ap (map (tree_at starts)) (sym (starts_push ts t) ∙ ap starts_of (sym e))
+    e ∙ ap₂ (λ l u. l ++ u ∷ []) h k ∙ sym (map_push (tree_at starts) (tree_starts ts) t.start) ∙ ap (map (tree_at starts)) (sym (starts_push ts t) ∙ ap tree_starts (sym e))
 
 -- what a tree has is what a tally has of its start, where that is so of all
-pub tree_here : (starts : List Share) (ts : List Tree) (i : ℕ) (d : Tree) → i < length ts → ts ≡ map (tree_at starts) (starts_of ts)
+pub tree_here : (starts : List Share) (ts : List RankedTree) (i : ℕ) (d : RankedTree) → i < length ts → ts ≡ map (tree_at starts) (tree_starts ts)
     → (get_or ts i d).share ≡ share_at starts (get_or ts i d).start
 tree_here starts [] i d h e = absurd (let no : ⊥ = omega arith in no)
-tree_here starts (t ∷ ts) zero d h e = let same : t ≡ tree_at starts t.start = cc in ap (λ (t : Tree). t.share) same
-tree_here starts (t ∷ ts) (suc i) d h e = let same : ts ≡ map (tree_at starts) (starts_of ts) = cc in tree_here starts ts i d (omega arith) same
+tree_here starts (t ∷ ts) zero d h e = let same : t ≡ tree_at starts t.start = cc in ap (λ (t : RankedTree). t.share) same
+tree_here starts (t ∷ ts) (suc i) d h e = let same : ts ≡ map (tree_at starts) (tree_starts ts) = cc in tree_here starts ts i d (omega arith) same
 
 -- the names of the first of some trees, one tree more
-pub names_more : (f : ℕ → List ℕ) (ts : List Tree) (i : ℕ) (d : Tree) → i < length ts
-    → map f (starts_of (take (i + 1) ts)) ≡ map f (starts_of (take i ts)) ++ f (get_or ts i d).start ∷ []
+pub names_more : (f : ℕ → List ℕ) (ts : List RankedTree) (i : ℕ) (d : RankedTree) → i < length ts
+    → map f (tree_starts (take (i + 1) ts)) ≡ map f (tree_starts (take i ts)) ++ f (get_or ts i d).start ∷ []
 names_more f ts i d h =
-    ap (λ l. map f (starts_of l)) (take_more ts i d h) ∙ ap (map f) (starts_push (take i ts) (get_or ts i d)) ∙ map_push f (starts_of (take i ts)) (get_or ts i d).start
+    ap (λ l. map f (tree_starts l)) (take_more ts i d h) ∙ ap (map f) (starts_push (take i ts) (get_or ts i d)) ∙ map_push f (tree_starts (take i ts)) (get_or ts i d).start

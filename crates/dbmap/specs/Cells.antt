@@ -1,6 +1,6 @@
 -- Whose the pages of a square are.
 use Rattle.std.specs.Prelude.{ℕ, ◌/◌, min, Bool, not, nat_lt, nat_le, get_or, ◌==◌, if◌then◌else◌}
-use Rattle.dbmap.specs.declared.cell.Cell.{Cell}
+use Rattle.dbmap.specs.declared.cell.OwnerShares.{OwnerShares}
 use Rattle.dbmap.specs.declared.cell.Owner.{Owner}
 use Rattle.dbmap.specs.declared.cell.Owner.TheVariants.{Fixed, Freelist, Nobody, Tree}
 use Rattle.dbmap.specs.declared.cell.Share.{Share}
@@ -10,11 +10,11 @@ abbrev pub no_share : Share
 no_share = record { pages = 0; overflow = 0 }
 
 -- the pages of the owner with a number
-abbrev pub share_of : Cell → ℕ → Share
+abbrev pub share_of : OwnerShares → ℕ → Share
 share_of c number = get_or c.shares number no_share
 
 -- whether that owner has one of the pages
-abbrev pub has_pages : Cell → ℕ → Bool
+abbrev pub has_pages : OwnerShares → ℕ → Bool
 has_pages c number = not ((share_of c number).pages == 0)
 
 -- whether most of some pages are overflow pages
@@ -27,8 +27,8 @@ owner_numbered number =
     if nat_le number 12 then Tree number else (if number == 13 then Freelist else (if number == 14 then Fixed else Nobody))
 
 -- the number of an owner
-abbrev pub number_of : Owner → ℕ
-number_of (Tree rank) = min rank 12
-number_of Freelist = 13
-number_of Fixed = 14
-number_of Nobody = 15
+abbrev pub owner_number : Owner → ℕ
+owner_number (Tree rank) = min rank 12
+owner_number Freelist = 13
+owner_number Fixed = 14
+owner_number Nobody = 15

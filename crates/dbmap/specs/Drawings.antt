@@ -9,16 +9,16 @@ use Rattle.dbsource.specs.Outs.{OutState, Puts}
 use Rattle.dbxml.specs.Names.{file_name, tree_name}
 use Rattle.dbmap.specs.Canvas.{Draws}
 use Rattle.dbmap.specs.Grids.{IsLeastRun, rows, width_of}
-use Rattle.dbmap.specs.KeptFaults.{HasRoom, IsKeptGround, noted_pages}
+use Rattle.dbmap.specs.KeptFaults.{HasTreeRoom, IsKeptGround, noted_pages}
 use Rattle.dbmap.specs.LegendLines.{legend_lines}
 use Rattle.dbmap.specs.Owners.{IsOf}
-use Rattle.dbmap.specs.Squares.{AreRows, AreSquares, Ground, IsRow, IsSquare, Square, before_text, group_after, last_group, row_text, rows_text, square_text, squares_text, surveyed}
+use Rattle.dbmap.specs.Squares.{AreRows, AreSquares, Ground, IsRow, IsSquare, Square, before_text, group_after, last_group, squares_row_text, squares_rows_text, square_text, squares_text, surveyed}
 use Rattle.dbmap.specs.Pictures.{picture_text}
 use Rattle.dbmap.specs.Tallies.{AreLargestOf}
 use Rattle.dbmap.specs.declared.canvas.Canvas.{Canvas}
 use Rattle.dbmap.specs.declared.cell.Owner.{Owner}
-use Rattle.dbmap.specs.declared.kept.Kept.{Kept}
-use Rattle.dbmap.specs.declared.legend.Line.{Line}
+use Rattle.dbmap.specs.declared.kept.KeptFaults.{KeptFaults}
+use Rattle.dbmap.specs.declared.legend.LegendLine.{LegendLine}
 use Rattle.dbmap.specs.declared.picture.Heading.{Heading}
 
 module _ {O : Type 0} (held : O → OutState) (g : Ground) (known : List (Option (Option ℕ))) where
@@ -41,17 +41,17 @@ module _ {O : Type 0} (held : O → OutState) (g : Ground) (known : List (Option
   pub record DrawsRow (row : ℕ) (s t : Canvas O) : Type 0 where
     pub squares : List Square
     pub is : (file : List ℕ) (V : List Reference) → IsOf g.marks known file V → IsRow (surveyed g V) row squares
-    pub draws : Draws held s (row_text g row squares) t
+    pub draws : Draws held s (squares_row_text g row squares) t
 
   -- all rows were
   pub record DrawsRows (s t : Canvas O) : Type 0 where
     pub all : List (List Square)
     pub many : length all ≡ rows g.grid
     pub are : (file : List ℕ) (V : List Reference) → IsOf g.marks known file V → AreRows (surveyed g V) 0 all
-    pub draws : Draws held s (rows_text g 0 all) t
+    pub draws : Draws held s (squares_rows_text g 0 all) t
 
 -- all of the picture was, by what is said above the squares and the lines of the legend
-pub record DrawsPicture {O : Type 0} (held : O → OutState) (h : Heading) (g : Ground) (known : List (Option (Option ℕ))) (lines : List Line) (s t : Canvas O) : Type 0 where
+pub record DrawsPicture {O : Type 0} (held : O → OutState) (h : Heading) (g : Ground) (known : List (Option (Option ℕ))) (lines : List LegendLine) (s t : Canvas O) : Type 0 where
   pub all : List (List Square)
   pub many : length all ≡ rows g.grid
   pub are : (file : List ℕ) (V : List Reference) → IsOf g.marks known file V → AreRows (surveyed g V) 0 all
@@ -63,7 +63,7 @@ stated_of header = if is_size_valid header then stated_pages header else 0
 
 -- A picture of the file of a desk, and of what was kept of its faults, where there was room to know the trees of its pages: its name, how
 -- large it is, how many faults were found, the names of its trees, and the squares of all its pages, row by row.
-pub record IsPicture {K : Type 0} (name : List ℕ) (d : Things) (k : Kept K) (faults : ℕ) (h : Heading) (g : Ground) (all : List (List Square)) : Type 0 where
+pub record IsPicture {K : Type 0} (name : List ℕ) (d : Things) (k : KeptFaults K) (faults : ℕ) (h : Heading) (g : Ground) (all : List (List Square)) : Type 0 where
   pub named : h.file ≡ file_name name
   pub geometry : h.geometry ≡ shape_of d
   pub found : h.faults ≡ faults
@@ -77,18 +77,18 @@ pub record IsPicture {K : Type 0} (name : List ℕ) (d : Things) (k : Kept K) (f
   pub tree : g.tree ≡ tree_name (encoding d.header.bytes) d.roots.rows
   pub names : g.names ≡ map g.tree g.owners.largest
   pub many : length all ≡ rows g.grid
-  pub are : (file : List ℕ) (V : List Reference) → IsDeskOf d file V → HasRoom (shape_of d).pages k.walk.trees.known → AreRows (surveyed g V) 0 all
-  pub largest : (file : List ℕ) (V : List Reference) → IsDeskOf d file V → HasRoom (shape_of d).pages k.walk.trees.known
+  pub are : (file : List ℕ) (V : List Reference) → IsDeskOf d file V → HasTreeRoom (shape_of d).pages k.walk.trees.known → AreRows (surveyed g V) 0 all
+  pub largest : (file : List ℕ) (V : List Reference) → IsDeskOf d file V → HasTreeRoom (shape_of d).pages k.walk.trees.known
       → AreLargestOf file V g.owners.largest
   pub faulty : IsKeptGround k g.faults
 
 -- such a picture was put
-pub record PutsPicture {A E K : Type 0} (r : Result A E) (old new : OutState) (name : List ℕ) (d : Things) (k : Kept K) (faults : ℕ) : Type 0 where
+pub record PutsPicture {A E K : Type 0} (r : Result A E) (old new : OutState) (name : List ℕ) (d : Things) (k : KeptFaults K) (faults : ℕ) : Type 0 where
   pub heading : Heading
   pub ground : Ground
   pub all : List (List Square)
-  pub lines : List Line
+  pub lines : List LegendLine
   pub is : IsPicture name d k faults heading ground all
-  pub legend : (file : List ℕ) (V : List Reference) → IsDeskOf d file V → HasRoom (shape_of d).pages k.walk.trees.known
+  pub legend : (file : List ℕ) (V : List Reference) → IsDeskOf d file V → HasTreeRoom (shape_of d).pages k.walk.trees.known
       → lines ≡ legend_lines file V ground.names ground.owners.largest (noted_pages k)
   pub puts : Puts r old new (picture_text heading ground all lines)

@@ -7,7 +7,7 @@ use Rattle.dbformat.specs.Report.{faults}
 use Rattle.dbformat.specs.declared.Fault.{Fault}
 use Rattle.dbformat.specs.declared.FaultCode.{FaultCode}
 use Rattle.dbtrace.specs.declared.Reported.{Reported}
-use Rattle.dblisting.specs.Listed.{listed}
+use Rattle.dblisting.specs.Listed.{listed_entries}
 use Rattle.dbmap.specs.CodeSets.{no_codes}
 use Rattle.dbmap.specs.FramedPages.{first_faults, framed}
 use Rattle.dbmap.specs.PageSets.{HasManySets, any_page, codes_at, codes_of_pages, is_faulty}
@@ -42,12 +42,12 @@ pub record IsFaulty (g : FaultsGround) (first last : ℕ) (f : Faulty) : Type 0 
 abbrev pub coded : Fault → ℕ × FaultCode
 coded f = (f.page, f.code)
 
-abbrev pub page_faults : List ℕ → List Reference → List (ℕ × FaultCode)
-page_faults file V = map coded (faults file V)
+abbrev pub coded_faults : List ℕ → List Reference → List (ℕ × FaultCode)
+coded_faults file V = map coded (faults file V)
 
 -- the faults that lead the first 100 entries: those that `explain` lists where no other number is given
 abbrev pub leading_faults : List ℕ → List Reference → List Reported
-leading_faults file V = first_faults (take 100 (listed file V))
+leading_faults file V = first_faults (take 100 (listed_entries file V))
 
 -- the codes that are shown of page p are those of its faults; where more different sets occurred than can be kept, it may be that none
 -- are shown
@@ -57,10 +57,10 @@ ShowsCodes fs p codes = (codes ≡ codes_at fs p) ⊎ ((codes ≡ no_codes) × H
 -- All this is so of each page of the file: it has a fault where one of the file's faults is of it, and the strong frame where it is a
 -- page of a fault that leads.
 pub record AreFaultsOf (file : List ℕ) (V : List Reference) (g : FaultsGround) : Type 0 where
-  pub has : (p : ℕ) → 1 ≤ p → p ≤ (geometry file).pages → g.has p ≡ is_faulty (page_faults file V) p
-  pub codes : (p : ℕ) → 1 ≤ p → p ≤ (geometry file).pages → ShowsCodes (page_faults file V) p (g.codes p)
+  pub has : (p : ℕ) → 1 ≤ p → p ≤ (geometry file).pages → g.has p ≡ is_faulty (coded_faults file V) p
+  pub codes : (p : ℕ) → 1 ≤ p → p ≤ (geometry file).pages → ShowsCodes (coded_faults file V) p (g.codes p)
   pub strong : (p : ℕ) → 1 ≤ p → p ≤ (geometry file).pages → g.strong p ≡ is_faulty (framed (leading_faults file V)) p
 
 -- how many pages of the file have a fault
 abbrev pub faulty_pages : List ℕ → List Reference → ℕ
-faulty_pages file V = count_by (is_faulty (page_faults file V)) (range_with_len 1 (geometry file).pages)
+faulty_pages file V = count_by (is_faulty (coded_faults file V)) (range_with_len 1 (geometry file).pages)

@@ -24,8 +24,8 @@ page_of_value (pos n) = if nat_lt n 4294967296 then n else 0
 page_of_value _ = 0
 
 -- the page that the value of a fault names, or 0
-abbrev pub value_page : Fault → ℕ
-value_page f = if names_page f.code then page_of_value f.value else 0
+abbrev pub fault_value_page : Fault → ℕ
+fault_value_page f = if names_page f.code then page_of_value f.value else 0
 
 -- the page of a cause, or 0: that of the key, of the first leaf, or of the cell that has the chain
 abbrev pub cause_page : Cause → ℕ
@@ -37,7 +37,7 @@ cause_page (cause.Look l) = 0
 
 -- the pages of a fault that leads, each with its code: its own, the one that its value names, and that of its cause
 abbrev pub framed_of : Reported → List (ℕ × FaultCode)
-framed_of x = (x.fault.page, x.fault.code) ∷ (value_page x.fault, x.fault.code) ∷ (cause_page x.cause, x.fault.code) ∷ []
+framed_of x = (x.fault.page, x.fault.code) ∷ (fault_value_page x.fault, x.fault.code) ∷ (cause_page x.cause, x.fault.code) ∷ []
 
 -- those of some
 abbrev pub framed : List Reported → List (ℕ × FaultCode)

@@ -22,8 +22,8 @@ columns_of Few = 32
 columns_of Some = 64
 columns_of Many = 128
 
-abbrev pub columns : Grid → ℕ
-columns g = columns_of g.width
+abbrev pub grid_columns : Grid → ℕ
+grid_columns g = columns_of g.width
 
 -- how many pixels a square takes with the room after it
 abbrev pub side_of : Width → ℕ
@@ -36,19 +36,19 @@ side g = side_of g.width
 
 -- how many squares and outlines there are: no more rows of outlines alone than the file has rows
 abbrev pub places : Grid → ℕ
-places g = max (min (div_ceil g.stated (max g.run 1)) (div_ceil g.cells (columns g) * 2 * columns g)) g.cells
+places g = max (min (div_ceil g.stated (max g.run 1)) (div_ceil g.cells (grid_columns g) * 2 * grid_columns g)) g.cells
 
 -- how many rows there are
 abbrev pub rows : Grid → ℕ
-rows g = div_ceil (places g) (columns g)
+rows g = div_ceil (places g) (grid_columns g)
 
 -- the squares of a row, the first and the one after the last
 abbrev pub cells_of_row : Grid → ℕ → ℕ × ℕ
-cells_of_row g row = (min (row * columns g) g.cells, min ((row + 1) * columns g) g.cells)
+cells_of_row g row = (min (row * grid_columns g) g.cells, min ((row + 1) * grid_columns g) g.cells)
 
 -- the outlines of a row, the first and the one after the last
 abbrev pub outlines_of_row : Grid → ℕ → ℕ × ℕ
-outlines_of_row g row = (max (min (row * columns g) (places g)) g.cells, min ((row + 1) * columns g) (places g))
+outlines_of_row g row = (max (min (row * grid_columns g) (places g)) g.cells, min ((row + 1) * grid_columns g) (places g))
 
 -- the first and the last page of a place, in a file of `pages` pages
 abbrev pub run_of : Grid → ℕ → ℕ → ℕ × ℕ
@@ -56,11 +56,11 @@ run_of g place pages = (min (place * g.run + 1) pages, min (place * g.run + g.ru
 
 -- where a square begins in its row, and where a row begins, in pixels
 abbrev pub x_of : Grid → ℕ → ℕ
-x_of g place = (place % columns g) * side g
+x_of g place = (place % grid_columns g) * side g
 
 abbrev pub top_of : Grid → ℕ → ℕ
 top_of g row = 64 + row * side g
 
 -- the first page of a row
 abbrev pub page_of_row : Grid → ℕ → ℕ
-page_of_row g row = counted (counted (row * columns g * g.run) + 1)
+page_of_row g row = counted (counted (row * grid_columns g * g.run) + 1)

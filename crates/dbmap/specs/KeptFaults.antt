@@ -12,10 +12,10 @@ use Rattle.dbentries.specs.Woven.{KeepsFirst, woven}
 use Rattle.dblisting.specs.Listed.{lost_faults, other_faults}
 use Rattle.dblisting.specs.Lost.{IsUnused}
 use Rattle.dblisting.specs.Told.{listed_now}
-use Rattle.dbmap.specs.FaultyPages.{FaultsGround, coded, page_faults}
+use Rattle.dbmap.specs.FaultyPages.{FaultsGround, coded, coded_faults}
 use Rattle.dbmap.specs.FramedPages.{first_faults, framed}
 use Rattle.dbmap.specs.PageSets.{AreNoted, has_page, is_noted, shown_codes}
-use Rattle.dbmap.specs.declared.kept.Kept.{Kept}
+use Rattle.dbmap.specs.declared.kept.KeptFaults.{KeptFaults}
 use Rattle.dbmap.specs.declared.page_set.PageSet.{PageSet}
 
 -- no fault was noted of this number of pages
@@ -24,13 +24,13 @@ pub record IsUnnoted {A : Type 0} (count : ℕ) (s : PageSet A) : Type 0 where
   pub pages : vec_len s.noted ≡ count
 
 -- there is room to know the tree of each page
-abbrev pub HasRoom : ℕ → List (Option (Option ℕ)) → Type 0
-HasRoom pages known = pages ≤ length known
+abbrev pub HasTreeRoom : ℕ → List (Option (Option ℕ)) → Type 0
+HasTreeRoom pages known = pages ≤ length known
 
 -- No fault was reported of a file of this number of pages. There is room for 100 entries and six of lost pages, and for the trees of the
 -- pages.
-pub record HearsNone {A : Type 0} (pages : ℕ) (k : Kept A) : Type 0 where
-  pub room : HasRoom pages k.walk.trees.known
+pub record HearsNone {A : Type 0} (pages : ℕ) (k : KeptFaults A) : Type 0 where
+  pub room : HasTreeRoom pages k.walk.trees.known
   pub faulty : IsUnnoted pages k.faulty
   pub strong : IsUnnoted pages k.strong
   pub entries : IsUnused k.entries
@@ -40,7 +40,7 @@ pub record HearsNone {A : Type 0} (pages : ℕ) (k : Kept A) : Type 0 where
   pub few : pages ≤ 67108864
 
 -- a fault was noted at its page, and listed
-pub record Keeps {A : Type 0} (x : Reported) (k l : Kept A) : Type 0 where
+pub record HasNoted {A : Type 0} (x : Reported) (k l : KeptFaults A) : Type 0 where
   pub faulty : (fs : List (ℕ × FaultCode)) → AreNoted fs k.faulty → AreNoted (fs ++ coded x.fault ∷ []) l.faulty
   pub pages : vec_len l.faulty.noted ≡ vec_len k.faulty.noted
   pub entries : (xs : List Reported) → AreEntriesOf xs k.entries → k.entries.part ≤ rank x.part → AreEntriesOf (xs ++ listed_now x) l.entries
@@ -51,7 +51,7 @@ pub record Keeps {A : Type 0} (x : Reported) (k l : Kept A) : Type 0 where
   pub walk : l.walk ≡ k.walk
 
 -- The pages of the first entries have the strong frame, where those of lost pages are in their places among the others.
-pub record IsStrong {A : Type 0} (k : Kept A) (strong : ℕ → Bool) : Type 0 where
+pub record IsStrong {A : Type 0} (k : KeptFaults A) (strong : ℕ → Bool) : Type 0 where
   pub set : PageSet A
   pub noted : (es ls : List listing.Entry) → KeepsFirst es k.entries → k.lost.listed ≡ map kept_of ls → AreNoted [] k.strong
       → AreNoted (framed (first_faults (take k.entries.limit (woven es ls)))) set
@@ -59,19 +59,19 @@ pub record IsStrong {A : Type 0} (k : Kept A) (strong : ℕ → Bool) : Type 0 w
   pub is : (p : ℕ) → strong p ≡ has_page set p
 
 -- what squares are drawn by is what is kept
-pub record IsKeptGround {A : Type 0} (k : Kept A) (g : FaultsGround) : Type 0 where
+pub record IsKeptGround {A : Type 0} (k : KeptFaults A) (g : FaultsGround) : Type 0 where
   pub has : (p : ℕ) → g.has p ≡ has_page k.faulty p
   pub codes : (p : ℕ) → g.codes p ≡ shown_codes k.faulty p
   pub strong : IsStrong k g.strong
 
 -- how many pages with a fault were noted
-abbrev pub noted_pages : {A : Type 0} → Kept A → ℕ
+abbrev pub noted_pages : {A : Type 0} → KeptFaults A → ℕ
 noted_pages k = min (count_by is_noted k.faulty.noted.items) 4294967295
 
 -- all faults of a file were noted at their pages, and are listed, those of lost pages apart; no strong frame is noted yet
-pub record HasFaults {A : Type 0} (file : List ℕ) (V : List Reference) (k : Kept A) : Type 0 where
-  pub room : HasRoom (geometry file).pages k.walk.trees.known
-  pub faulty : AreNoted (page_faults file V) k.faulty
+pub record HasFaults {A : Type 0} (file : List ℕ) (V : List Reference) (k : KeptFaults A) : Type 0 where
+  pub room : HasTreeRoom (geometry file).pages k.walk.trees.known
+  pub faulty : AreNoted (coded_faults file V) k.faulty
   pub pages : vec_len k.faulty.noted ≡ (geometry file).pages
   pub strong : IsUnnoted (geometry file).pages k.strong
   pub entries : AreEntriesOf (other_faults file V) k.entries

@@ -12,12 +12,12 @@ use Rattle.dbformat.specs.SchemaRow.{SchemaRow}
 use Rattle.dbxml.specs.Widths.{seen}
 use Rattle.dbmap.specs.Legends.{no_overflow}
 use Rattle.dbmap.specs.Owners.{rank_of}
-use Rattle.dbmap.specs.Shares.{counted_pages}
-use Rattle.dbmap.specs.Tallies.{fixed_pages, lost_pages, start_share}
+use Rattle.dbmap.specs.Shares.{capped_pages}
+use Rattle.dbmap.specs.Tallies.{fixed_count, lost_pages, start_share}
 use Rattle.dbmap.specs.declared.cell.Share.{Share}
 use Rattle.dbmap.specs.declared.legend.Label.{Label}
 use Rattle.dbmap.specs.declared.legend.Label.TheVariants.{Faulty, Fixed, Freelist, Nobody, Others, Tree}
-use Rattle.dbmap.specs.declared.legend.Line.{Line}
+use Rattle.dbmap.specs.declared.legend.LegendLine.{LegendLine}
 
 -- ---- the names of trees
 
@@ -46,11 +46,11 @@ root_if_twice names rows rank start = if is_twice names rank 56 then Some (root_
 -- ---- the lines
 
 -- a line, if there is a page of it
-abbrev pub line_if : Label → Share → List Line
+abbrev pub line_if : Label → Share → List LegendLine
 line_if label share = if share.pages == 0 then [] else record { label = label; share = share } ∷ []
 
 -- those of trees, the first of which has this rank, by what each start has
-abbrev pub tree_lines : List (List ℕ) → List SchemaRow → (ℕ → Share) → ℕ → List ℕ → List Line
+abbrev pub tree_lines : List (List ℕ) → List SchemaRow → (ℕ → Share) → ℕ → List ℕ → List LegendLine
 tree_lines names rows share rank [] = []
 tree_lines names rows share rank (start ∷ starts) =
     line_if (Tree rank (root_if_twice names rows rank start)) (share start) ++ tree_lines names rows share (rank + 1) starts
@@ -61,17 +61,17 @@ is_other share largest start = not ((share start).pages == 0) && (rank_of larges
 
 -- how many such trees there are, of those with starts below n
 abbrev pub other_trees : (ℕ → Share) → List ℕ → ℕ → ℕ
-other_trees share largest n = counted_pages (count_by (is_other share largest) (range_with_len 0 n))
+other_trees share largest n = capped_pages (count_by (is_other share largest) (range_with_len 0 n))
 
 -- and what these have together
 abbrev pub others_share : (ℕ → Share) → List ℕ → ℕ → Share
 others_share share largest n = record {
-  pages = counted_pages (sum_by (λ k. if is_other share largest k then (share k).pages else 0) (range_with_len 0 n));
-  overflow = counted_pages (sum_by (λ k. if is_other share largest k then (share k).overflow else 0) (range_with_len 0 n));
+  pages = capped_pages (sum_by (λ k. if is_other share largest k then (share k).pages else 0) (range_with_len 0 n));
+  overflow = capped_pages (sum_by (λ k. if is_other share largest k then (share k).overflow else 0) (range_with_len 0 n));
 }
 
 -- the lines of owners, where trees have starts below n
-abbrev pub owner_lines : List (List ℕ) → List SchemaRow → (ℕ → Share) → List ℕ → ℕ → ℕ → ℕ → List Line
+abbrev pub owner_lines : List (List ℕ) → List SchemaRow → (ℕ → Share) → List ℕ → ℕ → ℕ → ℕ → List LegendLine
 owner_lines names rows share largest n fixed nobody =
     tree_lines names rows share 0 largest
     ++ (line_if (Others (other_trees share largest n)) (others_share share largest n)
@@ -84,8 +84,8 @@ abbrev pub file_share : List ℕ → List Reference → ℕ → Share
 file_share file V start = start_share file V (geometry file).pages start
 
 -- The legend's lines, by the names and the starts of the largest trees, and by how many pages have a fault.
-abbrev pub legend_lines : List ℕ → List Reference → List (List ℕ) → List ℕ → ℕ → List Line
+abbrev pub legend_lines : List ℕ → List Reference → List (List ℕ) → List ℕ → ℕ → List LegendLine
 legend_lines file V names largest faulty =
     owner_lines names (take last_root_start (rooted_rows (schema file V))) (file_share file V) largest freelist_start
-    (counted_pages (fixed_pages file (geometry file).pages)) (counted_pages (lost_pages file V (geometry file).pages))
+    (capped_pages (fixed_count file (geometry file).pages)) (capped_pages (lost_pages file V (geometry file).pages))
     ++ line_if Faulty (no_overflow faulty)

@@ -12,14 +12,14 @@ use Rattle.dbmap.specs.declared.cell.Share.{Share}
 use Rattle.dbmap.specs.declared.grid.Grid.{Grid}
 use Rattle.dbmap.specs.declared.legend.Label.{Label}
 use Rattle.dbmap.specs.declared.legend.Label.TheVariants.{Faulty, Fixed, Freelist, Nobody, Others, Tree}
-use Rattle.dbmap.specs.declared.legend.Line.{Line}
+use Rattle.dbmap.specs.declared.legend.LegendLine.{LegendLine}
 
 -- some pages, none of which is an overflow page
 abbrev pub no_overflow : ℕ → Share
 no_overflow pages = record { pages = pages; overflow = 0 }
 
 -- how many pixels the legend takes, with the room around it
-abbrev pub height : List Line → ℕ → ℕ
+abbrev pub height : List LegendLine → ℕ → ℕ
 height lines missing = (length lines + (if missing == 0 then 0 else 1)) * 20 + 40
 
 -- a text in two parts in a column, which ends at x
@@ -59,49 +59,49 @@ box_text x y colour =
     ∷ codes "\" stroke=\"#888888\" stroke-width=\".5\"/>" ∷ [])
 
 -- the owner of the pages of a line, if it is of one
-abbrev pub owner_of : Label → Option Owner
-owner_of (Tree rank root) = Some (owner.Tree rank)
-owner_of (Others count) = Some (owner.Tree 12)
-owner_of Freelist = Some owner.Freelist
-owner_of Fixed = Some owner.Fixed
-owner_of Nobody = Some owner.Nobody
-owner_of Faulty = None
+abbrev pub label_owner : Label → Option Owner
+label_owner (Tree rank root) = Some (owner.Tree rank)
+label_owner (Others count) = Some (owner.Tree 12)
+label_owner Freelist = Some owner.Freelist
+label_owner Fixed = Some owner.Fixed
+label_owner Nobody = Some owner.Nobody
+label_owner Faulty = None
 
 -- the shade of an owner's overflow pages, if there are any
 abbrev pub shade_text : Owner → ℕ → ℕ → List ℕ
 shade_text owner overflow y = if overflow == 0 then [] else box_text 88 (y - 10) (fill owner true)
 
 -- the frame of squares with a fault
-abbrev pub frame_text : ℕ → List ℕ
-frame_text y =
+abbrev pub legend_frame_text : ℕ → List ℕ
+legend_frame_text y =
     concat (codes "<rect x=\"73\" y=\"" ∷ decimal (y - 9)
     ∷ codes "\" width=\"10\" height=\"10\" fill=\"#FFFFFF\" stroke=\"#BE0700\" stroke-width=\"2\"/>" ∷ [])
 
 -- the colours of an owner, or that frame
 abbrev pub swatch_by : Option Owner → Share → ℕ → List ℕ
 swatch_by (Some owner) share y = shade_text owner share.overflow y ++ box_text 72 (y - 10) (fill owner false)
-swatch_by None share y = frame_text y
+swatch_by None share y = legend_frame_text y
 
 abbrev pub swatch_text : Label → Share → ℕ → List ℕ
-swatch_text label share y = swatch_by (owner_of label) share y
+swatch_text label share y = swatch_by (label_owner label) share y
 
 -- what begins the text of a line
 abbrev pub label_front : ℕ → List ℕ
 label_front y = concat (codes "<text x=\"108\" y=\"" ∷ decimal y ∷ codes "\">" ∷ [])
 
 -- how many other trees there are
-abbrev pub others_text : ℕ → List ℕ
-others_text count = decimal count ++ (if count == 1 then codes " other tree</text>" else codes " other trees</text>")
+abbrev pub other_trees_text : ℕ → List ℕ
+other_trees_text count = decimal count ++ (if count == 1 then codes " other tree</text>" else codes " other trees</text>")
 
 -- the name of a tree, with its root page where another one has the same name
-abbrev pub tree_text : List (List ℕ) → ℕ → Option ℕ → List ℕ
-tree_text names rank (Some root) = concat (name_text names rank 56 ∷ codes ", root page " ∷ decimal root ∷ codes "</text>" ∷ [])
-tree_text names rank None = concat (name_text names rank 56 ∷ codes "</text>" ∷ [])
+abbrev pub named_tree_text : List (List ℕ) → ℕ → Option ℕ → List ℕ
+named_tree_text names rank (Some root) = concat (name_text names rank 56 ∷ codes ", root page " ∷ decimal root ∷ codes "</text>" ∷ [])
+named_tree_text names rank None = concat (name_text names rank 56 ∷ codes "</text>" ∷ [])
 
 -- what a line is of
 abbrev pub label_words : List (List ℕ) → Label → List ℕ
-label_words names (Tree rank root) = tree_text names rank root
-label_words names (Others count) = others_text count
+label_words names (Tree rank root) = named_tree_text names rank root
+label_words names (Others count) = other_trees_text count
 label_words names Freelist = codes "freelist</text>"
 label_words names Fixed = codes "pointer map and lock-byte page</text>"
 label_words names Nobody = codes "in no tree, overflow chain or freelist</text>"
@@ -111,27 +111,27 @@ unfoldable pub label_text : List (List ℕ) → Label → ℕ → List ℕ
 label_text names label y = label_front y ++ label_words names label
 
 -- a line, so far down
-unfoldable pub line_text : List (List ℕ) → Geometry → Line → ℕ → List ℕ
+unfoldable pub line_text : List (List ℕ) → Geometry → LegendLine → ℕ → List ℕ
 line_text names g line y =
     swatch_text line.label line.share y
     ++ (label_text names line.label y ++ (share_text line.share g.page_size y ++ percent_text line.share.pages g.pages y))
 
 -- lines, each below the one before it
-abbrev pub lines_from : List (List ℕ) → Geometry → ℕ → List Line → List ℕ
+abbrev pub lines_from : List (List ℕ) → Geometry → ℕ → List LegendLine → List ℕ
 lines_from names g at [] = []
 lines_from names g at (line ∷ lines) = line_text names g line (at * 20) ++ lines_from names g (at + 1) lines
 
 -- the line of pages that the header states and the file does not have, if there are any
-unfoldable pub missing_line : ℕ → Geometry → ℕ → List ℕ
-missing_line missing g y =
+unfoldable pub missing_legend_line : ℕ → Geometry → ℕ → List ℕ
+missing_legend_line missing g y =
     box_text 72 (y - 10) (codes "#FFFFFF")
     ++ (label_front y ++ (codes "stated in the header, not in the file</text>" ++ (share_text (no_overflow missing) g.page_size y ++ codes "\n")))
 
-abbrev pub missing_text : ℕ → Geometry → ℕ → List ℕ
-missing_text missing g y = if missing == 0 then [] else missing_line missing g y
+abbrev pub missing_legend_text : ℕ → Geometry → ℕ → List ℕ
+missing_legend_text missing g y = if missing == 0 then [] else missing_legend_line missing g y
 
 -- the legend
-unfoldable pub legend_text : List Line → List (List ℕ) → Geometry → Grid → ℕ → List ℕ
+unfoldable pub legend_text : List LegendLine → List (List ℕ) → Geometry → Grid → ℕ → List ℕ
 legend_text lines names g grid bottom =
     columns_text bottom
-    ++ (lines_from names g 2 lines ++ (missing_text (grid.stated - grid.pages) g ((length lines + 2) * 20) ++ codes "</g>\n"))
+    ++ (lines_from names g 2 lines ++ (missing_legend_text (grid.stated - grid.pages) g ((length lines + 2) * 20) ++ codes "</g>\n"))

@@ -10,7 +10,7 @@ pub mod Grids
 pub mod KeptFaults
 pub mod LegendLines
 pub mod Legends
-pub mod MapSink
+pub mod MapReporter
 pub mod Maps
 pub mod Marks
 pub mod Outlines

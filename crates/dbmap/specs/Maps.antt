@@ -33,7 +33,7 @@ use Rattle.dbmap.specs.LegendLines.{legend_lines}
 use Rattle.dbmap.specs.Pictures.{picture_text}
 use Rattle.dbmap.specs.Squares.{AreRows, Ground, Square}
 use Rattle.dbmap.specs.Tallies.{AreLargestOf}
-use Rattle.dbmap.specs.declared.legend.Line.{Line}
+use Rattle.dbmap.specs.declared.legend.LegendLine.{LegendLine}
 use Rattle.dbmap.specs.declared.picture.Heading.{Heading}
 
 -- A picture of a file with survey V and this name: of its size, with the number of its faults; with one square for each page, or for each
@@ -63,7 +63,7 @@ pub record HasPicture (P : List ℕ → Type 0) (name file : List ℕ) (V : List
   pub heading : Heading
   pub ground : Ground
   pub all : List (List Square)
-  pub lines : List Line
+  pub lines : List LegendLine
   pub is : IsPictureOf name file V heading ground all
   pub legend : lines ≡ legend_lines file V ground.names ground.owners.largest (faulty_pages file V)
   pub holds : P (picture_text heading ground all lines)

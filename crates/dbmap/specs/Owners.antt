@@ -11,7 +11,7 @@ use Rattle.dbowner.specs.declared.place.Place.{Place}
 use Rattle.dbowner.specs.declared.place.Place.TheVariants as place
 use Rattle.dbmap.specs.declared.cell.Owner.{Owner}
 use Rattle.dbmap.specs.declared.cell.Owner.TheVariants as owner
-use Rattle.dbmap.specs.declared.tally.Tree.{Tree}
+use Rattle.dbmap.specs.declared.tally.RankedTree.{RankedTree}
 
 -- What is known of owners: the start that each page belongs to, if it belongs to one, and the starts of the largest trees, by rank.
 pub record OwnersGround : Type 0 where
@@ -23,8 +23,8 @@ abbrev pub owners_by : List Reference → List ℕ → OwnersGround
 owners_by V largest = record { start = start_at V; largest = largest }
 
 -- the starts of some trees
-abbrev pub starts_of : List Tree → List ℕ
-starts_of trees = map (λ (t : Tree). t.start) trees
+abbrev pub tree_starts : List RankedTree → List ℕ
+tree_starts trees = map (λ (t : RankedTree). t.start) trees
 
 -- whether a page that is this is an overflow page
 abbrev pub is_overflow : Place → Bool
@@ -57,12 +57,12 @@ abbrev pub place_at : List Mark → ℕ → Place
 place_at marks p = place_by (page_mark marks p)
 
 -- whose page p is
-abbrev pub owner_at : List Mark → OwnersGround → ℕ → Owner
-owner_at marks o p = owner_by o.largest (place_at marks p) (o.start p)
+abbrev pub marked_owner : List Mark → OwnersGround → ℕ → Owner
+marked_owner marks o p = owner_by o.largest (place_at marks p) (o.start p)
 
 -- what its square is filled for: its owner, in the shade of overflow pages where it is one
 abbrev pub shade_at : List Mark → OwnersGround → ℕ → Owner × Bool
-shade_at marks o p = (owner_at marks o p, is_overflow (place_at marks p))
+shade_at marks o p = (marked_owner marks o p, is_overflow (place_at marks p))
 
 -- ---- what is remembered of a file
 

@@ -60,9 +60,9 @@ pub record IsNumber (sets : List Codes) (n : ℕ) (codes : Codes) : Type 0 where
   pub is : get_or sets (n - 1) no_codes ≡ codes
 
 -- the number of a set, where it is kept
-abbrev pub IsFound : List Codes → Codes → Option ℕ → Type 0
-IsFound sets codes None = IsIn codes sets → ⊥
-IsFound sets codes (Some n) = IsNumber sets n codes
+abbrev pub IsSetAt : List Codes → Codes → Option ℕ → Type 0
+IsSetAt sets codes None = IsIn codes sets → ⊥
+IsSetAt sets codes (Some n) = IsNumber sets n codes
 
 -- a set that was not kept is kept after the others; or there is no room, and then n is 255
 abbrev pub IsKept : List Codes → Codes → ℕ → List Codes → Type 0

@@ -14,22 +14,22 @@ is_owner Nobody Nobody = true
 is_owner _ _ = false
 
 -- whether two booleans are one
-abbrev pub is_same : Bool → Bool → Bool
-is_same true b = b
-is_same false true = false
-is_same false false = true
+abbrev pub is_same_bool : Bool → Bool → Bool
+is_same_bool true b = b
+is_same_bool false true = false
+is_same_bool false false = true
 
 -- whether the group of a fill was begun
 abbrev pub is_begun : Option (Owner × Bool) → Owner × Bool → Bool
 is_begun None shade = false
-is_begun (Some group) shade = is_owner group.0 shade.0 && is_same group.1 shade.1
+is_begun (Some group) shade = is_owner group.0 shade.0 && is_same_bool group.1 shade.1
 
 -- the end of a group, if there is one
-abbrev pub end_text : Option (Owner × Bool) → List ℕ
-end_text None = []
-end_text (Some group) = codes "</g>\n"
+abbrev pub group_end_text : Option (Owner × Bool) → List ℕ
+group_end_text None = []
+group_end_text (Some group) = codes "</g>\n"
 
 -- what is drawn before a square of a fill: nothing, where its group was begun
 abbrev pub change_text : Option (Owner × Bool) → Owner × Bool → List ℕ
 change_text group shade =
-    if is_begun group shade then [] else concat (end_text group ∷ codes "<g fill=\"" ∷ fill shade.0 shade.1 ∷ codes "\">\n" ∷ [])
+    if is_begun group shade then [] else concat (group_end_text group ∷ codes "<g fill=\"" ∷ fill shade.0 shade.1 ∷ codes "\">\n" ∷ [])

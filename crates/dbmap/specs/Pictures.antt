@@ -6,9 +6,9 @@ use Rattle.dbxml.specs.Pieces.{shown_text, tenths_text}
 use Rattle.dbmap.specs.Grids.{page_of_row, rows, side, top_of}
 use Rattle.dbmap.specs.Legends.{height, legend_text}
 use Rattle.dbmap.specs.Sizes.{size_tenths, size_unit}
-use Rattle.dbmap.specs.Squares.{Ground, Square, rows_text}
+use Rattle.dbmap.specs.Squares.{Ground, Square, squares_rows_text}
 use Rattle.dbmap.specs.declared.grid.Grid.{Grid}
-use Rattle.dbmap.specs.declared.legend.Line.{Line}
+use Rattle.dbmap.specs.declared.legend.LegendLine.{LegendLine}
 use Rattle.dbmap.specs.declared.picture.Heading.{Heading}
 
 -- what begins the picture: its size, its name for who does not see it, the hatching, and a white ground
@@ -22,8 +22,8 @@ head_text file height =
     ∷ codes "<rect width=\"100%\" height=\"100%\" fill=\"#FFFFFF\"/>\n" ∷ [])
 
 -- how many faults there are
-abbrev pub faults_text : ℕ → List ℕ
-faults_text faults =
+abbrev pub fault_count_text : ℕ → List ℕ
+fault_count_text faults =
     if faults == 0 then codes "no fault" else (if faults == 1 then codes "1 fault" else decimal faults ++ codes " faults")
 
 -- what comes after the number of pages
@@ -47,7 +47,7 @@ unfoldable pub heading_text : Heading → ℕ → List ℕ
 heading_text h run =
     concat (codes "<text x=\"20\" y=\"26\" font-size=\"16\" font-weight=\"bold\">" ∷ shown_text h.file 72
     ∷ codes "</text>\n<text x=\"20\" y=\"46\" fill=\"#444444\">" ∷ [])
-    ++ (size_text h.geometry ++ (faults_text h.faults ++ unit_text run))
+    ++ (size_text h.geometry ++ (fault_count_text h.faults ++ unit_text run))
 
 -- the first page of a row
 abbrev pub page_of_row_text : Grid → ℕ → List ℕ
@@ -56,20 +56,20 @@ page_of_row_text g row =
     ∷ codes "</text>\n" ∷ [])
 
 -- that before it; where rows are narrow, before each second one
-abbrev pub row_name : Grid → ℕ → List ℕ
-row_name g row = if nat_lt 10 (side g) || (row % 2 == 0) then page_of_row_text g row else []
+abbrev pub row_label_text : Grid → ℕ → List ℕ
+row_label_text g row = if nat_lt 10 (side g) || (row % 2 == 0) then page_of_row_text g row else []
 
 -- those of `count` rows from one on
 abbrev pub names_from : Grid → ℕ → ℕ → List ℕ
 names_from g row zero = []
-names_from g row (suc count) = row_name g row ++ names_from g (row + 1) count
+names_from g row (suc count) = row_label_text g row ++ names_from g (row + 1) count
 
 unfoldable pub row_names : Grid → List ℕ
 row_names g = codes "<g font-size=\"10\" fill=\"#666666\" text-anchor=\"end\">\n" ++ (names_from g 0 (rows g) ++ codes "</g>\n")
 
 -- the picture, by what is said above the squares, the squares row by row, and the lines of the legend
-unfoldable pub picture_text : Heading → Ground → List (List Square) → List Line → List ℕ
+unfoldable pub picture_text : Heading → Ground → List (List Square) → List LegendLine → List ℕ
 picture_text h g squares lines =
     head_text h.file (top_of g.grid (rows g.grid) + height lines (g.grid.stated - g.grid.pages))
-    ++ (heading_text h g.grid.run ++ (row_names g.grid ++ (rows_text g 0 squares
+    ++ (heading_text h g.grid.run ++ (row_names g.grid ++ (squares_rows_text g 0 squares
     ++ (legend_text lines g.names h.geometry g.grid (top_of g.grid (rows g.grid)) ++ codes "</svg>\n"))))

@@ -8,14 +8,14 @@ use Rattle.dbmap.specs.Colours.{fill}
 use Rattle.dbmap.specs.Faults.{faults_text}
 use Rattle.dbmap.specs.Marks.{tail}
 use Rattle.dbmap.specs.declared.bands.Bands.{Bands}
-use Rattle.dbmap.specs.declared.cell.Cell.{Cell}
+use Rattle.dbmap.specs.declared.cell.OwnerShares.{OwnerShares}
 use Rattle.dbmap.specs.declared.cell.Owner.{Owner}
 use Rattle.dbmap.specs.declared.cell.Owner.TheVariants.{Fixed, Freelist, Nobody, Tree}
 use Rattle.dbmap.specs.declared.frame.Frame.{Frame}
 use Rattle.dbmap.specs.declared.frame.Frame.TheVariants as frame
 use Rattle.dbmap.specs.declared.frame.Frame.TheVariants.{Weak, Strong}
 use Rattle.dbmap.specs.declared.grid.Width.{Width}
-use Rattle.dbmap.specs.declared.run.Run.{Run}
+use Rattle.dbmap.specs.declared.run.RunSquare.{RunSquare}
 
 -- what comes after a number of pages of an owner
 abbrev pub words : Owner → List ℕ
@@ -34,38 +34,38 @@ owner_mark true = codes ": "
 owner_mark false = codes ", "
 
 -- how many pages an owner has, and who it is, if it has any; after a colon where it is the first, and else after a comma
-abbrev pub owner_text : Cell → List (List ℕ) → Bool → ℕ → List ℕ
+abbrev pub owner_text : OwnerShares → List (List ℕ) → Bool → ℕ → List ℕ
 owner_text c names is_first number =
     if has_pages c number
     then concat (owner_mark is_first ∷ decimal (share_of c number).pages ∷ words (owner_numbered number) ∷ name_text names number 72 ∷ [])
     else []
 
 -- the same of `count` owners from a number on
-unfoldable pub owners_from : Cell → List (List ℕ) → Bool → ℕ → ℕ → List ℕ
+unfoldable pub owners_from : OwnerShares → List (List ℕ) → Bool → ℕ → ℕ → List ℕ
 owners_from c names is_first number zero = []
 owners_from c names is_first number (suc count) =
     owner_text c names is_first number ++ owners_from c names (is_first && not (has_pages c number)) (number + 1) count
 
 -- the title after its first word
-unfoldable pub title_text : Run → List (List ℕ) → List ℕ
+unfoldable pub title_text : RunSquare → List (List ℕ) → List ℕ
 title_text r names =
     concat (codes "s " ∷ decimal r.first ∷ codes " to " ∷ decimal r.last ∷ [])
     ++ (owners_from r.cell names true 0 16 ++ faults_text r.faulty)
 
 -- the square of pages that all have one owner
-unfoldable pub plain_text : Run → Width → List (List ℕ) → List ℕ
+unfoldable pub plain_text : RunSquare → Width → List (List ℕ) → List ℕ
 plain_text r width names =
     concat (codes "<rect x=\"" ∷ decimal r.x ∷ tail width r.faulty.frame ∷ []) ++ (title_text r names ++ codes "</title></rect>\n")
 
 -- the band of an owner, so high and so far below, if it has one
-abbrev pub band_text : Run → ℕ → ℕ → ℕ → List ℕ
+abbrev pub band_text : RunSquare → ℕ → ℕ → ℕ → List ℕ
 band_text r number top height =
     if height == 0 then []
     else concat (codes "<rect x=\"" ∷ decimal r.x ∷ codes "\" y=\"" ∷ decimal top ∷ codes "\" width=\"6\" height=\"" ∷ decimal height
     ∷ codes "\" fill=\"" ∷ fill (owner_numbered number) (is_shaded (share_of r.cell number)) ∷ codes "\"/>" ∷ [])
 
 -- the bands of `count` owners from a number on, each below those before it
-unfoldable pub bands_from : Run → Bands → ℕ → ℕ → ℕ → List ℕ
+unfoldable pub bands_from : RunSquare → Bands → ℕ → ℕ → ℕ → List ℕ
 bands_from r bands number zero top = []
 bands_from r bands number (suc count) top =
     band_text r number top (get_or bands.heights number 0) ++ bands_from r bands (number + 1) count (min (top + get_or bands.heights number 0) 4294967295)
@@ -87,7 +87,7 @@ frame_above Strong x = band_frame x
 frame_above frame.None x = []
 
 -- the square of pages of several owners, divided in bands
-unfoldable pub mixed_text : Run → List (List ℕ) → Bands → List ℕ
+unfoldable pub mixed_text : RunSquare → List (List ℕ) → Bands → List ℕ
 mixed_text r names bands =
     codes "<g><title>page" ++ (title_text r names ++ (codes "</title>" ++ (frame_below r.faulty.frame r.x
     ++ (bands_from r bands 0 16 0 ++ (frame_above r.faulty.frame r.x ++ codes "</g>\n")))))

@@ -16,10 +16,10 @@ use Rattle.dbxml.specs.Names.{tree_name}
 use Rattle.dbmap.specs.FaultyPages.{FaultsGround, IsFaulty}
 use Rattle.dbmap.specs.Grids.{cells_of_row, run_of, top_of, x_of}
 use Rattle.dbmap.specs.Outlines.{outlines_text}
-use Rattle.dbmap.specs.Owners.{OwnersGround, owners_by, shade_at, starts_of}
+use Rattle.dbmap.specs.Owners.{OwnersGround, owners_by, shade_at, tree_starts}
 use Rattle.dbmap.specs.Pages.{page_text}
 use Rattle.dbmap.specs.PageSets.{has_page, pages_between, shown_codes}
-use Rattle.dbmap.specs.Pens.{change_text, end_text}
+use Rattle.dbmap.specs.Pens.{change_text, group_end_text}
 use Rattle.dbmap.specs.Runs.{mixed_text, plain_text}
 use Rattle.dbmap.specs.Shares.{AreBands, AreShares, IsOfOne, IsOfSeveral}
 use Rattle.dbmap.specs.declared.bands.Bands.{Bands}
@@ -27,7 +27,7 @@ use Rattle.dbmap.specs.declared.cell.Owner.{Owner}
 use Rattle.dbmap.specs.declared.grid.Grid.{Grid}
 use Rattle.dbmap.specs.declared.layout.Layout.{Layout}
 use Rattle.dbmap.specs.declared.page.PageSquare.{PageSquare}
-use Rattle.dbmap.specs.declared.run.Run.{Run}
+use Rattle.dbmap.specs.declared.run.RunSquare.{RunSquare}
 use Rattle.dbmap.specs.declared.squares.Squares.{Squares}
 use Rattle.dbmap.specs.declared.walk.Walk.{Walk}
 
@@ -55,7 +55,7 @@ ground_of s layout = record {
   shape = geometry_of s.header.now.bytes s.header.now.file_len;
   marks = s.marks.now;
   faults = faults_ground s;
-  owners = record { start = λ p. None; largest = starts_of s.largest.items };
+  owners = record { start = λ p. None; largest = tree_starts s.largest.items };
 }
 
 -- the same where V is the survey of the file: each page belongs to the start of its visit
@@ -70,8 +70,8 @@ IsNamed tree walk = walk.name ≡ option_map_or tree walk.named []
 -- several, divided in bands.
 pub data Square : Type 0 where
   of_page : Owner × Bool → PageSquare → List ℕ → Square
-  of_one : Owner × Bool → Run → Square
-  of_several : Run → Bands → Square
+  of_one : Owner × Bool → RunSquare → Square
+  of_several : RunSquare → Bands → Square
 
 -- what is drawn of a square itself
 abbrev pub square_text : Ground → Square → List ℕ
@@ -101,19 +101,19 @@ last_group group [] = group
 last_group group (s ∷ ss) = last_group (group_after group s) ss
 
 -- what a row begins with
-abbrev pub front_text : Grid → ℕ → List ℕ
-front_text g row = concat (codes "<g transform=\"translate(" ∷ decimal 72 ∷ codes "," ∷ decimal (top_of g row) ∷ codes ")\">\n" ∷ [])
+abbrev pub row_front_text : Grid → ℕ → List ℕ
+row_front_text g row = concat (codes "<g transform=\"translate(" ∷ decimal 72 ∷ codes "," ∷ decimal (top_of g row) ∷ codes ")\">\n" ∷ [])
 
 -- a row with these squares
-unfoldable pub row_text : Ground → ℕ → List Square → List ℕ
-row_text g row squares =
-    front_text g.grid row
-    ++ (squares_text g None squares ++ (end_text (last_group None squares) ++ (outlines_text g.grid row ++ codes "</g>\n")))
+unfoldable pub squares_row_text : Ground → ℕ → List Square → List ℕ
+squares_row_text g row squares =
+    row_front_text g.grid row
+    ++ (squares_text g None squares ++ (group_end_text (last_group None squares) ++ (outlines_text g.grid row ++ codes "</g>\n")))
 
 -- rows from one on
-abbrev pub rows_text : Ground → ℕ → List (List Square) → List ℕ
-rows_text g row [] = []
-rows_text g row (squares ∷ rows) = row_text g row squares ++ rows_text g (row + 1) rows
+abbrev pub squares_rows_text : Ground → ℕ → List (List Square) → List ℕ
+squares_rows_text g row [] = []
+squares_rows_text g row (squares ∷ rows) = squares_row_text g row squares ++ squares_rows_text g (row + 1) rows
 
 -- the fixed use of a page that is this
 abbrev pub fixed_in : Geometry → Place → ℕ → Option Fixed
@@ -136,7 +136,7 @@ pub record IsPage (g : Ground) (cell : ℕ) (s : PageSquare) (named : List ℕ) 
   pub shade : fill ≡ shade_at g.marks g.owners s.page
 
 -- and a square of a run of pages: it is of the pages of this place, of which it has what each owner has, and says which faults they have
-pub record IsRun (g : Ground) (cell : ℕ) (r : Run) : Type 0 where
+pub record IsRun (g : Ground) (cell : ℕ) (r : RunSquare) : Type 0 where
   pub x : r.x ≡ x_of g.grid cell
   pub first : r.first ≡ (run_of g.grid cell g.grid.pages).0
   pub last : r.last ≡ (run_of g.grid cell g.grid.pages).1

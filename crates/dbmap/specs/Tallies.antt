@@ -14,9 +14,9 @@ use Rattle.dbowner.specs.declared.place.Place.{Place}
 use Rattle.dbowner.specs.declared.place.Place.TheVariants as place
 use Rattle.dbmap.specs.Cells.{no_share}
 use Rattle.dbmap.specs.Owners.{is_overflow}
-use Rattle.dbmap.specs.Shares.{counted_pages, one_page, share_in}
+use Rattle.dbmap.specs.Shares.{capped_pages, one_page, share_in}
 use Rattle.dbmap.specs.declared.cell.Share.{Share}
-use Rattle.dbmap.specs.declared.tally.Tally.TheInside.{Inside}
+use Rattle.dbmap.specs.declared.tally.PageTally.TheInside.{Inside}
 
 -- ---- the pages of a file
 
@@ -34,8 +34,8 @@ is_nowhere place.Nowhere = true
 is_nowhere _ = false
 
 -- how many of the first n pages have a fixed use, and how many are nobody's
-abbrev pub fixed_pages : List ℕ → ℕ → ℕ
-fixed_pages file n = count_by (is_fixed (geometry file)) (range_with_len 1 n)
+abbrev pub fixed_count : List ℕ → ℕ → ℕ
+fixed_count file n = count_by (is_fixed (geometry file)) (range_with_len 1 n)
 
 abbrev pub lost_pages : List ℕ → List Reference → ℕ → ℕ
 lost_pages file V n = count_by (λ p. is_nowhere (place_of file V p)) (range_with_len 1 n)
@@ -47,16 +47,16 @@ tree_pages file V k = count_by (is_of_start file V k) (page_numbers (geometry fi
 -- ---- the largest trees
 
 -- start j comes before start k: it has more pages, or as many and is the lesser number
-abbrev pub IsBefore : (ℕ → ℕ) → ℕ → ℕ → Type 0
-IsBefore pages j k = (pages k < pages j) ⊎ ((pages j ≡ pages k) × (j < k))
+abbrev pub IsBeforeStart : (ℕ → ℕ) → ℕ → ℕ → Type 0
+IsBeforeStart pages j k = (pages k < pages j) ⊎ ((pages j ≡ pages k) × (j < k))
 
 -- The largest trees, of those with starts below a number: each has pages, each comes before the next, there are twelve at most, and of
 -- twelve each comes before any other tree.
 pub record AreLargest (trees : ℕ) (pages : ℕ → ℕ) (largest : List ℕ) : Type 0 where
   pub some : (k : ℕ) → IsIn k largest → (k < trees) × (0 < pages k)
-  pub order : EachPair (IsBefore pages) largest
+  pub order : EachPair (IsBeforeStart pages) largest
   pub most : length largest ≤ 12
-  pub others : (k : ℕ) → k < trees → 0 < pages k → (IsIn k largest → ⊥) → (length largest ≡ 12) × ((j : ℕ) → IsIn j largest → IsBefore pages j k)
+  pub others : (k : ℕ) → k < trees → 0 < pages k → (IsIn k largest → ⊥) → (length largest ≡ 12) × ((j : ℕ) → IsIn j largest → IsBeforeStart pages j k)
 
 -- those of a file: trees have the starts below the freelist's
 abbrev pub AreLargestOf : List ℕ → List Reference → List ℕ → Type 0
@@ -66,32 +66,32 @@ AreLargestOf file V largest = AreLargest freelist_start (tree_pages file V) larg
 
 -- A tally as contracts see it: what each start has, one more than the greatest start of a tree with a page, and how many pages have a
 -- fixed use or are nobody's.
-pub record Tallied : Type 0 where
+pub record PagesTallied : Type 0 where
   pub starts : List Share
   pub trees : ℕ
   pub fixed : ℕ
   pub nobody : ℕ
 
 -- what the fields hold
-abbrev pub tallied : {A : Type 0} → Inside A → Tallied
-tallied t = record { starts = t.starts.items; trees = t.trees; fixed = t.fixed; nobody = t.nobody }
+abbrev pub pages_tallied : {A : Type 0} → Inside A → PagesTallied
+pages_tallied t = record { starts = t.starts.items; trees = t.trees; fixed = t.fixed; nobody = t.nobody }
 
 -- there is a share for each start, and trees come before the freelist
-pub record IsRoomy {A : Type 0} (t : Inside A) : Type 0 where
+pub record HasStartShares {A : Type 0} (t : Inside A) : Type 0 where
   pub starts : vec_len t.starts ≡ freelist_start + 1
   pub trees : t.trees ≤ freelist_start
 
 -- The tally is that of the first n pages of a file.
-pub record IsTallyTo (file : List ℕ) (V : List Reference) (n : ℕ) (t : Tallied) : Type 0 where
+pub record IsPageTallyTo (file : List ℕ) (V : List Reference) (n : ℕ) (t : PagesTallied) : Type 0 where
   pub starts : (k : ℕ) → k ≤ freelist_start → slice_get t.starts k ≡ Some (start_share file V n k)
   pub trees : (k : ℕ) → k < freelist_start → t.trees ≤ k → (start_share file V n k).pages ≡ 0
   pub few : t.trees ≤ freelist_start
-  pub fixed : t.fixed ≡ counted_pages (fixed_pages file n)
-  pub nobody : t.nobody ≡ counted_pages (lost_pages file V n)
+  pub fixed : t.fixed ≡ capped_pages (fixed_count file n)
+  pub nobody : t.nobody ≡ capped_pages (lost_pages file V n)
 
 -- The tally is that of all pages of a file, which are no more than a file has.
-pub record IsTallyOf (file : List ℕ) (V : List Reference) (t : Tallied) : Type 0 where
-  pub all : IsTallyTo file V (geometry file).pages t
+pub record IsPageTallyOf (file : List ℕ) (V : List Reference) (t : PagesTallied) : Type 0 where
+  pub all : IsPageTallyTo file V (geometry file).pages t
   pub most : (geometry file).pages ≤ most_pages
 
 -- what start k has, and how many pages
@@ -102,27 +102,27 @@ abbrev pub pages_at : List Share → ℕ → ℕ
 pages_at starts k = (share_at starts k).pages
 
 -- nothing is counted
-pub record IsNone (t : Tallied) : Type 0 where
+pub record IsNone (t : PagesTallied) : Type 0 where
   pub starts : (k : ℕ) → k ≤ freelist_start → slice_get t.starts k ≡ Some no_share
   pub trees : t.trees ≡ 0
   pub fixed : t.fixed ≡ 0
   pub nobody : t.nobody ≡ 0
 
 -- one more page of a start
-abbrev pub start_counted : ℕ → Bool → Tallied → Tallied
+abbrev pub start_counted : ℕ → Bool → PagesTallied → PagesTallied
 start_counted k over t = record t {
   starts = slice_set t.starts k (one_page over (share_at t.starts k));
   trees = if nat_lt k freelist_start then max t.trees (k + 1) else t.trees;
 }
 
 -- one more page that has no fixed use, an overflow page or not, by its start
-abbrev pub used_counted : Option ℕ → Bool → Tallied → Tallied
-used_counted None over t = record t { nobody = counted_pages (t.nobody + 1) }
+abbrev pub used_counted : Option ℕ → Bool → PagesTallied → PagesTallied
+used_counted None over t = record t { nobody = capped_pages (t.nobody + 1) }
 used_counted (Some k) over t = start_counted k over t
 
 -- one more page that is this and belongs to this start
-abbrev pub page_counted : Place → Option ℕ → Tallied → Tallied
-page_counted place.Fixed start t = record t { fixed = counted_pages (t.fixed + 1) }
+abbrev pub page_counted : Place → Option ℕ → PagesTallied → PagesTallied
+page_counted place.Fixed start t = record t { fixed = capped_pages (t.fixed + 1) }
 page_counted at start t = used_counted start (is_overflow at) t
 
 -- ---- the next tree
@@ -130,9 +130,9 @@ page_counted at start t = used_counted start (is_overflow at) t
 -- a start comes after another one, if there is one
 abbrev pub IsAfter : (ℕ → ℕ) → Option ℕ → ℕ → Type 0
 IsAfter pages None k = Unit {0}
-IsAfter pages (Some j) k = IsBefore pages j k
+IsAfter pages (Some j) k = IsBeforeStart pages j k
 
 -- the first start that comes after another one, of those below n that have pages
-pub record IsNext (n : ℕ) (pages : ℕ → ℕ) (behind next : Option ℕ) : Type 0 where
+pub record IsNextStart (n : ℕ) (pages : ℕ → ℕ) (behind next : Option ℕ) : Type 0 where
   pub some : (k : ℕ) → next ≡ Some k → (k < n) × (0 < pages k) × IsAfter pages behind k
-  pub rest : (k : ℕ) → k < n → 0 < pages k → IsAfter pages behind k → (j : ℕ) × (next ≡ Some j) × ((j ≡ k) ⊎ IsBefore pages j k)
+  pub rest : (k : ℕ) → k < n → 0 < pages k → IsAfter pages behind k → (j : ℕ) × (next ≡ Some j) × ((j ≡ k) ⊎ IsBeforeStart pages j k)

@@ -3,7 +3,7 @@ ghost use Rattle.std.specs.Prelude.{◌≡◌, ◌≤◌, ◌<◌, true, get_or}
 ghost use Rattle.dbmap.specs.Cells.{has_pages};
 ghost use Rattle.dbmap.specs.Shares.{AreBands, HasTwo};
 
-use crate::cell::{Cell, OWNERS};
+use crate::cell::{OWNERS, OwnerShares};
 
 /// How many bands a square has, each of which is a pixel high.
 pub(crate) const BANDS: u32 = 6;
@@ -44,7 +44,7 @@ impl Credits {
     }
 
     // Adds what the pages of a square are worth.
-    fn add(&mut self, cell: &Cell) {
+    fn add(&mut self, cell: &OwnerShares) {
         for number in 0..OWNERS {
             let worth = cell.share(number).pages.saturating_mul(BANDS);
             self.of[number] = self.of[number].saturating_add(worth);
@@ -52,7 +52,7 @@ impl Credits {
     }
 
     // The owner of a page of the square with the most credit; of several the first.
-    fn most(&self, cell: &Cell) -> usize
+    fn most(&self, cell: &OwnerShares) -> usize
         ensures most { result ≤ 15 }
         ensures own { HasTwo cell.now → has_pages cell.now result ≡ true }
     {
@@ -66,7 +66,7 @@ impl Credits {
     }
 
     /// Divides the square of a run of pages.
-    pub(crate) fn divide(&mut self, cell: &Cell, run: u32) -> Bands
+    pub(crate) fn divide(&mut self, cell: &OwnerShares, run: u32) -> Bands
         ensures { HasTwo cell.now → AreBands cell.now result }
     {
         let mut heights = [0u32; OWNERS];

@@ -1,6 +1,6 @@
 // Whose the pages of a square are.
 ghost use Rattle.std.specs.Prelude.{◌≡◌, ◌≤◌, ◌<◌, ◌⊎◌, ◌==◌, ℕ, IfSome, if◌then◌else◌};
-ghost use Rattle.dbmap.specs.Cells.{has_pages, is_shaded, no_share, number_of, owner_numbered, share_of};
+ghost use Rattle.dbmap.specs.Cells.{has_pages, is_shaded, no_share, owner_number, owner_numbered, share_of};
 ghost use Rattle.dbmap.specs.Owners.{is_overflow};
 ghost use Rattle.dbmap.specs.Shares.{HasNone, HasTwo, IsOnly, joined, one_page};
 
@@ -23,7 +23,7 @@ pub(crate) const OWNERS: usize = 16;
 impl Owner {
     /// Its number, from 0: the order in which the owners of a square are drawn and named.
     pub(crate) fn number(self) -> usize
-        ensures number { result ≡ number_of self }
+        ensures number { result ≡ owner_number self }
         ensures most { result ≤ 15 }
     {
         match self {
@@ -88,16 +88,16 @@ pub(crate) fn is_overflow(place: Place) -> bool
 
 /// The pages of a square, by their owners.
 #[derive(Clone, Copy)]
-pub(crate) struct Cell {
+pub(crate) struct OwnerShares {
     shares: [Share; OWNERS],
 }
 
-impl Cell {
+impl OwnerShares {
     /// One without pages.
-    pub(crate) fn new() -> Cell
+    pub(crate) fn new() -> OwnerShares
         ensures { (number : ℕ) → number < 16 → share_of result number ≡ no_share }
     {
-        Cell {
+        OwnerShares {
             shares: [Share::default(); OWNERS],
         }
     }
@@ -105,7 +105,7 @@ impl Cell {
     /// Counts a page.
     pub(crate) fn add(&mut self, owner: Owner, is_overflow: bool)
         ensures { (number : ℕ) → number < 16
-            → share_of self.new number ≡ (if number_of owner == number then one_page is_overflow (share_of self.old number) else share_of self.old number) }
+            → share_of self.new number ≡ (if owner_number owner == number then one_page is_overflow (share_of self.old number) else share_of self.old number) }
     {
         let share = &mut self.shares[owner.number()];
         share.add(is_overflow);

@@ -62,7 +62,7 @@ impl Grid {
 
     // How many squares are in a row.
     fn columns(&self) -> u32
-        ensures columns { result ≡ grids.columns self.now }
+        ensures columns { result ≡ grids.grid_columns self.now }
         ensures range { (1 ≤ result) × (result ≤ 128) }
     {
         match self.width {
@@ -102,7 +102,7 @@ impl Grid {
 
     // How many rows the pages of the file take.
     fn file_rows(&self) -> u32
-        ensures { result ≡ div_ceil self.now.cells (grids.columns self.now) }
+        ensures { result ≡ div_ceil self.now.cells (grids.grid_columns self.now) }
     {
         self.cells.div_ceil(self.columns())
     }
@@ -124,8 +124,8 @@ impl Grid {
 
     // The first place of a row, and the first of the next, among `places` places.
     fn places_of(&self, row: u32, places: u32) -> (u32, u32)
-        ensures first { result.0 ≡ min (row * grids.columns self.now) places }
-        ensures end { result.1 ≡ min ((row + 1) * grids.columns self.now) places }
+        ensures first { result.0 ≡ min (row * grids.grid_columns self.now) places }
+        ensures end { result.1 ≡ min ((row + 1) * grids.grid_columns self.now) places }
     {
         let first = u64::from(row) * u64::from(self.columns());
         let end = first + u64::from(self.columns());

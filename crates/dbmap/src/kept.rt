@@ -5,12 +5,12 @@ ghost use Rattle.dbentries.specs.Kept.{kept_of};
 ghost use Rattle.dbentries.specs.Listing as listing;
 ghost use Rattle.dbentries.specs.Woven.{KeepsFirst, woven};
 ghost use Rattle.dbmap.specs.FramedPages.{first_faults, framed};
-ghost use Rattle.dbmap.specs.KeptFaults.{Keeps};
+ghost use Rattle.dbmap.specs.KeptFaults.{HasNoted};
 ghost use Rattle.dbmap.specs.PageSets.{AreNoted};
 
 use crate::listed::note_listed;
 use crate::page_set::PageSet;
-use crate::tally::Tally;
+use crate::tally::PageTally;
 use crate::walk::Walk;
 use dbentries::{Entries, Reported};
 use dbformat::FaultCode;
@@ -22,11 +22,11 @@ use std::alloc::{AllocError, Allocator, Global};
 
 /// What a map keeps of a file beside what a check keeps.
 #[derive(Drop)]
-pub(crate) struct Kept<A: Allocator = Global> {
+pub(crate) struct KeptFaults<A: Allocator = Global> {
     /// The tree of each page, and what else changes from square to square.
     pub(crate) walk: Walk<A>,
     /// The pages of each tree.
-    pub(crate) tally: Tally<A>,
+    pub(crate) tally: PageTally<A>,
     /// The pages that faults are found at.
     pub(crate) faulty: PageSet<A>,
     /// The pages of the entries that are listed, and of their causes.
@@ -37,21 +37,21 @@ pub(crate) struct Kept<A: Allocator = Global> {
     pub(crate) lost: Entries<A>,
 }
 
-impl<A: Allocator + Copy> Extra<A> for Kept<A> {
+impl<A: Allocator + Copy> Extra<A> for KeptFaults<A> {
     ghost use Rattle.std.specs.Prelude.{◌≡◌};
     ghost use Rattle.dbmap.specs.KeptFaults.{HearsNone};
 
     ghost begins = { λ limit g k. limit ≡ 100 → HearsNone g.pages k };
 
     // Each part is one growth.
-    fn new_in(alloc: A, limit: u32, geometry: &Geometry) -> Result<Kept<A>, AllocError> {
+    fn new_in(alloc: A, limit: u32, geometry: &Geometry) -> Result<KeptFaults<A>, AllocError> {
         let trees = PageTrees::new_in(alloc, geometry)?;
-        let tally = Tally::new_in(alloc)?;
+        let tally = PageTally::new_in(alloc)?;
         let faulty = PageSet::new_in(alloc, geometry.pages)?;
         let strong = PageSet::new_in(alloc, geometry.pages)?;
         let entries = Entries::new_in(alloc, limit)?;
         let lost = Entries::new_in(alloc, LOST_ENTRIES)?;
-        Ok(Kept {
+        Ok(KeptFaults {
             walk: Walk::new(trees),
             tally,
             faulty,
@@ -62,10 +62,10 @@ impl<A: Allocator + Copy> Extra<A> for Kept<A> {
     }
 }
 
-impl<A: Allocator> Kept<A> {
+impl<A: Allocator> KeptFaults<A> {
     /// Notes the page of a fault, and lists the fault, but for that of a lost page.
     pub(crate) fn note(&mut self, told: &Reported)
-        ensures { Keeps told.now self.old self.new }
+        ensures { HasNoted told.now self.old self.new }
     {
         self.faulty.note(told.fault.page, told.fault.code);
         if told.fault.code != FaultCode::N01 {

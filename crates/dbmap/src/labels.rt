@@ -3,10 +3,10 @@ ghost use Rattle.std.specs.Prelude.{◌≡◌, ◌≤◌, length, map, slice_get
 ghost use Rattle.dbxml.specs.Names.{tree_name};
 ghost use Rattle.dbxml.specs.Pieces.{piece_text};
 ghost use Rattle.dbmap.specs.LegendLines.{is_twice};
-ghost use Rattle.dbmap.specs.Owners.{starts_of};
+ghost use Rattle.dbmap.specs.Owners.{tree_starts};
 ghost use Rattle.dbmap.specs.Runs.{name_text};
 
-use crate::tally::{COLOURED, Tree};
+use crate::tally::{COLOURED, RankedTree};
 use arrayvec::ArrayVec;
 use dbowner::TreeNames;
 use dbxml::{Piece, Shown, shown_tree};
@@ -20,9 +20,9 @@ pub(crate) struct Labels {
 
 impl Labels {
     /// Those of some trees.
-    pub(crate) fn new<A: Allocator>(names: &TreeNames<'_, A>, largest: &[Tree]) -> Labels
+    pub(crate) fn new<A: Allocator>(names: &TreeNames<'_, A>, largest: &[RankedTree]) -> Labels
         requires { length largest.now ≤ 12 }
-        ensures { result.names.items ≡ map (tree_name names.now.encoding names.now.roots.now.rows) (starts_of largest.now) }
+        ensures { result.names.items ≡ map (tree_name names.now.encoding names.now.roots.now.rows) (tree_starts largest.now) }
     {
         let mut labels = Labels {
             names: ArrayVec::new(),

@@ -4,7 +4,7 @@ ghost use Rattle.dbxml.specs.Pieces.{piece_text};
 ghost use Rattle.dbmap.specs.Canvas.{Draws};
 ghost use Rattle.dbmap.specs.LegendLines.{line_if, owner_lines, root_if_twice, root_page};
 ghost use Rattle.dbmap.specs.Legends as legends;
-ghost use Rattle.dbmap.specs.Owners.{starts_of};
+ghost use Rattle.dbmap.specs.Owners.{tree_starts};
 ghost use Rattle.dbmap.specs.Sizes.{tenths_of_percent};
 ghost use Rattle.dbmap.specs.Tallies.{share_at};
 ghost use Rattle.dbmap.specs.TreeLists.{tree_at};
@@ -16,7 +16,7 @@ use crate::colours::{LEGEND_FRAME, fill};
 use crate::labels::Labels;
 use crate::layout::Layout;
 use crate::size::{size_tenths, size_unit};
-use crate::tally::{COLOURED, Tally, Tree};
+use crate::tally::{COLOURED, PageTally, RankedTree};
 use arrayvec::ArrayVec;
 use dbformat::FREELIST_START;
 use dbowner::TreeNames;
@@ -46,7 +46,7 @@ pub(crate) enum Label {
 
 /// A line, with how many pages it is of.
 #[derive(Clone, Copy, Default)]
-pub(crate) struct Line {
+pub(crate) struct LegendLine {
     label: Label,
     share: Share,
 }
@@ -54,7 +54,7 @@ pub(crate) struct Line {
 /// The lines of the legend.
 #[derive(Drop)]
 pub(crate) struct Legend {
-    lines: ArrayVec<Line, 17>,
+    lines: ArrayVec<LegendLine, 17>,
 }
 
 // Those of no tree.
@@ -67,16 +67,16 @@ fn no_overflow(pages: u32) -> Share
 impl Legend {
     /// That of a file whose pages were counted, of its largest trees with their names, and of the number of pages with a fault.
     pub(crate) fn new<A: Allocator, B: Allocator>(
-        tally: &Tally<A>,
-        largest: &[Tree],
+        tally: &PageTally<A>,
+        largest: &[RankedTree],
         names: &TreeNames<'_, B>,
         labels: &Labels,
         faulty: u32,
     ) -> Legend
         requires few { length largest.now ≤ 12 }
-        requires shares { largest.now ≡ map (tree_at tally.now.starts) (starts_of largest.now) }
+        requires shares { largest.now ≡ map (tree_at tally.now.starts) (tree_starts largest.now) }
         ensures { result.lines.items ≡ owner_lines labels.now.names.items names.now.roots.now.rows (share_at tally.now.starts)
-            (starts_of largest.now) tally.now.trees tally.now.fixed tally.now.nobody ++ line_if Faulty (legends.no_overflow faulty) }
+            (tree_starts largest.now) tally.now.trees tally.now.fixed tally.now.nobody ++ line_if Faulty (legends.no_overflow faulty) }
     {
         let mut legend = Legend::of_owners(tally, largest, names, labels);
         legend.add(Label::Faulty, no_overflow(faulty));
@@ -85,15 +85,15 @@ impl Legend {
 
     // The lines of owners.
     fn of_owners<A: Allocator, B: Allocator>(
-        tally: &Tally<A>,
-        largest: &[Tree],
+        tally: &PageTally<A>,
+        largest: &[RankedTree],
         names: &TreeNames<'_, B>,
         labels: &Labels,
     ) -> Legend
         requires few { length largest.now ≤ 12 }
-        requires shares { largest.now ≡ map (tree_at tally.now.starts) (starts_of largest.now) }
+        requires shares { largest.now ≡ map (tree_at tally.now.starts) (tree_starts largest.now) }
         ensures lines { result.lines.items ≡ owner_lines labels.now.names.items names.now.roots.now.rows (share_at tally.now.starts)
-            (starts_of largest.now) tally.now.trees tally.now.fixed tally.now.nobody }
+            (tree_starts largest.now) tally.now.trees tally.now.fixed tally.now.nobody }
         ensures room { length result.lines.items ≤ 16 }
     {
         let mut legend = Legend {
@@ -117,7 +117,7 @@ impl Legend {
         ensures room { length self.new.lines.items ≤ length self.old.lines.items + 1 }
     {
         if share.pages != 0 {
-            let _ = self.lines.try_push(Line { label, share });
+            let _ = self.lines.try_push(LegendLine { label, share });
         }
     }
 
@@ -154,7 +154,7 @@ fn draw_lines<O: Out>(
     canvas: &mut Canvas<'_, O>,
     labels: &Labels,
     geometry: Geometry,
-    lines: &[Line],
+    lines: &[LegendLine],
 )
     requires { length lines.now ≤ 17 }
     ensures { Draws O.held canvas.old (legends.lines_from labels.now.names.items geometry 2 lines.now) canvas.new }
@@ -169,7 +169,7 @@ fn draw_line<O: Out>(
     canvas: &mut Canvas<'_, O>,
     labels: &Labels,
     geometry: Geometry,
-    line: &Line,
+    line: &LegendLine,
     y: u32,
 )
     ensures { Draws O.held canvas.old (legends.line_text labels.now.names.items geometry line.now y) canvas.new }
@@ -182,7 +182,7 @@ fn draw_line<O: Out>(
 
 // Draws the line of the pages that the header states and the file does not have, if there are any.
 fn draw_missing<O: Out>(canvas: &mut Canvas<'_, O>, missing: u32, geometry: Geometry, y: u32)
-    ensures { Draws O.held canvas.old (legends.missing_text missing geometry y) canvas.new }
+    ensures { Draws O.held canvas.old (legends.missing_legend_text missing geometry y) canvas.new }
 {
     if missing != 0 {
         draw_some_missing(canvas, missing, geometry, y);
@@ -191,7 +191,7 @@ fn draw_missing<O: Out>(canvas: &mut Canvas<'_, O>, missing: u32, geometry: Geom
 
 // Draws the line of this many such pages.
 fn draw_some_missing<O: Out>(canvas: &mut Canvas<'_, O>, missing: u32, geometry: Geometry, y: u32)
-    ensures { Draws O.held canvas.old (legends.missing_line missing geometry y) canvas.new }
+    ensures { Draws O.held canvas.old (legends.missing_legend_line missing geometry y) canvas.new }
 {
     draw_box(canvas, 72, y.saturating_sub(10), "#FFFFFF");
     draw_label_front(canvas, y);
@@ -321,7 +321,7 @@ fn draw_box<O: Out>(canvas: &mut Canvas<'_, O>, x: u32, y: u32, fill: &'static s
 
 // The owner of the pages of a line, if it is of one.
 fn owner_of(label: Label) -> Option<Owner>
-    ensures { result ≡ legends.owner_of label }
+    ensures { result ≡ legends.label_owner label }
 {
     match label {
         Label::Tree(rank, _) => Some(Owner::Tree(rank)),
@@ -357,7 +357,7 @@ fn draw_shade<O: Out>(canvas: &mut Canvas<'_, O>, owner: Owner, overflow: u32, y
 
 // Draws the frame of squares with a fault.
 fn draw_frame<O: Out>(canvas: &mut Canvas<'_, O>, y: u32)
-    ensures { Draws O.held canvas.old (legends.frame_text y) canvas.new }
+    ensures { Draws O.held canvas.old (legends.legend_frame_text y) canvas.new }
 {
     canvas.draw(&[
         Piece::Markup("<rect x=\"73\" y=\""),
@@ -396,7 +396,7 @@ fn draw_label<O: Out>(canvas: &mut Canvas<'_, O>, labels: &Labels, label: Label,
 
 // Draws how many other trees there are.
 fn draw_others<O: Out>(canvas: &mut Canvas<'_, O>, count: u32)
-    ensures { Draws O.held canvas.old (legends.others_text count) canvas.new }
+    ensures { Draws O.held canvas.old (legends.other_trees_text count) canvas.new }
 {
     let trees = if count == 1 {
         " other tree</text>"
@@ -408,7 +408,7 @@ fn draw_others<O: Out>(canvas: &mut Canvas<'_, O>, count: u32)
 
 // Draws the name of a tree, with its root page where another one has the same name.
 fn draw_tree<O: Out>(canvas: &mut Canvas<'_, O>, labels: &Labels, rank: usize, root: Option<u32>)
-    ensures { Draws O.held canvas.old (legends.tree_text labels.now.names.items rank root) canvas.new }
+    ensures { Draws O.held canvas.old (legends.named_tree_text labels.now.names.items rank root) canvas.new }
 {
     let name = labels.piece(rank, NAME_WIDTH);
     match root {

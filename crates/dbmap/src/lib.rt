@@ -33,7 +33,7 @@ mod labels;
 mod layout;
 mod legend;
 mod listed;
-mod map_sink;
+mod map_reporter;
 mod maps;
 mod outlines;
 mod page;

@@ -1,7 +1,7 @@
 // The pages of the entries that are listed, and of their causes.
 ghost use Rattle.std.specs.Prelude.{◌≡◌, ℕ, ◌++◌, List, vec_len};
 ghost use Rattle.dbformat.specs.declared.FaultCode.{FaultCode};
-ghost use Rattle.dbmap.specs.FramedPages.{cause_page, framed, framed_of, leading, page_of_value, value_page};
+ghost use Rattle.dbmap.specs.FramedPages.{cause_page, framed, framed_of, leading, page_of_value, fault_value_page};
 ghost use Rattle.dbmap.specs.PageSets.{AreNoted};
 
 use crate::page_set::PageSet;
@@ -22,7 +22,7 @@ fn page_of_value(value: i64) -> u32
 
 // The page that the value of a fault names, or 0.
 fn value_page(fault: &Fault) -> u32
-    ensures { result ≡ value_page fault.now }
+    ensures { result ≡ fault_value_page fault.now }
 {
     match fault.code {
         FaultCode::R02 | FaultCode::R03 | FaultCode::T04 | FaultCode::O01 | FaultCode::M02 => {

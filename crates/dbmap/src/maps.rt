@@ -17,11 +17,11 @@ ghost use Rattle.dbmap.specs.Drawings.{PutsPicture, stated_of};
 
 use crate::canvas::Canvas;
 use crate::grid::Grid;
-use crate::kept::Kept;
+use crate::kept::KeptFaults;
 use crate::labels::Labels;
 use crate::layout::Layout;
 use crate::legend::Legend;
-use crate::map_sink::MapSink;
+use crate::map_reporter::MapReporter;
 use crate::picture::{Heading, draw_picture};
 use crate::squares::Squares;
 use dbformat::Verdict;
@@ -54,7 +54,7 @@ fn stated_pages(header: &Header) -> u32
 pub(crate) fn put_map<A: Allocator, O: Out>(
     name: &str,
     desk: &Desk<A>,
-    kept: &mut Kept<A>,
+    kept: &mut KeptFaults<A>,
     faults: u64,
     out: &mut O,
 ) -> Result<(), WriteFailed>
@@ -109,7 +109,7 @@ pub(crate) fn put_map<A: Allocator, O: Out>(
 fn map_on<A: Allocator, S: Source, O: Out>(
     name: &str,
     desk: &mut Desk<A>,
-    kept: &mut Kept<A>,
+    kept: &mut KeptFaults<A>,
     source: &mut S,
     out: &mut O,
 ) -> Result<Verdict, RunError>
@@ -122,7 +122,7 @@ fn map_on<A: Allocator, S: Source, O: Out>(
     ensures writes { (O.held out.new).failures ≡ failures_after is_write_failed result (O.held out.old).failures }
     ensures only { IfErr result IsReadWriteOrMemory }
 {
-    let mut sink = MapSink::new(name, kept, out);
+    let mut sink = MapReporter::new(name, kept, out);
     run_over(desk, source, &mut sink)
 }
 

@@ -3,7 +3,7 @@ ghost use Rattle.std.specs.Prelude.{◌≡◌, ℕ, ◌^◌, ◌==◌, [], ◌�
 ghost use Rattle.dbformat.specs.Codes.{code_index};
 ghost use Rattle.dbformat.specs.declared.FaultCode.{FaultCode};
 ghost use Rattle.dbmap.specs.CodeSets.{both, has_code, with_code};
-ghost use Rattle.dbmap.specs.PageSets.{any_page, codes_of_pages, has_page, is_noted, number_at, set_numbered, shown_codes, AreNoted, IsFound, IsKept, Numbers};
+ghost use Rattle.dbmap.specs.PageSets.{any_page, codes_of_pages, has_page, is_noted, number_at, set_numbered, shown_codes, AreNoted, IsSetAt, IsKept, Numbers};
 
 use arrayvec::ArrayVec;
 use dbformat::FaultCode;
@@ -90,7 +90,7 @@ impl<A: Allocator> PageSet<A> {
 
     // The number of a set that is kept.
     fn find(&self, codes: Codes) -> Option<u8>
-        ensures { IsFound self.now.sets.items codes result }
+        ensures { IsSetAt self.now.sets.items codes result }
     {
         for (index, set) in self.sets.as_slice().iter().enumerate() {
             if *set == codes {

@@ -1,7 +1,7 @@
 // What goes over from one square to the next.
 ghost use Rattle.std.specs.Prelude.{◌≡◌, None, Some};
 ghost use Rattle.dbmap.specs.Canvas.{Draws};
-ghost use Rattle.dbmap.specs.Pens.{change_text, end_text};
+ghost use Rattle.dbmap.specs.Pens.{change_text, group_end_text};
 
 use crate::bands::Credits;
 use crate::canvas::Canvas;
@@ -22,7 +22,7 @@ pub(crate) struct Pen {
 
 // How a group ends, if there is one.
 fn group_end(group: Option<Shade>) -> &'static str
-    ensures { result.now ≡ end_text group }
+    ensures { result.now ≡ group_end_text group }
 {
     if group.is_none() { "" } else { "</g>\n" }
 }
@@ -59,7 +59,7 @@ impl Pen {
 
     /// Ends the group, if there is one.
     pub(crate) fn end<O: Out>(&mut self, canvas: &mut Canvas<'_, O>)
-        ensures draws { Draws O.held canvas.old (end_text self.old.group) canvas.new }
+        ensures draws { Draws O.held canvas.old (group_end_text self.old.group) canvas.new }
         ensures group { self.new.group ≡ None }
     {
         let end = group_end(self.group);

@@ -59,7 +59,7 @@ fn draw_head<O: Out>(canvas: &mut Canvas<'_, O>, file: &Shown, height: u64)
 
 // Draws how many faults there are.
 fn draw_faults<O: Out>(canvas: &mut Canvas<'_, O>, faults: u64)
-    ensures { Draws O.held canvas.old (pictures.faults_text faults) canvas.new }
+    ensures { Draws O.held canvas.old (pictures.fault_count_text faults) canvas.new }
 {
     match faults {
         0 => canvas.draw(&[Piece::Markup("no fault")]),
@@ -125,7 +125,7 @@ fn draw_heading<O: Out>(canvas: &mut Canvas<'_, O>, heading: &Heading, run: u32)
 
 // Draws the first page of a row before it; where rows are narrow, of each second one.
 fn draw_row_name<O: Out>(canvas: &mut Canvas<'_, O>, grid: &Grid, row: u32)
-    ensures { Draws O.held canvas.old (pictures.row_name grid.now row) canvas.new }
+    ensures { Draws O.held canvas.old (pictures.row_label_text grid.now row) canvas.new }
 {
     if grid.side() > 10 || row % 2 == 0 {
         draw_page_of_row(canvas, grid, row);

@@ -6,7 +6,7 @@ ghost use Rattle.dbmap.specs.Runs.{owner_mark, owner_text, owners_from, plain_te
 
 use crate::bands::Bands;
 use crate::canvas::Canvas;
-use crate::cell::{Cell, OWNERS, Owner};
+use crate::cell::{OWNERS, Owner, OwnerShares};
 use crate::colours::fill;
 use crate::faulty::Faulty;
 use crate::frame::{BAND_FRAME, Frame, tail};
@@ -19,16 +19,16 @@ use dbxml::Piece;
 
 /// The square of a run of pages, the first to the last.
 #[derive(Clone, Copy)]
-pub(crate) struct Run {
+pub(crate) struct RunSquare {
     /// Where it begins in its row, in pixels.
     pub(crate) x: u32,
     pub(crate) first: u32,
     pub(crate) last: u32,
-    pub(crate) cell: Cell,
+    pub(crate) cell: OwnerShares,
     pub(crate) faulty: Faulty,
 }
 
-impl Run {
+impl RunSquare {
     /// Draws the square of pages that all have one owner.
     pub(crate) fn draw_plain<O: Out>(
         &self,

@@ -5,13 +5,13 @@ ghost use Rattle.dbformat.specs.Reference.{Reference};
 ghost use Rattle.dbmap.specs.Canvas.{Draws};
 ghost use Rattle.dbmap.specs.Drawings.{DrawsRow, DrawsRows, DrawsSquare, DrawsSquares};
 ghost use Rattle.dbmap.specs.FaultyPages.{IsFaulty, frame_of};
-ghost use Rattle.dbmap.specs.Owners.{IsOf, StaysOf, owner_by, owners_by, starts_of};
+ghost use Rattle.dbmap.specs.Owners.{IsOf, StaysOf, owner_by, owners_by, tree_starts};
 ghost use Rattle.dbmap.specs.PageSets.{any_page, has_page, pages_between};
 ghost use Rattle.dbmap.specs.Shares.{AreShares};
-ghost use Rattle.dbmap.specs.Squares.{IsNamed, faults_ground, fixed_in, front_text, ground_of};
+ghost use Rattle.dbmap.specs.Squares.{IsNamed, faults_ground, fixed_in, row_front_text, ground_of};
 
 use crate::canvas::Canvas;
-use crate::cell::{Cell, Owner, is_overflow};
+use crate::cell::{Owner, OwnerShares, is_overflow};
 use crate::faulty::Faulty;
 use crate::frame::Frame;
 use crate::grid::Grid;
@@ -20,8 +20,8 @@ use crate::outlines::draw_outlines;
 use crate::page::PageSquare;
 use crate::page_set::PageSet;
 use crate::picture::LEFT;
-use crate::run::Run;
-use crate::tally::{COLOURED, Tree, rank_of};
+use crate::run::RunSquare;
+use crate::tally::{COLOURED, RankedTree, rank_of};
 use crate::walk::Walk;
 use arrayvec::ArrayVec;
 use dbformat::Fixed;
@@ -42,13 +42,13 @@ pub(crate) struct Squares<'a, A: Allocator> {
     pub(crate) names: TreeNames<'a, A>,
     pub(crate) faulty: &'a PageSet<A>,
     pub(crate) strong: &'a PageSet<A>,
-    pub(crate) largest: ArrayVec<Tree, COLOURED>,
+    pub(crate) largest: ArrayVec<RankedTree, COLOURED>,
 }
 
 impl<'a, A: Allocator> Squares<'a, A> {
     // Whose a page is that is this and belongs to this start.
     fn owner(&self, place: Place, start: Option<u32>) -> Owner
-        ensures { result ≡ owner_by (starts_of self.now.largest.items) place start }
+        ensures { result ≡ owner_by (tree_starts self.now.largest.items) place start }
     {
         match place {
             Place::Fixed => Owner::Fixed,
@@ -61,14 +61,14 @@ impl<'a, A: Allocator> Squares<'a, A> {
     }
 
     // Whose some pages are.
-    fn cell(&self, walk: &mut Walk<A>, first: u32, last: u32) -> Cell
+    fn cell(&self, walk: &mut Walk<A>, first: u32, last: u32) -> OwnerShares
         ensures shares { (file : List ℕ) (V : List Reference) → IsOf self.now.marks.now walk.old.trees.known file V
-            → AreShares self.now.marks.now (owners_by V (starts_of self.now.largest.items)) (pages_between first last) result }
+            → AreShares self.now.marks.now (owners_by V (tree_starts self.now.largest.items)) (pages_between first last) result }
         ensures pen { walk.new.pen ≡ walk.old.pen }
         ensures named { (walk.new.name ≡ walk.old.name) × (walk.new.named ≡ walk.old.named) }
         ensures trees { StaysOf self.now.marks.now walk.old.trees.known walk.new.trees.known }
     {
-        let mut cell = Cell::new();
+        let mut cell = OwnerShares::new();
         for page in first..=last {
             let place = place_of(self.marks, page);
             let start = walk.trees.start_of(self.marks, page);
@@ -205,7 +205,7 @@ impl<'a, A: Allocator> Squares<'a, A> {
     {
         let grid = &layout.grid;
         let (first, last) = grid.pages_of(cell);
-        let run = Run {
+        let run = RunSquare {
             x: grid.x_of(cell),
             first,
             last,
@@ -273,7 +273,7 @@ impl<'a, A: Allocator> Squares<'a, A> {
 
 // Draws the beginning of the row.
 fn draw_row_front<O: Out>(canvas: &mut Canvas<'_, O>, grid: &Grid, row: u32)
-    ensures { Draws O.held canvas.old (front_text grid.now row) canvas.new }
+    ensures { Draws O.held canvas.old (row_front_text grid.now row) canvas.new }
 {
     canvas.draw(&[
         Piece::Markup("<g transform=\"translate("),

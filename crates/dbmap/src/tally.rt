@@ -3,8 +3,8 @@ ghost use Rattle.std.specs.Prelude.{◌≡◌, ◌↔◌, ◌≤◌, ℕ, List, 
 ghost use Rattle.dbformat.specs.Reference.{Reference};
 ghost use Rattle.dbmap.specs.Cells.{no_share};
 ghost use Rattle.dbmap.specs.LegendLines.{other_trees, others_share};
-ghost use Rattle.dbmap.specs.Owners.{IsOf, StaysOf, rank_of, starts_of};
-ghost use Rattle.dbmap.specs.Tallies.{AreLargest, IsNext, IsNone, IsTallyOf, page_counted, pages_at, share_at, start_counted, used_counted};
+ghost use Rattle.dbmap.specs.Owners.{IsOf, StaysOf, rank_of, tree_starts};
+ghost use Rattle.dbmap.specs.Tallies.{AreLargest, IsNextStart, IsNone, IsPageTallyOf, page_counted, pages_at, share_at, start_counted, used_counted};
 ghost use Rattle.dbmap.specs.TreeLists.{IsAfterTree, IsBeforeTree, IsFirstTree, IsOfTally, tree_at};
 
 use crate::cell::{Share, is_overflow};
@@ -23,14 +23,14 @@ const STARTS: usize = FREELIST_START as usize + 1;
 
 /// A tree, by its start.
 #[derive(Clone, Copy, Default)]
-pub(crate) struct Tree {
+pub(crate) struct RankedTree {
     pub(crate) start: u32,
     pub(crate) share: Share,
 }
 
-impl Tree {
+impl RankedTree {
     // Whether it comes before another: it has more pages, or as many and a lesser start.
-    fn is_before(&self, other: &Tree) -> bool
+    fn is_before(&self, other: &RankedTree) -> bool
         ensures { IsTrue result ↔ IsBeforeTree self.now other.now }
     {
         let (pages, others) = (self.share.pages, other.share.pages);
@@ -39,7 +39,7 @@ impl Tree {
 }
 
 // Whether a tree comes after another one, if there is one.
-fn is_after(tree: &Tree, other: Option<Tree>) -> bool
+fn is_after(tree: &RankedTree, other: Option<RankedTree>) -> bool
     ensures { IsTrue result ↔ IsAfterTree other tree.now }
 {
     match other {
@@ -49,7 +49,7 @@ fn is_after(tree: &Tree, other: Option<Tree>) -> bool
 }
 
 // Whether a tree comes before another one, if there is one.
-fn is_first(tree: &Tree, other: Option<Tree>) -> bool
+fn is_first(tree: &RankedTree, other: Option<RankedTree>) -> bool
     ensures { IsTrue result ↔ IsFirstTree tree.now other }
 {
     match other {
@@ -60,7 +60,7 @@ fn is_first(tree: &Tree, other: Option<Tree>) -> bool
 
 /// How many pages each start has, how many have a fixed use, and how many are nobody's.
 #[derive(Drop)]
-pub struct Tally<A: Allocator = Global> {
+pub struct PageTally<A: Allocator = Global> {
     starts: Vec<Share, A>,
     // One more than the greatest start of a tree that has a page.
     trees: u32,
@@ -68,16 +68,16 @@ pub struct Tally<A: Allocator = Global> {
     nobody: u32,
 }
 
-impl<A: Allocator> Model for Tally<A> {
-    ghost use Rattle.dbmap.specs.Tallies.{Tallied};
+impl<A: Allocator> Model for PageTally<A> {
+    ghost use Rattle.dbmap.specs.Tallies.{PagesTallied};
 
-    ghost Value = { Tallied };
+    ghost Value = { PagesTallied };
 
-    ghost use Rattle.dbmap.specs.Tallies.{tallied, IsRoomy};
+    ghost use Rattle.dbmap.specs.Tallies.{pages_tallied, HasStartShares};
 
-    ghost view = { tallied };
+    ghost view = { pages_tallied };
 
-    ghost invariant = { IsRoomy };
+    ghost invariant = { HasStartShares };
 }
 
 // Makes all shares empty.
@@ -90,15 +90,15 @@ fn zero<A: Allocator>(starts: &mut Vec<Share, A>)
     }
 }
 
-impl<A: Allocator> Tally<A> {
+impl<A: Allocator> PageTally<A> {
     /// One without pages, in one growth.
     ///
     /// # Errors
     ///
     /// [`AllocError`] where the growth was refused.
-    pub(crate) fn new_in(alloc: A) -> Result<Tally<A>, AllocError> {
+    pub(crate) fn new_in(alloc: A) -> Result<PageTally<A>, AllocError> {
         let starts = Vec::from_elem(alloc, Share::default(), STARTS)?;
-        Ok(Tally {
+        Ok(PageTally {
             starts,
             trees: 0,
             fixed: 0,
@@ -118,7 +118,7 @@ impl<A: Allocator> Tally<A> {
 
     /// Counts all pages, and none that was counted before.
     pub(crate) fn count<B: Allocator>(&mut self, marks: &Marks<B>, trees: &mut PageTrees<B>)
-        ensures tally { (file : List ℕ) (V : List Reference) → IsOf marks.now trees.old.known file V → IsTallyOf file V self.new }
+        ensures tally { (file : List ℕ) (V : List Reference) → IsOf marks.now trees.old.known file V → IsPageTallyOf file V self.new }
         ensures trees { StaysOf marks.now trees.old.known trees.new.known }
     {
         self.clear();
@@ -189,22 +189,22 @@ impl<A: Allocator> Tally<A> {
     }
 
     // The tree of a start.
-    fn tree(&self, start: u32) -> Tree
+    fn tree(&self, start: u32) -> RankedTree
         ensures { result ≡ tree_at self.now.starts start }
     {
-        Tree {
+        RankedTree {
             start,
             share: self.share(start),
         }
     }
 
     // The tree that comes next after another one, or the first.
-    fn next(&self, behind: Option<Tree>) -> Option<Tree>
+    fn next(&self, behind: Option<RankedTree>) -> Option<RankedTree>
         requires { IsOfTally self.now.starts behind }
-        ensures next { IsNext self.now.trees (pages_at self.now.starts) (option_map (λ t. t.start) behind) (option_map (λ t. t.start) result) }
+        ensures next { IsNextStart self.now.trees (pages_at self.now.starts) (option_map (λ t. t.start) behind) (option_map (λ t. t.start) result) }
         ensures share { IsOfTally self.now.starts result }
     {
-        let mut next: Option<Tree> = None;
+        let mut next: Option<RankedTree> = None;
         for start in 0..self.trees {
             let tree = self.tree(start);
             if tree.share.pages != 0 && is_after(&tree, behind) && is_first(&tree, next) {
@@ -215,9 +215,9 @@ impl<A: Allocator> Tally<A> {
     }
 
     /// The largest trees, by how many pages they have, and then by their starts.
-    pub(crate) fn largest(&self) -> ArrayVec<Tree, COLOURED>
-        ensures largest { AreLargest self.now.trees (pages_at self.now.starts) (starts_of result.items) }
-        ensures shares { result.items ≡ map (tree_at self.now.starts) (starts_of result.items) }
+    pub(crate) fn largest(&self) -> ArrayVec<RankedTree, COLOURED>
+        ensures largest { AreLargest self.now.trees (pages_at self.now.starts) (tree_starts result.items) }
+        ensures shares { result.items ≡ map (tree_at self.now.starts) (tree_starts result.items) }
     {
         let mut largest = ArrayVec::new();
         let mut last = None;
@@ -234,9 +234,9 @@ impl<A: Allocator> Tally<A> {
     }
 
     /// How many trees there are beside some, and what they have.
-    pub(crate) fn others(&self, largest: &[Tree]) -> (u32, Share)
-        ensures trees { result.0 ≡ other_trees (share_at self.now.starts) (starts_of largest.now) self.now.trees }
-        ensures share { result.1 ≡ others_share (share_at self.now.starts) (starts_of largest.now) self.now.trees }
+    pub(crate) fn others(&self, largest: &[RankedTree]) -> (u32, Share)
+        ensures trees { result.0 ≡ other_trees (share_at self.now.starts) (tree_starts largest.now) self.now.trees }
+        ensures share { result.1 ≡ others_share (share_at self.now.starts) (tree_starts largest.now) self.now.trees }
     {
         let mut count = 0u32;
         let mut all = Share::default();
@@ -252,8 +252,8 @@ impl<A: Allocator> Tally<A> {
 }
 
 /// The rank of a start among the largest trees, or that of all others.
-pub(crate) fn rank_of(largest: &[Tree], start: Option<u32>) -> usize
-    ensures rank { result ≡ rank_of (starts_of largest.now) start }
+pub(crate) fn rank_of(largest: &[RankedTree], start: Option<u32>) -> usize
+    ensures rank { result ≡ rank_of (tree_starts largest.now) start }
     ensures most { result ≤ 12 }
 {
     for (rank, tree) in largest.iter().enumerate() {

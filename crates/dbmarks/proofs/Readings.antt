@@ -12,7 +12,7 @@ use Rattle.dbformat.specs.Log.{page_range, range}
 use Rattle.dbformat.specs.declared.ByteRange.{ByteRange}
 use Rattle.dbmarks.specs.declared.marks.Mark.{Mark}
 use Rattle.dbmarks.specs.declared.marks.Mark.TheVariants.{Unmarked}
-use Rattle.dbmarks.specs.Marking.{page_mark, is_none, is_unmarked, unmarked_pages, IsUse, cleared, Keeps}
+use Rattle.dbmarks.specs.Marking.{page_mark, is_none, is_unmarked, unmarked_pages, IsUse, cleared, KeepsMarks}
 use Rattle.dbsource.specs.Answers.{IsRangeOf, answer, Step}
 use Rattle.dbsource.specs.Errors.{is_read_failed}
 use Rattle.dbsource.specs.Failures.{failures_after}
@@ -79,10 +79,10 @@ unmarked-is marks p h = ap (λ o. option_map_or is_none o false) h
 pub marked-is : (marks : List Mark) (p : ℕ) (m : Mark) → page_mark marks p ≡ Some m → is_none m ≡ false → is_unmarked marks p ≡ false
 marked-is marks p m h e = ap (λ o. option_map_or is_none o false) h ∙ e
 
-pub keeps_same : (marks : List Mark) → Keeps marks marks
+pub keeps_same : (marks : List Mark) → KeepsMarks marks marks
 keeps_same marks = record { marks = λ p h. refl; fixed = refl }
 
-pub keeps_then : (a b c : List Mark) → Keeps a b → Keeps b c → Keeps a c
+pub keeps_then : (a b c : List Mark) → KeepsMarks a b → KeepsMarks b c → KeepsMarks a c
 keeps_then a b c h k = record {
   marks = λ p u. let e : page_mark b p ≡ page_mark a p = h.marks p u in
       k.marks p (ap (λ o. option_map_or is_none o false) e ∙ u) ∙ e;
@@ -90,7 +90,7 @@ keeps_then a b c h k = record {
 }
 
 -- a page gets its mark
-pub keeps_put : (marks : List Mark) (p : ℕ) (m : Mark) → page_mark marks p ≡ Some Unmarked → cleared m ≡ Unmarked → Keeps marks (set marks (p - 1) m)
+pub keeps_put : (marks : List Mark) (p : ℕ) (m : Mark) → page_mark marks p ≡ Some Unmarked → cleared m ≡ Unmarked → KeepsMarks marks (set marks (p - 1) m)
 keeps_put marks p m h e = record {
   marks = λ q u. page_set marks p q m (page_get marks p Unmarked h).0 (λ x. both_ways (is_unmarked marks p) (subst (λ r. is_unmarked marks r ≡ false) x u) (unmarked-is marks p h));
   fixed = clear_set marks (p - 1) m Unmarked (page_get marks p Unmarked h).1 e;
@@ -104,7 +104,7 @@ put_count marks p m h e = count_set marks (p - 1) m (page_get marks p Unmarked h
 
 -- reads
 
-pub reads_none : (size : ℕ) (old new : List Mark) → Keeps old new → Reads size old new []
+pub reads_none : (size : ℕ) (old new : List Mark) → KeepsMarks old new → Reads size old new []
 reads_none size old new k = record {
   pages = [];
   ranges = refl;
@@ -154,7 +154,7 @@ reads_then size a b c l m h k = record {
 -- nothing was marked and nothing read
 pub log_none : {step : Step} {Q : List ℕ → Type 0} (size : ℕ) (marks marks' : List Mark) (s : SourceState) → marks' ≡ marks → ((file : List ℕ) → Q file)
     → HasLog step (Reads size marks marks') Q s s
-log_none size marks marks' s e q = logs.has_none s s refl refl (reads_none size marks marks' (subst (λ m. Keeps marks m) (sym e) (keeps_same marks))) q
+log_none size marks marks' s e q = logs.has_none s s refl refl (reads_none size marks marks' (subst (λ m. KeepsMarks marks m) (sym e) (keeps_same marks))) q
 
 -- a page was marked, and then read
 pub log_page : {step : Step} (Q : List ℕ → Type 0) {T : List ℕ → Type 0} (size : ℕ) (marks marks' : List Mark) (p : ℕ) (m : Mark) {old new : SourceState}
@@ -171,7 +171,7 @@ log_load size p bytes r told e h = logs.has_one r ((p - 1) * size) bytes told h.
 
 -- a page was marked, and then read, and then more pages were marked
 pub log_opened : {step : Step} (Q : List ℕ → Type 0) {T : List ℕ → Type 0} (size : ℕ) (a b c : List Mark) (p : ℕ) (m : Mark) {old new : SourceState}
-    → page_mark a p ≡ Some Unmarked → b ≡ set a (p - 1) m → IsUse m → Keeps b c → HasLog step (λ log. log ≡ page_range size p ∷ []) Q old new → ((file : List ℕ) → Q file → T file)
+    → page_mark a p ≡ Some Unmarked → b ≡ set a (p - 1) m → IsUse m → KeepsMarks b c → HasLog step (λ log. log ≡ page_range size p ∷ []) Q old new → ((file : List ℕ) → Q file → T file)
     → HasLog step (Reads size a c) T old new
 log_opened Q size a b c p m h e used kept k q = logs.has_weaker (λ log. log ≡ page_range size p ∷ []) Q k
     (λ log l. subst (Reads size a c) (sym l) (reads_then size a b c (page_range size p ∷ []) []

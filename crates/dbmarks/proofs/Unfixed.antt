@@ -12,13 +12,13 @@ use Rattle.dbformat.specs.declared.Fixed.TheVariants.{Lock, Map}
 use Rattle.dbformat.specs.declared.Geometry.{Geometry}
 use Rattle.dbmarks.specs.declared.marks.Mark.{Mark}
 use Rattle.dbmarks.specs.declared.marks.Mark.TheVariants.{Unmarked, Fixed, Root, Trunk, FreeLeaf, FirstOverflow, LaterOverflow, Child}
-use Rattle.dbmarks.specs.Marking.{marks_of, page_mark, is_none, is_unmarked, cleared, AreMarksFor, Keeps}
+use Rattle.dbmarks.specs.Marking.{marks_of, page_mark, is_none, is_unmarked, cleared, AreMarksFor, KeepsMarks}
 use Rattle.dbmarks.specs.Reads.{ReadsEachPageOnce}
 use Rattle.dbmarks.proofs.Readings.{reads_then}
 use Rattle.dbmarks.proofs.Markings.{page_mark-in, page_mark-out, unvisited}
 
 -- marks of a file's pages stay so
-pub marks_for-kept : (g : Geometry) (old new : List Mark) → AreMarksFor g old → Keeps old new → AreMarksFor g new
+pub marks_for-kept : (g : Geometry) (old new : List Mark) → AreMarksFor g old → KeepsMarks old new → AreMarksFor g new
 marks_for-kept g old new h k = k.fixed ∙ h
 
 page_mark-cleared : (marks : List Mark) (p : ℕ) → page_mark (map cleared marks) p ≡ option_map cleared (page_mark marks p)

@@ -68,7 +68,7 @@ abbrev pub AreMarksFor : Geometry → List Mark → Type 0
 AreMarksFor g marks = map cleared marks ≡ marks_of g []
 
 -- each mark that was there stays, and the pages of fixed use are the same
-pub record Keeps (old new : List Mark) : Type 0 where
+pub record KeepsMarks (old new : List Mark) : Type 0 where
   pub marks : (p : ℕ) → is_unmarked old p ≡ false → page_mark new p ≡ page_mark old p
   pub fixed : map cleared new ≡ map cleared old
 

@@ -5,7 +5,7 @@ use Rattle.dbformat.specs.Log.{page_range, IsPageLog}
 use Rattle.dbformat.specs.declared.ByteRange.{ByteRange}
 use Rattle.dbformat.specs.declared.Geometry.{Geometry}
 use Rattle.dbmarks.specs.declared.marks.Mark.{Mark}
-use Rattle.dbmarks.specs.Marking.{is_unmarked, AreMarksFor, Keeps}
+use Rattle.dbmarks.specs.Marking.{is_unmarked, AreMarksFor, KeepsMarks}
 
 -- Whole pages of one size, none twice, each of which got its mark in between: so none of them is fixed, or was read
 -- before its mark was there.
@@ -15,7 +15,7 @@ pub record Reads (size : ℕ) (old new : List Mark) (log : List ByteRange) : Typ
   pub distinct : EachPair (λ p q. p ≢ q) pages
   pub fresh : (p : ℕ) → IsIn p pages → is_unmarked old p ≡ true
   pub marked : (p : ℕ) → IsIn p pages → is_unmarked new p ≡ false
-  pub kept : Keeps old new
+  pub kept : KeepsMarks old new
 
 -- What walks over the pages of a file read, one call after another: pages of the file, none twice in all, and none of
 -- fixed use, so never the lock-byte page. The marks stay those of a file of this geometry.

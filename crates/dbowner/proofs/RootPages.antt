@@ -24,7 +24,7 @@ use Rattle.dbmarks.proofs.Markings.{marks_of-length}
 use Rattle.dbformat.specs.Starts.{start_at, first_start}
 use Rattle.dbowner.specs.Climbs.{known_of, AreTrees}
 use Rattle.dbscan.specs.Roots.{AreListed}
-use Rattle.dbowner.specs.Steps.{is_open, entered}
+use Rattle.dbowner.specs.Steps.{is_open, known_on_entry}
 use Rattle.dbowner.proofs.PageMarks.{root_marked, root_visited}
 use Rattle.dbowner.proofs.Slots.{has_room, open_is, open_slot, within, put_here, put_there, nothing_known}
 use Rattle.dbformat.proofs.BelowStarts.{start_here, root_start_is, first_is}
@@ -62,7 +62,7 @@ abbrev pub root_known : List Mark → ℕ → Option ℕ → ℕ → Known
 root_known marks n start p = cond (is_marked is_root_mark marks p && has_room n p) (option_map Some start) None
 
 pub entered_is : (marks : List Mark) (known : List Known) (page start : ℕ) → is_marked is_root_mark marks page ≡ true → is_open known page ≡ true
-    → (p : ℕ) → known_of (set known (page - 1) (Some (Some start))) p ≡ entered marks known page start p
+    → (p : ℕ) → known_of (set known (page - 1) (Some (Some start))) p ≡ known_on_entry marks known page start p
 entered_is marks known page start m o p = elim (cases_Bool (p == page)) [
   | inl e ↦ (let f : p ≡ page = eqb-true p page e in
       let w = within known page None (open_slot known page o) in
@@ -91,14 +91,14 @@ eqb-comm a b = elim (cases_Bool (a == b)) [
 
 -- what is known, and what is still to be entered
 pub one_entered : (marks : List Mark) (known : List Known) (page start : ℕ) (later : Option ℕ) (p : ℕ)
-    → option_or (entered marks known page start p) (root_known marks (length known) later p)
+    → option_or (known_on_entry marks known page start p) (root_known marks (length known) later p)
     ≡ option_or (known_of known p) (root_known marks (length known) (cond (p == page) (Some start) later) p)
 one_entered marks known page start later p =
     ap (λ b. option_or (cond ((p == page) && (is_marked is_root_mark marks p && b)) (Some (Some start)) (known_of known p)) (root_known marks (length known) later p)) (open_is known p)
     ∙ one_row (p == page) (is_marked is_root_mark marks p) (has_room (length known) p) (known_of known p) start later
 
 pub row_entered : (marks : List Mark) (known : List Known) (rows : List SchemaRow) (i page : ℕ) (p : ℕ) → option_map (λ row. row.root) (slice_get rows i) ≡ Some page
-    → option_or (entered marks known page (i + 1) p) (root_known marks (length known) (row_start (i + 1 + 1) (drop (suc i) rows) p) p)
+    → option_or (known_on_entry marks known page (i + 1) p) (root_known marks (length known) (row_start (i + 1 + 1) (drop (suc i) rows) p) p)
     ≡ option_or (known_of known p) (root_known marks (length known) (row_start (i + 1) (drop i rows) p) p)
 row_entered marks known rows i page p h =
     one_entered marks known page (i + 1) (row_start (i + 1 + 1) (drop (suc i) rows) p) p
@@ -121,23 +121,23 @@ all_entered marks known rows i n p k l h =
 abbrev pub AreEntered : List Mark → List SchemaRow → ℕ → List Known → Type 0
 AreEntered marks rows i known = (p : ℕ) → option_or (known_of known p) (root_known marks (length known) (row_start (i + 1) (drop i rows) p) p) ≡ root_known marks (length known) (listed_start rows p) p
 
-pub schema_entered : (marks : List Mark) (n : ℕ) (known : List Known) (rows : List SchemaRow) → ((p : ℕ) → known_of known p ≡ entered marks (replicate n None) 1 schema_start p) → length known ≡ n
+pub schema_entered : (marks : List Mark) (n : ℕ) (known : List Known) (rows : List SchemaRow) → ((p : ℕ) → known_of known p ≡ known_on_entry marks (replicate n None) 1 schema_start p) → length known ≡ n
     → AreEntered marks rows 0 known
 schema_entered marks n known rows h e p =
     let long : length known ≡ length (replicate {A = Known} n None) = e ∙ sym (length-replicate n None) in
     ap (λ k. option_or k (root_known marks (length known) (row_start 1 rows p) p)) (h p)
-    ∙ ap (λ n'. option_or (entered marks (replicate n None) 1 schema_start p) (root_known marks n' (row_start 1 rows p) p)) long
+    ∙ ap (λ n'. option_or (known_on_entry marks (replicate n None) 1 schema_start p) (root_known marks n' (row_start 1 rows p) p)) long
     ∙ one_entered marks (replicate n None) 1 schema_start (row_start 1 rows p) p
     ∙ ap (λ k. option_or k (root_known marks (length (replicate {A = Known} n None)) (listed_start rows p) p)) (nothing_known n p)
     ∙ ap (λ n'. root_known marks n' (listed_start rows p) p) (sym long)
 
 pub next_entered : (marks : List Mark) (rows : List SchemaRow) (i page : ℕ) (known new : List Known) → option_map (λ row. row.root) (slice_get rows i) ≡ Some page
-    → ((p : ℕ) → known_of new p ≡ entered marks known page (i + 1) p) → length new ≡ length known → AreEntered marks rows i known → AreEntered marks rows (i + 1) new
+    → ((p : ℕ) → known_of new p ≡ known_on_entry marks known page (i + 1) p) → length new ≡ length known → AreEntered marks rows i known → AreEntered marks rows (i + 1) new
 next_entered marks rows i page known new row h e before p =
     let d : i + 1 ≡ suc i = omega arith in
     ap (λ k. option_or k (root_known marks (length new) (row_start (i + 1 + 1) (drop (i + 1) rows) p) p)) (h p)
-    ∙ ap (λ j. option_or (entered marks known page (i + 1) p) (root_known marks (length new) (row_start (i + 1 + 1) (drop j rows) p) p)) d
-    ∙ ap (λ n. option_or (entered marks known page (i + 1) p) (root_known marks n (row_start (i + 1 + 1) (drop (suc i) rows) p) p)) e
+    ∙ ap (λ j. option_or (known_on_entry marks known page (i + 1) p) (root_known marks (length new) (row_start (i + 1 + 1) (drop j rows) p) p)) d
+    ∙ ap (λ n. option_or (known_on_entry marks known page (i + 1) p) (root_known marks n (row_start (i + 1 + 1) (drop (suc i) rows) p) p)) e
     ∙ row_entered marks known rows i page p row ∙ before p ∙ ap (λ n. root_known marks n (listed_start rows p) p) (sym e)
 
 -- the starts of rows, and then others

@@ -7,7 +7,7 @@ use Rattle.std.proofs.lemmas.Bool.Decides.{nat_tests}
 use Rattle.std.proofs.lemmas.List.Sums.{sum_by-set}
 use Rattle.std.proofs.lemmas.Option.{slice_get_within, get_or_from_slice_get, slice_get-get_or}
 use Rattle.std.proofs.lemmas.List.{map-set}
-use Rattle.dbowner.specs.Climbs.{slot, known_of, known_pages, unpacked}
+use Rattle.dbowner.specs.Climbs.{slot, known_of, known_pages, unpacked_start}
 use Rattle.dbowner.specs.Steps.{is_open}
 
 -- what is known of a page
@@ -89,15 +89,15 @@ count_more known p a l m = by_case (slot known p) refl
 
 -- how it is stored
 
-pub stored : (words : List ℕ) (p w : ℕ) (a : Option ℕ) → unpacked w ≡ Some a → map unpacked (set words (p - 1) w) ≡ set (map unpacked words) (p - 1) (Some a)
-stored words p w a e = map-set unpacked words (p - 1) w ∙ ap (set (map unpacked words) (p - 1)) e
+pub stored : (words : List ℕ) (p w : ℕ) (a : Option ℕ) → unpacked_start w ≡ Some a → map unpacked_start (set words (p - 1) w) ≡ set (map unpacked_start words) (p - 1) (Some a)
+stored words p w a e = map-set unpacked_start words (p - 1) w ∙ ap (set (map unpacked_start words) (p - 1)) e
 
-pub stored_more : (words : List ℕ) (p w : ℕ) (a : Option ℕ) → unpacked w ≡ Some a → 1 ≤ p → p ≤ length (map unpacked words) → known_pages (map unpacked words) ≤ known_pages (map unpacked (set words (p - 1) w))
-stored_more words p w a e l m = subst (λ known. known_pages (map unpacked words) ≤ known_pages known) (sym (stored words p w a e)) (count_more (map unpacked words) p a l m)
+pub stored_more : (words : List ℕ) (p w : ℕ) (a : Option ℕ) → unpacked_start w ≡ Some a → 1 ≤ p → p ≤ length (map unpacked_start words) → known_pages (map unpacked_start words) ≤ known_pages (map unpacked_start (set words (p - 1) w))
+stored_more words p w a e l m = subst (λ known. known_pages (map unpacked_start words) ≤ known_pages known) (sym (stored words p w a e)) (count_more (map unpacked_start words) p a l m)
 
 -- nothing is stored as 0
-pub nothing_stored : (n : ℕ) → map unpacked (replicate n 0) ≡ replicate n None
-unfolding unpacked
+pub nothing_stored : (n : ℕ) → map unpacked_start (replicate n 0) ≡ replicate n None
+unfolding unpacked_start
 nothing_stored zero = refl
 nothing_stored (suc n) = ap (λ l. None ∷ l) (nothing_stored n)
 

@@ -70,13 +70,13 @@ pub record AreTrees (file : List ℕ) (V : List Reference) (known : List (Option
   pub roots : (r : Reference) → IsIn r V → is_root (role_of r) ≡ true → known_of known r.page ≡ Some (Some (start_of r.address))
 
 -- How it is stored: 0 is nothing, 1 no start, and from 2 on the starts.
-unfoldable pub unpacked : ℕ → Option (Option ℕ)
-unpacked word = if word == 0 then None else if word == 1 then Some None else Some (Some (word - 2))
+unfoldable pub unpacked_start : ℕ → Option (Option ℕ)
+unpacked_start word = if word == 0 then None else if word == 1 then Some None else Some (Some (word - 2))
 
 -- what the fields hold
 abbrev pub trees : {A : Type 0} → Inside A → Trees
-trees t = record { known = map unpacked t.words.items; passed = t.passed }
+trees t = record { known = map unpacked_start t.words.items; passed = t.passed }
 
 -- there are no more pages than a file has, and of each one that was passed something is known
 abbrev pub IsBounded : {A : Type 0} → Inside A → Type 0
-IsBounded t = (vec_len t.words ≤ most_pages) × (t.passed ≤ known_pages (map unpacked t.words.items))
+IsBounded t = (vec_len t.words ≤ most_pages) × (t.passed ≤ known_pages (map unpacked_start t.words.items))

@@ -9,16 +9,16 @@ use Rattle.dbmarks.specs.declared.marks.Mark.TheVariants.{Trunk, FreeLeaf}
 use Rattle.dbowner.specs.Climbs.{parent, above, IsPassed, slot, known_of, known_pages}
 
 -- a start that can be stored
-abbrev pub Fits : Option ℕ → Type 0
-Fits start = IfSome start (λ k. k + 2 < 2 ^ 32)
+abbrev pub IsStorable : Option ℕ → Type 0
+IsStorable start = IfSome start (λ k. k + 2 < 2 ^ 32)
 
 -- whether there is room for page p, and nothing is known of it
 abbrev pub is_open : List (Option (Option ℕ)) → ℕ → Bool
 is_open known p = option_map_or (λ k. not (is_some k)) (slot known p) false
 
 -- what is known of page p when a start was entered for a page
-abbrev pub entered : List Mark → List (Option (Option ℕ)) → ℕ → ℕ → ℕ → Option (Option ℕ)
-entered marks known page start p =
+abbrev pub known_on_entry : List Mark → List (Option (Option ℕ)) → ℕ → ℕ → ℕ → Option (Option ℕ)
+known_on_entry marks known page start p =
     if (p == page) && (is_marked is_root_mark marks p && is_open known p) then Some (Some start) else known_of known p
 
 -- the start that a mark shows on its own

@@ -5,11 +5,11 @@ ghost use Rattle.dbformat.specs.Reference.{Reference};
 ghost use Rattle.dbformat.specs.Survey.{Survey};
 ghost use Rattle.dbmarks.specs.EndMarks.{is_root_mark, is_marked};
 ghost use Rattle.dbmarks.specs.Marking.{AreMarksOf};
-ghost use Rattle.dbowner.specs.Climbs.{above, slot, known_of, known_pages, unpacked, AreTrees};
+ghost use Rattle.dbowner.specs.Climbs.{above, slot, known_of, known_pages, unpacked_start, AreTrees};
 ghost use Rattle.dbowner.specs.Climbs as climbs;
 ghost use Rattle.dbformat.specs.Starts.{start_at};
 ghost use Rattle.dbscan.specs.Roots.{AreListed};
-ghost use Rattle.dbowner.specs.Steps.{entered, Fits, IsClimb, IsSettled};
+ghost use Rattle.dbowner.specs.Steps.{known_on_entry, IsStorable, IsClimb, IsSettled};
 ghost use Rattle.dbowner.specs.Steps as steps;
 
 use crate::place::mark_of;
@@ -39,10 +39,10 @@ impl<A: Allocator> Model for PageTrees<A> {
 }
 
 // What is known of a page as it is stored.
-#[tactic(auto, unfolding(crate::specs::Climbs::unpacked))]
+#[tactic(auto, unfolding(crate::specs::Climbs::unpacked_start))]
 fn pack(start: Option<u32>) -> u32
-    requires { Fits start }
-    ensures { unpacked result ≡ Some start }
+    requires { IsStorable start }
+    ensures { unpacked_start result ≡ Some start }
 {
     match start {
         None => 1,
@@ -51,10 +51,10 @@ fn pack(start: Option<u32>) -> u32
 }
 
 // What is stored so.
-#[tactic(auto, unfolding(crate::specs::Climbs::unpacked))]
+#[tactic(auto, unfolding(crate::specs::Climbs::unpacked_start))]
 fn unpack(word: u32) -> Option<Option<u32>>
-    ensures known { result ≡ unpacked word }
-    ensures fits { IfSome result Fits }
+    ensures known { result ≡ unpacked_start word }
+    ensures fits { IfSome result IsStorable }
 {
     match word {
         0 => None,
@@ -171,7 +171,7 @@ impl<A: Allocator> PageTrees<A> {
     // What is known of a page, if there is room for it.
     fn get(&self, page: u32) -> Option<Option<Option<u32>>>
         ensures slot { result ≡ slot self.now.known page }
-        ensures fits { IfSome result (λ known. IfSome known Fits) }
+        ensures fits { IfSome result (λ known. IfSome known IsStorable) }
     {
         if page == 0 {
             return None;
@@ -183,7 +183,7 @@ impl<A: Allocator> PageTrees<A> {
     // Notes the start of a page.
     fn note(&mut self, page: u32, start: Option<u32>)
         requires page { (1 ≤ page) × (page ≤ length self.old.known) }
-        requires start { Fits start }
+        requires start { IsStorable start }
         ensures known { self.new.known ≡ slice_set self.old.known (page - 1) (Some start) }
         ensures room { IsPageNumber (length self.new.known) }
         ensures passed { self.new.passed ≡ self.old.passed }
@@ -213,7 +213,7 @@ impl<A: Allocator> PageTrees<A> {
     // Notes the start of a root page of which nothing is known.
     fn enter<B: Allocator>(&mut self, marks: &Marks<B>, page: u32, start: u32)
         requires { start ≤ 65536 }
-        ensures known { (p : ℕ) → known_of self.new.known p ≡ entered marks.now self.old.known page start p }
+        ensures known { (p : ℕ) → known_of self.new.known p ≡ known_on_entry marks.now self.old.known page start p }
         ensures pages { length self.new.known ≡ length self.old.known }
         ensures passed { self.new.passed ≡ self.old.passed }
     {
@@ -253,7 +253,7 @@ impl<A: Allocator> PageTrees<A> {
     // The start of the page that a climb ends at.
     fn start_above<B: Allocator>(&self, marks: &Marks<B>, page: u32) -> Option<u32>
         ensures start { result ≡ steps.start_above marks.now self.now.known page }
-        ensures fits { Fits result }
+        ensures fits { IsStorable result }
     {
         if let Some(Some(start)) = self.get(page) {
             return start;
@@ -267,7 +267,7 @@ impl<A: Allocator> PageTrees<A> {
     // Notes the start of each page that a climb has passed.
     fn settle<B: Allocator>(&mut self, marks: &Marks<B>, page: u32, passed: u32, start: Option<u32>)
         requires way { (k : ℕ) → k < passed → known_of self.old.known (above marks.now k page) ≡ Some None }
-        requires start { Fits start }
+        requires start { IsStorable start }
         ensures settled { IsSettled marks.now page passed start self.old.known self.new.known }
         ensures passed { self.new.passed ≡ self.old.passed }
     {

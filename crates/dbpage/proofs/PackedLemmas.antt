@@ -13,7 +13,7 @@ use Rattle.dbformat.specs.Cell.{Cell, cell, count}
 use Rattle.dbformat.specs.Coverage.{coverage, coverage_of, first_overlap, items}
 use Rattle.dbformat.specs.declared.CellFault.{CellFault}
 use Rattle.dbformat.specs.declared.Coverage.TheVariants.{Overlap, Unheld}
-use Rattle.dbpage.specs.Packed.{first_cells, payload_of, greatest_of, AddUpTo, HasOverflow, IsAbove, IsAllLocal, IsUnpacked, key_at}
+use Rattle.dbpage.specs.Packed.{first_cells, payload_of, greatest_of, AddUpTo, HasOverflow, IsAboveLast, IsAllLocal, IsUnpacked, key_at}
 use Rattle.dbpage.specs.declared.packed.CellSums.{CellSums}
 
 -- of no cell
@@ -49,7 +49,7 @@ first_cells_more v n c readable =
     one take h = rw h refl
 
 module _ (v : View) (n : ℕ) (sums : CellSums) (was : AddUpTo v n sums) where
-  pub one_more_read : (c : Cell) → cell v n ≡ Ok c → length c.local ≤ 65536 → IsAbove sums.last c.key
+  pub one_more_read : (c : Cell) → cell v n ≡ Ok c → length c.local ≤ 65536 → IsAboveLast sums.last c.key
       → (now : CellSums) → now.payload ≡ sums.payload + length c.local → now.greatest ≡ max sums.greatest c.size → (n ≡ 0 → now.first ≡ c.key) → (0 < n → now.first ≡ sums.first)
       → now.last ≡ c.key → now.has_overflow ≡ (sums.has_overflow || is_some c.overflow) → AddUpTo v (n + 1) now
   one_more_read c readable fits greater now payload greatest at_first later last overflow =
@@ -114,7 +114,7 @@ some_is_none : (a : ℤ) → Some a ≡ None → ⊥
 some_is_none a h = cc
 
 -- or one whose key does not rise
-pub unpacked_at_key : (v : View) (i : ℕ) (sums : CellSums) (c : Cell) → AddUpTo v i sums → i < count v → cell v i ≡ Ok c → (IsAbove sums.last c.key → ⊥) → IsUnpacked v
+pub unpacked_at_key : (v : View) (i : ℕ) (sums : CellSums) (c : Cell) → AddUpTo v i sums → i < count v → cell v i ≡ Ok c → (IsAboveLast sums.last c.key → ⊥) → IsUnpacked v
 unpacked_at_key v i sums c was within readable falls page all =
     falls (λ a b p q. rises i refl a b p q)
   where

@@ -6,7 +6,7 @@ use Rattle.std.proofs.lemmas.List.{append-nil}
 use Rattle.dbformat.specs.Head.{View, content_start}
 use Rattle.dbformat.specs.Cell.{count}
 use Rattle.dbformat.specs.Coverage.{Span, items, freeblocks, is_held}
-use Rattle.dbpage.specs.Beginning.{IsRun, AreInRun, EndsRun, IsBegun}
+use Rattle.dbpage.specs.Beginning.{IsCellRun, AreInRun, EndsRun, IsBegun}
 use Rattle.dbpage.specs.declared.packed.Beginning.{Beginning}
 use Rattle.dbpage.specs.Marking.{is_claimed, is_within, Marks, AreAdjoining, ShareNoByte, AreMarked, Holds, cells_upto, cell_spans}
 use Rattle.dbpage.proofs.Items.{cells_upto_more}
@@ -33,7 +33,7 @@ pub ends_run : (v : View) (b : Beginning) (offset len : ℕ) → b.next ≡ Some
 ends_run v b offset len is begun = subst (λ (o : Option (ℕ × ℕ)). MatchOption o (AreInRun v b.cells b.run.from b.run.to) (λ held. EndsRun v b.cells b.run.from b.run.to held.0 held.1)) is begun.runs
 
 -- one more span, beside the run
-module _ (spans : List Span) (start end from to : ℕ) (was : IsRun spans start end from to) (s : Span) (low : start ≤ s.offset) (high : s.offset + s.len ≤ end) (first last : ℕ) (all : AreAdjoining from to s.offset s.len first last) where
+module _ (spans : List Span) (start end from to : ℕ) (was : IsCellRun spans start end from to) (s : Span) (low : start ≤ s.offset) (high : s.offset + s.len ≤ end) (first last : ℕ) (all : AreAdjoining from to s.offset s.len first last) where
   joined : (byte : ℕ) → (is_within from to byte || holds s byte) ≡ is_within first last byte
   joined byte = elim all [
     | inl under ↦ below byte under.0 under.1 under.2
@@ -52,7 +52,7 @@ module _ (spans : List Span) (start end from to : ℕ) (was : IsRun spans start 
       other : (byte : ℕ) → (byte < from) ⊎ (to ≤ byte) → is_within from to byte ≡ false
       other byte h = grind (arith, nat_tests)
 
-  run_more : IsRun (spans ++ s ∷ []) start end first last
+  run_more : IsCellRun (spans ++ s ∷ []) start end first last
   run_more = record {
     low = elim all [ inl under ↦ omega (arith, under, low) | inr over ↦ omega (arith, over, was.low) ];
     between = elim all [ inl under ↦ omega (arith, under, was.between) | inr over ↦ omega (arith, over, was.between) ];
@@ -69,7 +69,7 @@ module _ (v : View) (n from to : ℕ) (run : AreInRun v n from to) where
   cell_joins offset len first last has all =
       let s : Span = record { offset = offset; len = len } in
       let cells : cells_upto v (n + 1) ≡ cells_upto v n ++ s ∷ [] = cells_upto_more v n ∙ ap (λ (t : Span). cells_upto v n ++ t ∷ []) has.held in
-      subst (λ (spans : List Span). IsRun spans (content_start v.number v.bytes) v.usable first last) (sym cells)
+      subst (λ (spans : List Span). IsCellRun spans (content_start v.number v.bytes) v.usable first last) (sym cells)
       (run_more (cells_upto v n) (content_start v.number v.bytes) v.usable from to run s has.from_start has.ends first last all)
 
   -- the run is all items, where there are no freeblocks

@@ -8,7 +8,7 @@ use Rattle.dbpage.specs.Packed.{AddUpTo}
 use Rattle.dbpage.specs.declared.packed.Beginning.{Beginning}
 
 -- no two spans share a byte, and they hold those of one range alone
-pub record IsRun (spans : List Span) (start end from to : ℕ) : Type 0 where
+pub record IsCellRun (spans : List Span) (start end from to : ℕ) : Type 0 where
   pub low : start ≤ from
   pub between : from ≤ to
   pub high : to ≤ end
@@ -17,7 +17,7 @@ pub record IsRun (spans : List Span) (start end from to : ℕ) : Type 0 where
 
 -- the first n cells are a run
 abbrev pub AreInRun : View → ℕ → ℕ → ℕ → Type 0
-AreInRun v n from to = IsRun (cells_upto v n) (content_start v.number v.bytes) v.usable from to
+AreInRun v n from to = IsCellRun (cells_upto v n) (content_start v.number v.bytes) v.usable from to
 
 -- the first n cells are a run, and the next holds `len` bytes from an offset on
 pub record EndsRun (v : View) (cells from to offset len : ℕ) : Type 0 where

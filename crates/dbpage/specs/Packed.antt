@@ -44,8 +44,8 @@ abbrev pub HasRisingKeys : View → ℕ → Type 0
 HasRisingKeys v n = (i : ℕ) (a b : ℤ) → i + 1 < n → key_at v i ≡ Some a → key_at v (i + 1) ≡ Some b → a <ℤ b
 
 -- a key is greater than the last, or one of them is missing
-abbrev pub IsAbove : Option ℤ → Option ℤ → Type 0
-IsAbove last key = (a b : ℤ) → last ≡ Some a → key ≡ Some b → a <ℤ b
+abbrev pub IsAboveLast : Option ℤ → Option ℤ → Type 0
+IsAboveLast last key = (a b : ℤ) → last ≡ Some a → key ≡ Some b → a <ℤ b
 
 -- the first n cells are readable, and their keys rise; these are their sums
 pub record AddUpTo (v : View) (n : ℕ) (sums : CellSums) : Type 0 where

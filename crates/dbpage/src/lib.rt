@@ -17,21 +17,21 @@
 //! ```
 #![tactic(auto)]
 
-mod byte_use;
 mod cell;
 mod freeblocks;
+mod held_bytes;
 mod looks;
-mod marks;
+mod mark_count;
+mod mark_table;
 mod packed;
 mod run;
-mod steps;
 mod view;
 
 pub use cell::Cell;
 pub use dbformat::{CellFault, Coverage, HeadFault, Look, PageKind, Rowids, TreeLook};
 pub use freeblocks::{Freeblock, Freeblocks};
+pub use held_bytes::{coverage, uncounted_coverage};
 pub use looks::look_of;
-pub use marks::{coverage, uncounted_coverage};
+pub use mark_count::Steps;
 pub use packed::{CellSums, Packed, is_rising};
-pub use steps::Steps;
 pub use view::{PageView, content_start, type_byte};

@@ -4,7 +4,7 @@ ghost use Rattle.std.specs.List.{list_all};
 ghost use Rattle.dbformat.specs.Cell.{count};
 ghost use Rattle.dbformat.specs.Looks.{look_of, rowid, rowids};
 
-use crate::byte_use::has_any;
+use crate::mark_table::has_any;
 use crate::view::PageView;
 use dbformat::{Look, PageKind, Rowids, TreeLook};
 

@@ -5,12 +5,12 @@ ghost use Rattle.dbformat.specs.Cell.{count};
 ghost use Rattle.dbformat.specs.Coverage.{items};
 ghost use Rattle.dbpage.specs.Marking.{ShareNoByte, AreMarked, Holds, cells_upto, is_claimed};
 ghost use Rattle.dbpage.specs.Beginning.{IsBegun};
-ghost use Rattle.dbpage.specs.Packed.{AddUpTo, IsPacked, IsAbove, IsUnpacked};
+ghost use Rattle.dbpage.specs.Packed.{AddUpTo, IsPacked, IsAboveLast, IsUnpacked};
 
-use crate::byte_use::{claim, clear};
-use crate::marks::mark_freeblocks;
-use crate::run::Run;
-use crate::steps::Steps;
+use crate::held_bytes::mark_freeblocks;
+use crate::mark_count::Steps;
+use crate::mark_table::{claim, clear};
+use crate::run::CellRun;
 use crate::view::{PageView, by_kind};
 use dbformat::PageKind;
 use std::marker::Brand;
@@ -64,7 +64,7 @@ impl<'a> PageView<'a> {
         ensures { MatchOption result (IsUnpacked self.now) (IsPacked self.now) }
     {
         let mut sums = CellSums::new();
-        let mut run = Run::new(self.usable);
+        let mut run = CellRun::new(self.usable);
         for i in 0..self.cells {
             let (offset, len) = self.add_cell(kind, i, &mut sums)?;
             if !run.add(offset, len) {
@@ -248,7 +248,7 @@ impl<'a> PageView<'a> {
 struct Beginning {
     cells: u32,
     sums: CellSums,
-    run: Run,
+    run: CellRun,
     next: Option<(u32, u32)>,
 }
 
@@ -271,7 +271,7 @@ impl CellSums {
 /// Whether a key is greater than the last, or one of them is missing.
 #[inline(always)]
 pub fn is_rising(last: Option<i64>, key: Option<i64>) -> bool
-    ensures { MatchBool result (IsAbove last key) (IsAbove last key → ⊥) }
+    ensures { MatchBool result (IsAboveLast last key) (IsAboveLast last key → ⊥) }
 {
     match (last, key) {
         (Some(a), Some(b)) => a < b,

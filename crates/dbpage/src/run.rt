@@ -4,18 +4,18 @@ ghost use Rattle.dbpage.specs.Marking.{AreAdjoining};
 
 // A range of bytes, which cells without gaps between them hold.
 #[derive(Clone, Copy)]
-pub(crate) struct Run {
+pub(crate) struct CellRun {
     pub(crate) from: u32,
     to: u32,
 }
 
-impl Run {
+impl CellRun {
     // The run of no cell, at the end of a page of `usable` bytes.
     #[inline(always)]
-    pub(crate) fn new(usable: u32) -> Run
+    pub(crate) fn new(usable: u32) -> CellRun
         ensures { result ≡ record { from = usable; to = usable } }
     {
-        Run {
+        CellRun {
             from: usable,
             to: usable,
         }

@@ -15,20 +15,20 @@ use Rattle.dbwalk.specs.Telling.{StopsBy}
 use Rattle.dbscan.specs.Finishes.{Leaves}
 use Rattle.dbscan.specs.Notices.{CutsFaults, HearsFaults, run_notices}
 use Rattle.dbscan.proofs.FaultsHeard.{faults_heard_by}
-use Rattle.dbreport.specs.CheckSink.{CutsFault, LeavesCheck, ShowsFault, end_text, found_verdict}
-use Rattle.dbreport.specs.declared.checking.CheckSink.{CheckSink}
+use Rattle.dbreport.specs.CheckReporter.{CutsFault, LeavesCheck, ShowsFault, end_text, found_verdict}
+use Rattle.dbreport.specs.declared.checking.CheckReporter.{CheckReporter}
 use Rattle.dbreport.proofs.RunAnswers.{if_ok}
 use Rattle.dbreport.proofs.RunReports.{check_answer, check_out}
 use Rattle.dbreport.proofs.Checks.{check_writes, check_finds, check_begins}
 
 module _ {O : Type 0} (held : O → OutState) (file : List ℕ) (V : List Reference) (survey : Survey file V) where
   -- it stopped within what is reported
-  check_stopped : (e : RunError) (s t : CheckSink O) → StopsBy (HearsFaults (ShowsFault held)) (CutsFaults (CutsFault held)) e s (run_notices file V) t → LeavesCheck held file V (Err e) s t
+  check_stopped : (e : RunError) (s t : CheckReporter O) → StopsBy (HearsFaults (ShowsFault held)) (CutsFaults (CutsFault held)) e s (run_notices file V) t → LeavesCheck held file V (Err e) s t
   check_stopped e s t k none no_more =
       (check_begins held (faults file V) s t none no_more e (faults_heard_by (ShowsFault held) (CutsFault held) {A = Verdict} file V survey (Err e) s t k), tt)
 
   -- all was reported, and then the last line was put, or a beginning of it
-  module _ (s t u : CheckSink O) (told : Moves (HearsFaults (ShowsFault held)) s (run_notices file V) t) where
+  module _ (s t u : CheckReporter O) (told : Moves (HearsFaults (ShowsFault held)) s (run_notices file V) t) where
     all : Moves (ShowsFault held) s (faults file V) t
     all = faults_heard_by (ShowsFault held) (CutsFault held) {A = Unit {0}} file V survey (Ok tt) s t told
 
@@ -39,12 +39,12 @@ module _ {O : Type 0} (held : O → OutState) (file : List ℕ) (V : List Refere
     check_ended v puts found none no_more =
         ((check_writes held (faults file V) s t none no_more all (Ok v) (held u.out.now) puts).held, found ∙ check_finds held (faults file V) s t none no_more all)
 
-  check_left : (r : Result Verdict RunError) (s t : CheckSink O) → Leaves (HearsFaults (ShowsFault held)) (CutsFaults (CutsFault held)) (LeavesCheck held) file V r s t → LeavesCheck held file V r s t
+  check_left : (r : Result Verdict RunError) (s t : CheckReporter O) → Leaves (HearsFaults (ShowsFault held)) (CutsFaults (CutsFault held)) (LeavesCheck held) file V r s t → LeavesCheck held file V r s t
   check_left r s t (inl h) = h
   check_left r s t (inr (e, is, k)) = subst (λ (r : Result Verdict RunError). LeavesCheck held file V r s t) (sym is) (check_stopped e s t k)
 
   -- the report of a check, on the Out that it was given
-  pub check_reported : (r : Result Verdict RunError) (s t : CheckSink O) (out after : O) (limit : ℕ) → s.out.now ≡ out → s.limit ≡ limit → s.shown ≡ 0 → s.more ≡ 0 → after ≡ t.out.now → refusal file ≡ None
+  pub check_reported : (r : Result Verdict RunError) (s t : CheckReporter O) (out after : O) (limit : ℕ) → s.out.now ≡ out → s.limit ≡ limit → s.shown ≡ 0 → s.more ≡ 0 → after ≡ t.out.now → refusal file ≡ None
       → Leaves (HearsFaults (ShowsFault held)) (CutsFaults (CutsFault held)) (LeavesCheck held) file V r s t
       → Writes r (held out).bytes (held after).bytes (report (Check limit) file V).out × IfOk r (λ v. (report (Check limit) file V).answer ≡ Ok v)
   check_reported r s t out after limit same most none no_more end read h =

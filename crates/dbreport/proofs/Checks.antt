@@ -16,8 +16,8 @@ use Rattle.dbsource.specs.declared.error.RunError.{RunError}
 use Rattle.dbsource.specs.declared.error.RunError.TheVariants.{ReadFailed, WriteFailed, OutOfMemory, Refused}
 use Rattle.dbsource.proofs.Puts.{appends_nothing, puts_then}
 use Rattle.dbwalk.specs.Telling.{StopsBy}
-use Rattle.dbreport.specs.CheckSink.{CutsFault, PutsAll, ShowsFault, end_text, found_verdict}
-use Rattle.dbreport.specs.declared.checking.CheckSink.{CheckSink}
+use Rattle.dbreport.specs.CheckReporter.{CutsFault, PutsAll, ShowsFault, end_text, found_verdict}
+use Rattle.dbreport.specs.declared.checking.CheckReporter.{CheckReporter}
 use Rattle.dbsource.proofs.Beginnings.{begins_nothing, begins_more, begins_after}
 
 counted_is : (n : ℕ) → n ≤ 2 ^ 64 - 1 → n ≡ counted (n + 0)
@@ -66,14 +66,14 @@ verdict_is limit fs =
 
 module _ {O : Type 0} (held : O → OutState) where
   -- the state of the sink after some faults
-  record Saw (s : CheckSink O) (fs : List Fault) (t : CheckSink O) : Type 0 where
+  record Saw (s : CheckReporter O) (fs : List Fault) (t : CheckReporter O) : Type 0 where
     same_out : t.out.ghost_name ≡ s.out.ghost_name
     limit : t.limit ≡ s.limit
     shown : t.shown ≡ s.shown + length (take (s.limit - s.shown) fs)
     more : t.more ≡ counted (s.more + length (drop (s.limit - s.shown) fs))
     puts : PutsAll (held s.out.now) (held t.out.now) (lines (s.limit - s.shown) fs)
 
-  saw_none : (s : CheckSink O) → s.more ≤ 2 ^ 64 - 1 → Saw s [] s
+  saw_none : (s : CheckReporter O) → s.more ≤ 2 ^ 64 - 1 → Saw s [] s
   saw_none s m =
       let t : ◌≡◌ {A = List Fault} (take (s.limit - s.shown) []) [] = take-nil (s.limit - s.shown) in
       let n : length (take {A = Fault} (s.limit - s.shown) []) ≡ 0 = ap length t in
@@ -85,7 +85,7 @@ module _ {O : Type 0} (held : O → OutState) where
         puts = subst (λ l. PutsAll (held s.out.now) (held s.out.now) (flat_map fault_line l)) (sym t) (record { held = appends_nothing (held s.out.now).bytes; count = refl });
       }
 
-  module _ (s m : CheckSink O) (f : Fault) (shows : ShowsFault held s f m) where
+  module _ (s m : CheckReporter O) (f : Fault) (shows : ShowsFault held s f m) where
     -- there is room for its line
     room_less : nat_lt s.shown s.limit ≡ true → s.limit - s.shown ≡ suc (m.limit - m.shown)
     room_less e =
@@ -93,7 +93,7 @@ module _ {O : Type 0} (held : O → OutState) where
         let shown : m.shown ≡ s.shown + 1 = rw e at shows.shown in
         let l = shows.limit in omega arith
 
-    saw_shown : (fs : List Fault) (t : CheckSink O) → nat_lt s.shown s.limit ≡ true → Saw m fs t → Saw s (f ∷ fs) t
+    saw_shown : (fs : List Fault) (t : CheckReporter O) → nat_lt s.shown s.limit ≡ true → Saw m fs t → Saw s (f ∷ fs) t
     saw_shown fs t e k =
         let shown : m.shown ≡ s.shown + 1 = rw e at shows.shown in
         let more : m.more ≡ s.more = rw e at shows.more in
@@ -115,7 +115,7 @@ module _ {O : Type 0} (held : O → OutState) where
         let shown : m.shown ≡ s.shown = rw e at shows.shown in
         let l = shows.limit in (omega arith, omega arith)
 
-    saw_counted : (fs : List Fault) (t : CheckSink O) → nat_lt s.shown s.limit ≡ false → s.shown ≤ s.limit → Saw m fs t → Saw s (f ∷ fs) t
+    saw_counted : (fs : List Fault) (t : CheckReporter O) → nat_lt s.shown s.limit ≡ false → s.shown ≤ s.limit → Saw m fs t → Saw s (f ∷ fs) t
     saw_counted fs t e le k =
         let shown : m.shown ≡ s.shown = rw e at shows.shown in
         let more : m.more ≡ counted (s.more + 1) = rw e at shows.more in
@@ -147,10 +147,10 @@ module _ {O : Type 0} (held : O → OutState) where
           let limit = shows.limit in (omega arith, omega arith)
     ]
 
-    saw_fault : (fs : List Fault) (t : CheckSink O) → s.shown ≤ s.limit → Saw m fs t → Saw s (f ∷ fs) t
+    saw_fault : (fs : List Fault) (t : CheckReporter O) → s.shown ≤ s.limit → Saw m fs t → Saw s (f ∷ fs) t
     saw_fault fs t l k = elim (cases_Bool (nat_lt s.shown s.limit)) [ inl e ↦ saw_shown fs t e k | inr e ↦ saw_counted fs t e l k ]
 
-    begins_fault : (fs : List Fault) (t : CheckSink O) → s.shown ≤ s.limit → Begins (held m.out.now).bytes (held t.out.now).bytes (lines (m.limit - m.shown) fs)
+    begins_fault : (fs : List Fault) (t : CheckReporter O) → s.shown ≤ s.limit → Begins (held m.out.now).bytes (held t.out.now).bytes (lines (m.limit - m.shown) fs)
         → Begins (held s.out.now).bytes (held t.out.now).bytes (lines (s.limit - s.shown) (f ∷ fs))
     begins_fault fs t l k = elim (cases_Bool (nat_lt s.shown s.limit)) [
       | inl e ↦
@@ -166,20 +166,20 @@ module _ {O : Type 0} (held : O → OutState) where
 
   -- ---- fault after fault
 
-  saw_all : (fs : List Fault) (s t : CheckSink O) → s.shown ≤ s.limit → s.more ≤ 2 ^ 64 - 1 → Moves (ShowsFault held) s fs t → Saw s fs t
+  saw_all : (fs : List Fault) (s t : CheckReporter O) → s.shown ≤ s.limit → s.more ≤ 2 ^ 64 - 1 → Moves (ShowsFault held) s fs t → Saw s fs t
   saw_all [] s t l m h = subst (λ u. Saw s [] u) h (saw_none s m)
   saw_all (f ∷ fs) s t l m h =
       let b = bounds_kept s h.0 f h.1 l m in
       saw_fault s h.0 f h.1 fs t l (saw_all fs h.0 t b.0 b.1 h.2)
 
   -- What is known if not all was reported: what is held has grown by a beginning of the lines, on the same Out.
-  abbrev Breaks : CheckSink O → List Fault → CheckSink O → Type 0
+  abbrev Breaks : CheckReporter O → List Fault → CheckReporter O → Type 0
   Breaks s fs t = (t.out.ghost_name ≡ s.out.ghost_name) × Begins (held s.out.now).bytes (held t.out.now).bytes (lines (s.limit - s.shown) fs)
 
-  breaks_here : (s t : CheckSink O) (fs : List Fault) → s ≡ t → Breaks s fs t
+  breaks_here : (s t : CheckReporter O) (fs : List Fault) → s ≡ t → Breaks s fs t
   breaks_here s t fs e = subst (λ u. Breaks s fs u) e (refl, begins_nothing (held s.out.now).bytes (lines (s.limit - s.shown) fs))
 
-  breaks_some : (fs : List Fault) (s t : CheckSink O) → s.shown ≤ s.limit → s.more ≤ 2 ^ 64 - 1 → MovesBySome (ShowsFault held) s fs t → Breaks s fs t
+  breaks_some : (fs : List Fault) (s t : CheckReporter O) → s.shown ≤ s.limit → s.more ≤ 2 ^ 64 - 1 → MovesBySome (ShowsFault held) s fs t → Breaks s fs t
   breaks_some [] s t l m h = breaks_here s t [] h
   breaks_some (f ∷ fs) s t l m (inl h) = breaks_here s t (f ∷ fs) h
   breaks_some (f ∷ fs) s t l m (inr h) =
@@ -187,7 +187,7 @@ module _ {O : Type 0} (held : O → OutState) where
       let k = breaks_some fs h.0 t b.0 b.1 h.2 in
       (k.0 ∙ h.1.same_out, begins_fault s h.0 f h.1 fs t l k.1)
 
-  breaks_stop : (fs : List Fault) (s t : CheckSink O) → s.shown ≤ s.limit → s.more ≤ 2 ^ 64 - 1 → Stops (ShowsFault held) (CutsFault held) s fs t → Breaks s fs t
+  breaks_stop : (fs : List Fault) (s t : CheckReporter O) → s.shown ≤ s.limit → s.more ≤ 2 ^ 64 - 1 → Stops (ShowsFault held) (CutsFault held) s fs t → Breaks s fs t
   breaks_stop [] s t l m h = absurd h
   breaks_stop (f ∷ fs) s t l m (inl h) =
       let room : s.limit - s.shown ≡ suc (s.limit - s.shown - 1) = let e = h.room in let less : s.shown < s.limit = grind (arith, nat_tests) in omega arith in (
@@ -200,7 +200,7 @@ module _ {O : Type 0} (held : O → OutState) where
       let k = breaks_stop fs h.0 t b.0 b.1 h.2 in
       (k.0 ∙ h.1.same_out, begins_fault s h.0 f h.1 fs t l k.1)
 
-  breaks_by : (e : RunError) (fs : List Fault) (s t : CheckSink O) → s.shown ≤ s.limit → s.more ≤ 2 ^ 64 - 1 → StopsBy (ShowsFault held) (CutsFault held) e s fs t → Breaks s fs t
+  breaks_by : (e : RunError) (fs : List Fault) (s t : CheckReporter O) → s.shown ≤ s.limit → s.more ≤ 2 ^ 64 - 1 → StopsBy (ShowsFault held) (CutsFault held) e s fs t → Breaks s fs t
   breaks_by WriteFailed fs s t l m h = breaks_stop fs s t l m h
   breaks_by ReadFailed fs s t l m h = breaks_some fs s t l m h
   breaks_by OutOfMemory fs s t l m h = breaks_some fs s t l m h
@@ -208,7 +208,7 @@ module _ {O : Type 0} (held : O → OutState) where
 
   -- ---- the whole check, from a sink to which nothing was reported
 
-  module _ (found : List Fault) (s t : CheckSink O) (none : s.shown ≡ 0) (no_more : s.more ≡ 0) where
+  module _ (found : List Fault) (s t : CheckReporter O) (none : s.shown ≡ 0) (no_more : s.more ≡ 0) where
     room : s.limit - s.shown ≡ s.limit
     room = omega arith
 

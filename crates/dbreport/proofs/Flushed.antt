@@ -3,7 +3,7 @@ use Rattle.std.proofs.Common.{List, [], ℕ, Bool, true, false, Option, refl, sy
 use Rattle.std.specs.Io.KnownBytes.{Appends, Keeps}
 use Rattle.dbsource.proofs.Puts.{appends_kept, appends_nothing, keeps_same}
 use Rattle.dbsource.specs.Outs.{Begins, OutState}
-use Rattle.dbreport.specs.StatSink.{IsFlushedIf}
+use Rattle.dbreport.specs.StatReporter.{IsFlushedIf}
 
 nothing_put : (o n : Option (List ℕ)) → Keeps o n → Appends o n []
 nothing_put o n k = appends_kept o o n [] (appends_nothing o) k

@@ -5,7 +5,7 @@ use Rattle.std.specs.List.{flat_map, join_with_byte}
 use Rattle.dbformat.specs.Counts.{no_counts}
 use Rattle.dbformat.specs.Lines.{chain_text, columns, counted, counts_columns, line_feed, no_text, other_line, other_text, page_line, pagetype_text, path_text, tab, tree_line}
 use Rattle.dbformat.specs.Rows.{StatRow, OtherPage}
-use Rattle.dbreport.specs.Columns.{column, counts_text, place_text, child_text, page_end, tree_end}
+use Rattle.dbreport.specs.Columns.{column, counts_text, offset_text, child_text, page_end, tree_end}
 use Rattle.dbreport.specs.Sums.{sums_of}
 use Rattle.dbreport.specs.declared.statistics.sums.Sums.{Sums}
 use Rattle.dbreport.proofs.SumLemmas.{counted-mul}
@@ -71,7 +71,7 @@ next_child path i h = rw (add-one, drop-cons path i 0 h) refl
 
 -- the row of another page, part by part
 pub other_pieces : (size page : ℕ) (what : OtherPage)
-    → codes "-\t-" ++ column (decimal page) ++ column (other_text what) ++ counts_text no_counts ++ place_text page size ≡ other_line size page what
+    → codes "-\t-" ++ column (decimal page) ++ column (other_text what) ++ counts_text no_counts ++ offset_text page size ≡ other_line size page what
 other_pieces size page what =
     let offset = decimal ((page - 1) * size) in
     let others = counts_columns no_counts ++ offset ∷ decimal size ∷ [] in

@@ -15,11 +15,11 @@ use Rattle.dbtrace.specs.Finding.{told_row, told_fault}
 use Rattle.dbwalk.specs.Telling.{Tells}
 use Rattle.dbscan.specs.Notices.{Notice, whole, found, ended, walked, faults_heard}
 use Rattle.dbscan.specs.Starts.{At}
-use Rattle.dbreport.specs.StatSink.{end_text, other_lines, pages_text, CutsFault, CutsStat, HasBegun, HasWritten, HearsStat, IsSameSink, TakesFault, WritesBoth}
+use Rattle.dbreport.specs.StatReporter.{tree_end_text, other_lines, pages_text, CutsStatFault, CutsStat, HasBegun, HasWritten, HearsStat, IsSameSink, TakesFault, WritesBoth}
 use Rattle.dbreport.specs.Sums.{sums_of}
 use Rattle.dbreport.specs.TreeNames.{name_at}
 use Rattle.dbreport.specs.declared.statistics.Form.{Form}
-use Rattle.dbreport.specs.declared.statistics.sink.StatSink.{StatSink}
+use Rattle.dbreport.specs.declared.statistics.reporter.StatReporter.{StatReporter}
 use Rattle.dbreport.proofs.Flushed.{keeps_begins, kept_if}
 use Rattle.dbreport.proofs.StatWrites.{begun_first, begun_none, begun_then, written_none, written_then}
 
@@ -63,7 +63,7 @@ abbrev pub lines : Sheet → Notice → List ℕ
 lines p (whole f) = []
 lines p (found at (told_row r)) = pages_text p.form.aggregate (name_at p.encoding at) p.size (r ∷ [])
 lines p (found at (told_fault f why)) = []
-lines p (ended at) = end_text p.form.aggregate (name_at p.encoding at) p.size p.rows
+lines p (ended at) = tree_end_text p.form.aggregate (name_at p.encoding at) p.size p.rows
 lines p (walked g marks) = other_lines p.form.all g marks
 
 -- and how they are written after it
@@ -89,14 +89,14 @@ one_more (ended at) ns = refl
 one_more (walked g marks) ns = refl
 
 module _ {O E : Type 0} (held : O → OutState) (held' : E → OutState) where
-  abbrev all : StatSink O E → Notice → StatSink O E → Type 0
+  abbrev all : StatReporter O E → Notice → StatReporter O E → Type 0
   all = HearsStat held held'
 
-  abbrev part : StatSink O E → Notice → StatSink O E → Type 0
+  abbrev part : StatReporter O E → Notice → StatReporter O E → Type 0
   part = CutsStat held held'
 
   -- it writes so
-  pub record IsOn (p : Sheet) (s : StatSink O E) : Type 0 where
+  pub record IsOn (p : Sheet) (s : StatReporter O E) : Type 0 where
     pub form : s.form ≡ p.form
     pub encoding : s.encoding ≡ p.encoding
     pub size : s.page_size ≡ p.size
@@ -104,7 +104,7 @@ module _ {O E : Type 0} (held : O → OutState) (held' : E → OutState) where
 
   -- ---- one fault
 
-  fault_written : (s m : StatSink O E) (f : Fault) → TakesFault held held' s f m → HasWritten held held' s m [] (f ∷ [])
+  fault_written : (s m : StatReporter O E) (f : Fault) → TakesFault held held' s f m → HasWritten held held' s m [] (f ∷ [])
   fault_written s m f a = record {
     form = a.same.form;
     encoding = a.same.encoding;
@@ -114,7 +114,7 @@ module _ {O E : Type 0} (held : O → OutState) (held' : E → OutState) where
     err = subst (λ l. Appends (held' s.err.now).bytes (held' m.err.now).bytes l) (sym (append-nil (fault_line f))) a.puts.held;
   }
 
-  fault_begun : (s t : StatSink O E) (f : Fault) → CutsFault held held' s f t → HasBegun held held' s t [] (f ∷ [])
+  fault_begun : (s t : StatReporter O E) (f : Fault) → CutsStatFault held held' s f t → HasBegun held held' s t [] (f ∷ [])
   fault_begun s t f a = record {
     out = keeps_begins (held s.out.now).bytes (held t.out.now).bytes [] a.out;
     err = begins_more (held' s.err.now).bytes (held' t.err.now).bytes (fault_line f) [] (fault_line f ++ []) refl a.err;
@@ -122,16 +122,16 @@ module _ {O E : Type 0} (held : O → OutState) (held' : E → OutState) where
 
   -- ---- one notice
 
-  module _ (p : Sheet) (s : StatSink O E) (on : IsOn p s) where
+  module _ (p : Sheet) (s : StatReporter O E) (on : IsOn p s) where
     by_sheet : (P : List ℕ → Type 0) (f : Bool → List ℕ → ℕ → List ℕ) (at : At) → P (f s.form.aggregate (name_at s.encoding at) s.page_size) → P (f p.form.aggregate (name_at p.encoding at) p.size)
     by_sheet P f at h =
         subst (λ (a : Form). P (f a.aggregate (name_at p.encoding at) p.size)) on.form (subst (λ e. P (f s.form.aggregate (name_at e at) p.size)) on.encoding (subst (λ z. P (f s.form.aggregate (name_at s.encoding at) z)) on.size h))
 
     -- after a notice that changes at most the rows of the tree
-    on_same : (m : StatSink O E) → IsSameSink s m → (rows : List StatRow) → m.sums ≡ sums_of rows → IsOn (record p { rows = rows }) m
+    on_same : (m : StatReporter O E) → IsSameSink s m → (rows : List StatRow) → m.sums ≡ sums_of rows → IsOn (record p { rows = rows }) m
     on_same m same rows e = record { form = same.form ∙ on.form; encoding = same.encoding ∙ on.encoding; size = same.page_size ∙ on.size; summed = e }
 
-    one_written : (n : Notice) (m : StatSink O E) → all s n m → HasWritten held held' s m (lines p n) (faults_of (n ∷ [])) × IsOn (next p n) m
+    one_written : (n : Notice) (m : StatReporter O E) → all s n m → HasWritten held held' s m (lines p n) (faults_of (n ∷ [])) × IsOn (next p n) m
     one_written (whole f) m a = (fault_written s m f a, on_same m a.same p.rows (a.sums ∙ on.summed))
     one_written (found at (told_row r)) m a = (
       record {
@@ -151,7 +151,7 @@ module _ {O E : Type 0} (held : O → OutState) (held' : E → OutState) where
         encoding = a.encoding;
         page_size = a.page_size;
         found = λ n e. a.found ∙ e ∙ ap counted (nothing_more n);
-        out = by_sheet (Appends (held s.out.now).bytes (held m.out.now).bytes) (λ form name size. end_text form name size p.rows) at (a.writes p.rows on.summed);
+        out = by_sheet (Appends (held s.out.now).bytes (held m.out.now).bytes) (λ form name size. tree_end_text form name size p.rows) at (a.writes p.rows on.summed);
         err = kept_appends (held' s.err.now).bytes (held' m.err.now).bytes (held' m.err.now).bytes [] (kept_if s.form.aggregate (held' s.err.now) (held' m.err.now) a.err) (appends_nothing (held' m.err.now).bytes);
       },
       record { form = a.form ∙ on.form; encoding = a.encoding ∙ on.encoding; size = a.page_size ∙ on.size; summed = a.sums },
@@ -168,7 +168,7 @@ module _ {O E : Type 0} (held : O → OutState) (held' : E → OutState) where
       on_same m a.same p.rows (a.sums ∙ on.summed),
     )
 
-    one_begun : (n : Notice) (t : StatSink O E) → part s n t → HasBegun held held' s t (lines p n) (faults_of (n ∷ []))
+    one_begun : (n : Notice) (t : StatReporter O E) → part s n t → HasBegun held held' s t (lines p n) (faults_of (n ∷ []))
     one_begun (whole f) t a = fault_begun s t f a
     one_begun (found at (told_row r)) t a = record {
       out = by_sheet (Begins (held s.out.now).bytes (held t.out.now).bytes) (λ form name size. pages_text form name size (r ∷ [])) at a.out;
@@ -176,7 +176,7 @@ module _ {O E : Type 0} (held : O → OutState) (held' : E → OutState) where
     }
     one_begun (found at (told_fault f why)) t a = fault_begun s t f a
     one_begun (ended at) t a = record {
-      out = by_sheet (Begins (held s.out.now).bytes (held t.out.now).bytes) (λ form name size. end_text form name size p.rows) at (a.writes p.rows on.summed);
+      out = by_sheet (Begins (held s.out.now).bytes (held t.out.now).bytes) (λ form name size. tree_end_text form name size p.rows) at (a.writes p.rows on.summed);
       err = keeps_begins (held' s.err.now).bytes (held' t.err.now).bytes [] a.kept;
     }
     one_begun (walked g marks) t a = record {
@@ -186,14 +186,14 @@ module _ {O E : Type 0} (held : O → OutState) (held' : E → OutState) where
 
   -- ---- notice after notice
 
-  all_written : (p : Sheet) (ns : List Notice) (s t : StatSink O E) → IsOn p s → Moves all s ns t → HasWritten held held' s t (all_lines p ns) (faults_of ns)
+  all_written : (p : Sheet) (ns : List Notice) (s t : StatReporter O E) → IsOn p s → Moves all s ns t → HasWritten held held' s t (all_lines p ns) (faults_of ns)
   all_written p [] s t on h = subst (λ u. HasWritten held held' s u [] []) h (written_none held held' s)
   all_written p (n ∷ ns) s t on h =
       let one = one_written p s on n h.0 h.1 in
       subst (λ fs. HasWritten held held' s t (all_lines p (n ∷ ns)) fs) (one_more n ns)
       (written_then held held' s h.0 t (lines p n) (all_lines (next p n) ns) (faults_of (n ∷ [])) (faults_of ns) one.0 (all_written (next p n) ns h.0 t one.1 h.2))
 
-  some_written : (p : Sheet) (ns : List Notice) (s t : StatSink O E) → IsOn p s → Cut all part s ns t → HasBegun held held' s t (all_lines p ns) (faults_of ns)
+  some_written : (p : Sheet) (ns : List Notice) (s t : StatReporter O E) → IsOn p s → Cut all part s ns t → HasBegun held held' s t (all_lines p ns) (faults_of ns)
   some_written p [] s t on h = begun_none held held' s t [] [] (cut_none all part s t h)
   some_written p (n ∷ ns) s t on h =
       subst (λ fs. HasBegun held held' s t (all_lines p (n ∷ ns)) fs) (one_more n ns)
@@ -205,7 +205,7 @@ module _ {O E : Type 0} (held : O → OutState) (held' : E → OutState) where
             begun_then held held' s k.0 t (lines p n) (all_lines (next p n) ns) (faults_of (n ∷ [])) (faults_of ns) one.0 (some_written (next p n) ns k.0 t one.1 k.2))
       ])
 
-  pub notices_written : {A : Type 0} (r : Result A RunError) (p : Sheet) (ns : List Notice) (s t : StatSink O E) → IsOn p s → Tells all part r s ns t
+  pub notices_written : {A : Type 0} (r : Result A RunError) (p : Sheet) (ns : List Notice) (s t : StatReporter O E) → IsOn p s → Tells all part r s ns t
       → WritesBoth held held' r s t (all_lines p ns) (faults_of ns)
   notices_written (Ok a) p ns s t on h = all_written p ns s t on h
   notices_written (Err e) p ns s t on h = some_written p ns s t on (cut_of all part e s ns t h)

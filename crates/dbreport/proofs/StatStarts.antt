@@ -28,11 +28,11 @@ use Rattle.dbwalk.specs.Telling.{Tells}
 use Rattle.dbwalk.proofs.Telling.Belows.{told_none}
 use Rattle.dbscan.specs.Notices.{Notice, whole, found, ended, walked, errands_left, root_reference, tree_notices, later_notices, start_notices, end_notices, run_notices}
 use Rattle.dbscan.specs.Starts.{At, at_freelist, at_row, at_schema, schema_reference}
-use Rattle.dbreport.specs.StatLines.{tree_text, starts_text, rows_told}
+use Rattle.dbreport.specs.StatLines.{tree_rows_text, starts_text, rows_told}
 use Rattle.dbreport.specs.TreeNames.{name_at}
-use Rattle.dbreport.specs.StatSink.{CutsStat, HearsStat, end_text, other_lines, pages_text, WritesBoth}
+use Rattle.dbreport.specs.StatReporter.{CutsStat, HearsStat, tree_end_text, other_lines, pages_text, WritesBoth}
 use Rattle.dbreport.specs.StatStarts.{IsForFile, rows_text}
-use Rattle.dbreport.specs.declared.statistics.sink.StatSink.{StatSink}
+use Rattle.dbreport.specs.declared.statistics.reporter.StatReporter.{StatReporter}
 use Rattle.dbreport.specs.declared.statistics.Form.{Form}
 use Rattle.dbreport.proofs.ListedNames.{listed_name}
 use Rattle.dbreport.proofs.OtherRows.{others_text}
@@ -51,7 +51,7 @@ no_pages : (form : Bool) (name : List ℕ) (size : ℕ) → pages_text form name
 no_pages true name size = refl
 no_pages false name size = refl
 
-no_tree : (form : Bool) (name : List ℕ) (size : ℕ) → tree_text form name size [] ≡ []
+no_tree : (form : Bool) (name : List ℕ) (size : ℕ) → tree_rows_text form name size [] ≡ []
 no_tree true name size = refl
 no_tree false name size = refl
 
@@ -61,7 +61,7 @@ pages_more : (form : Bool) (name : List ℕ) (size : ℕ) (r : StatRow) (rows : 
 pages_more true name size r rows = refl
 pages_more false name size r rows = ap (λ l. l ++ flat_map (page_line name size) rows) (append-nil (page_line name size r))
 
-pages_ended : (form : Bool) (name : List ℕ) (size : ℕ) (rows : List StatRow) → pages_text form name size rows ++ end_text form name size rows ≡ tree_text form name size rows
+pages_ended : (form : Bool) (name : List ℕ) (size : ℕ) (rows : List StatRow) → pages_text form name size rows ++ tree_end_text form name size rows ≡ tree_rows_text form name size rows
 pages_ended true name size [] = refl
 pages_ended true name size (r ∷ rows) = refl
 pages_ended false name size rows = append-nil (pages_text false name size rows)
@@ -91,13 +91,13 @@ module _ (file : List ℕ) (V : List Reference) (form all : Bool) where
   shown at = name_at (encoding_of file) at
 
   tree_lines : (at : At) (W : List Reference) (c : Reference) (rest : List Notice)
-      → all_lines sheet (tree_notices at file W c ++ rest) ≡ tree_text form (shown at) (page_size file) (rows_told (told_below file W (Go c ∷ []))) ++ all_lines sheet rest
+      → all_lines sheet (tree_notices at file W c ++ rest) ≡ tree_rows_text form (shown at) (page_size file) (rows_told (told_below file W (Go c ∷ []))) ++ all_lines sheet rest
   tree_lines at W c rest =
       let items = told_below file W (Go c ∷ []) in
       let rows = rows_told items in
       ap (all_lines sheet) (append_assoc (map (found at) items) (ended at ∷ []) rest)
       ∙ found_lines sheet at items (ended at ∷ rest)
-      ∙ sym (append_assoc (pages_text form (shown at) (page_size file) rows) (end_text form (shown at) (page_size file) rows) (all_lines sheet rest))
+      ∙ sym (append_assoc (pages_text form (shown at) (page_size file) rows) (tree_end_text form (shown at) (page_size file) rows) (all_lines sheet rest))
       ∙ ap (λ l. l ++ all_lines sheet rest) (pages_ended form (shown at) (page_size file) rows)
 
   -- of the freelist there is no row
@@ -119,7 +119,7 @@ module _ (file : List ℕ) (V : List Reference) (form all : Bool) where
       by_case true = ap (λ l. pages_text form (shown at_freelist) (page_size file) (rows_told l)) (told_none file W) ∙ no_pages form (shown at_freelist) (page_size file)
       by_case false =
           ap (pages_text form (shown at_freelist) (page_size file)) none ∙ no_pages form (shown at_freelist) (page_size file)
-          ∙ sym (append-nil _ ∙ ap (tree_text form (tree_name file V freelist_start) (page_size file)) none ∙ no_tree form (tree_name file V freelist_start) (page_size file))
+          ∙ sym (append-nil _ ∙ ap (tree_rows_text form (tree_name file V freelist_start) (page_size file)) none ∙ no_tree form (tree_name file V freelist_start) (page_size file))
 
   -- the names of the rows are those of the trees from start k on
   abbrev AreNamed : ℕ → List SchemaRow → Type 0
@@ -135,7 +135,7 @@ module _ (file : List ℕ) (V : List Reference) (form all : Bool) where
   next_lines k row rows W ns es h named =
       let c = root_reference file k row in
       let zero_more : k + 0 ≡ k = omega arith in
-      let text : List ℕ → List ℕ = λ name. tree_text form name (page_size file) (rows_told (told_below file W (Go c ∷ []))) in
+      let text : List ℕ → List ℕ = λ name. tree_rows_text form name (page_size file) (rows_told (told_below file W (Go c ∷ []))) in
       let here : shown (at_row k row) ≡ tree_name file V k = subst (λ n. shown (at_row n row) ≡ tree_name file V n) zero_more (named 0 row refl) in
       tree_lines (at_row k row) W c ns
       ∙ ap₂ (λ name rest. text name ++ rest) here (h (λ j r e.
@@ -146,7 +146,7 @@ module _ (file : List ℕ) (V : List Reference) (form all : Bool) where
       let c = schema_reference in
       let U = [] ++ visited_below file [] (Go c ∷ []) in
       let rows = take last_root_start (rooted_rows (schema file V)) in
-      let text : List ℕ → List ℕ = λ name. tree_text form name (page_size file) (rows_told (told_below file [] (Go c ∷ []))) in
+      let text : List ℕ → List ℕ = λ name. tree_rows_text form name (page_size file) (rows_told (told_below file [] (Go c ∷ []))) in
       tree_lines at_schema [] c (later_notices file U (enumerate_from 1 rows))
       ∙ ap₂ (λ name rest. text name ++ rest) (schema_name file V) (of_later file Writes (λ k W named. freelist_lines W) next_lines 1 rows U (λ j r e.
       let n : suc j ≡ 1 + j = omega arith in subst (λ n. shown (at_row n r) ≡ tree_name file V n) n (listed_name file V rows j r refl e)))
@@ -188,7 +188,7 @@ module _ (file : List ℕ) (V : List Reference) (form all : Bool) where
       ∙ ap₂ (λ a b. a ++ b) (start_lines survey) (others_shown all survey)
 
 -- All of a file was reported, or a beginning: its rows and faults were written accordingly.
-pub run_written : {A O E : Type 0} (held : O → OutState) (held' : E → OutState) (file : List ℕ) (V : List Reference) → Survey file V → (s t : StatSink O E) → IsForFile file s
+pub run_written : {A O E : Type 0} (held : O → OutState) (held' : E → OutState) (file : List ℕ) (V : List Reference) → Survey file V → (s t : StatReporter O E) → IsForFile file s
     → (r : Result A RunError) → Tells (HearsStat held held') (CutsStat held held') r s (run_notices file V) t
     → WritesBoth held held' r s t (rows_text s.form.aggregate s.form.all file V) (faults file V)
 run_written held held' file V survey s t is r told =

@@ -34,7 +34,7 @@ use Rattle.dbtrace.specs.Causes.{cause_of}
 use Rattle.dbtrace.specs.declared.Cause.{Cause}
 use Rattle.dbtrace.specs.Finding.{told_row, told_by, told_at, told_below, visited_below}
 use Rattle.dbwalk.proofs.Telling.Belows.{visited_none}
-use Rattle.dbreport.specs.StatLines.{row_told, rows_told, tree_text, starts_text}
+use Rattle.dbreport.specs.StatLines.{row_told, rows_told, tree_rows_text, starts_text}
 use Rattle.dbscan.proofs.RunItems.{all_visited, goes_named}
 use Rattle.dbscan.proofs.Starts.{quiet_go}
 use Rattle.dbsound.proofs.RowCounts.FormRows.{start_role}
@@ -108,15 +108,15 @@ module _ (file : List ℕ) (V : List Reference) where
       ap₂ (λ a b. a ++ b) (ap (λ j. page_line (tree_name file V j) (page_size file) row) (sym (h row (inl refl)))) (pages_text k rows (λ r i. h r (inr i)))
 
   one_text : (aggregate : Bool) (k : ℕ) (P : List Reference) → ((row : StatRow) → IsIn row (stat_rows file P) → row.start ≡ k) → IsTree file k P
-      → tree_text aggregate (tree_name file V k) (page_size file) (stat_rows file P) ≡ text_of aggregate P
+      → tree_rows_text aggregate (tree_name file V k) (page_size file) (stat_rows file P) ≡ text_of aggregate P
   unfolding form_line
   one_text false k P h t = pages_text k (stat_rows file P) h
   one_text true k P h (no_tree e f) =
-      ap (tree_text true (tree_name file V k) (page_size file)) e
+      ap (tree_rows_text true (tree_name file V k) (page_size file)) e
       ∙ sym (ap (λ ks. flat_map (form_line file V) (map (row_of_tree (stat_rows file P)) ks)) f)
   one_text true k P h (tree row rows e f) =
       let all = filter-all (λ (row : StatRow). row.start == k) (stat_rows file P) (λ row i. eq-eqb row.start k (h row i)) in
-      ap (tree_text true (tree_name file V k) (page_size file)) e
+      ap (tree_rows_text true (tree_name file V k) (page_size file)) e
       ∙ ap (tree_line (tree_name file V k) (page_size file)) (sym (all ∙ e))
       ∙ sym (append-nil (tree_line (tree_name file V k) (page_size file) (filter (λ (row : StatRow). row.start == k) (stat_rows file P))))
       ∙ sym (ap (λ ks. flat_map (form_line file V) (map (row_of_tree (stat_rows file P)) ks)) f)
@@ -132,7 +132,7 @@ module _ (file : List ℕ) (V : List Reference) where
       let Q = visited_below file (W ++ P) es in
       let named : Q ≡ below_links file (W ++ P) [] ls = ap (part_of (rules_of file) (geometry file).pages (W ++ P)) (goes_named [] ls) in
       ap₂ (λ a b. a ++ b)
-      (ap (tree_text aggregate (tree_name file V l.step) (page_size file)) (rows_below file W (Go c ∷ []) (quiet_go c)) ∙ one_text aggregate l.step P (row_start file W l) (one_tree file W l (h l (inl refl))))
+      (ap (tree_rows_text aggregate (tree_name file V l.step) (page_size file)) (rows_below file W (Go c ∷ []) (quiet_go c)) ∙ one_text aggregate l.step P (row_start file W l) (one_tree file W l (h l (inl refl))))
       (texts_below aggregate (W ++ P) ls rising.1 (λ m i. h m (inr i)))
       ∙ sym (text_join aggregate P Q (subst (HasLaterStarts P) (sym named) (later_starts_below file W (W ++ P) l ls rising)))
       ∙ ap (text_of aggregate) (sym (rest_join (rules_of file) (geometry file).pages (are_rules file) W (c ∷ []) (goes es)))

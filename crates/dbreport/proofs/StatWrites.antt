@@ -8,8 +8,8 @@ use Rattle.dbformat.specs.declared.Fault.{Fault}
 use Rattle.dbsource.specs.Outs.{OutState}
 use Rattle.dbsource.proofs.Puts.{appends_append, appends_nothing}
 use Rattle.dbsource.proofs.Beginnings.{begins_nothing, begins_more, begins_after}
-use Rattle.dbreport.specs.StatSink.{HasWritten, HasBegun, WritesBoth}
-use Rattle.dbreport.specs.declared.statistics.sink.StatSink.{StatSink}
+use Rattle.dbreport.specs.StatReporter.{HasWritten, HasBegun, WritesBoth}
+use Rattle.dbreport.specs.declared.statistics.reporter.StatReporter.{StatReporter}
 
 lines_more : (xs ys : List Fault) → flat_map fault_line xs ++ flat_map fault_line ys ≡ flat_map fault_line (xs ++ ys)
 lines_more xs ys = sym (flat_map-append fault_line xs ys)
@@ -21,7 +21,7 @@ count_none : (n : ℕ) → n ≡ n + 0
 count_none n = omega arith
 
 module _ {O E : Type 0} (held : O → OutState) (held' : E → OutState) where
-  pub written_none : (s : StatSink O E) → HasWritten held held' s s [] []
+  pub written_none : (s : StatReporter O E) → HasWritten held held' s s [] []
   written_none s = record {
     form = refl;
     encoding = refl;
@@ -31,7 +31,7 @@ module _ {O E : Type 0} (held : O → OutState) (held' : E → OutState) where
     err = appends_nothing (held' s.err.now).bytes;
   }
 
-  module _ (s m t : StatSink O E) (a b : List ℕ) (xs ys : List Fault) (first : HasWritten held held' s m a xs) where
+  module _ (s m t : StatReporter O E) (a b : List ℕ) (xs ys : List Fault) (first : HasWritten held held' s m a xs) where
     pub written_then : HasWritten held held' m t b ys → HasWritten held held' s t (a ++ b) (xs ++ ys)
     written_then h = record {
       form = h.form ∙ first.form;
@@ -50,13 +50,13 @@ module _ {O E : Type 0} (held : O → OutState) (held' : E → OutState) where
     }
 
   -- a beginning of the first part
-  pub begun_first : (s t : StatSink O E) (a b : List ℕ) (xs ys : List Fault) → HasBegun held held' s t a xs → HasBegun held held' s t (a ++ b) (xs ++ ys)
+  pub begun_first : (s t : StatReporter O E) (a b : List ℕ) (xs ys : List Fault) → HasBegun held held' s t a xs → HasBegun held held' s t (a ++ b) (xs ++ ys)
   begun_first s t a b xs ys h = record {
     out = begins_more (held s.out.now).bytes (held t.out.now).bytes a b (a ++ b) refl h.out;
     err = begins_more (held' s.err.now).bytes (held' t.err.now).bytes (flat_map fault_line xs) (flat_map fault_line ys) (flat_map fault_line (xs ++ ys)) (lines_more xs ys) h.err;
   }
 
   -- nothing is a beginning
-  pub begun_none : (s t : StatSink O E) (text : List ℕ) (faults : List Fault) → s ≡ t → HasBegun held held' s t text faults
+  pub begun_none : (s t : StatReporter O E) (text : List ℕ) (faults : List Fault) → s ≡ t → HasBegun held held' s t text faults
   begun_none s t text faults e = subst (λ u. HasBegun held held' s u text faults) e
       (record { out = begins_nothing (held s.out.now).bytes text; err = begins_nothing (held' s.err.now).bytes (flat_map fault_line faults) })

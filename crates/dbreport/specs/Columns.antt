@@ -18,8 +18,8 @@ abbrev pub counts_text : Counts → List ℕ
 counts_text counts = flat_map column (counts_columns counts)
 
 -- where a page begins in the file, its size, and the end of the line
-abbrev pub place_text : ℕ → ℕ → List ℕ
-place_text page size = column (decimal ((page - 1) * size)) ++ column (decimal size) ++ line_feed ∷ []
+abbrev pub offset_text : ℕ → ℕ → List ℕ
+offset_text page size = column (decimal ((page - 1) * size)) ++ column (decimal size) ++ line_feed ∷ []
 
 -- a child on a path
 abbrev pub child_text : ℕ → List ℕ
@@ -28,7 +28,7 @@ child_text child = hex_text 3 child ++ codes "/"
 -- the row of a page, after the children
 abbrev pub page_end : ℕ → StatRow → List ℕ
 page_end size row = chain_text row.chain ++ column (decimal row.page) ++ column (pagetype_text row.pagetype)
-    ++ counts_text row.counts ++ place_text row.page size
+    ++ counts_text row.counts ++ offset_text row.page size
 
 -- the row of a tree, after its name
 abbrev pub tree_end : ℕ → Sums → List ℕ

@@ -26,7 +26,7 @@ use Rattle.dbsource.specs.declared.error.RunError.{RunError}
 use Rattle.dbsource.specs.declared.error.RunError.TheVariants.{Refused, ReadFailed}
 use Rattle.dbsource.specs.declared.out.Out.{Ghosts as OutWords}
 use Rattle.dbsource.specs.declared.source.Source.{Ghosts as SourceWords}
-use Rattle.dbreport.specs.StatSink.{failures_of_each}
+use Rattle.dbreport.specs.StatReporter.{failures_of_each}
 
 -- whether a command is a check
 abbrev pub IsCheck : Command → Type 0

@@ -19,19 +19,19 @@ abbrev pub rows_told : List Finding → List StatRow
 rows_told items = filter_map row_told items
 
 -- what is written of the rows of one tree
-abbrev pub tree_text : Bool → List ℕ → ℕ → List StatRow → List ℕ
-tree_text true name size [] = []
-tree_text true name size (row ∷ rows) = tree_line name size (row ∷ rows)
-tree_text false name size rows = flat_map (page_line name size) rows
+abbrev pub tree_rows_text : Bool → List ℕ → ℕ → List StatRow → List ℕ
+tree_rows_text true name size [] = []
+tree_rows_text true name size (row ∷ rows) = tree_line name size (row ∷ rows)
+tree_rows_text false name size rows = flat_map (page_line name size) rows
 
 -- the start of what is done first
-abbrev pub start_in : Errand Way Event → ℕ
-start_in (Go c) = start_of c.address
-start_in (Tell t) = 0
+abbrev pub errand_start : Errand Way Event → ℕ
+errand_start (Go c) = start_of c.address
+errand_start (Tell t) = 0
 
 -- what is written of the trees below some starts, after the visits of W, where V is the survey
 abbrev pub starts_text : Bool → List ℕ → List Reference → List Reference → List (Errand Way Event) → List ℕ
 starts_text aggregate file V W [] = []
 starts_text aggregate file V W (e ∷ es) =
-    tree_text aggregate (tree_name file V (start_in e)) (page_size file) (rows_told (told_below file W (e ∷ [])))
+    tree_rows_text aggregate (tree_name file V (errand_start e)) (page_size file) (rows_told (told_below file W (e ∷ [])))
     ++ starts_text aggregate file V (W ++ visited_below file W (e ∷ [])) es

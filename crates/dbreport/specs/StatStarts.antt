@@ -12,10 +12,10 @@ use Rattle.dbsource.specs.declared.error.RunError.{RunError}
 use Rattle.dbreport.specs.StatLines.{starts_text}
 use Rattle.dbreport.specs.Statistics.{form_of}
 use Rattle.dbreport.specs.Sums.{sums_of}
-use Rattle.dbreport.specs.declared.statistics.sink.StatSink.{StatSink}
+use Rattle.dbreport.specs.declared.statistics.reporter.StatReporter.{StatReporter}
 
 -- the sink writes as the file asks for, and no row of a tree is left to be added up
-pub record IsForFile {O E : Type 0} (file : List ℕ) (s : StatSink O E) : Type 0 where
+pub record IsForFile {O E : Type 0} (file : List ℕ) (s : StatReporter O E) : Type 0 where
   pub encoding : s.encoding ≡ encoding file
   pub page_size : s.page_size ≡ page_size file
   pub summed : s.sums ≡ sums_of []
@@ -26,7 +26,7 @@ rows_text aggregate all file V = starts_text aggregate file V [] (start_errands 
 
 -- What a run leaves of the sink, where it heard nothing before and writes as the file asks for: on each Out its part of the
 -- report, at an error a beginning of it; and the verdict.
-abbrev pub LeavesStat : {O E : Type 0} → (O → OutState) → (E → OutState) → List ℕ → List Reference → Result Verdict RunError → StatSink O E → StatSink O E → Type 0
+abbrev pub LeavesStat : {O E : Type 0} → (O → OutState) → (E → OutState) → List ℕ → List Reference → Result Verdict RunError → StatReporter O E → StatReporter O E → Type 0
 LeavesStat held held' file V r s t = IsForFile file s → s.found ≡ 0
     → Writes r (held s.out.now).bytes (held t.out.now).bytes (flat_map (form_line file V) (form_rows (form_of s.form) file V))
     × Writes r (held' s.err.now).bytes (held' t.err.now).bytes (flat_map fault_line (faults file V)) × IfOk r (λ v. v ≡ verdict (faults file V))

@@ -2,7 +2,7 @@
 ghost use Rattle.std.specs.Prelude.{◌≡◌, IfOk, MatchResult};
 ghost use Rattle.dbsource.specs.Failures.{failures_after, is_any};
 ghost use Rattle.dbsource.specs.Outs.{Puts};
-ghost use Rattle.dbreport.specs.CheckSink.{CutsFault, ShowsFault, end_text, found_verdict};
+ghost use Rattle.dbreport.specs.CheckReporter.{CutsFault, ShowsFault, end_text, found_verdict};
 
 use dbformat::Verdict;
 use dblines::{put_fault, put_ok, put_rest};
@@ -13,23 +13,23 @@ use std::alloc::Allocator;
 
 // Writes the lines of the first faults as they come, and counts the others. It holds no list.
 #[derive(Drop)]
-pub(crate) struct CheckSink<'a, O> {
+pub(crate) struct CheckReporter<'a, O> {
     out: &'a mut O,
     limit: u32,
     shown: u32,
     more: u64,
 }
 
-impl<'a, O: Out> CheckSink<'a, O> {
+impl<'a, O: Out> CheckReporter<'a, O> {
     // One that heard nothing, and shows `limit` faults at most.
-    pub(crate) fn new(out: &'a mut O, limit: u32) -> CheckSink<'a, O>
+    pub(crate) fn new(out: &'a mut O, limit: u32) -> CheckReporter<'a, O>
         ensures same_out { result.out.ghost_name ≡ out.entry.ghost_name }
         ensures out { result.out.now ≡ out.old }
         ensures limit { result.limit ≡ limit }
         ensures shown { result.shown ≡ 0 }
         ensures more { result.more ≡ 0 }
     {
-        CheckSink {
+        CheckReporter {
             out,
             limit,
             shown: 0,
@@ -68,9 +68,9 @@ impl<'a, O: Out> CheckSink<'a, O> {
 }
 
 // Where a fault is found is nothing to a check.
-impl<O: Out> Reporter for CheckSink<'_, O> {
+impl<O: Out> Reporter for CheckReporter<'_, O> {
     ghost use Rattle.dbscan.specs.Notices.{CutsFaults, HearsFaults};
-    ghost use Rattle.dbreport.specs.CheckSink.{check_held};
+    ghost use Rattle.dbreport.specs.CheckReporter.{check_held};
 
     ghost hears = { HearsFaults (ShowsFault O.held) };
 
@@ -94,8 +94,8 @@ impl<O: Out> Reporter for CheckSink<'_, O> {
     }
 }
 
-impl<O: Out, A: Allocator> Finish<Desk<A>> for CheckSink<'_, O> {
-    ghost use Rattle.dbreport.specs.CheckSink.{LeavesCheck};
+impl<O: Out, A: Allocator> Finish<Desk<A>> for CheckReporter<'_, O> {
+    ghost use Rattle.dbreport.specs.CheckReporter.{LeavesCheck};
 
     ghost leaves = { LeavesCheck O.held };
 

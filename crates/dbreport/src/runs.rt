@@ -10,16 +10,16 @@ ghost use Rattle.dbformat.specs.declared.Command.TheVariants.{Check, Stat};
 ghost use Rattle.dbscan.specs.DeskSizes.{DeskFitsInMemory};
 ghost use Rattle.dbscan.specs.Kept.{HasUsed};
 ghost use Rattle.dbreport.specs.Runs.{FailsAsAnswered, HasRun, HasRunBehind, IsCheck, IsLeftAlone, IsReported, ToldReportsAreRead, ToldRunsAreRead};
-ghost use Rattle.dbreport.specs.StatSink.{failures_of_each};
+ghost use Rattle.dbreport.specs.StatReporter.{failures_of_each};
 ghost use Rattle.dbsource.specs.Errors.{is_read_failed, is_write_failed};
 ghost use Rattle.dbsource.specs.Failures.{CountsAfter, failures_after};
 ghost use Rattle.dbsource.specs.Headers.{IsHeaderOf};
 ghost use Rattle.dbsource.specs.Outs.{Writes};
 ghost use Rattle.dbsource.specs.Snapshots.{HasRead, HasReadBehind};
 
-use crate::checking::CheckSink;
+use crate::checking::CheckReporter;
 use crate::opening::open_in;
-use crate::statistics::{Form, StatSink};
+use crate::statistics::{Form, StatReporter};
 use dbformat::{Command, Verdict};
 use dbscan::{Desk, run_over};
 use dbsource::{Out, RunError, Source};
@@ -41,7 +41,7 @@ fn check_on<A: Allocator, S: Source, O: Out>(
     ensures out_failures { (O.held out.new).failures ≡ failures_after is_write_failed result (O.held out.old).failures }
     ensures desk { HasUsed result desk.old desk.new }
 {
-    let mut sink = CheckSink::new(out, limit);
+    let mut sink = CheckReporter::new(out, limit);
     run_over(desk, source, &mut sink)
 }
 
@@ -64,7 +64,7 @@ fn stat_on<A: Allocator, S: Source, O: Out, E: Out>(
 {
     let encoding = desk.header().encoding();
     let page_size = desk.geometry().page_size;
-    let mut sink = StatSink::new(out, err, encoding, page_size, form);
+    let mut sink = StatReporter::new(out, err, encoding, page_size, form);
     run_over(desk, source, &mut sink)
 }
 

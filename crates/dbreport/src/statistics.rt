@@ -4,11 +4,11 @@ mod hex;
 mod lines;
 mod other_pages;
 mod page_texts;
-mod sink;
+mod reporter;
 mod sums;
 mod tree_name;
 
-pub(crate) use crate::statistics::sink::StatSink;
+pub(crate) use crate::statistics::reporter::StatReporter;
 
 /// A form of the statistics: whether the rows of a tree are added up, and whether the other pages are shown.
 #[derive(Clone, Copy)]

@@ -32,7 +32,7 @@ use Rattle.dbmarks.specs.declared.marks.Mark.{Mark}
 use Rattle.dbmarks.specs.declared.marks.Mark.TheVariants.{Unmarked, Fixed, Root, Trunk, FreeLeaf, FirstOverflow, LaterOverflow, Child}
 use Rattle.dbmarks.proofs.LateRoots.{marks_tell_the_end}
 use Rattle.dbwalk.proofs.Telling.Belows.{stops_by_after}
-use Rattle.dbscan.specs.EndPass.{counted_faults, is_fixed_mark, page_items, pages_items}
+use Rattle.dbscan.specs.EndPass.{counted_faults, is_fixed_mark, page_notices, pages_items}
 use Rattle.dbscan.specs.Telling.{items_of}
 use Rattle.dbscan.proofs.CountedMarks.{numbers_more}
 
@@ -43,7 +43,7 @@ late_none true later f = refl
 late_none false later f = refl
 
 -- nothing is reported of a page of fixed use
-pub fixed_items : (file : List ℕ) (least : Option ℕ) (p : ℕ) (m : Mark) → is_fixed_mark m ≡ true → page_items file least p m ≡ []
+pub fixed_items : (file : List ℕ) (least : Option ℕ) (p : ℕ) (m : Mark) → is_fixed_mark m ≡ true → page_notices file least p m ≡ []
 fixed_items file None p Fixed h = refl
 fixed_items file (Some least) p Fixed h = ap (map whole) (late_none (geometry file).has_map (nat_lt least p) (fault M02 p 0 (pos least)))
 fixed_items file least p Unmarked h = cc
@@ -56,7 +56,7 @@ fixed_items file least p (Child from) h = cc
 
 -- what is reported of another page, from its two faults
 pub other_items : (file : List ℕ) (least : Option ℕ) (p : ℕ) (m : Mark) (a b : Option Fault) (e : Option MapEntry) (has : Bool) → e ≡ map_entry file p → has ≡ (geometry file).has_map
-    → option_to_list a ≡ mark_fault p e m → option_to_list b ≡ late_fault has p m least → items_of (a ∷ b ∷ []) ≡ page_items file least p m
+    → option_to_list a ≡ mark_fault p e m → option_to_list b ≡ late_fault has p m least → items_of (a ∷ b ∷ []) ≡ page_notices file least p m
 other_items file least p m a b e has is own ea eb =
     ap (λ l. map whole (option_to_list a ++ l)) (append-nil (option_to_list b))
     ∙ ap (map whole) (ap₂ (λ x y. x ++ y) (ea ∙ ap (λ o. mark_fault p o m) is) (eb ∙ ap (λ h. late_fault h p m least) own))
@@ -81,15 +81,15 @@ fixed_by_mark g V p = by_case (is_fixed g p) (visit_of V p)
 
 -- ---- the first pages
 
-pub items_one_more : (file : List ℕ) (V : List Reference) (least : Option ℕ) (n : ℕ) → pages_items file V least (n + 1) ≡ pages_items file V least n ++ page_items file least (n + 1) (mark_of (geometry file) V (n + 1))
+pub items_one_more : (file : List ℕ) (V : List Reference) (least : Option ℕ) (n : ℕ) → pages_items file V least (n + 1) ≡ pages_items file V least n ++ page_notices file least (n + 1) (mark_of (geometry file) V (n + 1))
 items_one_more file V least n =
-    let f : ℕ → List Notice = λ p. page_items file least p (mark_of (geometry file) V p) in
+    let f : ℕ → List Notice = λ p. page_notices file least p (mark_of (geometry file) V p) in
     ap (flat_map f) (numbers_more n) ∙ flat_map-append f (range_with_len 1 n) ((n + 1) ∷ []) ∙ ap (λ l. flat_map f (range_with_len 1 n) ++ l) (append-nil (f (n + 1)))
 
 -- what is reported of the first pages is the beginning of what is reported of all
 pub items_begin : (file : List ℕ) (V : List Reference) (least : Option ℕ) (n m : ℕ) → n ≤ m → (rest : List Notice) × (pages_items file V least n ++ rest ≡ pages_items file V least m)
 items_begin file V least n m l =
-    let f : ℕ → List Notice = λ p. page_items file least p (mark_of (geometry file) V p) in
+    let f : ℕ → List Notice = λ p. page_notices file least p (mark_of (geometry file) V p) in
     let e : n + (m - n) ≡ m = omega arith in
     (flat_map f (range_with_len (1 + n) (m - n)), sym (ap (λ x. flat_map f (range_with_len 1 x)) (sym e) ∙ ap (flat_map f) (range-parts 1 n (m - n)) ∙ flat_map-append f (range_with_len 1 n) (range_with_len (1 + n) (m - n))))
 
@@ -100,7 +100,7 @@ module _ (file : List ℕ) (V : List Reference) (s : Survey file V) where
   pages_are =
       let told = marks_tell_the_end file V s in
       sym (map-flat_map (page_end_faults file V) whole (page_numbers (geometry file))
-      ∙ flat_map-same _ (λ p. page_items file (least_other_marked (marks_of (geometry file) V)) p (mark_of (geometry file) V p)) (page_numbers (geometry file))
+      ∙ flat_map-same _ (λ p. page_notices file (least_other_marked (marks_of (geometry file) V)) p (mark_of (geometry file) V p)) (page_numbers (geometry file))
       (λ p i. ap (map whole) (ap₂ (λ a b. a ++ b) (told.uses p) (told.late p))))
 
   sums_are : (h : HeaderBytes) (rows : Bool) → IsHeaderOf h file → rows ≡ has_rows file V

@@ -3,7 +3,7 @@ use Rattle.std.proofs.Common.{◌≡◌, ℕ, ◌-◌, inl, inr, Bool, true, fal
 use Rattle.std.specs.Prelude.{flat_map, is_none, nat_le, pos, ℤ, ◌==◌}
 use Rattle.std.specs.List.{range_with_len}
 use Rattle.dbsurvey.specs.Address.{IsIn}
-use Rattle.dbsurvey.specs.Story.{Item, Follow, Place}
+use Rattle.dbsurvey.specs.Story.{PageStep, Follow, Place}
 use Rattle.dbsurvey.proofs.Order.{IsIn-cases}
 use Rattle.dbsurvey.proofs.Ordering.{IsIn-from_flat_map}
 use Rattle.dbformat.specs.Address.{start_of, schema_start, last_root_start}
@@ -196,7 +196,7 @@ abbrev pub is_refusal : Event → Bool
 is_refusal (at_refused r) = true
 is_refusal _ = false
 
-event_in : Event → Item Way Event → Event
+event_in : Event → PageStep Way Event → Event
 event_in none (Follow l) = none
 event_in none (Place step event) = event
 

@@ -13,7 +13,7 @@ use Rattle.dbformat.specs.declared.FaultCode.TheVariants.{H01, H02, H03, H04, H0
 use Rattle.dbtrace.specs.declared.Part.{Part}
 use Rattle.dbtrace.specs.declared.Part.TheVariants as part
 use Rattle.dbscan.specs.Notices.{whole, end_notices, run_notices, start_notices}
-use Rattle.dbscan.specs.Placed.{at_start, is_end_code, is_header_code, of_file, part_of, reported_in, reported_of, told_faults, walk_told}
+use Rattle.dbscan.specs.Placed.{at_start, is_end_code, is_header_code, of_file, part_of_code, reported_in, reported_of, told_faults, walk_told}
 use Rattle.dbscan.proofs.FileCodes.{end_codes, header_codes}
 use Rattle.dbscan.proofs.PlacedFaults.{starts_read}
 
@@ -28,7 +28,7 @@ end_not_header H06 e = cc
 end_not_header H07 e = cc
 end_not_header _ e = refl
 
-by_code : (p : Part) (fs : List Fault) → ((f : Fault) → IsIn f fs → part_of f.code ≡ p) → reported_in (map whole fs) ≡ map (of_file p) fs
+by_code : (p : Part) (fs : List Fault) → ((f : Fault) → IsIn f fs → part_of_code f.code ≡ p) → reported_in (map whole fs) ≡ map (of_file p) fs
 by_code p [] h = refl
 by_code p (f ∷ fs) h = ap₂ (λ q xs. of_file q f ∷ xs) (h f (inl refl)) (by_code p fs (λ g i. h g (inr i)))
 
@@ -36,8 +36,8 @@ pub run_heard : (file : List ℕ) (V : List Reference) → Survey file V → rep
 run_heard file V s =
     let hs = header_faults file (length file) in
     let es = end_faults file V in
-    let header : (f : Fault) → IsIn f hs → part_of f.code ≡ part.Header = λ f i. ap (λ b. if b then part.Header else part.End) (header_codes file (length file) f i) in
-    let ending : (f : Fault) → IsIn f es → part_of f.code ≡ part.End = λ f i. ap (λ b. if b then part.Header else part.End) (end_not_header f.code (end_codes file V f i)) in
+    let header : (f : Fault) → IsIn f hs → part_of_code f.code ≡ part.Header = λ f i. ap (λ b. if b then part.Header else part.End) (header_codes file (length file) f i) in
+    let ending : (f : Fault) → IsIn f es → part_of_code f.code ≡ part.End = λ f i. ap (λ b. if b then part.Header else part.End) (end_not_header f.code (end_codes file V f i)) in
     let walk : reported_in (start_notices file V) ≡ walk_told file V =
     starts_read at_start reported_of (record { of_row = λ at row. refl; of_fault = λ at f why. refl; of_ended = λ at. refl }) file V s in
     filter_map-append reported_of (map whole hs) (start_notices file V ++ end_notices file V)

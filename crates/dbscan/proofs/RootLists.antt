@@ -5,7 +5,7 @@ use Rattle.std.proofs.lemmas.List.Elements.{All-head, All-tail}
 use Rattle.std.proofs.lemmas.List.{take-append-le, drop-append-le, map-append}
 use Rattle.dbformat.specs.SchemaRow.{SchemaRow}
 use Rattle.dbscan.specs.declared.roots.Span.{Span}
-use Rattle.dbscan.specs.declared.roots.Entry.{Entry}
+use Rattle.dbscan.specs.declared.roots.RootRow.{RootRow}
 use Rattle.dbscan.specs.Roots.{Listed, name_in, entry_row, kept_row, IsWithin, Grows}
 
 -- a name stays the same if more bytes come after it
@@ -17,14 +17,14 @@ name_kept names more (Some s) h =
     let k : s.len ≤ length (drop s.start names) = omega arith in
     ap Some (ap (take s.len) d ∙ take-append-le s.len (drop s.start names) more k)
 
-pub rows_kept : (names more : List ℕ) (es : List Entry) → All (λ e. IsWithin (length names) e.name) es → map (entry_row (names ++ more)) es ≡ map (entry_row names) es
+pub rows_kept : (names more : List ℕ) (es : List RootRow) → All (λ e. IsWithin (length names) e.name) es → map (entry_row (names ++ more)) es ≡ map (entry_row names) es
 rows_kept names more [] h = refl
 rows_kept names more (e ∷ es) h =
     let one : entry_row (names ++ more) e ≡ entry_row names e = ap (λ n. record { kind = e.kind; root = e.page; name = n }) (name_kept names more e.name (All-head (λ e. IsWithin (length names) e.name) e es h)) in
     ap₂ (λ x xs. x ∷ xs) one (rows_kept names more es (All-tail (λ e. IsWithin (length names) e.name) e es h))
 
 -- the rows with one more
-pub row_added : (names news : List ℕ) (es fs : List Entry) (e : Entry) (row : SchemaRow) (rows : List SchemaRow) (n : ℕ) → Grows names news
+pub row_added : (names news : List ℕ) (es fs : List RootRow) (e : RootRow) (row : SchemaRow) (rows : List SchemaRow) (n : ℕ) → Grows names news
     → All (λ e. IsWithin (length names) e.name) es → fs ≡ es ++ e ∷ [] → entry_row news e ≡ kept_row row → map (entry_row names) es ≡ rows
     → ◌≡◌ {A = Listed} (record { rows = map (entry_row news) fs; refusals = n }) (record { rows = rows ++ kept_row row ∷ []; refusals = n })
 row_added names news es fs e row rows n g w f k r =

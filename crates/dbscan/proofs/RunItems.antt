@@ -23,7 +23,7 @@ use Rattle.dbmarks.specs.declared.marks.Mark.{Mark}
 use Rattle.dbwalk.proofs.Telling.Belows.{visited_join}
 use Rattle.dbwalk.proofs.Telling.Lefts.{left_start}
 use Rattle.dbscan.specs.Starts.{AreBelowStarts, schema_reference, later_errands}
-use Rattle.dbscan.specs.Walks.{Any, IsAt}
+use Rattle.dbscan.specs.Walks.{Any, IsAtStarts}
 
 -- starts depend only on the schema
 later_same : (file : List ℕ) (U V : List Reference) → schema file U ≡ schema file V → later_starts file U ≡ later_starts file V
@@ -56,6 +56,6 @@ survey_below_starts file V s u i = has_address file V s u (subst (λ W. IsIn u W
 
 -- at the start all is left
 pub starts_left : (file : List ℕ) (V : List Reference) → Survey file V → (marks : List Mark) → AreMarksOf file [] marks
-    → IsAt file V [] ((Go schema_reference ∷ []) ++ later_errands file V) marks
-starts_left file V s marks fresh = subst (λ es. IsAt file V [] es marks) (starts_are file V s)
+    → IsAtStarts file V [] ((Go schema_reference ∷ []) ++ later_errands file V) marks
+starts_left file V s marks fresh = subst (λ es. IsAtStarts file V [] es marks) (starts_are file V s)
     (left_start Any file [] (start_errands file V) tt marks fresh (λ u e i. absurd i) (starts_apart file V))

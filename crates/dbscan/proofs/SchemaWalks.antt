@@ -24,7 +24,7 @@ use Rattle.dbwalk.specs.declared.root.RootKind.TheVariants.{Schema}
 use Rattle.dbscan.specs.Roots.{Listed, TakesRow}
 use Rattle.dbscan.specs.Findings.{is_schema_row}
 use Rattle.dbscan.specs.Notices.{Notice}
-use Rattle.dbscan.specs.Starts.{IsSchemaOf, at_schema, schema_reference, schema_root}
+use Rattle.dbscan.specs.Starts.{IsSchemaOf, at_schema, schema_reference, root_of_schema}
 use Rattle.dbscan.specs.Walks.{IsSchemaWalked, IsTreeWalked, IsWalkedOver}
 use Rattle.dbscan.specs.declared.teller.Teller.{Teller}
 use Rattle.dbscan.proofs.RootsTaken.{roots_start_empty, schema_roots, starts_listed}
@@ -32,7 +32,7 @@ use Rattle.dbscan.proofs.SchemaTold.{schema_rows_told}
 use Rattle.dbformat.proofs.HeaderPrefix.{encoding_within}
 
 -- page 1 comes first
-pub schema_first : (file : List ℕ) (encoding : Encoding) (marks : List Mark) → AreMarksOf file [] marks → IsRootAfter file (schema_root encoding) [] schema_reference marks
+pub schema_first : (file : List ℕ) (encoding : Encoding) (marks : List Mark) → AreMarksOf file [] marks → IsRootAfter file (root_of_schema encoding) [] schema_reference marks
 schema_first file encoding marks h = record {
   candidate = record { page = refl; way = refl; start = refl; depth = refl; path = refl; chain = refl };
   early = λ u i. absurd i;
@@ -59,7 +59,7 @@ module _ {S : Type 0} (hears cuts : S → Notice → S → Type 0) (file : List 
       )
 
   -- by the header
-  module _ (h : HeaderBytes) (is : IsHeaderOf h file) (code : Encoding) (coded : code ≡ encoding_of h.bytes) (named : Root) (root : named ≡ schema_root code) (first : List Mark) (fresh : AreMarksOf file [] first) where
+  module _ (h : HeaderBytes) (is : IsHeaderOf h file) (code : Encoding) (coded : code ≡ encoding_of h.bytes) (named : Root) (root : named ≡ root_of_schema code) (first : List Mark) (fresh : AreMarksOf file [] first) where
     abbrev IsWalked : Result (Unit {0}) RunError → Type 0
     IsWalked r = named.encoding ≡ encoding_of file → (W : List Reference) (c : Reference) → IsRootAfter file named W c first → (held : Listed → ℕ) → (named.kind ≡ Schema → StartsEmpty TakesRow held old)
         → IsWalkedOver hears cuts TakesRow file W c r marks w t old new

@@ -20,7 +20,7 @@ use Rattle.dbmarks.specs.declared.marks.Mark.{Mark}
 use Rattle.dbwalk.specs.declared.root.RootKind.TheVariants.{Schema}
 use Rattle.dbscan.specs.Notices.{root_reference}
 use Rattle.dbscan.specs.Starts.{kind_by, root_of, AreBelowStarts}
-use Rattle.dbscan.specs.Walks.{IsAt}
+use Rattle.dbscan.specs.Walks.{IsAtStarts}
 
 pub quiet_go : (c : Reference) → AreQuiet own_visit (Go c ∷ [])
 quiet_go c e (inl h) = cc
@@ -58,7 +58,7 @@ row_there (x ∷ xs) (suc i) l = row_there xs i (omega (arith, l))
 
 -- the next start is a root
 pub root_next : (file : List ℕ) (V U : List Reference) (marks : List Mark) (encoding : Encoding) (k : ℕ) (r : SchemaRow) (es : List (Errand Way Event))
-    → AreBelowStarts ([] ++ visited_below file [] (start_errands file V)) → IsAt file V U (Go (root_reference file k r) ∷ es) marks
+    → AreBelowStarts ([] ++ visited_below file [] (start_errands file V)) → IsAtStarts file V U (Go (root_reference file k r) ∷ es) marks
     → IsRootAfter file (root_of encoding k r) U (root_reference file k r) marks
 root_next file V U marks encoding k r es below h = record {
   candidate = record {

@@ -28,7 +28,7 @@ use Rattle.dbwalk.proofs.Telling.Lefts.{left_call, left_none}
 use Rattle.dbscan.specs.Notices.{Notice, found, ended, errands_left, root_reference, tree_notices, later_notices, start_notices}
 use Rattle.dbscan.specs.Starts.{IsSchemaOf, at_freelist, at_row, at_schema, later_errands, root_of, schema_reference}
 use Rattle.dbscan.specs.Tellers.{HandsOn}
-use Rattle.dbscan.specs.Walks.{Any, IsAt, IsTreeWalked, IsWalkedOver, IsSchemaWalked, IsTelling, StopsTelling, AreTold, AreWalked}
+use Rattle.dbscan.specs.Walks.{Any, IsAtStarts, IsTreeWalked, IsWalkedOver, IsSchemaWalked, IsBetweenStarts, StopsTelling, AreTold, AreWalked}
 use Rattle.dbscan.specs.declared.teller.Teller.{Teller}
 use Rattle.dbscan.proofs.RunItems.{all_visited, starts_left, survey_below_starts}
 use Rattle.dbscan.proofs.Starts.{drop_more, quiet_go, root_next, row_there}
@@ -39,13 +39,13 @@ any_moves [] = refl
 any_moves (i ∷ items) = (tt, tt, any_moves items)
 
 -- one start is done: the next ones are left
-at_next : (file : List ℕ) (V U : List Reference) (c : Reference) (es : List (Errand Way Event)) (marks marks' : List Mark) → IsAt file V U (Go c ∷ es) marks
-    → AreMarksOf file (U ++ visited_below file U (Go c ∷ [])) marks' → IsAt file V (U ++ visited_below file U (Go c ∷ [])) es marks'
+at_next : (file : List ℕ) (V U : List Reference) (c : Reference) (es : List (Errand Way Event)) (marks marks' : List Mark) → IsAtStarts file V U (Go c ∷ es) marks
+    → AreMarksOf file (U ++ visited_below file U (Go c ∷ [])) marks' → IsAtStarts file V (U ++ visited_below file U (Go c ∷ [])) es marks'
 at_next file V U c es marks marks' h m = left_call Any file [] (start_errands file V) tt U marks tt {A = Unit {0}} Any tt marks' tt (Go c ∷ []) es h (quiet_go c)
     (record { marked = m; told = any_moves (told_below file U (Go c ∷ [])) })
 
 -- none is left
-at_end : (file : List ℕ) (V : List Reference) (survey : Survey file V) (U : List Reference) (marks : List Mark) → IsAt file V U [] marks → AreMarksOf file V marks
+at_end : (file : List ℕ) (V : List Reference) (survey : Survey file V) (U : List Reference) (marks : List Mark) → IsAtStarts file V U [] marks → AreMarksOf file V marks
 at_end file V survey U marks h =
     subst (λ W. AreMarksOf file W marks) (all_visited file V survey) (left_none Any file [] (start_errands file V) tt U marks tt {A = Unit {0}} Any tt h).marked
 
@@ -108,13 +108,13 @@ module _ {S : Type 0} (hears cuts : S → Notice → S → Type 0) where
 
     -- it is done, and the trees of its rows are left
     pub schema_told : (marks marks' : List Mark) (rows : List SchemaRow) (any : Bool) (t : S) → AreMarksOf file [] marks → IsSchemaWalked hears cuts file (Ok any) marks' rows before t
-        → IsTelling hears cuts file V before (enumerate_from 1 rows) marks' t
+        → IsBetweenStarts hears cuts file V before (enumerate_from 1 rows) marks' t
     schema_told marks marks' rows any t fresh d =
         let U = [] ++ visited_below file [] (Go schema_reference ∷ []) in
         let of = d.schema V survey in
         record {
           visits = U;
-          at = subst (λ es. IsAt file V U es marks') (sym of.left) (at_next file V [] schema_reference (later_errands file V) marks marks' (starts_left file V survey marks fresh) d.tree.marked);
+          at = subst (λ es. IsAtStarts file V U es marks') (sym of.left) (at_next file V [] schema_reference (later_errands file V) marks marks' (starts_left file V survey marks fresh) d.tree.marked);
           notices = tree_notices at_schema file [] schema_reference;
           told = d.tree.told;
           rest = ap (λ l. tree_notices at_schema file [] schema_reference ++ later_notices file U (enumerate_from 1 l)) of.listed;
@@ -123,7 +123,7 @@ module _ {S : Type 0} (hears cuts : S → Notice → S → Type 0) where
     -- ---- the tree of the next row
 
     module _ (marks marks' : List Mark) (s t : S) where
-      next_told : (k : ℕ) (row : SchemaRow) (left : List (ℕ × SchemaRow)) (h : IsTelling hears cuts file V before ((k, row) ∷ left) marks s)
+      next_told : (k : ℕ) (row : SchemaRow) (left : List (ℕ × SchemaRow)) (h : IsBetweenStarts hears cuts file V before ((k, row) ∷ left) marks s)
           → (r : Result (Unit {0}) RunError) → IsTreeWalked hears cuts (at_row k row) file h.visits (root_reference file k row) r marks' s t → StopsTelling hears cuts file V before left r marks' t
       next_told k row left h (Ok u) d =
           let c = root_reference file k row in
@@ -143,7 +143,7 @@ module _ {S : Type 0} (hears cuts : S → Notice → S → Type 0) where
           (stops_by_first hears cuts e before t (h.notices ++ its) others (stops_by_after hears cuts e before s t h.notices its h.told d.told))
 
       pub root_told : (rows : List SchemaRow) (i : ℕ) (r : Result (Unit {0}) RunError) → i < length rows
-          → IsTelling hears cuts file V before (enumerate_from (i + 1) (drop i rows)) marks s
+          → IsBetweenStarts hears cuts file V before (enumerate_from (i + 1) (drop i rows)) marks s
           → ((row : SchemaRow) → slice_get rows (i + 1 - 1) ≡ Some row → (U : List Reference) (d : Reference) → IsRootAfter file (root_of (encoding file) (i + 1) row) U d marks
           → IsTreeWalked hears cuts (at_row (i + 1) row) file U d r marks' s t)
           → StopsTelling hears cuts file V before (enumerate_from (i + 1 + 1) (drop (i + 1) rows)) r marks' t
@@ -153,14 +153,14 @@ module _ {S : Type 0} (hears cuts : S → Notice → S → Type 0) where
           let there = row_there rows i l in
           let here : drop i rows ≡ there.0 ∷ drop (i + 1) rows = drop_more rows i there.0 there.1 ∙ ap (λ j. there.0 ∷ drop j rows) k in
           let rest = enumerate_from (i + 1 + 1) (drop (i + 1) rows) in
-          let left : IsTelling hears cuts file V before ((i + 1, there.0) ∷ rest) marks s = subst (λ l. IsTelling hears cuts file V before (enumerate_from (i + 1) l) marks s) here h in
+          let left : IsBetweenStarts hears cuts file V before ((i + 1, there.0) ∷ rest) marks s = subst (λ l. IsBetweenStarts hears cuts file V before (enumerate_from (i + 1) l) marks s) here h in
           let next = root_next file V left.visits marks (encoding file) (i + 1) there.0 (errands_left file rest) (survey_below_starts file V survey) left.at in
           next_told (i + 1) there.0 rest left r (walked there.0 (ap (slice_get rows) n ∙ there.1) left.visits (root_reference file (i + 1) there.0) next)
 
     -- ---- the freelist, which is the last
 
     pub freelist_told : (marks marks' : List Mark) (w t : Teller S) (first : ℕ) (r : Result (Unit {0}) RunError) → w.start.now ≡ at_freelist → (first == 0) ≡ false → first ≡ first_trunk file
-        → IsTelling hears cuts file V before [] marks w.sink.now
+        → IsBetweenStarts hears cuts file V before [] marks w.sink.now
         → ((U : List Reference) (d : Reference) → IsFirstTrunk first d → IsNext U d → AreMarksOf file U marks → IsDone (HandsOn hears) (HandsOn cuts) file U (Go d ∷ []) r marks' w t)
         → AreTold hears cuts file V r marks' before t.sink.now
     freelist_told marks marks' w t first r start some e h walked = by_result r (walked h.visits d (record { page = refl; role = refl; from = refl; item = refl }) at.past at.marked)
@@ -172,8 +172,8 @@ module _ {S : Type 0} (hears cuts : S → Notice → S → Type 0) where
         one = ap (λ n. errands_at [] (map Follow (cond (n == 0) [] (start_at freelist_start trunk n ∷ [])))) (sym e)
             ∙ ap (λ b. errands_at [] (map Follow (cond b [] (start_at freelist_start trunk first ∷ [])))) some
 
-        at : IsAt file V h.visits (Go d ∷ []) marks
-        at = subst (λ es. IsAt file V h.visits es marks) one h.at
+        at : IsAtStarts file V h.visits (Go d ∷ []) marks
+        at = subst (λ es. IsAtStarts file V h.visits es marks) one h.at
 
         items : List Finding
         items = told_below file h.visits (Go d ∷ [])
@@ -194,9 +194,9 @@ module _ {S : Type 0} (hears cuts : S → Notice → S → Type 0) where
         }
 
     -- there is none
-    pub no_freelist_told : (marks : List Mark) (s : S) → first_trunk file ≡ 0 → IsTelling hears cuts file V before [] marks s → AreTold {A = Unit {0}} hears cuts file V (Ok tt) marks before s
+    pub no_freelist_told : (marks : List Mark) (s : S) → first_trunk file ≡ 0 → IsBetweenStarts hears cuts file V before [] marks s → AreTold {A = Unit {0}} hears cuts file V (Ok tt) marks before s
     no_freelist_told marks s e h = record {
-      marked = at_end file V survey h.visits marks (subst (λ es. IsAt file V h.visits es marks) none h.at);
+      marked = at_end file V survey h.visits marks (subst (λ es. IsAtStarts file V h.visits es marks) none h.at);
       told = subst (λ L. Moves hears before L s) all h.told;
     }
       where

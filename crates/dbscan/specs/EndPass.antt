@@ -27,9 +27,9 @@ is_fixed_mark Fixed = true
 is_fixed_mark _ = false
 
 -- what is reported of page p, by its mark and the least page that is no root
-abbrev pub page_items : List ℕ → Option ℕ → ℕ → Mark → List Notice
-page_items file least p mark = map whole (mark_fault p (map_entry file p) mark ++ late_fault (geometry file).has_map p mark least)
+abbrev pub page_notices : List ℕ → Option ℕ → ℕ → Mark → List Notice
+page_notices file least p mark = map whole (mark_fault p (map_entry file p) mark ++ late_fault (geometry file).has_map p mark least)
 
 -- what is reported of the first n pages, after the visits of V
 abbrev pub pages_items : List ℕ → List Reference → Option ℕ → ℕ → List Notice
-pages_items file V least n = flat_map (λ p. page_items file least p (mark_of (geometry file) V p)) (range_with_len 1 n)
+pages_items file V least n = flat_map (λ p. page_notices file least p (mark_of (geometry file) V p)) (range_with_len 1 n)

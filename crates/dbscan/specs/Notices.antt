@@ -37,15 +37,15 @@ notice_of (lent.Row at r) = found at.now (told_row (row_of r.now))
 notice_of (lent.Ended at) = ended at.now
 
 -- the fault of a notice, if it is one
-abbrev pub fault_of : Notice → Option Fault
-fault_of (whole f) = Some f
-fault_of (found at item) = fault_in item
-fault_of (ended at) = None
-fault_of (walked g marks) = None
+abbrev pub notice_fault : Notice → Option Fault
+notice_fault (whole f) = Some f
+notice_fault (found at item) = fault_in item
+notice_fault (ended at) = None
+notice_fault (walked g marks) = None
 
 -- those among notices
 abbrev pub faults_heard : List Notice → List Fault
-faults_heard notices = filter_map fault_of notices
+faults_heard notices = filter_map notice_fault notices
 
 -- A reporter on which only faults have an effect: its state after a fault that it takes whole, and after one that it does not.
 abbrev pub HearsFaults : {S : Type 0} → (S → Fault → S → Type 0) → S → Notice → S → Type 0

@@ -91,12 +91,12 @@ abbrev pub is_walk_code : FaultCode → Bool
 is_walk_code code = not (is_header_code code || is_end_code code)
 
 -- the part of the report that a fault of the whole file belongs to, by its code
-abbrev pub part_of : FaultCode → Part
-part_of code = if is_header_code code then part.Header else part.End
+abbrev pub part_of_code : FaultCode → Part
+part_of_code code = if is_header_code code then part.Header else part.End
 
 -- the fault of a notice, if it is one, with its part and its cause
 abbrev pub reported_of : Notice → Option Reported
-reported_of (whole f) = Some (of_file (part_of f.code) f)
+reported_of (whole f) = Some (of_file (part_of_code f.code) f)
 reported_of (found at (told_fault f why)) = Some (at_start at.number f why)
 reported_of _ = None
 

@@ -8,7 +8,7 @@ use Rattle.dbsource.specs.Failures.{one_more}
 use Rattle.dbwalk.specs.Taking.{ListTakes}
 use Rattle.dbwalk.specs.declared.taker.Taken.{Taken}
 use Rattle.dbscan.specs.declared.roots.Span.{Span}
-use Rattle.dbscan.specs.declared.roots.Entry.{Entry}
+use Rattle.dbscan.specs.declared.roots.RootRow.{RootRow}
 use Rattle.dbscan.specs.declared.roots.RootList.TheInside.{Inside}
 
 -- a list of roots as contracts see it: its rows, and how many calls were refused memory
@@ -43,7 +43,7 @@ name_in names None = None
 name_in names (Some span) = Some (take span.len (drop span.start names))
 
 -- the row of an entry
-abbrev pub entry_row : List ℕ → Entry → SchemaRow
+abbrev pub entry_row : List ℕ → RootRow → SchemaRow
 entry_row names e = record { kind = e.kind; root = e.page; name = name_in names e.name }
 
 -- what the fields hold

@@ -54,16 +54,16 @@ abbrev pub root_of : Encoding → ℕ → SchemaRow → Root
 root_of encoding k r = record { start = k; page = r.root; kind = kind_by r.kind; encoding = encoding }
 
 -- the root of the schema
-abbrev pub schema_root : Encoding → Root
-schema_root encoding = record { start = schema_start; page = 1; kind = root.Schema; encoding = encoding }
+abbrev pub root_of_schema : Encoding → Root
+root_of_schema encoding = record { start = schema_start; page = 1; kind = root.Schema; encoding = encoding }
 
 -- the starts of these rows, numbered from k on, and then the freelist's
 abbrev pub starts_from : List ℕ → ℕ → List SchemaRow → List (Link Way)
 starts_from file k rows = map (root_start file) (enumerate_from k rows) ++ freelist_starts file
 
 -- what there is to do at them
-abbrev pub errands_from : List ℕ → ℕ → List SchemaRow → List (Errand Way Event)
-errands_from file k rows = errands_at [] (map Follow (starts_from file k rows))
+abbrev pub start_errands_from : List ℕ → ℕ → List SchemaRow → List (Errand Way Event)
+start_errands_from file k rows = errands_at [] (map Follow (starts_from file k rows))
 
 -- the reference to page 1
 abbrev pub schema_reference : Reference
@@ -78,7 +78,7 @@ later_errands file V = errands_at [] (map Follow (later_starts file V))
 pub record IsSchemaOf (file : List ℕ) (V : List Reference) (rows : List SchemaRow) (any : Bool) : Type 0 where
   pub has_rows : any ≡ has_rows file V
   pub listed : AreListed file V rows
-  pub left : errands_from file 1 rows ≡ later_errands file V
+  pub left : start_errands_from file 1 rows ≡ later_errands file V
 
 -- visits that are all below starts
 abbrev pub AreBelowStarts : List Reference → Type 0

@@ -28,8 +28,8 @@ abbrev pub Any : Unit {0} → Finding → Unit {0} → Type 0
 Any s item t = Unit {0}
 
 -- of the starts of a survey, those `left` are still to be walked from, after the visits of U
-abbrev pub IsAt : List ℕ → List Reference → List Reference → List (Errand Way Event) → List Mark → Type 0
-IsAt file V U left marks = IsLeft Any file [] (start_errands file V) tt U left (marks, tt)
+abbrev pub IsAtStarts : List ℕ → List Reference → List Reference → List (Errand Way Event) → List Mark → Type 0
+IsAtStarts file V U left marks = IsLeft Any file [] (start_errands file V) tt U left (marks, tt)
 
 -- The walk over the tree of a root: what is below it is marked and was heard, and that it ended; or a beginning of it was heard.
 pub record IsTreeWalked {S A : Type 0} (hears cuts : S → Notice → S → Type 0) (at : At) (file : List ℕ) (W : List Reference) (c : Reference) (r : Result A RunError) (marks : List Mark) (before after : S) : Type 0 where
@@ -50,16 +50,16 @@ pub record IsSchemaWalked {S : Type 0} (hears cuts : S → Notice → S → Type
   pub schema : (V : List Reference) → Survey file V → IfOk r (IsSchemaOf file V rows)
 
 -- Between two starts: what was heard, and then what is still to be heard, is all that there is to report of them.
-pub record IsTelling {S : Type 0} (hears cuts : S → Notice → S → Type 0) (file : List ℕ) (V : List Reference) (before : S) (left : List (ℕ × SchemaRow)) (marks : List Mark) (now : S) : Type 0 where
+pub record IsBetweenStarts {S : Type 0} (hears cuts : S → Notice → S → Type 0) (file : List ℕ) (V : List Reference) (before : S) (left : List (ℕ × SchemaRow)) (marks : List Mark) (now : S) : Type 0 where
   pub visits : List Reference
-  pub at : IsAt file V visits (errands_left file left) marks
+  pub at : IsAtStarts file V visits (errands_left file left) marks
   pub notices : List Notice
   pub told : Moves hears before notices now
   pub rest : notices ++ later_notices file visits left ≡ start_notices file V
 
 -- these are left, or an error stopped it
 abbrev pub StopsTelling : {S : Type 0} → (S → Notice → S → Type 0) → (S → Notice → S → Type 0) → List ℕ → List Reference → S → List (ℕ × SchemaRow) → Result (Unit {0}) RunError → List Mark → S → Type 0
-StopsTelling hears cuts file V before left (Ok u) marks now = IsTelling hears cuts file V before left marks now
+StopsTelling hears cuts file V before left (Ok u) marks now = IsBetweenStarts hears cuts file V before left marks now
 StopsTelling hears cuts file V before left (Err e) marks now = Tells {A = Unit {0}} hears cuts (Err e) before (start_notices file V) now
 
 -- The walks from all starts: the survey is marked, and what there is to report of it was heard; or after an error a beginning was.

@@ -8,7 +8,7 @@ use std::alloc::Allocator;
 
 // How many pages are on the freelist, the greatest root page, and the least page in use that is no root.
 #[derive(Clone, Copy)]
-pub(crate) struct Counts {
+pub(crate) struct EndCounts {
     pub(crate) free_pages: u32,
     pub(crate) greatest_root: u32,
     pub(crate) least_other: Option<u32>,
@@ -51,7 +51,7 @@ fn first_other(least: Option<u32>, page: u32, mark: Mark) -> Option<u32>
 }
 
 // Counts the marks, in one pass.
-pub(crate) fn count_marks<A: Allocator>(marks: &Marks<A>) -> Counts
+pub(crate) fn count_marks<A: Allocator>(marks: &Marks<A>) -> EndCounts
     ensures free { result.free_pages ≡ count_by is_free_mark marks.now }
     ensures greatest { result.greatest_root ≡ greatest_root_marked marks.now }
     ensures least { result.least_other ≡ least_other_marked marks.now }
@@ -66,7 +66,7 @@ pub(crate) fn count_marks<A: Allocator>(marks: &Marks<A>) -> Counts
         greatest_root = greater_root(greatest_root, index + 1, mark);
         least_other = first_other(least_other, index + 1, mark);
     }
-    Counts {
+    EndCounts {
         free_pages,
         greatest_root,
         least_other,

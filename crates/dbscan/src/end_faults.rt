@@ -3,7 +3,7 @@ ghost use Rattle.std.specs.Prelude.{◌≡◌, flat_map, option_to_list, option_
 ghost use Rattle.dbmarks.specs.EndMarks.{entry_value, late_fault, mark_fault};
 ghost use Rattle.dbscan.specs.EndPass.{counted_faults};
 
-use crate::counts::Counts;
+use crate::counts::EndCounts;
 use dbformat::{Fault, FaultCode};
 use dbmarks::MapEntry;
 use dbsource::Header;
@@ -45,7 +45,11 @@ pub(crate) fn late_fault(
 
 // The faults of the whole file, by its header and the counts of its pages.
 #[tactic(auto, using(std::proofs::Common::append_assoc))]
-pub(crate) fn counted_faults(header: &Header, any_rows: bool, counts: Counts) -> [Option<Fault>; 3]
+pub(crate) fn counted_faults(
+    header: &Header,
+    any_rows: bool,
+    counts: EndCounts,
+) -> [Option<Fault>; 3]
     ensures { flat_map option_to_list result ≡ counted_faults header.now.bytes any_rows counts.greatest_root counts.free_pages }
 {
     let format = header.schema_format();

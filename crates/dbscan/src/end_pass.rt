@@ -13,7 +13,7 @@ ghost use Rattle.dbmarks.specs.Marking.{AreMarksOf, page_mark};
 ghost use Rattle.dbwalk.specs.Telling.{Tells, IsReadOrWrite, SinkAfter};
 ghost use Rattle.dbmarks.specs.declared.marks.Mark as marking;
 ghost use Rattle.dbscan.specs.Desks.{shape_of};
-ghost use Rattle.dbscan.specs.EndPass.{is_fixed_mark, page_items, pages_items};
+ghost use Rattle.dbscan.specs.EndPass.{is_fixed_mark, page_notices, pages_items};
 ghost use Rattle.dbscan.specs.MapReads.{HasMapFor, IsMapInUse, IsMapTurn, MapReads};
 ghost use Rattle.dbscan.specs.Notices.{end_notices};
 
@@ -70,7 +70,7 @@ fn end_page<S: Source, K: Reporter, A: Allocator, B: Allocator>(
     ensures asks { Asks S.step (IsMapTurn bench.old.geometry page)
         (λ file. (mark : marking.Mark) → page_mark marks.now page ≡ Some mark → bench.old.geometry ≡ geometry file → refusal file ≡ None
         → is_fixed_mark mark ≡ is_fixed (geometry file) page → HasMapFor file (geometry file) page bench.old.chain
-        → Tells K.hears K.cuts result sink.old (page_items file least_other page mark) sink.new
+        → Tells K.hears K.cuts result sink.old (page_notices file least_other page mark) sink.new
         × OnOk result (HasMapFor file (geometry file) (page + 1) bench.new.chain))
         is_read_failed result (S.held source.old) (S.held source.new) }
     ensures writes { SinkAfter is_write_failed result (K.held sink.old) (K.held sink.new) }

@@ -23,7 +23,7 @@ struct Span {
 
 // A row of the schema that has a root page.
 #[derive(Clone, Copy)]
-struct Entry {
+struct RootRow {
     page: u32,
     kind: RowKind,
     name: Option<Span>,
@@ -33,7 +33,7 @@ struct Entry {
 /// name is kept as none.
 #[derive(Drop)]
 pub struct RootList<A: Allocator = Global> {
-    entries: Vec<Entry, A>,
+    entries: Vec<RootRow, A>,
     names: Vec<u8, A>,
     refusals: Failures,
 }
@@ -121,7 +121,7 @@ impl<A: Allocator> RootList<A> {
     {
         let old_len = self.names.len();
         let name = keep_name(&mut self.names, row.name)?;
-        let entry = Entry {
+        let entry = RootRow {
             page: row.root,
             kind: row.kind,
             name,

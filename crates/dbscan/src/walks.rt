@@ -18,8 +18,8 @@ ghost use Rattle.dbwalk.specs.Taking.{StartsEmpty};
 ghost use Rattle.dbwalk.specs.declared.root.RootKind.TheVariants as root_kind;
 ghost use Rattle.dbscan.specs.Desks.{AsksOver, IsFresh};
 ghost use Rattle.dbscan.specs.Kept.{KeepsHeader, KeepsRoots};
-ghost use Rattle.dbscan.specs.Starts.{at_freelist, at_row, kind_by, root_of, schema_root};
-ghost use Rattle.dbscan.specs.Walks.{AreTold, AreWalked, IsSchemaWalked, IsTelling, IsTreeWalked, IsWalkedOver, StopsTelling};
+ghost use Rattle.dbscan.specs.Starts.{at_freelist, at_row, kind_by, root_of, root_of_schema};
+ghost use Rattle.dbscan.specs.Walks.{AreTold, AreWalked, IsSchemaWalked, IsBetweenStarts, IsTreeWalked, IsWalkedOver, StopsTelling};
 
 use crate::Desk;
 use crate::no_rows::NoRows;
@@ -35,7 +35,7 @@ use std::alloc::Allocator;
 
 // The root of the schema.
 fn schema_root(encoding: Encoding) -> Root
-    ensures { result ≡ schema_root encoding }
+    ensures { result ≡ root_of_schema encoding }
 {
     Root {
         start: 0,
@@ -156,7 +156,7 @@ fn walk_roots<A: Allocator, S: Source, K: Reporter>(
     sink: &mut K,
 ) -> Result<(), RunError>
     ensures asks { AsksOver S.step desk.old desk.new (λ file. (V : List Reference) → Survey file V → (before : K)
-        → IsTelling K.hears K.cuts file V before (enumerate_from 1 desk.old.roots.rows) desk.old.marks sink.old
+        → IsBetweenStarts K.hears K.cuts file V before (enumerate_from 1 desk.old.roots.rows) desk.old.marks sink.old
         → StopsTelling K.hears K.cuts file V before [] result desk.new.marks sink.new)
         result (S.held source.old) (S.held source.new) }
     ensures keeps { KeepsRoots result desk.old desk.new (K.held sink.old) (K.held sink.new) }
@@ -185,7 +185,7 @@ fn walk_trunks<A: Allocator, S: Source, K: Reporter>(
     requires start { teller.old.start.now ≡ at_freelist }
     ensures same_sink { teller.new.sink.ghost_name ≡ teller.old.sink.ghost_name }
     ensures asks { AsksOver S.step desk.old desk.new (λ file. (V : List Reference) → Survey file V → (before : K)
-        → IsTelling K.hears K.cuts file V before [] desk.old.marks teller.old.sink.now
+        → IsBetweenStarts K.hears K.cuts file V before [] desk.old.marks teller.old.sink.now
         → AreTold K.hears K.cuts file V result desk.new.marks before teller.new.sink.now)
         result (S.held source.old) (S.held source.new) }
     ensures keeps { KeepsRoots result desk.old desk.new (K.held teller.old.sink.now) (K.held teller.new.sink.now) }
@@ -204,7 +204,7 @@ fn walk_later<A: Allocator, S: Source, K: Reporter>(
     sink: &mut K,
 ) -> Result<(), RunError>
     ensures asks { AsksOver S.step desk.old desk.new (λ file. (V : List Reference) → Survey file V → (before : K)
-        → IsTelling K.hears K.cuts file V before (enumerate_from 1 desk.old.roots.rows) desk.old.marks sink.old
+        → IsBetweenStarts K.hears K.cuts file V before (enumerate_from 1 desk.old.roots.rows) desk.old.marks sink.old
         → AreTold K.hears K.cuts file V result desk.new.marks before sink.new)
         result (S.held source.old) (S.held source.new) }
     ensures keeps { KeepsRoots result desk.old desk.new (K.held sink.old) (K.held sink.new) }

@@ -2,7 +2,7 @@
 use Rattle.std.proofs.Common.{◌≡◌, ℕ, zero, suc, Bool, true, false, cond, inl, inr, List, [], ◌∷◌, ◌++◌, refl, sym, subst}
 use Rattle.dbsurvey.specs.Address.{IsIn, Address}
 use Rattle.dbsurvey.specs.Survey.{Triple, Rules}
-use Rattle.dbsurvey.specs.Story.{Told, Story, Item, Follow, Place, Errand, Go, Tell, errand_key, errands_at, errands_of, told_own, told_refused, tell_one, tell_each, tell_below, telling_of, visited}
+use Rattle.dbsurvey.specs.Story.{Told, Story, PageStep, Follow, Place, Errand, Go, Tell, errand_key, errands_at, errands_of, told_own, told_refused, tell_one, tell_each, tell_below, telling_of, visited}
 use Rattle.dbsurvey.specs.Traverse.{is_followed}
 use Rattle.dbsurvey.proofs.Order.{IsIn-cases}
 
@@ -11,7 +11,7 @@ module _ {R E : Type 0} (rules : Rules R) (story : Story R E) (pages : ℕ) (P :
   abbrev pub AreWithin : List (Errand R E) → Type 0
   AreWithin es = (e : Errand R E) → IsIn e es → P (errand_key e)
 
-  at_items : (a : Address) → P a → (items : List (Item R E)) → AreWithin (errands_at a items)
+  at_items : (a : Address) → P a → (items : List (PageStep R E)) → AreWithin (errands_at a items)
   at_items a p [] e i = absurd i
   at_items a p (Follow r ∷ is) e (inl f) = subst (λ e. P (errand_key e)) (sym f) (more a r.step p)
   at_items a p (Follow r ∷ is) e (inr i) = at_items a p is e i

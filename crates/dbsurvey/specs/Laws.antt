@@ -1,8 +1,8 @@
 -- The theorems on surveys: statements of the contracts.
 use Rattle.std.specs.Prelude.{◌≡◌, ℕ, ◌≤◌, ◌↔◌, Bool, true, false, int_lt, Option, None, filter_map, List, [], ◌∷◌, ◌++◌}
 use Rattle.dbsurvey.specs.Address.{Address, IsIn, IsBefore, IsAscending}
-use Rattle.dbsurvey.specs.Greatest.{Entry, IsLine, IsOut, greater, greatest_from, is_out}
-use Rattle.dbsurvey.specs.Story.{Told, Item, links_in, AreRising, Story, IsStoryOf, Errand, Go, Tell, errands_at, errands_of, goes, AreErrandsApart, told_own, told_refused, IsTold, IsTelling, tell_below, telling_of}
+use Rattle.dbsurvey.specs.Greatest.{OrderedKey, IsLine, IsOut, greater, greatest_from, is_out}
+use Rattle.dbsurvey.specs.Story.{Told, PageStep, links_in, AreRising, Story, IsStoryOf, Errand, Go, Tell, errands_at, errands_of, goes, AreErrandsApart, told_own, told_refused, IsTold, IsTelling, tell_below, telling_of}
 use Rattle.dbsurvey.specs.Survey.{Rules, AreRules, IsRising, IsSurvey, Triple, Link, IsPart, IsOwned, IsNamed, children, named_at}
 use Rattle.dbsurvey.specs.From.{IsSurveyFrom, under, first_part, survey_from}
 use Rattle.dbsurvey.specs.InOrder.{ShowsVisits, AreQuiet, IsPast, earlier, is_visited, telling_by, visits_in, read_back, read_below}
@@ -84,7 +84,7 @@ pub record Wholes (R : Type 0) : Type 0 where
 -- The traversal reports exactly what is to be reported of a survey, in strictly ascending order of keys. No other list
 -- does. What it reports before an event is what has a smaller key.
 pub record Telling (R E : Type 0) : Type 0 where
-  pub exact : (rules : Rules R) (story : Story R E) (pages : ℕ) (items : List (Item R E)) (V : List (Triple R))
+  pub exact : (rules : Rules R) (story : Story R E) (pages : ℕ) (items : List (PageStep R E)) (V : List (Triple R))
       → AreRules rules pages → IsStoryOf rules story → AreRising items → IsSurvey rules (links_in items) V
       → IsTelling rules story (errands_at [] items) V (telling_of rules story pages [] (errands_at [] items))
   pub only : (rules : Rules R) (story : Story R E) (errands : List (Errand R E)) (V : List (Triple R)) (L M : List (Told E))
@@ -120,10 +120,10 @@ pub record TellingSteps (R E : Type 0) : Type 0 where
 pub record TellingInOrder (R E : Type 0) : Type 0 where
   pub visited : (rules : Rules R) (starts : List (Link R)) (V : List (Triple R)) (t : Triple R)
       → IsSurvey rules starts V → IsNamed rules (named_at [] starts) V t → IsIn t V ↔ (is_visited rules V t ≡ true)
-  pub exact : (rules : Rules R) (story : Story R E) (pages : ℕ) (items : List (Item R E)) (V : List (Triple R))
+  pub exact : (rules : Rules R) (story : Story R E) (pages : ℕ) (items : List (PageStep R E)) (V : List (Triple R))
       → AreRules rules pages → IsStoryOf rules story → AreRising items → IsSurvey rules (links_in items) V
       → IsTelling rules story (errands_at [] items) V (telling_by rules story (errands_at [] items) V)
-  pub found : (rules : Rules R) (story : Story R E) (pages : ℕ) (items : List (Item R E)) (V : List (Triple R))
+  pub found : (rules : Rules R) (story : Story R E) (pages : ℕ) (items : List (PageStep R E)) (V : List (Triple R))
       → AreRules rules pages → IsStoryOf rules story → AreRising items → IsSurvey rules (links_in items) V
       → telling_by rules story (errands_at [] items) V ≡ telling_of rules story pages [] (errands_at [] items)
   pub visits : (rules : Rules R) (story : Story R E) (visit : E → Option (Triple R)) (errands : List (Errand R E)) (V : List (Triple R)) (L : List (Told E))
@@ -198,8 +198,8 @@ pub record Runs (R E S X Y : Type 0) : Type 0 where
 
 -- The greatest key so far alone tells whether an entry is out of order, that is, whether it is so after an earlier one.
 pub record RunningGreatest (K : Type 0) : Type 0 where
-  pub exact : (less : K → K → Bool) (before : List (Entry K)) (e : Entry K) → IsLine less
+  pub exact : (less : K → K → Bool) (before : List (OrderedKey K)) (e : OrderedKey K) → IsLine less
       → (is_out less (greatest_from less None before) e ≡ true) ↔ IsOut less before e
-  pub step : (less : K → K → Bool) (before : List (Entry K)) (e : Entry K) → IsLine less
+  pub step : (less : K → K → Bool) (before : List (OrderedKey K)) (e : OrderedKey K) → IsLine less
       → greatest_from less None (before ++ (e ∷ [])) ≡ greater less (greatest_from less None before) e.key
   pub integers : IsLine int_lt

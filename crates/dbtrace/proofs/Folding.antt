@@ -37,7 +37,7 @@ use Rattle.dbtrace.specs.Finding.{Finding, told_row, told_by, told_at, visited_b
 use Rattle.dbtrace.specs.declared.Cause.{Cause}
 use Rattle.dbtrace.specs.declared.Cause.TheVariants as cause
 use Rattle.dbtrace.specs.Fold.{IsFold}
-use Rattle.dbtrace.specs.Item.{found, given, finding_in, row_in, findings, given_rows, readable, faults_at, rows_at_event, items_at}
+use Rattle.dbtrace.specs.Item.{found, given, finding_in, given_row, findings_in, given_rows, readable, faults_at, rows_at_event, items_at}
 use Rattle.dbtrace.specs.Progress.{Progress, cause_by, rows_of, late_faults, depth_faults}
 use Rattle.dbtrace.specs.Starts.{IsOfEarlierStart, AreOfEarlierStarts}
 use Rattle.dbtrace.specs.Walk.{Walk, machine, begin, advance, run_below}
@@ -63,26 +63,26 @@ row_of_visits file U r v x = refl
 
 -- items, by what they are for
 
-found_only : (fs : List Finding) → (findings (map found fs) ≡ fs) × (given_rows (map found fs) ≡ [])
+found_only : (fs : List Finding) → (findings_in (map found fs) ≡ fs) × (given_rows (map found fs) ≡ [])
 found_only [] = (refl, refl)
 found_only (f ∷ fs) = let h = found_only fs in (ap (λ l. f ∷ l) h.0, h.1)
 
-given_only : (rows : List SchemaRow) → (given_rows (map given rows) ≡ rows) × (findings (map given rows) ≡ [])
+given_only : (rows : List SchemaRow) → (given_rows (map given rows) ≡ rows) × (findings_in (map given rows) ≡ [])
 given_only [] = (refl, refl)
 given_only (r ∷ rows) = let h = given_only rows in (ap (λ l. r ∷ l) h.0, h.1)
 
 module _ (file : List ℕ) where
-  pub findings_at : (U : List Reference) (p : Progress) (e : Event) → findings (items_at file U p e) ≡ map told_row (option_to_list (event_row file e)) ++ told_by (cause_by file U p e) (faults_at file U p e)
+  pub findings_at : (U : List Reference) (p : Progress) (e : Event) → findings_in (items_at file U p e) ≡ map told_row (option_to_list (event_row file e)) ++ told_by (cause_by file U p e) (faults_at file U p e)
   findings_at U p e =
       let rows = readable (rows_at_event file U e) in
       let fs = map told_row (option_to_list (event_row file e)) ++ told_by (cause_by file U p e) (faults_at file U p e) in
-      filter_map-append finding_in (map given rows) (map found fs) ∙ ap (λ l. l ++ findings (map found fs)) (given_only rows).1 ∙ (found_only fs).0
+      filter_map-append finding_in (map given rows) (map found fs) ∙ ap (λ l. l ++ findings_in (map found fs)) (given_only rows).1 ∙ (found_only fs).0
 
   pub rows_at_item : (U : List Reference) (p : Progress) (e : Event) → given_rows (items_at file U p e) ≡ readable (rows_at_event file U e)
   rows_at_item U p e =
       let rows = readable (rows_at_event file U e) in
       let fs = map told_row (option_to_list (event_row file e)) ++ told_by (cause_by file U p e) (faults_at file U p e) in
-      filter_map-append row_in (map given rows) (map found fs) ∙ ap (λ l. given_rows (map given rows) ++ l) (found_only fs).1 ∙ append-nil (given_rows (map given rows)) ∙ (given_only rows).0
+      filter_map-append given_row (map given rows) (map found fs) ∙ ap (λ l. given_rows (map given rows) ++ l) (found_only fs).1 ∙ append-nil (given_rows (map given rows)) ∙ (given_only rows).0
 
   -- the rows that were given
   pub given_are : (now : Walk) (A : List (Told Event)) → given_rows (run (machine file) now A).items ≡ given_rows now.items ++ readable (rows_told file now.visits A)
@@ -91,7 +91,7 @@ module _ (file : List ℕ) where
       let U = up_to (machine file) now t.event in
       let R = rows_at_event file U t.event in
       given_are (advance file now t.event) A
-      ∙ ap (λ l. l ++ readable (rows_told file U A)) (filter_map-append row_in now.items (items_at file U now.state t.event) ∙ ap (λ l. given_rows now.items ++ l) (rows_at_item U now.state t.event))
+      ∙ ap (λ l. l ++ readable (rows_told file U A)) (filter_map-append given_row now.items (items_at file U now.state t.event) ∙ ap (λ l. given_rows now.items ++ l) (rows_at_item U now.state t.event))
       ∙ append_assoc (given_rows now.items) (readable R) (readable (rows_told file U A))
       ∙ ap (λ l. given_rows now.items ++ l) (sym (filter_map-append (λ c. result_ok c.row) R (rows_told file U A)))
 
@@ -265,7 +265,7 @@ module _ (file : List ℕ) (k : ℕ) (W : List Reference) (c : Reference) (at : 
         (sym (append-nil (after A).visits ∙ visits_so_far))
         (cell_told r v x f h.0 h.3)
 
-    told : findings (items_at file (at_event t.event) (after A).state t.event) ≡ told_at file (at_event t.event) t.event
+    told : findings_in (items_at file (at_event t.event) (after A).state t.event) ≡ told_at file (at_event t.event) t.event
     told = findings_at file (at_event t.event) (after A).state t.event
         ∙ ap (λ fs. map told_row (option_to_list (event_row file t.event)) ++ fs) (faults t.event refl here)
 

@@ -25,7 +25,7 @@ use Rattle.dbformat.specs.Story.{Event, at_page, at_key, at_refused, own_visit}
 use Rattle.dbformat.specs.declared.FaultCode.TheVariants.{T06}
 use Rattle.dbformat.proofs.Places.{key_place}
 use Rattle.dbtrace.specs.Causes.{cell_key, top_key}
-use Rattle.dbtrace.specs.Progress.{key_entry, greatest_after, value_of, late_faults}
+use Rattle.dbtrace.specs.Progress.{key_entry, greatest_after, key_value, late_faults}
 use Rattle.dbtrace.specs.declared.CellKey.{CellKey}
 use Rattle.dbtrace.specs.Starts.{IsOfEarlierStart, AreOfEarlierStarts}
 use Rattle.dbtrace.specs.Walk.{Walk, machine, advance}
@@ -147,13 +147,13 @@ module _ (file : List ℕ) (k : ℕ) (W : List Reference) (c : Reference) (at : 
     top = greatest_after None (keys_told A)
 
     -- by the greatest key so far
-    late : list_any (is_out_of_order key) (earlier_keys file U key) ≡ is_out int_lt (value_of top) (key_entry key)
-    late = same_tests (list_any (is_out_of_order key) (earlier_keys file U key)) (is_out int_lt (value_of top) (key_entry key)) (λ e. by_value.1 (exact.1 (there e))) (λ e. back (exact.0 (by_value.0 e)))
+    late : list_any (is_out_of_order key) (earlier_keys file U key) ≡ is_out int_lt (key_value top) (key_entry key)
+    late = same_tests (list_any (is_out_of_order key) (earlier_keys file U key)) (is_out int_lt (key_value top) (key_entry key)) (λ e. by_value.1 (exact.1 (there e))) (λ e. back (exact.0 (by_value.0 e)))
       where
         out : Option ℤ → Type 0
         out v = is_out int_lt v (key_entry key) ≡ true
 
-        by_value : out (value_of top) ↔ out (greatest_from int_lt None (map key_entry (keys_told A)))
+        by_value : out (key_value top) ↔ out (greatest_from int_lt None (map key_entry (keys_told A)))
         by_value = (subst out (values None (keys_told A)), subst out (sym (values None (keys_told A))))
 
         exact : out (greatest_from int_lt None (map key_entry (keys_told A))) ↔ IsOut int_lt (map key_entry (keys_told A)) (key_entry key)

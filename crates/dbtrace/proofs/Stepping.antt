@@ -16,7 +16,7 @@ use Rattle.dbformat.specs.Story.{Event, at_page, at_key, at_refused, story_of}
 use Rattle.dbformat.specs.Survey.{rules_of}
 use Rattle.dbformat.specs.declared.RowFault.{RowFault}
 use Rattle.dbformat.proofs.Theory.{are_rules, is_story, shows_visits}
-use Rattle.dbtrace.specs.Item.{Item, row_in, given_rows, readable, rows_at_event, items_at}
+use Rattle.dbtrace.specs.Item.{Item, given_row, given_rows, readable, rows_at_event, items_at}
 use Rattle.dbtrace.specs.Progress.{Progress}
 use Rattle.dbtrace.specs.Steps.{HasSteps, has_root, roots_in}
 use Rattle.dbtrace.specs.Walk.{Walk, machine, bare, advance, run_below}
@@ -49,7 +49,7 @@ roots_at file now e =
 
 -- roots of two lists of items
 pub more_roots : (L M : List Item) → roots_in (L ++ M) ≡ roots_in L + roots_in M
-more_roots L M = ap (λ rows. length (filter has_root rows)) (filter_map-append row_in L M) ∙ ap length (filter-append has_root (given_rows L) (given_rows M))
+more_roots L M = ap (λ rows. length (filter has_root rows)) (filter_map-append given_row L M) ∙ ap length (filter-append has_root (given_rows L) (given_rows M))
     ∙ length-append (filter has_root (given_rows L)) (filter has_root (given_rows M))
 
 along : (file : List ℕ) (now : Walk) (L : List (Told Event)) → (run (machine file) now L).state.roots + roots_in now.items ≡ now.state.roots + roots_in (run (machine file) now L).items

@@ -4,7 +4,7 @@ use Rattle.std.specs.Prelude.{flat_map}
 use Rattle.dbsurvey.specs.Address.{IsIn, Address, IsBefore, IsAscending}
 use Rattle.dbsurvey.specs.Survey.{IsPart}
 use Rattle.dbsurvey.specs.Traverse.{part_of}
-use Rattle.dbsurvey.specs.Story.{Told, Item, Follow, Place, Errand, Go, Tell, told_own, IsTold, of_errand, of_page, of_place, of_refused, IsTelling, telling_of}
+use Rattle.dbsurvey.specs.Story.{Told, PageStep, Follow, Place, Errand, Go, Tell, told_own, IsTold, of_errand, of_page, of_place, of_refused, IsTelling, telling_of}
 use Rattle.dbsurvey.specs.InOrder.{visits_in}
 use Rattle.dbsurvey.proofs.Order.{IsIn-cases, IsIn-right, EachPair-right, IsBefore-trans, IsBefore-beginning}
 use Rattle.dbsurvey.proofs.Ordering.{IsIn-from_flat_map}
@@ -28,7 +28,7 @@ use Rattle.dbformat.proofs.NoFaults.{placed, cell_in_items}
 
 module _ (file : List ℕ) where
   -- an item of a page that is reported at a step: a readable cell, at the step of its key
-  abbrev IsOfPage : Reference → Item Way Event → Type 0
+  abbrev IsOfPage : Reference → PageStep Way Event → Type 0
   IsOfPage u (Follow l) = Unit {0}
   IsOfPage u (Place step (at_page r)) = ⊥
   IsOfPage u (Place step (at_key r v x)) = (r ≡ u) × (tree_view file u ≡ Some v) × IsIn x (cells v) × (step ≡ key_step x.0)

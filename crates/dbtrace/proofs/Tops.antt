@@ -14,18 +14,18 @@ use Rattle.dbsurvey.proofs.Ordering.{is_before-means, is_before-not, is_before-i
 use Rattle.dbsurvey.proofs.Running.{int_line}
 use Rattle.dbformat.specs.KeyFaults.{Key}
 use Rattle.dbtrace.specs.Causes.{cell_key, is_above, top_key}
-use Rattle.dbtrace.specs.Progress.{key_entry, greater_key, greatest_after, value_of}
+use Rattle.dbtrace.specs.Progress.{key_entry, greater_key, greatest_after, key_value}
 use Rattle.dbtrace.specs.declared.CellKey.{CellKey}
 
 -- its value is the greatest of the values
-pub values : (top : Option CellKey) (keys : List Key) → value_of (greatest_after top keys) ≡ greatest_from int_lt (value_of top) (map key_entry keys)
+pub values : (top : Option CellKey) (keys : List Key) → key_value (greatest_after top keys) ≡ greatest_from int_lt (key_value top) (map key_entry keys)
 values top [] = refl
 values None (k ∷ keys) = values (Some (cell_key k)) keys
 values (Some top) (k ∷ keys) = by_test (int_lt top.value k.value) (values (Some (cell_key k)) keys) (values (Some top) keys)
   where
-    by_test : (b : Bool) → value_of (greatest_after (Some (cell_key k)) keys) ≡ greatest_from int_lt (Some k.value) (map key_entry keys)
-        → value_of (greatest_after (Some top) keys) ≡ greatest_from int_lt (Some top.value) (map key_entry keys)
-        → value_of (greatest_after (cond b (Some (cell_key k)) (Some top)) keys) ≡ greatest_from int_lt (cond b (Some k.value) (Some top.value)) (map key_entry keys)
+    by_test : (b : Bool) → key_value (greatest_after (Some (cell_key k)) keys) ≡ greatest_from int_lt (Some k.value) (map key_entry keys)
+        → key_value (greatest_after (Some top) keys) ≡ greatest_from int_lt (Some top.value) (map key_entry keys)
+        → key_value (greatest_after (cond b (Some (cell_key k)) (Some top)) keys) ≡ greatest_from int_lt (cond b (Some k.value) (Some top.value)) (map key_entry keys)
     by_test true g h = g
     by_test false g h = h
 

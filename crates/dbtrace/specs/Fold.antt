@@ -5,7 +5,7 @@ use Rattle.dbformat.specs.Address.{schema_start}
 use Rattle.dbformat.specs.Reference.{Reference}
 use Rattle.dbformat.specs.Schema.{schema}
 use Rattle.dbtrace.specs.Finding.{told_below, visited_below}
-use Rattle.dbtrace.specs.Item.{findings, given_rows, readable}
+use Rattle.dbtrace.specs.Item.{findings_in, given_rows, readable}
 use Rattle.dbtrace.specs.Starts.{AreOfEarlierStarts}
 use Rattle.dbtrace.specs.Walk.{begin, run_below}
 
@@ -13,7 +13,7 @@ use Rattle.dbtrace.specs.Walk.{begin, run_below}
 -- the places of keys, and it gives the rows of the schema that can be read, where the start is the schema's.
 pub record IsFold (file : List ℕ) : Type 0 where
   pub findings_are : (k : ℕ) (W : List Reference) (c : Reference) → c.address ≡ k ∷ [] → AreOfEarlierStarts k W
-      → findings (run_below file (begin W) (Go c ∷ [])).items ≡ told_below file W (Go c ∷ [])
+      → findings_in (run_below file (begin W) (Go c ∷ [])).items ≡ told_below file W (Go c ∷ [])
   pub rows_are : (k : ℕ) (W : List Reference) (c : Reference) → c.address ≡ k ∷ [] → AreOfEarlierStarts k W
       → given_rows (run_below file (begin W) (Go c ∷ [])).items
       ≡ (if k == schema_start then readable (schema file (W ++ visited_below file W (Go c ∷ []))) else [])

@@ -23,16 +23,16 @@ abbrev pub finding_in : Item → Option Finding
 finding_in (found f) = Some f
 finding_in (given row) = None
 
-abbrev pub row_in : Item → Option SchemaRow
-row_in (found f) = None
-row_in (given row) = Some row
+abbrev pub given_row : Item → Option SchemaRow
+given_row (found f) = None
+given_row (given row) = Some row
 
 -- those for the report, and those for the taker
-abbrev pub findings : List Item → List Finding
-findings items = filter_map finding_in items
+abbrev pub findings_in : List Item → List Finding
+findings_in items = filter_map finding_in items
 
 abbrev pub given_rows : List Item → List SchemaRow
-given_rows items = filter_map row_in items
+given_rows items = filter_map given_row items
 
 -- the rows that can be read
 abbrev pub readable : List SchemaCell → List SchemaRow

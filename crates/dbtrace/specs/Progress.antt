@@ -1,7 +1,7 @@
 -- What a walk over one tree keeps of the events so far, beside the visits: a fold over them.
 use Rattle.std.specs.Prelude.{ℕ, ◌+◌, not, ◌&&◌, List, [], ◌∷◌, length, Option, Some, None, option_map, ℤ, int_lt, pos, ◌==◌, if◌then◌else◌}
 use Rattle.std.specs.Option.{option_map_or}
-use Rattle.dbsurvey.specs.Greatest.{Entry, is_out}
+use Rattle.dbsurvey.specs.Greatest.{OrderedKey, is_out}
 use Rattle.dbformat.specs.Tests.{told_if}
 use Rattle.dbformat.specs.Faults.{fault}
 use Rattle.dbformat.specs.Address.{start_of, depth, schema_start}
@@ -28,11 +28,11 @@ pub record Progress : Type 0 where
   pub roots : ℕ
 
 -- before the first event of a tree
-abbrev pub at_start : Progress
-at_start = record { greatest = None; leaf = None; roots = 0 }
+abbrev pub no_progress : Progress
+no_progress = record { greatest = None; leaf = None; roots = 0 }
 
 -- a rowid has to be greater than every earlier key, and the key of an interior page not smaller than one
-abbrev pub key_entry : Key → Entry ℤ
+abbrev pub key_entry : Key → OrderedKey ℤ
 key_entry key = record { key = key.value; strict = key.is_rowid }
 
 -- the greatest key so far, or a further one that is greater
@@ -46,12 +46,12 @@ greatest_after top [] = top
 greatest_after top (key ∷ keys) = greatest_after (greater_key top (cell_key key)) keys
 
 -- the value of the greatest key, if there is one
-abbrev pub value_of : Option CellKey → Option ℤ
-value_of top = option_map (λ k. k.value) top
+abbrev pub key_value : Option CellKey → Option ℤ
+key_value top = option_map (λ k. k.value) top
 
 -- a key out of order, by the greatest so far
 abbrev pub late_faults : Option CellKey → Key → List Fault
-late_faults top key = told_if (is_out int_lt (value_of top) (key_entry key)) (fault T06 key.page key.item key.value)
+late_faults top key = told_if (is_out int_lt (key_value top) (key_entry key)) (fault T06 key.page key.item key.value)
 
 -- the first leaf after a visit
 abbrev pub leaf_after : List ℕ → Option TreeLeaf → Reference → Option TreeLeaf

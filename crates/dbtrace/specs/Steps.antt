@@ -8,7 +8,7 @@ use Rattle.dbformat.specs.SchemaRow.{SchemaRow}
 use Rattle.dbformat.specs.Story.{Event, at_page, at_refused, own_visit, story_of}
 use Rattle.dbformat.specs.Survey.{rules_of}
 use Rattle.dbtrace.specs.Finding.{told_below, visited_below}
-use Rattle.dbtrace.specs.Item.{Item, findings, given_rows}
+use Rattle.dbtrace.specs.Item.{Item, findings_in, given_rows}
 use Rattle.dbtrace.specs.Walk.{Walk, bare, advance, run_below}
 
 -- whether a row has a root page
@@ -42,7 +42,7 @@ pub record HasSteps (file : List ℕ) : Type 0 where
 -- it is, gives no row, and reports what the definitions give by the visits.
 pub record IsAside (file : List ℕ) (now : Walk) (c : Reference) : Type 0 where
   pub state : (run_below file now (Go c ∷ [])).state ≡ now.state
-  pub findings_are : findings (run_below file now (Go c ∷ [])).items ≡ findings now.items ++ told_below file now.visits (Go c ∷ [])
+  pub findings_are : findings_in (run_below file now (Go c ∷ [])).items ≡ findings_in now.items ++ told_below file now.visits (Go c ∷ [])
   pub rows : given_rows (run_below file now (Go c ∷ [])).items ≡ given_rows now.items
 
 -- so it is below each

@@ -8,7 +8,7 @@ use Rattle.dbformat.specs.Reference.{Way, Reference}
 use Rattle.dbformat.specs.Story.{Event, own_visit, story_of}
 use Rattle.dbformat.specs.Survey.{rules_of}
 use Rattle.dbtrace.specs.Item.{Item, items_at}
-use Rattle.dbtrace.specs.Progress.{Progress, step, at_start}
+use Rattle.dbtrace.specs.Progress.{Progress, step, no_progress}
 
 -- the machine of a file: it keeps its progress, and puts out items
 abbrev pub machine : List ℕ → Machine Way Event Progress Item
@@ -20,7 +20,7 @@ Walk = Run Way Progress Item
 
 -- at a start, after the visits of W
 abbrev pub begin : List Reference → Walk
-begin W = record { visits = W; state = at_start; items = [] }
+begin W = record { visits = W; state = no_progress; items = [] }
 
 -- the same walk, with no items yet
 abbrev pub bare : Walk → Walk

@@ -15,7 +15,7 @@ use Rattle.dbformat.specs.Payload.{most_payload, overflow_next}
 use Rattle.dbformat.specs.Story.{at_page}
 use Rattle.dbsource.specs.declared.error.RunError.{RunError}
 use Rattle.dbwalk.specs.declared.chain.Chain.{Chain}
-use Rattle.dbwalk.specs.declared.chain.Place.{Place}
+use Rattle.dbwalk.specs.declared.chain.ChainPlace.{ChainPlace}
 use Rattle.dbmarks.specs.declared.marks.Mark.{Mark}
 use Rattle.dbwalk.specs.Entered.{IsStepOf}
 use Rattle.dbwalk.specs.Done.{IsLeft, IsDone}
@@ -42,7 +42,7 @@ FeedsChain file W c old new = FeedsPages file old (visited_below file W (Go c �
 -- Overflow chains as a program walks them.
 
 -- A place to go on from: its mark is that of a use and names a page, and number and bytes left stay within the greatest payload.
-pub record IsPlace (place : Place) : Type 0 where
+pub record IsPlace (place : ChainPlace) : Type 0 where
   pub named : IsPageNumber (named_page place.step.mark)
   pub used : IsUse place.step.mark
   pub counted : place.number + place.left ≤ most_payload
@@ -80,7 +80,7 @@ pub record IsOverflowVisited {S : Type 0} (takes drops : S → Finding → S →
   pub fed : OnOk r ((c : Reference) → c.page ≡ page → bytes_left (role_of c) ≡ Some left → Feeds old (held_bytes file c) new)
 
 -- Along the chain below c: the reference at this place is left, and a sieve was fed the pages so far.
-pub record IsOnWay {S : Type 0} (takes : S → Finding → S → Type 0) (file : List ℕ) (W : List Reference) (c : Reference) (before : S) (chain : Chain) (place : Place) (marks : List Mark) (now : S) (old new : Option RowSieve) : Type 0 where
+pub record IsOnWay {S : Type 0} (takes : S → Finding → S → Type 0) (file : List ℕ) (W : List Reference) (c : Reference) (before : S) (chain : Chain) (place : ChainPlace) (marks : List Mark) (now : S) (old new : Option RowSieve) : Type 0 where
   pub pages : List Reference
   pub fed : FeedsPages file old pages new
   pub visited : List Reference
@@ -93,7 +93,7 @@ pub record IsOnWay {S : Type 0} (takes : S → Finding → S → Type 0) (file :
   pub rest : IsLeft takes file W (Go c ∷ []) before visited (Go d ∷ []) (marks, now)
 
 -- after a turn: at the next place, or at the end, or stopped by an error
-abbrev pub Turns : {S : Type 0} → (S → Finding → S → Type 0) → (S → Finding → S → Type 0) → List ℕ → List Reference → Reference → S → Chain → Result (Option Place) RunError → List Mark → S → Option RowSieve → Option RowSieve → Type 0
+abbrev pub Turns : {S : Type 0} → (S → Finding → S → Type 0) → (S → Finding → S → Type 0) → List ℕ → List Reference → Reference → S → Chain → Result (Option ChainPlace) RunError → List Mark → S → Option RowSieve → Option RowSieve → Type 0
 Turns takes drops file W c before chain (Ok (Some place)) marks now old new = IsOnWay takes file W c before chain place marks now old new
 Turns takes drops file W c before chain (Ok None) marks now old new = IsDone {A = Unit {0}} takes drops file W (Go c ∷ []) (Ok tt) marks before now × FeedsChain file W c old new
 Turns takes drops file W c before chain (Err e) marks now old new = IsDone {A = Unit {0}} takes drops file W (Go c ∷ []) (Err e) marks before now

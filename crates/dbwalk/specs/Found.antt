@@ -10,8 +10,8 @@ use Rattle.dbwalk.specs.Walking.{IsOpen}
 use Rattle.dbwalk.specs.declared.page.Damage.{Damage}
 use Rattle.dbwalk.specs.declared.page.Damage.TheVariants as damage
 use Rattle.dbwalk.specs.declared.state.KeySpan.{KeySpan}
-use Rattle.dbwalk.specs.declared.visit.PageFound.{PageFound}
-use Rattle.dbwalk.specs.declared.visit.PageFound.TheVariants.{Damaged, Interior, Leaf}
+use Rattle.dbwalk.specs.declared.page_report.PageFound.{PageFound}
+use Rattle.dbwalk.specs.declared.page_report.PageFound.TheVariants.{Damaged, Interior, Leaf}
 use Rattle.dbformat.specs.Counts.{no_counts, view_counts}
 use Rattle.dbformat.specs.Laws.{event_row}
 use Rattle.dbformat.specs.PageFaults.{inner_faults, page_faults}

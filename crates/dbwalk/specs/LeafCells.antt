@@ -4,7 +4,7 @@ use Rattle.std.specs.Prelude.{◌≡◌, ℕ, zero, suc, ◌+◌, ◌-◌, ◌<�
 use Rattle.std.specs.Option.{option_or, option_map_or}
 use Rattle.dbformat.specs.Head.{View, undamaged}
 use Rattle.dbformat.specs.Cell.{count, cell, overflow_size}
-use Rattle.dbpage.specs.Packed.{HasRisingKeys, IsAbove, IsAllLocal, key_at}
+use Rattle.dbpage.specs.Packed.{HasRisingKeys, IsAboveLast, IsAllLocal, key_at}
 use Rattle.dbformat.specs.declared.TreeKind.{TreeKind}
 use Rattle.dbwalk.specs.declared.state.KeySpan.{KeySpan}
 use Rattle.dbsurvey.specs.Address.{IsIn, Address, IsBefore}
@@ -18,7 +18,7 @@ use Rattle.dbformat.specs.Faults.{fault}
 use Rattle.dbformat.specs.Story.{Event}
 use Rattle.dbformat.specs.Tests.{told_if}
 use Rattle.dbtrace.specs.Finding.{Finding, told_fault}
-use Rattle.dbtrace.specs.Progress.{value_of, greater_key, depth_of}
+use Rattle.dbtrace.specs.Progress.{key_value, greater_key, depth_of}
 use Rattle.dbtrace.specs.declared.CellKey.{CellKey}
 use Rattle.dbtrace.specs.declared.TreeLeaf.{TreeLeaf}
 use Rattle.dbtrace.specs.declared.Cause.{Cause}
@@ -42,7 +42,7 @@ placed page item key = option_map (λ value. record { page = page; item = item; 
 -- greatest then.
 pub record ArePassed (page start : ℕ) (greatest : Option CellKey) (keys : KeySpan) (after : Option CellKey) : Type 0 where
   pub other : 1 ≤ start
-  pub above : IsAbove (value_of greatest) keys.first
+  pub above : IsAboveLast (key_value greatest) keys.first
   pub after_is : after ≡ option_or (placed page (keys.cells - 1) keys.last) greatest
 
 -- This many cells from one on are readable and have no overflow pages, and their keys rise from above the greatest before them.
@@ -50,7 +50,7 @@ pub record ArePassed (page start : ℕ) (greatest : Option CellKey) (keys : KeyS
 abbrev pub AreRisingFrom : ℕ → View → ℕ → ℕ → Option CellKey → Option CellKey → Type 0
 AreRisingFrom page v from zero greatest after = after ≡ greatest
 AreRisingFrom page v from (suc n) greatest after = (before : Option CellKey) × AreRisingFrom page v from n greatest before × IsAllLocal v (from + n)
-    × IsAbove (value_of before) (key_at v (from + n)) × (after ≡ option_or (placed page (from + n) (key_at v (from + n))) before)
+    × IsAboveLast (key_value before) (key_at v (from + n)) × (after ≡ option_or (placed page (from + n) (key_at v (from + n))) before)
 
 -- the same of the page at a level: its cells from `from` up to `end`
 pub record ArePassedAt (usable : ℕ) (kind : TreeKind) (levels : List (List ℕ)) (level page from end : ℕ) (greatest after : Option CellKey) : Type 0 where
@@ -95,7 +95,7 @@ leaf_cause leaf = option_map_or (λ l. cause.Leaf l.page) leaf cause.Itself
 
 -- the fault of a key, or of a rowid, after keys of which this is the greatest, with its cause
 abbrev pub order_told : Bool → Option CellKey → ℕ → ℕ → ℤ → List Finding
-order_told is_rowid top page item key = told_if (is_late is_rowid (value_of top) key) (told_fault (fault T06 page item key) (key_cause top))
+order_told is_rowid top page item key = told_if (is_late is_rowid (key_value top) key) (told_fault (fault T06 page item key) (key_cause top))
 
 -- that of the rowid of a cell, if it has one
 abbrev pub late_told : Option CellKey → ℕ → ℕ → Option ℤ → List Finding

@@ -20,7 +20,7 @@ use Rattle.dbmarks.specs.Marking.{AreMarksOf}
 use Rattle.dbwalk.specs.Taking.{HasRoom, StartsEmpty}
 use Rattle.dbwalk.specs.Underway.{IsAt, IsWalkingOn}
 use Rattle.dbwalk.specs.Walking.{IsCandidate, IsLeafAt}
-use Rattle.dbwalk.specs.declared.steps.Frame.{Frame}
+use Rattle.dbwalk.specs.declared.steps.StackFrame.{StackFrame}
 use Rattle.dbmarks.specs.declared.marks.Mark.{Mark}
 use Rattle.dbwalk.specs.declared.state.Tree.{Tree}
 use Rattle.dbwalk.specs.declared.taker.Taken.{Taken}
@@ -64,7 +64,7 @@ AtReference takes file page above item walk leaves = (from : Walk) (c : Referenc
     → IsNext from.visits c → IsAt file from walk.marks.now walk.tree → WithRoom takes from walk (leaves from c)
 
 -- at the next step of the last of some frames, where the sink and the taker were `before` at first
-abbrev pub AtStep : {A S K T : Type 0} → ((K × T) → Item → (K × T) → Type 0) → (T → SchemaRow → Taken → T → Type 0) → List ℕ → List (List ℕ) → List Frame → TreeWalk A S K T → (List Reference → Reference → (K × T) → Type 0) → Type 0
+abbrev pub AtStep : {A S K T : Type 0} → ((K × T) → Item → (K × T) → Type 0) → (T → SchemaRow → Taken → T → Type 0) → List ℕ → List (List ℕ) → List StackFrame → TreeWalk A S K T → (List Reference → Reference → (K × T) → Type 0) → Type 0
 AtStep {K = K} {T = T} moves takes file levels frames walk leaves = (W : List Reference) (c : Reference) (before : K × T) → IsCandidate walk.tree.kind walk.tree.start [] c.page 0 walk.tree.start c
     → IsWalkingOn moves file W c before (frames, levels) (walk.marks.now, walk.tree) (walk.sink.now, walk.taker.now)
     → (held : T → ℕ) → (walk.tree.start ≡ schema_start → StartsEmpty takes held before.1) → leaves W c before

@@ -113,8 +113,8 @@ Gives takes refuses (Err e) s rows t = StopsGiving takes refuses e s rows t
 -- What is reported of a row of the schema, and who takes it.
 
 -- the place of the row of a cell with this key
-abbrev pub place_of : ℕ → ℕ → Option ℤ → RowPlace
-place_of page item key = record { page = page; item = item; rowid = unwrap_or key (pos 0) }
+abbrev pub row_place : ℕ → ℕ → Option ℤ → RowPlace
+row_place page item key = record { page = page; item = item; rowid = unwrap_or key (pos 0) }
 
 -- the fault of a row that cannot be read, or whose root page is wrong
 abbrev pub fault_of : RowPlace → RowFault → Fault

@@ -17,7 +17,7 @@ use Rattle.dbwalk.specs.Watching.{Handed, StopsAt}
 use Rattle.dbmarks.specs.declared.marks.Mark.{Mark}
 use Rattle.dbwalk.specs.declared.state.Tree.{Tree}
 use Rattle.dbtrace.specs.Steps.{roots_in}
-use Rattle.dbwalk.specs.declared.steps.Frame.{Frame}
+use Rattle.dbwalk.specs.declared.steps.StackFrame.{StackFrame}
 
 -- marks and a tree's state are those of a walk up to this point
 abbrev pub IsAt : List ℕ → Walk → List Mark → Tree → Type 0
@@ -63,7 +63,7 @@ tree_walk file W c = run_below file (begin W) (Go c ∷ [])
 
 -- The walk over the tree of a start is under way, and only what the frames still have to do is left. Their pages are at their
 -- levels.
-pub record IsWalkingOn {P : Type 0} (moves : P → Item → P → Type 0) (file : List ℕ) (W : List Reference) (c : Reference) (before : P) (stack : List Frame × List (List ℕ)) (state : List Mark × Tree) (w : P) : Type 0 where
+pub record IsWalkingOn {P : Type 0} (moves : P → Item → P → Type 0) (file : List ℕ) (W : List Reference) (c : Reference) (before : P) (stack : List StackFrame × List (List ℕ)) (state : List Mark × Tree) (w : P) : Type 0 where
   pub now : Walk
   pub under : IsUnderway moves file (tree_walk file W c) before now (left_over file state.1.kind c stack.0) state w
   pub roots : now.state.roots ≡ roots_in now.items
@@ -72,5 +72,5 @@ pub record IsWalkingOn {P : Type 0} (moves : P → Item → P → Type 0) (file 
   pub read : AreRead file stack.1 0 stack.0
 
 -- What a turn of the loop leaves: the walk is still under way, or an error stopped it.
-abbrev pub HasTurned : {P : Type 0} → (P → Item → P → Type 0) → (RunError → P → Item → P → Type 0) → List ℕ → (List Reference × Reference × P) → Result (Unit {0}) RunError → (List Frame × List (List ℕ)) → (List Mark × Tree) → P → Type 0
+abbrev pub HasTurned : {P : Type 0} → (P → Item → P → Type 0) → (RunError → P → Item → P → Type 0) → List ℕ → (List Reference × Reference × P) → Result (Unit {0}) RunError → (List StackFrame × List (List ℕ)) → (List Mark × Tree) → P → Type 0
 HasTurned moves stops file of r stack state w = OnOk r (IsWalkingOn moves file of.0 of.1 of.2 stack state w) × IfErr r (λ e. StopsAt moves stops e of.2 (tree_walk file of.0 of.1).items w)

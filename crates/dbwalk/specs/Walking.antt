@@ -9,7 +9,7 @@ use Rattle.dbformat.specs.Reference.{Role, root, child, Reference, role_of, tree
 use Rattle.dbformat.specs.declared.TreeKind.{TreeKind}
 use Rattle.dbmarks.specs.declared.marks.Mark.{Mark}
 use Rattle.dbmarks.specs.Marking.{unmarked_pages}
-use Rattle.dbwalk.specs.declared.steps.Frame.{Frame}
+use Rattle.dbwalk.specs.declared.steps.StackFrame.{StackFrame}
 use Rattle.std.specs.Option.{option_map_or}
 use Rattle.dbsurvey.specs.Story.{step_of, Errand, errands_at}
 use Rattle.dbformat.specs.Story.{Event, story_of}
@@ -29,26 +29,26 @@ pub record IsCandidate (kind : TreeKind) (k : ℕ) (children : List ℕ) (p from
   pub chain : chain_place c.address ≡ None
 
 -- the numbers of the children on the way to the page after the last of some frames
-abbrev pub path_of : List Frame → List ℕ
+abbrev pub path_of : List StackFrame → List ℕ
 path_of frames = map (λ f. cell_of_step (f.next - 1)) frames
 
 -- the pages of the frames are at their levels
-abbrev pub AreRead : List ℕ → List (List ℕ) → ℕ → List Frame → Type 0
+abbrev pub AreRead : List ℕ → List (List ℕ) → ℕ → List StackFrame → Type 0
 AreRead file levels level [] = Unit {0}
 AreRead file levels level (f ∷ fs) = (slice_get levels level ≡ Some (page_bytes file f.page)) × AreRead file levels (level + 1) fs
 
 -- A page has at most 32768 cells, so a frame has at most 98306 steps. A bound on the turns that the frames still take:
-abbrev pub frames_cost : List Frame → ℕ
+abbrev pub frames_cost : List StackFrame → ℕ
 frames_cost [] = 0
 frames_cost (f ∷ fs) = (98310 - f.next) + frames_cost fs
 
 -- a bound on the turns that are left, on any source
-abbrev pub cost : List Mark → List Frame → ℕ
+abbrev pub cost : List Mark → List StackFrame → ℕ
 cost marks frames = unmarked_pages marks * 98312 + frames_cost frames
 
 -- On any source: the bytes at a frame's level are those of an undamaged interior page, and the frame is at one of its steps, or
 -- after them.
-pub record IsOpen (usable : ℕ) (kind : TreeKind) (levels : List (List ℕ)) (level : ℕ) (f : Frame) : Type 0 where
+pub record IsOpen (usable : ℕ) (kind : TreeKind) (levels : List (List ℕ)) (level : ℕ) (f : StackFrame) : Type 0 where
   pub low : IsPageNumber f.page
   pub bytes : List ℕ
   pub there : slice_get levels level ≡ Some bytes
@@ -58,7 +58,7 @@ pub record IsOpen (usable : ℕ) (kind : TreeKind) (levels : List (List ℕ)) (l
   pub within : f.next ≤ 3 * count view + 2
 
 -- the same of each frame
-abbrev pub AreOpen : ℕ → TreeKind → List (List ℕ) → ℕ → List Frame → Type 0
+abbrev pub AreOpen : ℕ → TreeKind → List (List ℕ) → ℕ → List StackFrame → Type 0
 AreOpen usable kind levels level [] = Unit {0}
 AreOpen usable kind levels level (f ∷ fs) = IsOpen usable kind levels level f × AreOpen usable kind levels (level + 1) fs
 
@@ -92,17 +92,17 @@ child_at file kind r s = record {
 
 -- Frames from the root's on, where r is the visit of the first. Each but the last is after the step of the child whose frame
 -- comes next. This is the visit of a frame that is put on them.
-abbrev pub top_visit : List ℕ → TreeKind → Reference → List Frame → Reference
+abbrev pub top_visit : List ℕ → TreeKind → Reference → List StackFrame → Reference
 top_visit file kind r [] = r
 top_visit file kind r (f ∷ fs) = top_visit file kind (child_at file kind r (f.next - 1)) fs
 
 -- what the frames still have to do, that of the last one first
-abbrev pub left_over : List ℕ → TreeKind → Reference → List Frame → List (Errand Way Event)
+abbrev pub left_over : List ℕ → TreeKind → Reference → List StackFrame → List (Errand Way Event)
 left_over file kind r [] = []
 left_over file kind r (f ∷ fs) = left_over file kind (child_at file kind r (f.next - 1)) fs ++ errands_from file r f.next
 
 -- the frame of an undamaged interior page, at one of its steps or after them
-pub record IsOpenFrame (file : List ℕ) (r : Reference) (f : Frame) : Type 0 where
+pub record IsOpenFrame (file : List ℕ) (r : Reference) (f : StackFrame) : Type 0 where
   pub page : f.page ≡ r.page
   pub view : View
   pub viewed : tree_view file r ≡ Some view
@@ -110,12 +110,12 @@ pub record IsOpenFrame (file : List ℕ) (r : Reference) (f : Frame) : Type 0 wh
   pub within : f.next ≤ 3 * count view + 2
 
 -- the same of each frame
-abbrev pub AreOpenFrames : List ℕ → TreeKind → Reference → List Frame → Type 0
+abbrev pub AreOpenFrames : List ℕ → TreeKind → Reference → List StackFrame → Type 0
 AreOpenFrames file kind r [] = Unit {0}
 AreOpenFrames file kind r (f ∷ fs) = IsOpenFrame file r f × AreOpenFrames file kind (child_at file kind r (f.next - 1)) fs
 
 -- each frame but the last is after the step of a child
-abbrev pub AreCalls : List Frame → Type 0
+abbrev pub AreCalls : List StackFrame → Type 0
 AreCalls [] = Unit {0}
 AreCalls (f ∷ []) = Unit {0}
 AreCalls (f ∷ g ∷ fs) = ((n : ℕ) × (f.next ≡ suc (child_step n))) × AreCalls (g ∷ fs)

@@ -46,7 +46,7 @@ pub(crate) struct Chain<'a> {
 
 // A place along a chain: the number of the next page in it, the bytes that are left, and the reference to that page.
 #[derive(Clone, Copy)]
-struct Place {
+struct ChainPlace {
     number: u32,
     left: u32,
     step: Step,
@@ -86,15 +86,15 @@ fn visit_overflow<S: Source, K: Sink, A: Allocator>(
 }
 
 // Goes on by one page, if the next one may be followed.
-fn turn<S: Source, K: Sink, A: Allocator>(
+fn enter_overflow<S: Source, K: Sink, A: Allocator>(
     source: &mut S,
     bench: &mut Bench<A>,
     marks: &mut Marks<A>,
     chain: &Chain<'_>,
-    place: Place,
+    place: ChainPlace,
     sieve: &mut Option<RowSieve>,
     sink: &mut K,
-) -> Result<Option<Place>, RunError>
+) -> Result<Option<ChainPlace>, RunError>
     requires place { IsPlace place }
     ensures log { HasLog S.step (Reads bench.old.geometry.page_size marks.old marks.new) (λ file. bench.old.geometry ≡ geometry file
         → (W : List Reference) (c : Reference) (before : K) (first : Option RowSieve)
@@ -134,7 +134,7 @@ fn turn<S: Source, K: Sink, A: Allocator>(
         item: 0,
         is_too_deep: false,
     };
-    Ok(Some(Place {
+    Ok(Some(ChainPlace {
         number: place.number + 1,
         left: place.left - room,
         step,
@@ -175,12 +175,12 @@ pub(crate) fn walk_chain<S: Source, K: Sink, A: Allocator>(
         item: chain.cell,
         is_too_deep: false,
     };
-    let mut place = Place {
+    let mut place = ChainPlace {
         number: 0,
         left: chain.left,
         step,
     };
-    while let Some(next) = turn(source, bench, marks, chain, place, sieve, sink)? {
+    while let Some(next) = enter_overflow(source, bench, marks, chain, place, sieve, sink)? {
         place = next;
     }
     Ok(())

@@ -12,8 +12,8 @@ ghost use Rattle.dbformat.specs.Story.{Event};
 ghost use Rattle.dbsource.specs.declared.error.RunError.TheVariants as run_error;
 ghost use Rattle.dbwalk.specs.Done.{IsDone, IsLeft};
 ghost use Rattle.dbwalk.specs.Entered.{IsNext};
-ghost use Rattle.dbwalk.specs.Trunks.{Leaves, IsFirstTrunk, IsOnTrunks, Opens, TrunkTurns, next_step};
-ghost use Rattle.dbmarks.specs.Marking.{AreMarksOf, Keeps, unmarked_pages};
+ghost use Rattle.dbwalk.specs.Trunks.{LeavesErrands, IsFirstTrunk, IsOnTrunks, OpensTrunk, TrunkTurns, next_step};
+ghost use Rattle.dbmarks.specs.Marking.{AreMarksOf, KeepsMarks, unmarked_pages};
 ghost use Rattle.dbwalk.specs.Telling.{IsReadOrWrite, SinkAfter};
 ghost use Rattle.dbmarks.specs.Reads.{Reads};
 ghost use Rattle.dbmarks.specs.declared.marks.Mark.{Mark};
@@ -44,14 +44,14 @@ pub(crate) fn walk_leaves<K: Sink, A: Allocator>(
 ) -> Result<(), RunError>
     requires within { 8 + 4 * count ≤ length bytes.now }
     requires few { count ≤ 16384 }
-    ensures keeps { Keeps marks.old marks.new }
+    ensures keeps { KeepsMarks marks.old marks.new }
     ensures fewer { unmarked_pages marks.new ≤ unmarked_pages marks.old }
     ensures writes { SinkAfter is_write_failed result (K.held sink.old) (K.held sink.new) }
     ensures only { IfErr result (λ e. e ≡ run_error.WriteFailed) }
     ensures done { (file : List ℕ) (W : List Reference) (errands : List (Errand Way Event)) (before : K) (U : List Reference) (d : Reference)
         (tail : List (Errand Way Event))
         → d.page ≡ page → IsLeft K.takes file W errands before U (leaf_errands d bytes.now count ++ tail) (marks.old, sink.old)
-        → Leaves K.takes K.drops file W errands before tail result marks.new sink.new }
+        → LeavesErrands K.takes K.drops file W errands before tail result marks.new sink.new }
 {
     for index in 0..count {
         let step = Step {
@@ -75,14 +75,14 @@ fn open_trunk<K: Sink, A: Allocator>(
     sink: &mut K,
 ) -> Result<u32, RunError>
     requires usable { (480 ≤ usable) × (usable ≤ 65536) × (usable ≤ length bytes.now) }
-    ensures keeps { Keeps marks.old marks.new }
+    ensures keeps { KeepsMarks marks.old marks.new }
     ensures fewer { unmarked_pages marks.new ≤ unmarked_pages marks.old }
     ensures writes { SinkAfter is_write_failed result (K.held sink.old) (K.held sink.new) }
     ensures only { IfErr result (λ e. e ≡ run_error.WriteFailed) }
     ensures opened { (file : List ℕ) (W : List Reference) (c : Reference) (before : K) (U : List Reference) (d : Reference) (old : List Mark)
         → d.page ≡ page → role_of d ≡ trunk → bytes.now ≡ page_bytes file page → usable ≡ usable_size file → is_followed (rules_of file) U d ≡ true
         → AreMarksOf file (U ++ d ∷ []) marks.old → IsLeft K.takes file W (Go c ∷ []) before U (Go d ∷ []) (old, sink.old)
-        → Opens K.takes K.drops file W c before d result marks.new sink.new }
+        → OpensTrunk K.takes K.drops file W c before d result marks.new sink.new }
 {
     let count = u32_at(bytes, 4);
     if count <= usable / 4 - 2 {
@@ -114,7 +114,7 @@ fn next_trunk(bytes: &[u8], page: u32, item: u32) -> Option<Step>
 }
 
 // Goes on by one trunk, if the next one may be followed.
-fn turn<S: Source, K: Sink, A: Allocator>(
+fn enter_trunk<S: Source, K: Sink, A: Allocator>(
     source: &mut S,
     bench: &mut Bench<A>,
     marks: &mut Marks<A>,
@@ -173,7 +173,7 @@ pub fn walk_freelist<S: Source, K: Sink, A: Allocator>(
         item: FREELIST_START,
         is_too_deep: false,
     };
-    while let Some(next) = turn(source, bench, marks, step, sink)? {
+    while let Some(next) = enter_trunk(source, bench, marks, step, sink)? {
         step = next;
     }
     Ok(())

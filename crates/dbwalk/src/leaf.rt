@@ -13,7 +13,7 @@ ghost use Rattle.dbformat.specs.File.{geometry as shape_of};
 ghost use Rattle.dbsource.specs.Sources.{HasLog};
 ghost use Rattle.dbwalk.specs.LeafCells.{overflow_errands, late_told, top_after};
 ghost use Rattle.dbwalk.specs.Taking.{FeedsPayload};
-ghost use Rattle.dbwalk.specs.Telling.{IsTold, IsReadOrWrite, SinkAfter};
+ghost use Rattle.dbwalk.specs.Telling.{IsReportedTo, IsReadOrWrite, SinkAfter};
 ghost use Rattle.dbwalk.specs.Done.{IsDone};
 ghost use Rattle.dbmarks.specs.Reads.{Reads};
 ghost use Rattle.dbsource.specs.Errors.{is_read_failed, is_write_failed};
@@ -153,7 +153,7 @@ pub(crate) fn tell_rowid<K: Sink>(
     key: Option<i64>,
     sink: &mut K,
 ) -> Result<(), WriteFailed>
-    ensures told { IsTold K.takes K.drops K.held result sink.old (late_told tree.old.greatest page i key) sink.new }
+    ensures told { IsReportedTo K.takes K.drops K.held result sink.old (late_told tree.old.greatest page i key) sink.new }
     ensures greatest { tree.new.greatest ≡ top_after tree.old.greatest page i key }
     ensures others { IsSameButGreatest tree.old tree.new }
 {

@@ -39,16 +39,16 @@ mod leaf;
 mod overflow;
 mod page;
 mod page_entry;
+mod page_report;
+mod page_row;
 mod root;
 mod schema_row;
 mod sink;
 mod state;
 mod steps;
 mod taker;
-mod told;
 mod tree;
 mod tree_walk;
-mod visit;
 
 pub use chain::CHAIN;
 pub use dbbytes::{RowKind, SchemaRow};

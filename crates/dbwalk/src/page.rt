@@ -9,7 +9,7 @@ ghost use Rattle.dbformat.specs.PageFaults.{fragment_fault, cell_fault, cell_fau
 ghost use Rattle.dbformat.specs.PageFaults.{coverage_fault, empty_fault, inner_faults, tree_page_faults};
 ghost use Rattle.dbwalk.specs.Found.{damage_fault, page_cause};
 ghost use Rattle.dbformat.specs.Looks.{look_of};
-ghost use Rattle.dbwalk.specs.Telling.{IsTold, findings};
+ghost use Rattle.dbwalk.specs.Telling.{IsReportedTo, findings};
 
 use crate::{Cause, Sink};
 use dbformat::{CellFault, Coverage, Fault, FaultCode, HeadFault, PageKind, TreeKind};
@@ -120,7 +120,7 @@ pub(crate) fn tell_inner<K: Sink>(
 ) -> Result<(), WriteFailed>
     requires number { number ≡ view.now.number }
     requires room { view.now.usable ≤ length uses.old }
-    ensures { IsTold K.takes K.drops K.held result sink.old (findings (inner_faults view.now is_child)) sink.new }
+    ensures { IsReportedTo K.takes K.drops K.held result sink.old (findings (inner_faults view.now is_child)) sink.new }
 {
     tell_found(fragment_fault(view, number), sink)?;
     let are_cells_good = tell_cells(view, number, sink)?;
@@ -147,7 +147,7 @@ pub(crate) fn tell_readable<K: Sink>(
     requires number { number ≡ view.now.number }
     requires cells { (i : ℕ) → i < count view.now → IsOk (cell view.now i) }
     requires unheld { coverage view.now ≡ Coverage.Unheld unheld }
-    ensures { IsTold K.takes K.drops K.held result sink.old (findings (inner_faults view.now is_child)) sink.new }
+    ensures { IsReportedTo K.takes K.drops K.held result sink.old (findings (inner_faults view.now is_child)) sink.new }
 {
     let freeblock = freeblock_fault(view, number);
     let coverage = unheld_fault(view, number, freeblock.is_none(), unheld);
@@ -160,7 +160,7 @@ pub(crate) fn tell_readable<K: Sink>(
 
 // Reports those of these faults that are there.
 fn tell_each<K: Sink>(faults: &[Option<Fault>], sink: &mut K) -> Result<(), WriteFailed>
-    ensures { IsTold K.takes K.drops K.held result sink.old (findings (flat_map option_to_list faults.now)) sink.new }
+    ensures { IsReportedTo K.takes K.drops K.held result sink.old (findings (flat_map option_to_list faults.now)) sink.new }
 {
     for found in faults {
         tell_found(*found, sink)?;
@@ -170,7 +170,7 @@ fn tell_each<K: Sink>(faults: &[Option<Fault>], sink: &mut K) -> Result<(), Writ
 
 // Reports a fault, if there is one.
 fn tell_found<K: Sink>(found: Option<Fault>, sink: &mut K) -> Result<(), WriteFailed>
-    ensures { IsTold K.takes K.drops K.held result sink.old (findings (option_to_list found)) sink.new }
+    ensures { IsReportedTo K.takes K.drops K.held result sink.old (findings (option_to_list found)) sink.new }
 {
     match found {
         Some(fault) => sink.fault(&fault, &Cause::Itself),
@@ -193,7 +193,7 @@ fn fragment_fault(view: &PageView<'_>, number: u32) -> Option<Fault>
 // Reports each cell that is not readable; true if all are.
 fn tell_cells<K: Sink>(view: &PageView<'_>, number: u32, sink: &mut K) -> Result<bool, WriteFailed>
     requires { number ≡ view.now.number }
-    ensures told { IsTold K.takes K.drops K.held result sink.old (findings (cell_faults view.now)) sink.new }
+    ensures told { IsReportedTo K.takes K.drops K.held result sink.old (findings (cell_faults view.now)) sink.new }
     ensures good { IfOk result (λ good. good ≡ (length (cell_faults view.now) == 0)) }
 {
     let mut good = true;
@@ -212,7 +212,7 @@ fn tell_cell<K: Sink>(
 ) -> Result<bool, WriteFailed>
     requires number { number ≡ view.now.number }
     requires cell { i < count view.now }
-    ensures told { IsTold K.takes K.drops K.held result sink.old (findings (cell_fault view.now i)) sink.new }
+    ensures told { IsReportedTo K.takes K.drops K.held result sink.old (findings (cell_fault view.now i)) sink.new }
     ensures good { IfOk result (λ good. good ≡ (length (cell_fault view.now i) == 0)) }
 {
     let code = match view.cell(i) {

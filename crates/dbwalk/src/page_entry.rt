@@ -12,8 +12,8 @@ ghost use Rattle.dbmarks.specs.Marking.{IsUse, unmarked_pages, named_page};
 ghost use Rattle.dbwalk.specs.Standing.{AtPage, AtReference};
 
 use crate::entering::{Step, enter};
+use crate::page_report::{PageFound, tell_page};
 use crate::tree_walk::TreeWalk;
-use crate::visit::{PageFound, tell_page};
 use crate::{Cause, Mark, Sink, Taker};
 use dbsource::{Bench, RunError, Source};
 use std::alloc::Allocator;

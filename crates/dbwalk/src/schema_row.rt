@@ -5,9 +5,9 @@ ghost use Rattle.dbformat.specs.SchemaRow.{schema_row};
 ghost use Rattle.dbformat.specs.Tests.{told_if};
 ghost use Rattle.dbformat.specs.declared.Encoding.{Encoding};
 ghost use Rattle.dbbytes.specs.Row.{seen};
-ghost use Rattle.dbwalk.specs.Telling.{IsWriteOrMemory, IsTold, findings, SinkAfter};
+ghost use Rattle.dbwalk.specs.Telling.{IsWriteOrMemory, IsReportedTo, findings, SinkAfter};
 ghost use Rattle.dbwalk.specs.Rows.{schema_row_of};
-ghost use Rattle.dbwalk.specs.Taking.{place_of, fault_of, taken_faults, TellsRow, HasFed, HasSieve};
+ghost use Rattle.dbwalk.specs.Taking.{row_place, fault_of, taken_faults, TellsRow, HasFed, HasSieve};
 ghost use Rattle.dbsource.specs.Errors.{is_out_of_memory, is_write_failed};
 ghost use Rattle.dbsource.specs.Failures.{failures_after};
 ghost use Rattle.dbformat.specs.Address.{schema_start};
@@ -31,7 +31,7 @@ pub(crate) struct RowPlace {
 impl RowPlace {
     /// The place of the row of cell `item` of a page. The key is the rowid; 0 if the cell has none.
     pub(crate) fn new(page: u32, item: u32, key: Option<i64>) -> RowPlace
-        ensures { result ≡ place_of page item key }
+        ensures { result ≡ row_place page item key }
     {
         RowPlace {
             page,
@@ -65,7 +65,7 @@ impl RowPlace {
 
 // Reports a fault, if there is one.
 fn tell_if<K: Sink>(is_fault: bool, fault: &Fault, sink: &mut K) -> Result<(), WriteFailed>
-    ensures { IsTold K.takes K.drops K.held result sink.old (findings (told_if is_fault fault.now)) sink.new }
+    ensures { IsReportedTo K.takes K.drops K.held result sink.old (findings (told_if is_fault fault.now)) sink.new }
 {
     if is_fault {
         sink.fault(fault, &Cause::Itself)
@@ -81,7 +81,7 @@ fn tell_taken<K: Sink>(
     place: RowPlace,
     sink: &mut K,
 ) -> Result<(), WriteFailed>
-    ensures { IsTold K.takes K.drops K.held result sink.old (findings (taken_faults place (schema_row_of row.now) taken)) sink.new }
+    ensures { IsReportedTo K.takes K.drops K.held result sink.old (findings (taken_faults place (schema_row_of row.now) taken)) sink.new }
 {
     let nameless = place.fault(FaultCode::S02, place.rowid);
     tell_if(row.name.is_none(), &nameless, sink)?;

@@ -5,9 +5,9 @@ ghost use Rattle.dbtrace.specs.Finding.{told_fault};
 ghost use Rattle.dbtrace.specs.declared.Cause.TheVariants as cause;
 ghost use Rattle.std.specs.Prelude.{◌≡◌, [], ◌∷◌, Some, None, false, IsTrue, IsSomeAnd};
 ghost use Rattle.dbwalk.specs.LeafCells.{ArePassed, depth_told, first_of, order_told};
-ghost use Rattle.dbtrace.specs.Progress.{greater_key, value_of};
+ghost use Rattle.dbtrace.specs.Progress.{greater_key, key_value};
 ghost use Rattle.dbwalk.specs.Standing.{IsSameButGreatest, IsSameButLeaf};
-ghost use Rattle.dbwalk.specs.Telling.{IsTold};
+ghost use Rattle.dbwalk.specs.Telling.{IsReportedTo};
 
 use crate::{Cause, CellKey, Sink, TreeLeaf};
 use arrayvec::ArrayVec;
@@ -38,7 +38,7 @@ pub(crate) struct Tree {
 /// The value of a key, where there is one.
 #[inline(always)]
 pub(crate) fn key_value(key: Option<CellKey>) -> Option<i64>
-    ensures { result ≡ value_of key }
+    ensures { result ≡ key_value key }
 {
     match key {
         None => None,
@@ -55,7 +55,7 @@ fn tell_late<K: Sink>(
     key: i64,
     sink: &mut K,
 ) -> Result<(), WriteFailed>
-    ensures { IsTold K.takes K.drops K.held result sink.old (told_fault (fault fault_code.T06 page item key) (cause.Key top) ∷ []) sink.new }
+    ensures { IsReportedTo K.takes K.drops K.held result sink.old (told_fault (fault fault_code.T06 page item key) (cause.Key top) ∷ []) sink.new }
 {
     let fault = Fault {
         code: FaultCode::T06,
@@ -90,7 +90,7 @@ impl Tree {
         is_rowid: bool,
         sink: &mut K,
     ) -> Result<(), WriteFailed>
-        ensures told { IsTold K.takes K.drops K.held result sink.old (order_told is_rowid self.old.greatest page item key) sink.new }
+        ensures told { IsReportedTo K.takes K.drops K.held result sink.old (order_told is_rowid self.old.greatest page item key) sink.new }
         ensures greatest { self.new.greatest ≡ greater_key self.old.greatest (record { page = page; item = item; value = key }) }
         ensures others { IsSameButGreatest self.old self.new }
     {
@@ -149,7 +149,7 @@ impl Tree {
         depth: u32,
         sink: &mut K,
     ) -> Result<(), WriteFailed>
-        ensures told { IsTold K.takes K.drops K.held result sink.old (depth_told self.old.leaf page depth) sink.new }
+        ensures told { IsReportedTo K.takes K.drops K.held result sink.old (depth_told self.old.leaf page depth) sink.new }
         ensures leaf { self.new.leaf ≡ Some (first_of self.old.leaf page depth) }
         ensures others { IsSameButLeaf self.old self.new }
     {

@@ -14,19 +14,19 @@ use std::alloc::Allocator;
 
 /// An interior page that was visited, and its next step.
 #[derive(Clone, Copy, Default)]
-pub(crate) struct Frame {
+pub(crate) struct StackFrame {
     pub(crate) page: u32,
     pub(crate) next: u32,
 }
 
-impl Frame {
+impl StackFrame {
     /// The frame one step on.
-    pub(crate) fn stepped(self) -> Frame
+    pub(crate) fn stepped(self) -> StackFrame
         requires { self.next < 4294967295 }
         ensures page { result.page ≡ self.page }
         ensures next { result.next ≡ suc self.next }
     {
-        Frame {
+        StackFrame {
             page: self.page,
             next: self.next + 1,
         }
@@ -54,8 +54,8 @@ pub(crate) fn step_of<A: Allocator>(
     bench: &Bench<A>,
     kind: TreeKind,
     level: usize,
-    frame: Frame,
-) -> (Frame, Next)
+    frame: StackFrame,
+) -> (StackFrame, Next)
     requires { level < 20 }
     ensures page { result.0.page ≡ frame.page }
     ensures empty { AreEmpty bench.now.geometry.usable kind bench.now.levels level frame.page frame.next result.0.next }
@@ -67,7 +67,7 @@ pub(crate) fn step_of<A: Allocator>(
     };
     let (next, what) = next_from(&view, view.cells(), frame.next);
     let page = frame.page;
-    (Frame { page, next }, what)
+    (StackFrame { page, next }, what)
 }
 
 // The first step from one on at which there is something, and what is there.

@@ -23,7 +23,7 @@ use crate::entering::enter;
 use crate::page_entry::tree_step;
 use crate::root::{Root, root_kind};
 use crate::state::Tree;
-use crate::steps::{Frame, step_of};
+use crate::steps::{StackFrame, step_of};
 use crate::tree_walk::TreeWalk;
 use crate::{Cause, Marks, Sink, Taker};
 use arrayvec::ArrayVec;
@@ -42,11 +42,11 @@ impl<A: Allocator, S: Source, K: Sink, T: Taker> TreeWalk<'_, '_, '_, '_, A, S, 
         if !self.visit_page(bench, page)? {
             return Ok(());
         }
-        let mut frames: ArrayVec<Frame, 20> = ArrayVec::new();
-        frames.push(Frame { page, next: 0 });
+        let mut frames: ArrayVec<StackFrame, 20> = ArrayVec::new();
+        frames.push(StackFrame { page, next: 0 });
         while let Some(frame) = frames.pop() {
             let (frame, next) = step_of(bench, self.tree.kind, frames.len(), frame);
-            self.turn(bench, &mut frames, frame, next)?;
+            self.take_step(bench, &mut frames, frame, next)?;
         }
         Ok(())
     }

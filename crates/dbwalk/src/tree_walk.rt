@@ -6,13 +6,13 @@ ghost use Rattle.dbwalk.specs.Walked.{SaysOfFiles, Walked};
 ghost use Rattle.dbwalk.specs.Underway.{HasTurned};
 ghost use Rattle.dbwalk.specs.Watching.{fails, watches};
 ghost use Rattle.dbwalk.specs.Walking.{AreOpen, path_of, cost};
-ghost use Rattle.dbwalk.specs.declared.steps.Frame.{Frame};
+ghost use Rattle.dbwalk.specs.declared.steps.StackFrame.{StackFrame};
 ghost use Rattle.dbwalk.specs.declared.steps.Next.TheVariants.{Child};
 ghost use Rattle.dbwalk.specs.Standing.{AtStep};
 
 use crate::chain::{Chain, walk_unfed};
 use crate::state::Tree;
-use crate::steps::{Frame, Next};
+use crate::steps::{Next, StackFrame};
 use crate::{Marks, Sink, Taker};
 use arrayvec::ArrayVec;
 use dbformat::Encoding;
@@ -37,8 +37,8 @@ impl<A: Allocator, S: Source, K: Sink, T: Taker> TreeWalk<'_, '_, '_, '_, A, S, 
     fn enter_child(
         &mut self,
         bench: &mut Bench<A>,
-        frames: &mut ArrayVec<Frame, 20>,
-        frame: Frame,
+        frames: &mut ArrayVec<StackFrame, 20>,
+        frame: StackFrame,
         page: u32,
     ) -> Result<(), RunError>
         requires few { array_vec_len frames.old < 20 }
@@ -48,7 +48,7 @@ impl<A: Allocator, S: Source, K: Sink, T: Taker> TreeWalk<'_, '_, '_, '_, A, S, 
         ensures walked { Walked S.held K.held T.refusals result bench.old.geometry bench.new.geometry self.old self.new }
         ensures few { OnOk result (array_vec_len frames.new ≤ 20) }
         ensures open { OnOk result (AreOpen bench.new.geometry.usable self.new.tree.kind bench.new.levels 0 frames.new.items) }
-        ensures path { OnOk result ((fs : List Frame) (f : Frame) → frames.new.items ≡ fs ++ (f ∷ []) → self.new.tree.path.items ≡ path_of fs) }
+        ensures path { OnOk result ((fs : List StackFrame) (f : StackFrame) → frames.new.items ≡ fs ++ (f ∷ []) → self.new.tree.path.items ≡ path_of fs) }
         ensures ends { OnOk result (cost self.new.marks.now frames.new.items < cost self.old.marks.now (frames.old.items ++ (frame ∷ []))) }
         ensures log { SaysOfFiles S.step S.held bench.old.geometry self.old self.new (λ file.
             AtStep (watches K.takes T.takes) T.takes file bench.old.levels (frames.old.items ++ (frame ∷ [])) self.old (λ W c before.
@@ -62,7 +62,7 @@ impl<A: Allocator, S: Source, K: Sink, T: Taker> TreeWalk<'_, '_, '_, '_, A, S, 
             let _ = self.tree.path.pop();
             return Ok(());
         }
-        frames.push(Frame { page, next: 0 });
+        frames.push(StackFrame { page, next: 0 });
         Ok(())
     }
 
@@ -72,11 +72,11 @@ impl<A: Allocator, S: Source, K: Sink, T: Taker> TreeWalk<'_, '_, '_, '_, A, S, 
     ///
     /// [`RunError::ReadFailed`] exactly where the source failed, [`RunError::WriteFailed`] exactly where the sink failed,
     /// [`RunError::OutOfMemory`] exactly where the taker was refused memory.
-    pub(crate) fn turn(
+    pub(crate) fn take_step(
         &mut self,
         bench: &mut Bench<A>,
-        frames: &mut ArrayVec<Frame, 20>,
-        frame: Frame,
+        frames: &mut ArrayVec<StackFrame, 20>,
+        frame: StackFrame,
         next: Next,
     ) -> Result<(), RunError>
         requires few { array_vec_len frames.old < 20 }
@@ -86,7 +86,7 @@ impl<A: Allocator, S: Source, K: Sink, T: Taker> TreeWalk<'_, '_, '_, '_, A, S, 
         ensures walked { Walked S.held K.held T.refusals result bench.old.geometry bench.new.geometry self.old self.new }
         ensures few { OnOk result (array_vec_len frames.new ≤ 20) }
         ensures open { OnOk result (AreOpen bench.new.geometry.usable self.new.tree.kind bench.new.levels 0 frames.new.items) }
-        ensures path { OnOk result ((fs : List Frame) (f : Frame) → frames.new.items ≡ fs ++ (f ∷ []) → self.new.tree.path.items ≡ path_of fs) }
+        ensures path { OnOk result ((fs : List StackFrame) (f : StackFrame) → frames.new.items ≡ fs ++ (f ∷ []) → self.new.tree.path.items ≡ path_of fs) }
         ensures ends { OnOk result (cost self.new.marks.now frames.new.items < cost self.old.marks.now (frames.old.items ++ (frame ∷ []))) }
         ensures log { SaysOfFiles S.step S.held bench.old.geometry self.old self.new (λ file.
             AtStep (watches K.takes T.takes) T.takes file bench.old.levels (frames.old.items ++ (frame ∷ [])) self.old (λ W c before.

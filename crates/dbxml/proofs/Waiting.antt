@@ -7,7 +7,7 @@ use Rattle.dbsource.specs.declared.out.WriteFailed.{WriteFailed}
 use Rattle.dbsource.proofs.Puts.{appends_append, appends_nothing, puts_then}
 use Rattle.dbsource.proofs.Beginnings.{begins_after, begins_more}
 use Rattle.dbxml.specs.Pieces.{piece_text, pieces_text}
-use Rattle.dbxml.specs.Puts.{Leaves, Takes}
+use Rattle.dbxml.specs.Puts.{LeavesWaiting, Takes}
 use Rattle.dbxml.specs.declared.pieces.Piece.{Piece}
 
 -- all of it was put
@@ -25,7 +25,7 @@ more done v w a b e = sym (append_assoc done v b) ∙ ap (λ l. l ++ b) e ∙ ap
 pub takes_then : {A B E F : Type 0} {s : Result A E} (r : Result B F) {x : A} {o m n : OutState} {w v u : List ℕ} (a b : List ℕ)
     → s ≡ Ok x → Takes s o m w v a → Takes r m n v u b → Takes r o n w u (a ++ b)
 takes_then (Ok y) {o = o} {m = m} {n = n} {w = w} {v = v} {u = u} a b p h k =
-    let here : Leaves o.bytes m.bytes (w ++ a) v = rw p at h.held in
+    let here : LeavesWaiting o.bytes m.bytes (w ++ a) v = rw p at h.held in
     record {
       held = record {
         done = here.done ++ k.held.done;
@@ -35,7 +35,7 @@ takes_then (Ok y) {o = o} {m = m} {n = n} {w = w} {v = v} {u = u} a b p h k =
       count = k.count ∙ (rw p at h.count);
     }
 takes_then (Err d) {o = o} {m = m} {n = n} {w = w} {v = v} a b p h k =
-    let here : Leaves o.bytes m.bytes (w ++ a) v = rw p at h.held in
+    let here : LeavesWaiting o.bytes m.bytes (w ++ a) v = rw p at h.held in
     record {
       held = begins_after o.bytes m.bytes n.bytes here.done (v ++ b) (w ++ (a ++ b)) (more here.done v w a b here.whole) here.added k.held;
       count = k.count ∙ ap one_more (rw p at h.count);
@@ -60,7 +60,7 @@ pub record HasTaken (old now : OutState) (waiting rest whole : List ℕ) : Type 
 pub taken_more : {o m n : OutState} {w v rest whole : List ℕ} {s : Result (Unit {0}) WriteFailed} {x : Unit {0}} (a left : List ℕ)
     → HasTaken o m w rest whole → s ≡ Ok x → Takes s m n w v a → rest ≡ a ++ left → HasTaken o n v left whole
 taken_more {o = o} {m = m} {n = n} {w = w} {v = v} {rest = rest} {whole = whole} a left h p k e =
-    let here : Leaves m.bytes n.bytes (w ++ a) v = rw p at k.held in
+    let here : LeavesWaiting m.bytes n.bytes (w ++ a) v = rw p at k.held in
     record {
       done = h.done ++ here.done;
       split = append_assoc h.done here.done (v ++ left) ∙ ap (λ l. h.done ++ l) (more here.done v w a left here.whole ∙ ap (λ l. w ++ l) (sym e)) ∙ h.split;

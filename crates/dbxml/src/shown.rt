@@ -99,7 +99,7 @@ pub fn shown_tree<A: Allocator>(names: &TreeNames<'_, A>, start: u32) -> Shown
 
 // How many columns a character takes, by its first byte: those that are written in three or four bytes are mostly wide.
 fn columns(byte: u8) -> u32
-    ensures columns { result ≡ widths.columns byte }
+    ensures columns { result ≡ widths.char_columns byte }
     ensures most { result ≤ 2 }
 {
     match byte {

@@ -2,7 +2,7 @@
 ghost use Rattle.arrayvec.specs.ArrayVec.{array_vec_len};
 ghost use Rattle.std.specs.Prelude.{◌≡◌, ◌+◌, ◌-◌, ◌*◌, ◌≤◌, ◌∷◌, ◌++◌, length, decimal};
 ghost use Rattle.dbformat.specs.Lines.{tab, chain_text};
-ghost use Rattle.dbreport.specs.Columns.{counts_text, place_text};
+ghost use Rattle.dbreport.specs.Columns.{counts_text, offset_text};
 
 use crate::statistics::hex::append_hex;
 use arrayvec::ArrayVec;
@@ -47,7 +47,7 @@ pub(crate) fn append_place<const CAP: usize>(
     page_size: u32,
 )
     requires { array_vec_len line.old + 43 ≤ CAP }
-    ensures { line.new.items ≡ line.old.items ++ place_text page page_size }
+    ensures { line.new.items ≡ line.old.items ++ offset_text page page_size }
 {
     append_count(line, offset_of(page, page_size));
     append_count(line, u64::from(page_size));

@@ -8,7 +8,7 @@ ghost use Rattle.dbwalk.specs.Rows.{row_of};
 ghost use Rattle.dbreport.specs.Columns.{child_text, other_of, page_end, tree_end};
 ghost use Rattle.dbformat.specs.Lines.{other_line, page_line, tree_line};
 ghost use Rattle.dbreport.specs.Sums.{sums_of};
-ghost use Rattle.dbreport.specs.TreeNames.{label_text};
+ghost use Rattle.dbreport.specs.TreeNames.{tree_label_text};
 
 use crate::statistics::columns::{
     append_chain, append_count, append_counts, append_place, append_text,
@@ -16,7 +16,7 @@ use crate::statistics::columns::{
 use crate::statistics::hex::append_hex;
 use crate::statistics::page_texts::{OtherPage, other_text, pagetype_text};
 use crate::statistics::sums::Sums;
-use crate::statistics::tree_name::Label;
+use crate::statistics::tree_name::TreeLabel;
 use arrayvec::ArrayVec;
 use dbformat::Counts;
 use dblines::append;
@@ -26,10 +26,10 @@ use dbwalk::Row;
 // Puts the line of the row of a page.
 pub(crate) fn put_page_row<O: Out>(
     out: &mut O,
-    label: &Label<'_>,
+    label: &TreeLabel<'_>,
     row: &Row<'_>,
 ) -> Result<(), WriteFailed>
-    ensures { Puts result (O.held out.old) (O.held out.new) (page_line (label_text label.now) label.now.page_size (row_of row.now)) }
+    ensures { Puts result (O.held out.old) (O.held out.new) (page_line (tree_label_text label.now) label.now.page_size (row_of row.now)) }
 {
     let end = page_end(row, label.page_size);
     label.put_name(out)?;
@@ -74,11 +74,11 @@ fn page_end(row: &Row<'_>, page_size: u32) -> ArrayVec<u8, 192>
 // Puts the line of a tree, by the sums of its rows.
 pub(crate) fn put_tree_row<O: Out>(
     out: &mut O,
-    label: &Label<'_>,
+    label: &TreeLabel<'_>,
     sums: &Sums,
 ) -> Result<(), WriteFailed>
     ensures text { (rows : List StatRow) → sums.now ≡ sums_of rows
-        → Puts result (O.held out.old) (O.held out.new) (tree_line (label_text label.now) label.now.page_size rows) }
+        → Puts result (O.held out.old) (O.held out.new) (tree_line (tree_label_text label.now) label.now.page_size rows) }
     ensures count { (O.held out.new).failures ≡ failures_after is_any result (O.held out.old).failures }
 {
     let end = tree_end(sums, label.page_size);

@@ -10,7 +10,7 @@ use Rattle.dbformat.specs.Reference.{Reference, role_of, page_links, role_links,
 use Rattle.dbformat.specs.Survey.{Survey, rules_of}
 use Rattle.dbformat.specs.PageFaults.{page_faults, tree_page_faults, faults_of_view, role_faults, depth_fault}
 use Rattle.dbformat.specs.Report.{walk_faults}
-use Rattle.dbformat.specs.Terms.{IsWhole, role_in_tree}
+use Rattle.dbformat.specs.Terms.{IsFaultlessPage, role_in_tree}
 use Rattle.dbformat.specs.declared.TreeKind.{TreeKind}
 use Rattle.dbformat.specs.declared.HeadFault.{HeadFault}
 use Rattle.dbformat.specs.declared.HeadFault.TheVariants.{UnknownType, ContentStart}
@@ -30,7 +30,7 @@ view-from kind is_child p page (Ok v) e = by_case (is_same_tree (tree_of v.kind)
 
 -- what is known of a visited page of a tree
 pub record IsTreePage (file : List ℕ) (V : List Reference) (r : Reference) (kind : TreeKind) (is_child : Bool) (v : View) : Type 0 where
-  pub whole : IsWhole file kind is_child r.page v
+  pub whole : IsFaultlessPage file kind is_child r.page v
   pub view_is : tree_view file r ≡ Some v
   pub links_are : children (rules_of file) r ≡ named_at r.address (page_links r.page kind (Some v))
   pub depth_is : depth_fault file V r ≡ []

@@ -38,13 +38,13 @@ use Rattle.dbformat.proofs.TestsLemmas.{told_none}
 
 -- a clean page of a tree is one without a fault within it
 clean_whole : (file : List ℕ) (r : Reference) (v : View) → IsClean file r → tree_view file r ≡ Some v
-    → (kind : TreeKind) × (is_child : Bool) × Terms.IsWhole file kind is_child r.page v
+    → (kind : TreeKind) × (is_child : Bool) × Terms.IsFaultlessPage file kind is_child r.page v
 unfolding tree_view
 clean_whole file r v c e = by_role (role_of r) c e
   where
     by_role : (role : Role) → own_faults role file r.page ≡ []
         → option_and_then (λ kind. undamaged kind r.page (usable_size file) (page_bytes file r.page)) (tree_kind role) ≡ Some v
-        → (kind : TreeKind) × (is_child : Bool) × Terms.IsWhole file kind is_child r.page v
+        → (kind : TreeKind) × (is_child : Bool) × Terms.IsFaultlessPage file kind is_child r.page v
     by_role (root kind) c e = (kind, false, record { undamaged = e; faultless = c })
     by_role (child kind) c e = (kind, true, record { undamaged = e; faultless = c })
     by_role (first_overflow left) c e = cc

@@ -3,7 +3,7 @@ use Rattle.std.proofs.Common.{◌≡◌, ℕ, inl, inr, Option, Some, None, List
 use Rattle.std.specs.Prelude.{option_and_then, flat_map}
 use Rattle.dbsurvey.specs.Address.{IsIn, Address}
 use Rattle.dbsurvey.specs.Survey.{IsNamed, named_at}
-use Rattle.dbsurvey.specs.Story.{Told, Item, Follow, Place, Errand, Go, Tell, errands_at, goes, IsTold, of_errand, of_page, of_place, of_refused}
+use Rattle.dbsurvey.specs.Story.{Told, PageStep, Follow, Place, Errand, Go, Tell, errands_at, goes, IsTold, of_errand, of_page, of_place, of_refused}
 use Rattle.dbsurvey.proofs.Order.{IsIn-cases}
 use Rattle.dbsurvey.proofs.Ordering.{IsIn-from_flat_map}
 use Rattle.dbsurvey.proofs.Unfolding.{whole_none_refused}
@@ -53,7 +53,7 @@ key_of_cell r kind v (i, c) step event h = elim (IsIn-cases (Place step event) (
   | inr k ↦ (elim k [ inl e ↦ ap event_in e | inr n ↦ absurd n ])
 ]
   where
-    event_in : Item Way Event → Event
+    event_in : PageStep Way Event → Event
     event_in (Follow l) = event
     event_in (Place step e) = e
 
@@ -83,7 +83,7 @@ key_of_role file r role step event e h = by_role role e h
     by_role trunk e h = absurd (no_place (trunk_links r.page (usable_size file) (page_bytes file r.page)) step event h)
     by_role free_leaf e h = absurd h
 
-placed_in : (a : Address) (items : List (Item Way Event)) (e : Told Event) → IsIn (Tell e) (errands_at a items) → (step : ℕ) × IsIn (Place step e.event) items
+placed_in : (a : Address) (items : List (PageStep Way Event)) (e : Told Event) → IsIn (Tell e) (errands_at a items) → (step : ℕ) × IsIn (Place step e.event) items
 placed_in a [] e h = absurd h
 placed_in a (Follow l ∷ is) e (inl k) = cc
 placed_in a (Follow l ∷ is) e (inr h) = let m = placed_in a is e h in (m.0, inr m.1)

@@ -83,7 +83,7 @@ lacks_key c v e f = by_kind v.kind e f
 abbrev HasNoKeys : List ℕ → Reference → Type 0
 HasNoKeys file t = keys_at file t ≡ []
 
-page_no_keys : {file : List ℕ} {is_child : Bool} {kind : TreeKind} {p : ℕ} {v : View} → Terms.IsWhole file kind is_child p v → kind ≡ tree.Index
+page_no_keys : {file : List ℕ} {is_child : Bool} {kind : TreeKind} {p : ℕ} {v : View} → Terms.IsFaultlessPage file kind is_child p v → kind ≡ tree.Index
     → (from item : ℕ) (a : Address) → HasNoKeys file (visit_at (role_in_tree is_child kind) from item p a)
 page_no_keys {file} {is_child} {kind} {p} {v} w e from item a =
     let h = has_all_cells w in

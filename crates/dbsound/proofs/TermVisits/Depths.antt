@@ -68,7 +68,7 @@ own_view file false kind from item p a v e = e
 leaf_depth : (file : List ℕ) (role : Role) (from item p : ℕ) (a : Address) → IsAtDepth file (length a) (visit_at role from item p a)
 leaf_depth file role from item p a = record { within = λ h. omega arith; leaves = λ v e i. refl }
 
-interior_depth : {file : List ℕ} {kind : TreeKind} {is_child : Bool} {p right : ℕ} {v : View} → Terms.IsWhole file kind is_child p v → right_child v ≡ Some right
+interior_depth : {file : List ℕ} {kind : TreeKind} {is_child : Bool} {p right : ℕ} {v : View} → Terms.IsFaultlessPage file kind is_child p v → right_child v ≡ Some right
     → (from item deep : ℕ) (a : Address) → length a ≤ deep → IsAtDepth file deep (visit_at (role_in_tree is_child kind) from item p a)
 interior_depth {file} {kind} {is_child} {p} {right} {v} w r from item deep a l = record {
   within = λ h. l;

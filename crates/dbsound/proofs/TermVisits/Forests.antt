@@ -63,14 +63,14 @@ own_by_type t k e = two (t == 2) refl e
     two true f e = let same : InteriorIndex ≡ k = cc in ap tree_of same
     two false f e = five (t == 5) (t == 10) (t == 13) not_ten e
 
-own_is : {file : List ℕ} {kind : TreeKind} {is_child : Bool} {p : ℕ} {v : View} → Terms.IsWhole file kind is_child p v → own_kind p (page_bytes file p) ≡ kind
+own_is : {file : List ℕ} {kind : TreeKind} {is_child : Bool} {p : ℕ} {v : View} → Terms.IsFaultlessPage file kind is_child p v → own_kind p (page_bytes file p) ≡ kind
 unfolding view own_kind
 own_is {file} {kind} {is_child} {p} {v} w =
     let h = has_all_cells w in
     own_by_type (type_byte p (page_bytes file p)) v.kind (kind_of p (usable_size file) (page_bytes file p) (page_kind (type_byte p (page_bytes file p))) v h.view_is)
     ∙ same_tree (tree_of v.kind) kind h.same_kind
 
-root_kind_is : {file : List ℕ} {kind : TreeKind} {is_child : Bool} {p : ℕ} {v : View} → Terms.IsWhole file kind is_child p v
+root_kind_is : {file : List ℕ} {kind : TreeKind} {is_child : Bool} {p : ℕ} {v : View} → Terms.IsFaultlessPage file kind is_child p v
     → (k : RowKind) (name : Option (List ℕ)) → (k ≡ row.Index → kind ≡ tree.Index)
     → root_kind file (record { kind = k; root = p; name = name }) ≡ kind
 root_kind_is w row.Index name i = sym (i refl)

@@ -33,7 +33,7 @@ tree_links : (file : List ℕ) (is_child : Bool) (kind : TreeKind) (p : ℕ) (v 
 tree_links file true kind p v e = ap (λ o. page_links p kind o) e
 tree_links file false kind p v e = ap (λ o. page_links p kind o) e
 
-cells_links : {file : List ℕ} {is_child : Bool} {kind : TreeKind} {p : ℕ} {v : View} (w : Terms.IsWhole file kind is_child p v) (o : Option ℕ) → right_child v ≡ o
+cells_links : {file : List ℕ} {is_child : Bool} {kind : TreeKind} {p : ℕ} {v : View} (w : Terms.IsFaultlessPage file kind is_child p v) (o : Option ℕ) → right_child v ≡ o
     → role_links (role_in_tree is_child kind) p (usable_size file) (page_bytes file p)
     ≡ flat_map (cell_links p kind) (enumerate_from 0 (cells_of v)) ++ option_to_list (option_map (link p (child_step (length (cells_of v))) (length (cells_of v)) (child kind)) o)
 cells_links {file} {is_child} {kind} {p} {v} w o e =

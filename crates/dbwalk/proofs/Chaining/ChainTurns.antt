@@ -15,7 +15,7 @@ use Rattle.dbformat.specs.Schema.{held_bytes}
 use Rattle.dbbytes.specs.declared.sieve.RowSieve.{RowSieve}
 use Rattle.dbsource.specs.declared.error.RunError.{RunError}
 use Rattle.dbwalk.specs.declared.chain.Chain.{Chain}
-use Rattle.dbwalk.specs.declared.chain.Place.{Place}
+use Rattle.dbwalk.specs.declared.chain.ChainPlace.{ChainPlace}
 use Rattle.dbmarks.specs.declared.marks.Mark.{Mark}
 use Rattle.dbmarks.specs.declared.marks.Mark.TheVariants.{FirstOverflow, LaterOverflow}
 use Rattle.dbwalk.specs.Chains.{IsChainOf, IsOnWay, next_of, Feeds, FeedsChain}
@@ -37,7 +37,7 @@ if_some_all Q (Some x) f = f x
 quiet_chain : (file : List ℕ) (d : Reference) (left : ℕ) → bytes_left (role_of d) ≡ Some left → AreQuiet own_visit (errands_of (story_of file) d)
 quiet_chain file d left h = subst (λ es. AreQuiet own_visit es) (sym (by_chain file d left h)) (all_quiet.2 d (overflow_links d.page (usable_size file) left (page_bytes file d.page)))
 
-module _ {S : Type 0} (takes drops : S → Finding → S → Type 0) (file : List ℕ) (W : List Reference) (c : Reference) (before : S) (chain : Chain) (place : Place) (marks : List Mark) (s : S) {first old : Option RowSieve} (on : IsOnWay takes file W c before chain place marks s first old) where
+module _ {S : Type 0} (takes drops : S → Finding → S → Type 0) (file : List ℕ) (W : List Reference) (c : Reference) (before : S) (chain : Chain) (place : ChainPlace) (marks : List Mark) (s : S) {first old : Option RowSieve} (on : IsOnWay takes file W c before chain place marks s first old) where
   -- the next reference is refused
   pub turn_refused : (marks' : List Mark) (t : S) → Enters takes drops file on.visited on.d (Ok false) marks' s t → IsDone {A = Unit {0}} takes drops file W (Go c ∷ []) (Ok tt) marks' before t × FeedsChain file W c first old
   turn_refused marks' t e = (

@@ -13,8 +13,8 @@ use Rattle.dbformat.specs.declared.PageKind.{PageKind}
 use Rattle.dbformat.specs.declared.PageKind.TheVariants.{InteriorIndex, InteriorTable, LeafIndex, LeafTable}
 use Rattle.dbformat.specs.declared.PayloadKind.{PayloadKind}
 use Rattle.dbformat.specs.declared.PayloadKind.TheVariants.{TableLeaf, Index}
-use Rattle.dbpage.specs.Packed.{IsAbove, IsAllLocal, key_at}
-use Rattle.dbtrace.specs.Progress.{value_of}
+use Rattle.dbpage.specs.Packed.{IsAboveLast, IsAllLocal, key_at}
+use Rattle.dbtrace.specs.Progress.{key_value}
 use Rattle.dbtrace.specs.declared.CellKey.{CellKey}
 use Rattle.dbwalk.specs.LeafCells.{HasSpan, AreRisingFrom, placed}
 use Rattle.dbwalk.specs.declared.state.KeySpan.{KeySpan}
@@ -91,19 +91,19 @@ whole_key v i w = ap (λ r. is_some (option_and_then (λ c. c.key) (result_ok r)
 keys_alike : (v : View) (i j : ℕ) → IsAllLocal v i → IsAllLocal v j → is_some (key_at v i) ≡ is_some (key_at v j)
 keys_alike v i j a b = whole_key v i a ∙ sym (whole_key v j b)
 
-module _ (page : ℕ) (v : View) (keys : KeySpan) (span : HasSpan v keys) (greatest : Option CellKey) (above : IsAbove (value_of greatest) keys.first) where
+module _ (page : ℕ) (v : View) (keys : KeySpan) (span : HasSpan v keys) (greatest : Option CellKey) (above : IsAboveLast (key_value greatest) keys.first) where
   -- the greatest key before cell n
   top_at : ℕ → Option CellKey
   top_at zero = greatest
   top_at (suc n) = option_or (placed page n (key_at v n)) greatest
 
   -- a cell's key is above it
-  above_at : (n : ℕ) → n < count v → IsAbove (value_of (top_at n)) (key_at v n)
+  above_at : (n : ℕ) → n < count v → IsAboveLast (key_value (top_at n)) (key_at v n)
   unfolding top_at
   above_at zero low = λ a b e f. above a b e (sym (span.first_is low) ∙ f)
   above_at (suc n) low = λ a b e f. by_key a b f (key_at v n) refl e
     where
-      by_key : (a b : ℤ) → key_at v (suc n) ≡ Some b → (o : Option ℤ) → key_at v n ≡ o → value_of (option_or (placed page n o) greatest) ≡ Some a → a <ℤ b
+      by_key : (a b : ℤ) → key_at v (suc n) ≡ Some b → (o : Option ℤ) → key_at v n ≡ o → key_value (option_or (placed page n o) greatest) ≡ Some a → a <ℤ b
       by_key a b f None g e =
           let same = keys_alike v n (suc n) (span.whole n (omega arith)) (span.whole (suc n) low) in
           let h : false ≡ true = sym (ap is_some g) ∙ same ∙ ap is_some f in cc
@@ -153,7 +153,7 @@ module _ (page : ℕ) (v : View) (keys : KeySpan) (span : HasSpan v keys) (great
         top_at n,
         rising_to n (omega arith),
         subst (IsAllLocal v) e (span.whole n (omega arith)),
-        subst (λ i. IsAbove (value_of (top_at n)) (key_at v i)) e (above_at n (omega arith)),
+        subst (λ i. IsAboveLast (key_value (top_at n)) (key_at v i)) e (above_at n (omega arith)),
         sym (top_step n (omega arith)) ∙ ap (λ i. option_or (placed page i (key_at v i)) (top_at n)) e,
       )
 

@@ -6,7 +6,7 @@ use Rattle.std.proofs.lemmas.Bool.Decides.{nat_tests}
 use Rattle.std.proofs.lemmas.List.{length-map}
 use Rattle.std.proofs.lemmas.List.Sums.{sum_by-cons}
 use Rattle.dbsource.specs.Bench.{Pages, with_level}
-use Rattle.dbmarks.specs.Marking.{page_mark, is_none, unmarked_pages, cleared, Keeps}
+use Rattle.dbmarks.specs.Marking.{page_mark, is_none, unmarked_pages, cleared, KeepsMarks}
 use Rattle.dbmarks.specs.declared.marks.Mark.{Mark}
 use Rattle.dbwalk.specs.Found.{StandsAt}
 
@@ -71,7 +71,7 @@ fewer_by (x ∷ xs) (y ∷ ys) l h =
         same : (n : ℕ) → n ≤ n
         same n = omega arith
 
-pub keeps_fewer : (old new : List Mark) → Keeps old new → unmarked_pages new ≤ unmarked_pages old
+pub keeps_fewer : (old new : List Mark) → KeepsMarks old new → unmarked_pages new ≤ unmarked_pages old
 keeps_fewer old new k = fewer_by old new (sym (length-map new cleared) ∙ ap length k.fixed ∙ length-map old cleared)
     (λ i u. sym (at new i) ∙ k.marks (suc i) (ap (λ o. option_map_or is_none o false) (at old i) ∙ u) ∙ at old i)
   where

@@ -24,7 +24,7 @@ use Rattle.dbtrace.proofs.Causing.{IsOfPage, told_by-append, tree_same, page_sam
 use Rattle.dbtrace.proofs.Depths.{no_depth, told_same as told_alike}
 use Rattle.dbtrace.proofs.Folding.{page_of_progress}
 use Rattle.dbwalk.specs.Found.{view_row, damaged_row, page_cause, page_findings}
-use Rattle.dbwalk.specs.Telling.{findings, IsTold, HasFailed, SinkState}
+use Rattle.dbwalk.specs.Telling.{findings, IsReportedTo, HasFailed, SinkState}
 use Rattle.std.specs.List.{range_with_len, cons_option}
 use Rattle.std.specs.Option.{is_none}
 use Rattle.std.proofs.lemmas.Grind.{common_steps, flat_map-append}
@@ -130,34 +130,34 @@ row_of_damage c page start path a b n p = rw (← a, ← b, n, ← p) refl
 -- What was reported to a sink, call after call.
 
 -- some items, and then others
-pub told_then : {S I A B E : Type 0} {takes drops : S → I → S → Type 0} {held : S → SinkState} {a : A} (r0 : Result A E) (r : Result B E) {s m t : S} (L M : List I) → r0 ≡ Ok a → IsTold takes drops held r0 s L m → IsTold takes drops held r m M t → IsTold takes drops held r s (L ++ M) t
+pub told_then : {S I A B E : Type 0} {takes drops : S → I → S → Type 0} {held : S → SinkState} {a : A} (r0 : Result A E) (r : Result B E) {s m t : S} (L M : List I) → r0 ≡ Ok a → IsReportedTo takes drops held r0 s L m → IsReportedTo takes drops held r m M t → IsReportedTo takes drops held r s (L ++ M) t
 told_then (Ok b) (Ok c) {s} {m} {t} L M e h k = record { items = Moves-append _ s m t L M h.items k.items; count = k.count ∙ h.count }
 told_then {held = held} (Ok b) (Err c) {s} {m} {t} L M e h k = record { items = stops_after _ _ s m t L M h.items k.items; count = subst (λ n. HasFailed n (held t)) h.count k.count }
 told_then (Err b) r L M e h k = cc
 
 -- an error in the first of two lists
-pub told_stop : {S I A B E F : Type 0} {takes drops : S → I → S → Type 0} {held : S → SinkState} {e : E} {f : F} (r0 : Result A E) (r : Result B F) {s t : S} (L M : List I) → r0 ≡ Err e → r ≡ Err f → IsTold takes drops held r0 s L t → IsTold takes drops held r s (L ++ M) t
+pub told_stop : {S I A B E F : Type 0} {takes drops : S → I → S → Type 0} {held : S → SinkState} {e : E} {f : F} (r0 : Result A E) (r : Result B F) {s t : S} (L M : List I) → r0 ≡ Err e → r ≡ Err f → IsReportedTo takes drops held r0 s L t → IsReportedTo takes drops held r s (L ++ M) t
 told_stop (Ok b) r L M e f h = cc
 told_stop (Err b) (Ok c) L M e f h = cc
 told_stop (Err b) (Err c) {s} {t} L M e f h = record { items = stops_first _ _ s t L M h.items; count = h.count }
 
 -- the same error, of a call that answers something else
-pub told_same : {S I A B E F : Type 0} {takes drops : S → I → S → Type 0} {held : S → SinkState} {e : E} {f : F} (r0 : Result A E) (r : Result B F) {s t : S} {L : List I} → r0 ≡ Err e → r ≡ Err f → IsTold takes drops held r0 s L t → IsTold takes drops held r s L t
+pub told_same : {S I A B E F : Type 0} {takes drops : S → I → S → Type 0} {held : S → SinkState} {e : E} {f : F} (r0 : Result A E) (r : Result B F) {s t : S} {L : List I} → r0 ≡ Err e → r ≡ Err f → IsReportedTo takes drops held r0 s L t → IsReportedTo takes drops held r s L t
 told_same (Ok b) r e f h = cc
 told_same (Err b) (Ok c) e f h = cc
 told_same (Err b) (Err c) e f h = record { items = h.items; count = h.count }
 
 -- the answer does not matter beyond Ok
-pub told_ok : {S I A B E : Type 0} {takes drops : S → I → S → Type 0} {held : S → SinkState} {a : A} (b : B) (r0 : Result A E) {s t : S} {L : List I} → r0 ≡ Ok a → IsTold takes drops held r0 s L t → IsTold {E = E} takes drops held (Ok b) s L t
+pub told_ok : {S I A B E : Type 0} {takes drops : S → I → S → Type 0} {held : S → SinkState} {a : A} (b : B) (r0 : Result A E) {s t : S} {L : List I} → r0 ≡ Ok a → IsReportedTo takes drops held r0 s L t → IsReportedTo {E = E} takes drops held (Ok b) s L t
 told_ok b (Ok a) e h = record { items = h.items; count = h.count }
 told_ok b (Err a) e h = cc
 
 -- the same of faults
-pub faults_then : {S A B E : Type 0} {takes drops : S → Finding → S → Type 0} {held : S → SinkState} {a : A} (r0 : Result A E) (r : Result B E) {s m t : S} (L M : List Fault) → r0 ≡ Ok a → IsTold takes drops held r0 s (findings L) m → IsTold takes drops held r m (findings M) t → IsTold takes drops held r s (findings (L ++ M)) t
-faults_then {takes = takes} {drops = drops} {held = held} r0 r {s} {m} {t} L M e h k = subst (λ l. IsTold takes drops held r s l t) (sym (map-append told_alone L M)) (told_then r0 r (findings L) (findings M) e h k)
+pub faults_then : {S A B E : Type 0} {takes drops : S → Finding → S → Type 0} {held : S → SinkState} {a : A} (r0 : Result A E) (r : Result B E) {s m t : S} (L M : List Fault) → r0 ≡ Ok a → IsReportedTo takes drops held r0 s (findings L) m → IsReportedTo takes drops held r m (findings M) t → IsReportedTo takes drops held r s (findings (L ++ M)) t
+faults_then {takes = takes} {drops = drops} {held = held} r0 r {s} {m} {t} L M e h k = subst (λ l. IsReportedTo takes drops held r s l t) (sym (map-append told_alone L M)) (told_then r0 r (findings L) (findings M) e h k)
 
-pub faults_stop : {S A B E F : Type 0} {takes drops : S → Finding → S → Type 0} {held : S → SinkState} {e : E} {f : F} (r0 : Result A E) (r : Result B F) {s t : S} (L rest fs : List Fault) → L ++ rest ≡ fs → r0 ≡ Err e → r ≡ Err f → IsTold takes drops held r0 s (findings L) t → IsTold takes drops held r s (findings fs) t
-faults_stop {takes = takes} {drops = drops} {held = held} r0 r {s} {t} L rest fs whole e f h = subst (λ l. IsTold takes drops held r s l t) (sym (map-append told_alone L rest) ∙ ap findings whole) (told_stop r0 r (findings L) (findings rest) e f h)
+pub faults_stop : {S A B E F : Type 0} {takes drops : S → Finding → S → Type 0} {held : S → SinkState} {e : E} {f : F} (r0 : Result A E) (r : Result B F) {s t : S} (L rest fs : List Fault) → L ++ rest ≡ fs → r0 ≡ Err e → r ≡ Err f → IsReportedTo takes drops held r0 s (findings L) t → IsReportedTo takes drops held r s (findings fs) t
+faults_stop {takes = takes} {drops = drops} {held = held} r0 r {s} {t} L rest fs whole e f h = subst (λ l. IsReportedTo takes drops held r s l t) (sym (map-append told_alone L rest) ∙ ap findings whole) (told_stop r0 r (findings L) (findings rest) e f h)
 
 -- one element more of a range
 

@@ -26,7 +26,7 @@ use Rattle.dbformat.specs.declared.FaultCode.{FaultCode}
 use Rattle.dbtrace.specs.Progress.{leaf_after, depth_faults, depth_of}
 use Rattle.dbwalk.specs.LeafCells.{first_of, depth_told}
 use Rattle.dbwalk.specs.Found.{undamaged_findings, page_cause, page_findings, damaged_findings, StandsAt, IsDamagedAt, IsOpenLeaf}
-use Rattle.dbwalk.specs.Telling.{findings, IsTold, SinkState}
+use Rattle.dbwalk.specs.Telling.{findings, IsReportedTo, SinkState}
 use Rattle.dbwalk.specs.Walking.{IsCandidate, role_at, IsOpen, IsLeafAt}
 use Rattle.dbtrace.proofs.Causing.{inner_alone}
 use Rattle.dbwalk.proofs.Pages.PageTellings.{is_child, page_of_look, page_told, view_is, row_of_view, row_of_damage, told_then, told_stop, told_same, told_ok}
@@ -155,7 +155,7 @@ module _ {S : Type 0} (A E : Type 0) (takes drops : S → Finding → S → Type
     (usable : ℕ) (usable_is : usable ≡ usable_size file) (bytes : List ℕ) (bytes_are : bytes ≡ page_bytes file p) (leaf : Option TreeLeaf)
     (path' : List ℕ) (path_is : path' ≡ path) (depth : ℕ) (depth_is : depth ≡ length path + 1) (s : S) where
   abbrev Exit : Result A E → S → Option TreeLeaf → Type 0
-  Exit r t new = IsTold takes drops held r s (page_findings file leaf c) t × OnOk r (new ≡ leaf_after file leaf c)
+  Exit r t new = IsReportedTo takes drops held r s (page_findings file leaf c) t × OnOk r (new ≡ leaf_after file leaf c)
 
   seen_as : (o : Option View) → undamaged kind p usable bytes ≡ o → undamaged kind p (usable_size file) (page_bytes file p) ≡ o
   seen_as o e = ap (λ u. undamaged kind p u (page_bytes file p)) (sym usable_is) ∙ ap (λ b. undamaged kind p usable b) (sym bytes_are) ∙ e
@@ -164,7 +164,7 @@ module _ {S : Type 0} (A E : Type 0) (takes drops : S → Finding → S → Type
   read_faults b fs e = ap (λ u. tree_page_faults kind b p u (page_bytes file p)) (sym usable_is) ∙ ap (λ y. tree_page_faults kind b p usable y) (sym bytes_are) ∙ e
 
   module _ (f : Fault) (none : undamaged kind p usable bytes ≡ None) (one : (b : Bool) → tree_page_faults kind b p usable bytes ≡ f ∷ []) {B : Type 0} (r0 : Result B E) (t : S)
-      (told : IsTold takes drops held r0 s (damaged_findings k path' p (look_of p usable bytes) f) t) where
+      (told : IsReportedTo takes drops held r0 s (damaged_findings k path' p (look_of p usable bytes) f) t) where
     all_told : page_findings file leaf c ≡ damaged_findings k path' p (look_of p usable bytes) f
     all_told = told_damaged file kind k path p from item c candidate leaf f (seen_as None none) (read_faults (nat_lt 1 (length path + 1)) (f ∷ []) (one (nat_lt 1 (length path + 1))))
         ∙ ap (λ q. damaged_findings k q p (look_at file p) f) (sym path_is)
@@ -175,21 +175,21 @@ module _ {S : Type 0} (A E : Type 0) (takes drops : S → Finding → S → Type
 
     pub exit_damaged : (a : A) {b : B} → r0 ≡ Ok b → Exit (Ok a) t leaf
     exit_damaged a e = (
-      subst (λ L. IsTold {E = E} takes drops held (Ok a) s L t) (sym all_told) (told_ok a r0 e told),
+      subst (λ L. IsReportedTo {E = E} takes drops held (Ok a) s L t) (sym all_told) (told_ok a r0 e told),
       sym (leaf_after_damaged file kind k path p from item c candidate leaf (seen_as None none)),
     )
 
     pub exit_damaged_stop : (new : Option TreeLeaf) (r : Result A E) {e x : E} → r0 ≡ Err e → r ≡ Err x → Exit r t new
-    exit_damaged_stop new r e f = (subst (λ L. IsTold takes drops held r s L t) (sym all_told) (told_same r0 r e f told), on_err _ r f)
+    exit_damaged_stop new r e f = (subst (λ L. IsReportedTo takes drops held r s L t) (sym all_told) (told_same r0 r e f told), on_err _ r f)
 
   module _ (v : View) (viewed : undamaged kind p usable bytes ≡ Some v) (number : v.number ≡ p) (within : (b : Bool) → tree_page_faults kind b p usable bytes ≡ inner_faults v b) {B : Type 0} (r0 : Result B E) (t : S)
-      (told : IsTold takes drops held r0 s (undamaged_findings k path' v (nat_lt 1 depth)) t) where
+      (told : IsReportedTo takes drops held r0 s (undamaged_findings k path' v (nat_lt 1 depth)) t) where
     abbrev first_told : List Finding
     first_told = undamaged_findings k path v (nat_lt 1 (length path + 1))
 
-    told_first : IsTold takes drops held r0 s first_told t
-    told_first = subst (λ n. IsTold takes drops held r0 s (undamaged_findings k path v (nat_lt 1 n)) t) depth_is
-        (subst (λ q. IsTold takes drops held r0 s (undamaged_findings k q v (nat_lt 1 depth)) t) path_is told)
+    told_first : IsReportedTo takes drops held r0 s first_told t
+    told_first = subst (λ n. IsReportedTo takes drops held r0 s (undamaged_findings k path v (nat_lt 1 n)) t) depth_is
+        (subst (λ q. IsReportedTo takes drops held r0 s (undamaged_findings k q v (nat_lt 1 depth)) t) path_is told)
 
     abbrev there : undamaged kind p (usable_size file) (page_bytes file p) ≡ Some v
     there = seen_as (Some v) viewed
@@ -199,27 +199,27 @@ module _ {S : Type 0} (A E : Type 0) (takes drops : S → Finding → S → Type
 
     pub exit_stop : (new : Option TreeLeaf) (r : Result A E) {e x : E} → r0 ≡ Err e → r ≡ Err x → Exit r t new
     exit_stop new r e f = (
-      subst (λ L. IsTold takes drops held r s L t) (sym (row_and_faults file kind k path p from item c candidate leaf v there number inner))
+      subst (λ L. IsReportedTo takes drops held r s L t) (sym (row_and_faults file kind k path p from item c candidate leaf v there number inner))
           (told_stop r0 r first_told (told_by (page_cause (look_at file c.page) leaf) (depth_faults file leaf c)) e f told_first),
       on_err _ r f,
     )
 
     pub exit_interior : (a : A) {b : B} → r0 ≡ Ok b → is_interior v.kind ≡ true → Exit (Ok a) t leaf
     exit_interior a e i = (
-      subst (λ L. IsTold {E = E} takes drops held (Ok a) s L t) (sym (told_interior file kind k path p from item c candidate leaf v there number inner i)) (told_ok a r0 e told_first),
+      subst (λ L. IsReportedTo {E = E} takes drops held (Ok a) s L t) (sym (told_interior file kind k path p from item c candidate leaf v there number inner i)) (told_ok a r0 e told_first),
       sym (leaf_after_interior file kind k path p from item c candidate leaf v there number inner i),
     )
 
     module _ {b : B} (ok : r0 ≡ Ok b) (is_leaf : is_interior v.kind ≡ false) {C : Type 0} (r1 : Result C E) (t1 : S)
-        (last : IsTold takes drops held r1 t (depth_told leaf p depth) t1) where
+        (last : IsReportedTo takes drops held r1 t (depth_told leaf p depth) t1) where
       abbrev last_told : List Finding
       last_told = depth_told leaf p (length path + 1)
 
-      told_last : IsTold takes drops held r1 t last_told t1
-      told_last = subst (λ n. IsTold takes drops held r1 t (depth_told leaf p n) t1) depth_is last
+      told_last : IsReportedTo takes drops held r1 t last_told t1
+      told_last = subst (λ n. IsReportedTo takes drops held r1 t (depth_told leaf p n) t1) depth_is last
 
-      both_told : IsTold takes drops held r1 s (page_findings file leaf c) t1
-      both_told = subst (λ L. IsTold takes drops held r1 s L t1) (sym (told_leaf file kind k path p from item c candidate leaf v there number inner is_leaf))
+      both_told : IsReportedTo takes drops held r1 s (page_findings file leaf c) t1
+      both_told = subst (λ L. IsReportedTo takes drops held r1 s L t1) (sym (told_leaf file kind k path p from item c candidate leaf v there number inner is_leaf))
           (told_then r0 r1 first_told last_told ok told_first told_last)
 
       pub exit_leaf : (a : A) {z : C} (new : Option TreeLeaf) → r1 ≡ Ok z → new ≡ Some (first_of leaf p depth) → Exit (Ok a) t1 new

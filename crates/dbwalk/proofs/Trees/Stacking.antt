@@ -11,7 +11,7 @@ use Rattle.dbformat.specs.declared.CellFault.{CellFault}
 use Rattle.std.specs.Option.{option_map_or}
 use Rattle.std.proofs.lemmas.Bool.Decides.{nat_tests}
 use Rattle.std.proofs.lemmas.List.{append-nil}
-use Rattle.dbsurvey.specs.Story.{Item, Follow, Place, step_of, Go, AreRising, errands_at, errands_of}
+use Rattle.dbsurvey.specs.Story.{PageStep, Follow, Place, step_of, Go, AreRising, errands_at, errands_of}
 use Rattle.dbsurvey.proofs.Order.{IsIn-left, IsIn-right, IsIn-cases}
 use Rattle.dbsurvey.proofs.Ordering.{IsIn-map, IsIn-from_map, IsIn-flat_map, IsIn-from_flat_map}
 use Rattle.dbformat.specs.Address.{then_step, overflow_step, child_step, key_step, cell_of_step}
@@ -23,7 +23,7 @@ use Rattle.dbformat.proofs.LookBack.{listed as is_listed}
 use Rattle.dbformat.proofs.Looping.{tree_items}
 use Rattle.dbformat.proofs.Theory.{is_story}
 use Rattle.dbwalk.specs.Walking.{errands_from, child_page, child_at, top_visit, left_over}
-use Rattle.dbwalk.specs.declared.steps.Frame.{Frame}
+use Rattle.dbwalk.specs.declared.steps.StackFrame.{StackFrame}
 
 -- The readable cells of a page.
 
@@ -76,18 +76,18 @@ le_no : (s n : ℕ) → n < s → nat_le s n ≡ false
 le_no s n l = grind (arith, nat_tests)
 
 module _ {R E : Type 0} where
-  abbrev from : ℕ → List (Item R E) → List (Item R E)
+  abbrev from : ℕ → List (PageStep R E) → List (PageStep R E)
   from s items = filter (λ i. nat_le s (step_of i)) items
 
-  from_all : (s : ℕ) (items : List (Item R E)) → ((i : Item R E) → IsIn i items → s ≤ step_of i) → from s items ≡ items
+  from_all : (s : ℕ) (items : List (PageStep R E)) → ((i : PageStep R E) → IsIn i items → s ≤ step_of i) → from s items ≡ items
   from_all s [] h = refl
   from_all s (i ∷ items) h = ap (λ b. cond b (i ∷ from s items) (from s items)) (le_yes s (step_of i) (h i (inl refl))) ∙ ap (λ l. i ∷ l) (from_all s items (λ j m. h j (inr m)))
 
-  from_end : (s : ℕ) (items : List (Item R E)) → ((i : Item R E) → IsIn i items → step_of i < s) → from s items ≡ []
+  from_end : (s : ℕ) (items : List (PageStep R E)) → ((i : PageStep R E) → IsIn i items → step_of i < s) → from s items ≡ []
   from_end s [] h = refl
   from_end s (i ∷ items) h = ap (λ b. cond b (i ∷ from s items) (from s items)) (le_no s (step_of i) (h i (inl refl))) ∙ from_end s items (λ j m. h j (inr m))
 
-  from_none : (s : ℕ) (items : List (Item R E)) → ((i : Item R E) → IsIn i items → step_of i ≡ s → ⊥) → from s items ≡ from (suc s) items
+  from_none : (s : ℕ) (items : List (PageStep R E)) → ((i : PageStep R E) → IsIn i items → step_of i ≡ s → ⊥) → from s items ≡ from (suc s) items
   from_none s [] h = refl
   from_none s (i ∷ items) h = ap (λ b. cond b (i ∷ from s items) (from s items)) same ∙ ap (λ l. cond (nat_le (suc s) (step_of i)) (i ∷ l) l) (from_none s items (λ j m. h j (inr m)))
     where
@@ -103,7 +103,7 @@ module _ {R E : Type 0} where
             | inr k ↦ (elim k [ inl m ↦ m | inr m ↦ absurd (omega arith) ])
           ]
 
-  from_item : (s : ℕ) (items : List (Item R E)) (x : Item R E) → AreRising items → IsIn x items → step_of x ≡ s → from s items ≡ x ∷ from (suc s) items
+  from_item : (s : ℕ) (items : List (PageStep R E)) (x : PageStep R E) → AreRising items → IsIn x items → step_of x ≡ s → from s items ≡ x ∷ from (suc s) items
   from_item s [] x rise h e = absurd h
   from_item s (i ∷ items) x rise (inl f) e =
       let n : step_of i ≡ s = ap step_of (sym f) ∙ e in
@@ -126,7 +126,7 @@ module _ (file : List ℕ) (r : Reference) (kind : TreeKind) (v : View) (role : 
   rising = subst (λ is. AreRising is) items_are ((is_story file).rising r)
 
   -- at which step an item is
-  data IsItem (i : Item Way Event) : Type 0 where
+  data IsItem (i : PageStep Way Event) : Type 0 where
     of_overflow : (n : ℕ) (x : Cell) (p : ℕ) → n < count v → cell v n ≡ Ok x → x.overflow ≡ Some p → i ≡ Follow (link r.page (overflow_step n) n (first_overflow (overflow_size x)) p) → IsItem i
     of_left : (n : ℕ) (x : Cell) (p : ℕ) → n < count v → cell v n ≡ Ok x → x.left ≡ Some p → i ≡ Follow (link r.page (child_step n) n (child kind) p) → IsItem i
     of_key : (n : ℕ) (x : Cell) → n < count v → cell v n ≡ Ok x → i ≡ Place (key_step n) (at_key r v (n, x)) → IsItem i
@@ -137,7 +137,7 @@ module _ (file : List ℕ) (r : Reference) (kind : TreeKind) (v : View) (role : 
   listed f (Some x) y (inl e) = (x, refl, e)
   listed f (Some x) y (inr h) = absurd h
 
-  item_from : (i : Item Way Event) → IsIn i (page_items r kind (Some v)) → IsItem i
+  item_from : (i : PageStep Way Event) → IsIn i (page_items r kind (Some v)) → IsItem i
   item_from i h = elim (IsIn-cases i (flat_map (cell_items r kind v) (cells v)) (map Follow (right_links r.page kind v)) h) [
     | inl k ↦ (let m = IsIn-from_flat_map (cell_items r kind v) (cells v) i k in of_cell m.0.0 m.0.1 (cells_from v m.0 m.1) m.2)
     | inr k ↦ (let m = IsIn-from_map Follow (right_links r.page kind v) i k in
@@ -154,13 +154,13 @@ module _ (file : List ℕ) (r : Reference) (kind : TreeKind) (v : View) (role : 
         | inr j ↦ (elim j [ inl e ↦ of_key n x read.1 read.0 e | inr z ↦ absurd z ])
       ]
 
-  in_cell : (n : ℕ) (x : Cell) (i : Item Way Event) → n < count v → cell v n ≡ Ok x → IsIn i (cell_items r kind v (n, x)) → IsIn i (page_items r kind (Some v))
+  in_cell : (n : ℕ) (x : Cell) (i : PageStep Way Event) → n < count v → cell v n ≡ Ok x → IsIn i (cell_items r kind v (n, x)) → IsIn i (page_items r kind (Some v))
   in_cell n x i l e h = IsIn-left i (flat_map (cell_items r kind v) (cells v)) (map Follow (right_links r.page kind v)) (IsIn-flat_map (cell_items r kind v) (cells v) (n, x) i (cells_in v n x l e) h)
 
-  next_item : (s : ℕ) (i : Item Way Event) → IsIn i (page_items r kind (Some v)) → step_of i ≡ s → errands_from file r s ≡ errands_at r.address (i ∷ from (suc s) (page_items r kind (Some v)))
+  next_item : (s : ℕ) (i : PageStep Way Event) → IsIn i (page_items r kind (Some v)) → step_of i ≡ s → errands_from file r s ≡ errands_at r.address (i ∷ from (suc s) (page_items r kind (Some v)))
   next_item s i h e = ap (λ is. errands_at r.address (from s is)) items_are ∙ ap (λ is. errands_at r.address is) (from_item s (page_items r kind (Some v)) i rising h e)
 
-  no_item : (s : ℕ) → ((i : Item Way Event) → IsItem i → step_of i ≡ s → ⊥) → errands_from file r s ≡ errands_from file r (suc s)
+  no_item : (s : ℕ) → ((i : PageStep Way Event) → IsItem i → step_of i ≡ s → ⊥) → errands_from file r s ≡ errands_from file r (suc s)
   no_item s h = ap (λ is. errands_at r.address (from s is)) items_are
       ∙ ap (λ is. errands_at r.address is) (from_none s (page_items r kind (Some v)) (λ i k e. h i (item_from i k) e))
       ∙ ap (λ is. errands_at r.address (from (suc s) is)) (sym items_are)
@@ -213,7 +213,7 @@ module _ (file : List ℕ) (r : Reference) (kind : TreeKind) (v : View) (role : 
   pub step_end : (s : ℕ) → child_step (count v) < s → errands_from file r s ≡ []
   step_end s l = ap (λ is. errands_at r.address (from s is)) items_are ∙ ap (λ is. errands_at r.address is) (from_end s (page_items r kind (Some v)) (λ i h. low i (item_from i h)))
     where
-      low : (i : Item Way Event) → IsItem i → step_of i < s
+      low : (i : PageStep Way Event) → IsItem i → step_of i < s
       low i (of_overflow n x p m e f g) = let k : step_of i ≡ overflow_step n = ap step_of g in omega arith
       low i (of_left n x p m e f g) = let k : step_of i ≡ child_step n = ap step_of g in omega arith
       low i (of_key n x m e g) = let k : step_of i ≡ key_step n = ap step_of g in omega arith
@@ -223,7 +223,7 @@ module _ (file : List ℕ) (r : Reference) (kind : TreeKind) (v : View) (role : 
   pub step_no_chain : (n : ℕ) → ((x : Cell) → n < count v → cell v n ≡ Ok x → x.overflow ≡ None) → errands_from file r (overflow_step n) ≡ errands_from file r (suc (overflow_step n))
   step_no_chain n none = no_item (overflow_step n) no_chain
     where
-      no_chain : (i : Item Way Event) → IsItem i → step_of i ≡ overflow_step n → ⊥
+      no_chain : (i : PageStep Way Event) → IsItem i → step_of i ≡ overflow_step n → ⊥
       no_chain i (of_overflow m x p l e f g) h = let k : m ≡ n = (let q : step_of i ≡ overflow_step m = ap step_of g in omega arith) in
           let z = none x (omega arith) (ap (cell v) (sym k) ∙ e) in let y : Some p ≡ None = sym f ∙ z in cc
       no_chain i (of_left m x p l e f g) h = let k : step_of i ≡ child_step m = ap step_of g in omega arith
@@ -234,7 +234,7 @@ module _ (file : List ℕ) (r : Reference) (kind : TreeKind) (v : View) (role : 
   pub step_no_key : (n : ℕ) (e : CellFault) → cell v n ≡ Err e → errands_from file r (key_step n) ≡ errands_from file r (suc (key_step n))
   step_no_key n e bad = no_item (key_step n) no_key
     where
-      no_key : (i : Item Way Event) → IsItem i → step_of i ≡ key_step n → ⊥
+      no_key : (i : PageStep Way Event) → IsItem i → step_of i ≡ key_step n → ⊥
       no_key i (of_overflow m x p l f g q) h = let k : step_of i ≡ overflow_step m = ap step_of q in omega arith
       no_key i (of_left m x p l f g q) h = let k : step_of i ≡ child_step m = ap step_of q in omega arith
       no_key i (of_key m x l f q) h = let k : m ≡ n = (let q : step_of i ≡ key_step m = ap step_of q in omega arith) in
@@ -244,17 +244,17 @@ module _ (file : List ℕ) (r : Reference) (kind : TreeKind) (v : View) (role : 
 -- frames
 
 module _ (file : List ℕ) (kind : TreeKind) where
-  pub left-push : (c : Reference) (fs : List Frame) (f : Frame) → left_over file kind c (fs ++ (f ∷ [])) ≡ errands_from file (top_visit file kind c fs) f.next ++ left_over file kind c fs
+  pub left-push : (c : Reference) (fs : List StackFrame) (f : StackFrame) → left_over file kind c (fs ++ (f ∷ [])) ≡ errands_from file (top_visit file kind c fs) f.next ++ left_over file kind c fs
   left-push c [] f = sym (append-nil (errands_from file c f.next))
   left-push c (g ∷ fs) f =
       ap (λ es. es ++ errands_from file c g.next) (left-push (child_at file kind c (g.next - 1)) fs f)
       ∙ append_assoc (errands_from file (top_visit file kind (child_at file kind c (g.next - 1)) fs) f.next) (left_over file kind (child_at file kind c (g.next - 1)) fs) (errands_from file c g.next)
 
-  pub top-push : (c : Reference) (fs : List Frame) (f : Frame) → top_visit file kind c (fs ++ (f ∷ [])) ≡ child_at file kind (top_visit file kind c fs) (f.next - 1)
+  pub top-push : (c : Reference) (fs : List StackFrame) (f : StackFrame) → top_visit file kind c (fs ++ (f ∷ [])) ≡ child_at file kind (top_visit file kind c fs) (f.next - 1)
   top-push c [] f = refl
   top-push c (g ∷ fs) f = top-push (child_at file kind c (g.next - 1)) fs f
 
-  pub top_kind : (c : Reference) (fs : List Frame) → tree_kind (role_of c) ≡ Some kind → tree_kind (role_of (top_visit file kind c fs)) ≡ Some kind
+  pub top_kind : (c : Reference) (fs : List StackFrame) → tree_kind (role_of c) ≡ Some kind → tree_kind (role_of (top_visit file kind c fs)) ≡ Some kind
   top_kind c [] e = e
   top_kind c (f ∷ fs) e = top_kind (child_at file kind c (f.next - 1)) fs refl
 
@@ -295,7 +295,7 @@ module _ (file : List ℕ) (r : Reference) (kind : TreeKind) (v : View) (role : 
   pub step_no_child : (n : ℕ) → n ≤ count v → child_number v n ≡ None → errands_from file r (child_step n) ≡ errands_from file r (suc (child_step n))
   step_no_child n l e = no_item file r kind v role viewed (child_step n) no_child
     where
-      no_child : (i : Item Way Event) → IsItem file r kind v role viewed i → step_of i ≡ child_step n → ⊥
+      no_child : (i : PageStep Way Event) → IsItem file r kind v role viewed i → step_of i ≡ child_step n → ⊥
       no_child i (of_overflow m x p k f g q) h = let j : step_of i ≡ overflow_step m = ap step_of q in omega arith
       no_child i (of_left m x p k f g q) h =
           let j : m ≡ n = (let w : step_of i ≡ child_step m = ap step_of q in omega arith) in

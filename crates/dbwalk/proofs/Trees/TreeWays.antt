@@ -7,7 +7,7 @@ use Rattle.dbformat.specs.Address.{start_of, then_step, child_step, is_child_ste
 use Rattle.dbformat.specs.Reference.{child, Reference}
 use Rattle.dbformat.specs.declared.TreeKind.{TreeKind}
 use Rattle.dbwalk.specs.Walking.{child_at, top_visit, AreCalls, IsCandidate, role_at, path_of}
-use Rattle.dbwalk.specs.declared.steps.Frame.{Frame}
+use Rattle.dbwalk.specs.declared.steps.StackFrame.{StackFrame}
 
 is_child : (n : ℕ) → is_child_step (child_step n) ≡ true
 is_child n = one ((3 * n + 1) % 3) (rest n)
@@ -63,18 +63,18 @@ module _ (file : List ℕ) (kind : TreeKind) (k : ℕ) where
             chain = ap chain_place at ∙ more.1;
           }
 
-  calls_first : (g : Frame) (fs : List Frame) (f : Frame) → AreCalls (g ∷ (fs ++ (f ∷ []))) → ((n : ℕ) × (g.next ≡ suc (child_step n))) × AreCalls (fs ++ (f ∷ []))
+  calls_first : (g : StackFrame) (fs : List StackFrame) (f : StackFrame) → AreCalls (g ∷ (fs ++ (f ∷ []))) → ((n : ℕ) × (g.next ≡ suc (child_step n))) × AreCalls (fs ++ (f ∷ []))
   calls_first g [] f a = a
   calls_first g (h ∷ fs) f a = a
 
   -- the visit of the last frame
-  pub record IsOnWay (l : List ℕ) (fs : List Frame) (c : Reference) : Type 0 where
+  pub record IsOnWay (l : List ℕ) (fs : List StackFrame) (c : Reference) : Type 0 where
     pub p : ℕ
     pub from : ℕ
     pub item : ℕ
     pub candidate : IsCandidate kind k (l ++ path_of fs) p from item (top_visit file kind c fs)
 
-  pub top_candidate : (fs : List Frame) (f : Frame) (l : List ℕ) (p from item : ℕ) (c : Reference) → IsCandidate kind k l p from item c → AreCalls (fs ++ (f ∷ [])) → IsOnWay l fs c
+  pub top_candidate : (fs : List StackFrame) (f : StackFrame) (l : List ℕ) (p from item : ℕ) (c : Reference) → IsCandidate kind k l p from item c → AreCalls (fs ++ (f ∷ [])) → IsOnWay l fs c
   top_candidate [] f l p from item c is calls = record { p = p; from = from; item = item; candidate = subst (λ m. IsCandidate kind k m p from item c) (sym (append-nil l)) is }
   top_candidate (g ∷ fs) f l p from item c is calls =
       let m = calls_first g fs f calls in

@@ -20,7 +20,7 @@ use Rattle.dbtrace.specs.Finding.{Finding, told_fault, told_by}
 use Rattle.dbtrace.specs.declared.Cause.{Cause}
 use Rattle.dbtrace.specs.declared.CellKey.{CellKey}
 use Rattle.dbtrace.specs.Item.{Item, found, given, readable, items_at}
-use Rattle.dbtrace.specs.Progress.{Progress, cause_by, rows_of, late_faults, greatest_after, value_of}
+use Rattle.dbtrace.specs.Progress.{Progress, cause_by, rows_of, late_faults, greatest_after, key_value}
 use Rattle.dbtrace.specs.Walk.{Walk, advance, run_below, bare}
 use Rattle.dbtrace.proofs.Causing.{told_by-append, rows_alone}
 use Rattle.dbtrace.proofs.Folding.{row_of_progress}
@@ -41,7 +41,7 @@ use Rattle.dbformat.specs.declared.CellFault.{CellFault}
 use Rattle.dbformat.specs.declared.TreeKind.{TreeKind}
 use Rattle.dbformat.proofs.Cells.{is_of_kind}
 use Rattle.dbformat.proofs.Looping.{range-more, all_quiet}
-use Rattle.dbpage.specs.Packed.{IsAbove, IsAllLocal, key_at}
+use Rattle.dbpage.specs.Packed.{IsAboveLast, IsAllLocal, key_at}
 use Rattle.dbtrace.proofs.Stepping.{has_steps}
 use Rattle.dbwalk.proofs.Pages.PageVisits.{told_once}
 use Rattle.dbwalk.proofs.Trees.Stacking.{cells_in}
@@ -128,10 +128,10 @@ module _ (file : List ℕ) (r : Reference) (kind : TreeKind) (v : View) (leaf : 
       by_cell i (Err f) h = absurd h
 
   -- of a key that is greater than the last one nothing is reported, and it is the greatest
-  rises : (top : Option CellKey) (i : ℕ) (x : Cell) → IsAbove (value_of top) x.key → (flat_map (late_faults top) (key_of r v (i, x)) ≡ []) × (greatest_after top (key_of r v (i, x)) ≡ option_or (placed r.page i x.key) top)
+  rises : (top : Option CellKey) (i : ℕ) (x : Cell) → IsAboveLast (key_value top) x.key → (flat_map (late_faults top) (key_of r v (i, x)) ≡ []) × (greatest_after top (key_of r v (i, x)) ≡ option_or (placed r.page i x.key) top)
   rises top i x h = by_key x.key top h
     where
-      by_key : (o : Option ℤ) (top : Option CellKey) → IsAbove (value_of top) o → (flat_map (late_faults top) (key_of r v (i, record x { key = o })) ≡ []) × (greatest_after top (key_of r v (i, record x { key = o })) ≡ option_or (placed r.page i o) top)
+      by_key : (o : Option ℤ) (top : Option CellKey) → IsAboveLast (key_value top) o → (flat_map (late_faults top) (key_of r v (i, record x { key = o })) ≡ []) × (greatest_after top (key_of r v (i, record x { key = o })) ≡ option_or (placed r.page i o) top)
       by_key None top h = (refl, refl)
       by_key (Some value) None h = (refl, refl)
       by_key (Some value) (Some m) h =
@@ -139,11 +139,11 @@ module _ (file : List ℕ) (r : Reference) (kind : TreeKind) (v : View) (leaf : 
           let e : int_lt m.value value ≡ true = grind (arith, ints) in (rw (leaf, e) refl, rw e refl)
 
   -- one cell
-  one : (now : Walk) (i : ℕ) → i < count v → (w : IsAllLocal v i) → IsAbove (value_of now.state.greatest) (key_at v i) → run_below file now (cell_errands r kind v i) ≡ with_greatest now (option_or (placed r.page i (key_at v i)) now.state.greatest)
+  one : (now : Walk) (i : ℕ) → i < count v → (w : IsAllLocal v i) → IsAboveLast (key_value now.state.greatest) (key_at v i) → run_below file now (cell_errands r kind v i) ≡ with_greatest now (option_or (placed r.page i (key_at v i)) now.state.greatest)
   one now i l w h =
       let x = w.whole in
       let at : key_at v i ≡ x.key = ap (λ o. option_and_then (λ c. c.key) (result_ok o)) w.readable in
-      let rise = rises now.state.greatest i x (subst (IsAbove (value_of now.state.greatest)) at h) in
+      let rise = rises now.state.greatest i x (subst (IsAboveLast (key_value now.state.greatest)) at h) in
       let alone : cell_errands r kind v i ≡ tell_cell r v i x ∷ [] = ap (λ o. option_map_or (errands_in r kind v i) (result_ok o) []) w.readable ∙ no_links x w.here ((is_of_kind v (i, x) (cells_in v i x l w.readable)).leaf leaf) in
       let none : rows_of file (now.visits ++ []) r v (i, x) ≡ [] = rw other refl in
       ap (run_below file now) alone ∙ (has_steps file).event now _ [] refl ∙ (has_steps file).none (advance file now (at_key r v (i, x)))

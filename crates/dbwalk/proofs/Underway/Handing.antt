@@ -7,7 +7,7 @@ use Rattle.dbformat.specs.SchemaRow.{SchemaRow}
 use Rattle.dbsource.specs.declared.error.RunError.{RunError}
 use Rattle.dbsource.specs.declared.error.RunError.TheVariants.{Refused, ReadFailed, WriteFailed, OutOfMemory}
 use Rattle.dbtrace.specs.Finding.{Finding}
-use Rattle.dbtrace.specs.Item.{Item, found, given, findings, given_rows}
+use Rattle.dbtrace.specs.Item.{Item, found, given, findings_in, given_rows}
 use Rattle.dbwalk.specs.Telling.{IsReadOrWrite, Tells}
 use Rattle.dbwalk.specs.Taking.{gives, Gives}
 use Rattle.dbwalk.specs.Watching.{watches, fails, StopsAt, Handed}
@@ -27,7 +27,7 @@ use Rattle.dbmarks.specs.declared.marks.Mark.{Mark}
 use Rattle.dbwalk.specs.declared.state.Tree.{Tree}
 
 -- items that give no row
-pub only_found : (items : List Item) → given_rows items ≡ [] → items ≡ map found (findings items)
+pub only_found : (items : List Item) → given_rows items ≡ [] → items ≡ map found (findings_in items)
 only_found [] e = refl
 only_found (found f ∷ items) e = ap (λ l. found f ∷ l) (only_found items e)
 only_found (given row ∷ items) e = cc
@@ -69,14 +69,14 @@ module _ {P : Type 0} (moves : P → Item → P → Type 0) (stops : RunError �
 
 -- One list of items is both stories: of a sink and of a taker.
 module _ {S T : Type 0} (takes : S → Finding → S → Type 0) (keeps : T → SchemaRow → Taken → T → Type 0) where
-  pub moves_both : (items : List Item) (w x : S × T) → Moves (watches takes keeps) w items x → Moves takes w.0 (findings items) x.0 × Moves (gives keeps) w.1 (given_rows items) x.1
+  pub moves_both : (items : List Item) (w x : S × T) → Moves (watches takes keeps) w items x → Moves takes w.0 (findings_in items) x.0 × Moves (gives keeps) w.1 (given_rows items) x.1
   moves_both [] w x e = (ap (λ p. p.0) e, ap (λ p. p.1) e)
   moves_both (found f ∷ items) w x h =
       let k = moves_both items h.0 x h.2 in
       ((h.0.0, h.1.0, k.0), subst (λ t. Moves (gives keeps) t (given_rows items) x.1) (sym h.1.1) k.1)
   moves_both (given row ∷ items) w x h =
       let k = moves_both items h.0 x h.2 in
-      (subst (λ t. Moves takes t (findings items) x.0) (sym h.1.1) k.0, (h.0.1, h.1.0, k.1))
+      (subst (λ t. Moves takes t (findings_in items) x.0) (sym h.1.1) k.0, (h.0.1, h.1.0, k.1))
 
 module _ {S T : Type 0} (takes drops : S → Finding → S → Type 0) (keeps : T → SchemaRow → Taken → T → Type 0) (refuses : T → SchemaRow → T → Type 0) where
   -- findings alone, to the sink
@@ -102,18 +102,18 @@ module _ {S T : Type 0} (takes drops : S → Finding → S → Type 0) (keeps : 
   found_handed (Err OutOfMemory) fs s s' t quiet h = absurd (quiet refl)
   found_handed (Err WriteFailed) fs s s' t quiet h = found_stops fs s s' t h
 
-  some_both : (items : List Item) (w x : S × T) → MovesBySome (watches takes keeps) w items x → MovesBySome takes w.0 (findings items) x.0 × MovesBySome (gives keeps) w.1 (given_rows items) x.1
+  some_both : (items : List Item) (w x : S × T) → MovesBySome (watches takes keeps) w items x → MovesBySome takes w.0 (findings_in items) x.0 × MovesBySome (gives keeps) w.1 (given_rows items) x.1
   some_both [] w x e = (ap (λ p. p.0) e, ap (λ p. p.1) e)
   some_both (found f ∷ items) w x (inl e) = (inl (ap (λ p. p.0) e), subst (λ t. MovesBySome (gives keeps) w.1 (given_rows items) t) (ap (λ p. p.1) e) (some_none (gives keeps) w.1 (given_rows items)))
   some_both (found f ∷ items) w x (inr h) =
       let k = some_both items h.0 x h.2 in
       (inr (h.0.0, h.1.0, k.0), subst (λ t. MovesBySome (gives keeps) t (given_rows items) x.1) (sym h.1.1) k.1)
-  some_both (given row ∷ items) w x (inl e) = (subst (λ t. MovesBySome takes w.0 (findings items) t) (ap (λ p. p.0) e) (some_none takes w.0 (findings items)), inl (ap (λ p. p.1) e))
+  some_both (given row ∷ items) w x (inl e) = (subst (λ t. MovesBySome takes w.0 (findings_in items) t) (ap (λ p. p.0) e) (some_none takes w.0 (findings_in items)), inl (ap (λ p. p.1) e))
   some_both (given row ∷ items) w x (inr h) =
       let k = some_both items h.0 x h.2 in
-      (subst (λ t. MovesBySome takes t (findings items) x.0) (sym h.1.1) k.0, inr (h.0.1, h.1.0, k.1))
+      (subst (λ t. MovesBySome takes t (findings_in items) x.0) (sym h.1.1) k.0, inr (h.0.1, h.1.0, k.1))
 
-  write_both : (items : List Item) (w x : S × T) → Stops (watches takes keeps) (fails drops refuses WriteFailed) w items x → Stops takes drops w.0 (findings items) x.0 × MovesBySome (gives keeps) w.1 (given_rows items) x.1
+  write_both : (items : List Item) (w x : S × T) → Stops (watches takes keeps) (fails drops refuses WriteFailed) w items x → Stops takes drops w.0 (findings_in items) x.0 × MovesBySome (gives keeps) w.1 (given_rows items) x.1
   write_both [] w x h = absurd h
   write_both (found f ∷ items) w x (inl h) = (inl h.0, subst (λ t. MovesBySome (gives keeps) w.1 (given_rows items) t) h.1 (some_none (gives keeps) w.1 (given_rows items)))
   write_both (found f ∷ items) w x (inr h) =
@@ -122,21 +122,21 @@ module _ {S T : Type 0} (takes drops : S → Finding → S → Type 0) (keeps : 
   write_both (given row ∷ items) w x (inl h) = absurd h
   write_both (given row ∷ items) w x (inr h) =
       let k = write_both items h.0 x h.2 in
-      (subst (λ t. Stops takes drops t (findings items) x.0) (sym h.1.1) k.0, inr (h.0.1, h.1.0, k.1))
+      (subst (λ t. Stops takes drops t (findings_in items) x.0) (sym h.1.1) k.0, inr (h.0.1, h.1.0, k.1))
 
-  memory_both : (items : List Item) (w x : S × T) → Stops (watches takes keeps) (fails drops refuses OutOfMemory) w items x → MovesBySome takes w.0 (findings items) x.0 × Stops (gives keeps) refuses w.1 (given_rows items) x.1
+  memory_both : (items : List Item) (w x : S × T) → Stops (watches takes keeps) (fails drops refuses OutOfMemory) w items x → MovesBySome takes w.0 (findings_in items) x.0 × Stops (gives keeps) refuses w.1 (given_rows items) x.1
   memory_both [] w x h = absurd h
   memory_both (found f ∷ items) w x (inl h) = absurd h
   memory_both (found f ∷ items) w x (inr h) =
       let k = memory_both items h.0 x h.2 in
       (inr (h.0.0, h.1.0, k.0), subst (λ t. Stops (gives keeps) refuses t (given_rows items) x.1) (sym h.1.1) k.1)
-  memory_both (given row ∷ items) w x (inl h) = (subst (λ t. MovesBySome takes w.0 (findings items) t) h.1 (some_none takes w.0 (findings items)), inl h.0)
+  memory_both (given row ∷ items) w x (inl h) = (subst (λ t. MovesBySome takes w.0 (findings_in items) t) h.1 (some_none takes w.0 (findings_in items)), inl h.0)
   memory_both (given row ∷ items) w x (inr h) =
       let k = memory_both items h.0 x h.2 in
-      (subst (λ t. MovesBySome takes t (findings items) x.0) (sym h.1.1) k.0, inr (h.0.1, h.1.0, k.1))
+      (subst (λ t. MovesBySome takes t (findings_in items) x.0) (sym h.1.1) k.0, inr (h.0.1, h.1.0, k.1))
 
   pub handed_both : {A : Type 0} (r : Result A RunError) (items : List Item) (w x : S × T) → Handed (watches takes keeps) (fails drops refuses) r w items x
-      → Tells takes drops r w.0 (findings items) x.0 × Gives keeps refuses r w.1 (given_rows items) x.1
+      → Tells takes drops r w.0 (findings_in items) x.0 × Gives keeps refuses r w.1 (given_rows items) x.1
   handed_both (Ok a) items w x h = moves_both takes keeps items w x h
   handed_both (Err (Refused e)) items w x h = some_both items w x h
   handed_both (Err ReadFailed) items w x h = some_both items w x h

@@ -31,7 +31,7 @@ use Rattle.dbwalk.specs.Done.{IsDone}
 use Rattle.dbwalk.specs.LeafCells.{overflow_errands, late_told, top_after, AreBefore}
 use Rattle.dbmarks.specs.Marking.{AreMarksOf}
 use Rattle.dbwalk.specs.Telling.{IsReadOrWrite}
-use Rattle.dbwalk.specs.Taking.{HasRoom, place_of, TellsRow, HasFed, HoldsCell, FeedsPayload}
+use Rattle.dbwalk.specs.Taking.{HasRoom, row_place, TellsRow, HasFed, HoldsCell, FeedsPayload}
 use Rattle.dbwalk.specs.Underway.{IsAt, done_below}
 use Rattle.dbwalk.specs.Watching.{watches, fails, StopsAt, Handed}
 use Rattle.dbmarks.specs.declared.marks.Mark.{Mark}
@@ -158,7 +158,7 @@ module _ (file : List ℕ) (from : Walk) (c : Reference) (kind : TreeKind) (v : 
         by_ok (Err e) h = tt
 
     -- the row: by the sieve that took the payload
-    module _ (held : T → ℕ) (t t' : T) (place : RowPlace) (p : ℕ) (place_is : place ≡ place_of p i key) (page : c.page ≡ p) (e : Encoding) (coded : e ≡ encoding file) (r : Result (Unit {0}) RunError) (s s' : S) (new : Option RowSieve)
+    module _ (held : T → ℕ) (t t' : T) (place : RowPlace) (p : ℕ) (place_is : place ≡ row_place p i key) (page : c.page ≡ p) (e : Encoding) (coded : e ≡ encoding file) (r : Result (Unit {0}) RunError) (s s' : S) (new : Option RowSieve)
         (quiet : new ≡ None → (r ≡ Ok tt) × (s' ≡ s) × (t' ≡ t)) where
       abbrev Rows : List SchemaCell → Type 0
       Rows cells = Handed (watches takes keeps) (fails drops refuses) r (s, t) (row_items from.state.roots cells) (s', t')
@@ -187,7 +187,7 @@ module _ (file : List ℕ) (from : Walk) (c : Reference) (kind : TreeKind) (v : 
           by_cell (Some x) key_is h =
               let bytes : payload file (from.visits ++ visited_below file from.visits chain) c.address i x ≡ payload file m.visits c.address i x = ap (λ U. payload file U c.address i x) (sym visited) in
               let one : rows_of file m.visits c v (i, x) ≡ schema_cell file m.visits c (i, x) ∷ [] = rw (schema, leaf) refl in
-              let here : place ≡ place_of c.page i x.key = place_is ∙ ap (λ q. place_of q i key) (sym page) ∙ ap (place_of c.page i) key_is in
+              let here : place ≡ row_place c.page i x.key = place_is ∙ ap (λ q. row_place q i key) (sym page) ∙ ap (row_place c.page i) key_is in
               subst Rows (sym one) (row_handed takes drops keeps refuses held from.state.roots (schema_cell file m.visits c (i, x)) s s' t t' room r
               (subst (λ q. TellsRow takes drops keeps refuses (q, schema_row (payload file m.visits c.address i x) x.size (encoding file)) r (s, t) (s', t')) here
               (subst (λ e. TellsRow takes drops keeps refuses (place, schema_row (payload file m.visits c.address i x) x.size e) r (s, t) (s', t')) coded

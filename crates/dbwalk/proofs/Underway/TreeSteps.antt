@@ -24,7 +24,7 @@ use Rattle.dbwalk.specs.Walking.{errands_from, child_at, top_visit, left_over, I
 use Rattle.dbwalk.specs.Telling.{IsReadOrWrite}
 use Rattle.dbwalk.specs.Underway.{IsUnderway, HasDone, IsInterior, done_below, entered, IsAt, IsWalkingOn, tree_walk}
 use Rattle.dbwalk.specs.Watching.{StopsAt, watches, fails, Handed}
-use Rattle.dbwalk.specs.declared.steps.Frame.{Frame}
+use Rattle.dbwalk.specs.declared.steps.StackFrame.{StackFrame}
 use Rattle.dbmarks.specs.declared.marks.Mark.{Mark}
 use Rattle.dbwalk.specs.declared.state.Tree.{Tree}
 use Rattle.dbwalk.proofs.Trees.Stacking.{left-push, top-push, from_first}
@@ -41,15 +41,15 @@ use Rattle.dbwalk.proofs.Underway.Handing.{found_handed, no_memory, only_found}
 -- frames
 
 module _ (file : List ℕ) (kind : TreeKind) where
-  open_front : (c : Reference) (fs : List Frame) (f : Frame) → AreOpenFrames file kind c (fs ++ (f ∷ [])) → AreOpenFrames file kind c fs × IsOpenFrame file (top_visit file kind c fs) f
+  open_front : (c : Reference) (fs : List StackFrame) (f : StackFrame) → AreOpenFrames file kind c (fs ++ (f ∷ [])) → AreOpenFrames file kind c fs × IsOpenFrame file (top_visit file kind c fs) f
   open_front c [] f a = (tt, a.0)
   open_front c (g ∷ fs) f a = let k = open_front (child_at file kind c (g.next - 1)) fs f a.1 in ((a.0, k.0), k.1)
 
-  open_push : (c : Reference) (fs : List Frame) (f : Frame) → AreOpenFrames file kind c fs → IsOpenFrame file (top_visit file kind c fs) f → AreOpenFrames file kind c (fs ++ (f ∷ []))
+  open_push : (c : Reference) (fs : List StackFrame) (f : StackFrame) → AreOpenFrames file kind c fs → IsOpenFrame file (top_visit file kind c fs) f → AreOpenFrames file kind c (fs ++ (f ∷ []))
   open_push c [] f a e = (e, tt)
   open_push c (g ∷ fs) f a e = (a.0, open_push (child_at file kind c (g.next - 1)) fs f a.1 e)
 
-read_on : (file : List ℕ) (levels : List (List ℕ)) (f g : Frame) → g.page ≡ f.page → (level : ℕ) (hs : List Frame) → AreRead file levels level (hs ++ (f ∷ [])) → AreRead file levels level (hs ++ (g ∷ []))
+read_on : (file : List ℕ) (levels : List (List ℕ)) (f g : StackFrame) → g.page ≡ f.page → (level : ℕ) (hs : List StackFrame) → AreRead file levels level (hs ++ (f ∷ [])) → AreRead file levels level (hs ++ (g ∷ []))
 read_on file levels f g page level [] r = (r.0 ∙ ap (λ p. Some (page_bytes file p)) (sym page), tt)
 read_on file levels f g page level (h ∷ hs) r = (r.0, read_on file levels f g page (level + 1) hs r.1)
 
@@ -68,7 +68,7 @@ quiet_go d e (inl h) = cc
 quiet_go d e (inr h) = absurd h
 
 -- the same by another state of the tree, other buffers, and another name of the frames
-pub by_other : {P : Type 0} {moves : P → Item → P → Type 0} {file : List ℕ} {W : List Reference} {c : Reference} {before : P} {frames items : List Frame} {levels levels' : List (List ℕ)} {marks : List Mark} {tree tree' : Tree} {w : P}
+pub by_other : {P : Type 0} {moves : P → Item → P → Type 0} {file : List ℕ} {W : List Reference} {c : Reference} {before : P} {frames items : List StackFrame} {levels levels' : List (List ℕ)} {marks : List Mark} {tree tree' : Tree} {w : P}
     → IsWalkingOn moves file W c before (frames, levels) (marks, tree) w → items ≡ frames → tree'.kind ≡ tree.kind → tree'.greatest ≡ tree.greatest → tree'.leaf ≡ tree.leaf → ((n : ℕ) → n < length frames → slice_get levels' n ≡ slice_get levels n)
     → IsWalkingOn moves file W c before (items, levels') (marks, tree') w
 by_other {moves = moves} {file = file} {W = W} {c = c} {before = before} {frames = frames} {levels = levels} {levels' = levels'} {marks = marks} {tree' = tree'} {w = w} on are kinds tops leafs same =
@@ -82,7 +82,7 @@ by_other {moves = moves} {file = file} {W = W} {c = c} {before = before} {frames
       read = read_kept file levels levels' 0 frames (λ n l. same n (omega arith)) on.read;
     })
 
-module _ {P : Type 0} {moves : P → Item → P → Type 0} {file : List ℕ} {W : List Reference} {c : Reference} {before : P} {levels : List (List ℕ)} (fs : List Frame) (f : Frame) {marks : List Mark} {tree : Tree} {w : P}
+module _ {P : Type 0} {moves : P → Item → P → Type 0} {file : List ℕ} {W : List Reference} {c : Reference} {before : P} {levels : List (List ℕ)} (fs : List StackFrame) (f : StackFrame) {marks : List Mark} {tree : Tree} {w : P}
     (on : IsWalkingOn moves file W c before (fs ++ (f ∷ []), levels) (marks, tree) w) where
   abbrev pub top : Reference
   top = top_visit file tree.kind c fs
@@ -105,8 +105,8 @@ module _ {P : Type 0} {moves : P → Item → P → Type 0} {file : List ℕ} {W
   }
 
   -- one step on
-  module _ (g : Frame) (page : g.page ≡ f.page) (next : g.next ≡ suc f.next) (within : suc f.next ≤ 3 * count frames.1.view + 2) where
-    abbrev on_frames : List Frame
+  module _ (g : StackFrame) (page : g.page ≡ f.page) (next : g.next ≡ suc f.next) (within : suc f.next ≤ 3 * count frames.1.view + 2) where
+    abbrev on_frames : List StackFrame
     on_frames = fs ++ (g ∷ [])
 
     abbrev rest : List (Errand Way Event)
@@ -187,7 +187,7 @@ module _ {P : Type 0} {moves : P → Item → P → Type 0} {file : List ℕ} {W
         call_stopped x_error done = stop_call moves file (tree_walk file W c) before on.now (marks, tree) (marks', tree') w x stops x_error (Go d ∷ []) rest (first_errands (Go d ∷ []) e) (quiet_go d) done
 
         -- an interior child is entered, and gets a frame
-        pub on_enter : (n : ℕ) (h : Frame) (levels' : List (List ℕ)) → tree'.kind ≡ tree.kind → f.next ≡ child_step n → d ≡ child_at file tree.kind top f.next → h.page ≡ d.page → h.next ≡ 0 → length d.address - 1 ≡ length on_frames
+        pub on_enter : (n : ℕ) (h : StackFrame) (levels' : List (List ℕ)) → tree'.kind ≡ tree.kind → f.next ≡ child_step n → d ≡ child_at file tree.kind top f.next → h.page ≡ d.page → h.next ≡ 0 → length d.address - 1 ≡ length on_frames
             → ((level : ℕ) → level < length on_frames → slice_get levels' level ≡ slice_get levels level)
             → HasDone moves stops file (entered file on.now d (Ok true)) (Ok true) (marks', tree') w x → IsInterior file on.now d levels'
             → IsWalkingOn moves file W c before (on_frames ++ (h ∷ []), levels') (marks', tree') x

@@ -23,7 +23,7 @@ use Rattle.dbwalk.specs.Steps.{IsChainAt, IsChildAt, IsKeyAt, IsEmptyAt, no_chai
 use Rattle.dbwalk.specs.Underway.{IsAt, HasDone, IsEntered, done_below, entered, IsWalkingOn, HasTurned, tree_walk}
 use Rattle.dbwalk.specs.Watching.{StopsAt}
 use Rattle.dbwalk.specs.declared.chain.Chain.{Chain}
-use Rattle.dbwalk.specs.declared.steps.Frame.{Frame}
+use Rattle.dbwalk.specs.declared.steps.StackFrame.{StackFrame}
 use Rattle.dbmarks.specs.declared.marks.Mark.{Mark}
 use Rattle.dbwalk.specs.declared.state.Tree.{Tree}
 use Rattle.dbwalk.specs.declared.steps.Next.{Next}
@@ -39,7 +39,7 @@ use Rattle.dbwalk.proofs.Underway.CellSteps.{order_told_of}
 use Rattle.dbwalk.proofs.Underway.TreeSteps as steps
 use Rattle.dbwalk.proofs.Underway.TreeSteps.{by_other}
 
-module _ {P : Type 0} {moves : P → Item → P → Type 0} {file : List ℕ} {W : List Reference} {c : Reference} {before : P} {levels : List (List ℕ)} (fs : List Frame) (f : Frame) {marks : List Mark} {tree : Tree} {w : P}
+module _ {P : Type 0} {moves : P → Item → P → Type 0} {file : List ℕ} {W : List Reference} {c : Reference} {before : P} {levels : List (List ℕ)} (fs : List StackFrame) (f : StackFrame) {marks : List Mark} {tree : Tree} {w : P}
     (on : IsWalkingOn moves file W c before (fs ++ (f ∷ []), levels) (marks, tree) w) (candidate : IsCandidate tree.kind tree.start [] c.page 0 tree.start c) where
   abbrev pub top : Reference
   top = top_visit file tree.kind c fs
@@ -82,7 +82,7 @@ module _ {P : Type 0} {moves : P → Item → P → Type 0} {file : List ℕ} {W
     bytes = ap (slice_get levels) (path_length fs ∙ (let e : length fs ≡ 0 + length fs = omega arith in e)) ∙ read_last file levels 0 fs f on.read;
   }
 
-  module _ (g : Frame) (page : g.page ≡ f.page) (next : g.next ≡ suc f.next) where
+  module _ (g : StackFrame) (page : g.page ≡ f.page) (next : g.next ≡ suc f.next) where
     -- a step at which nothing is
     pub turned_empty : IsEmptyAt v f.next → IsWalkingOn moves file W c before (fs ++ (g ∷ []), levels) (marks, tree) w
     turned_empty h = by_case h
@@ -164,7 +164,7 @@ module _ {P : Type 0} {moves : P → Item → P → Type 0} {file : List ℕ} {W
       chain_next = steps.next_is fs f on g page next within_chain chained chain_errand
 
       -- a call walks along it: the walk goes on after it, or not all of it could be done
-      module _ (stops : RunError → P → Item → P → Type 0) (marks' : List Mark) (x : P) {items : List Frame} {levels' : List (List ℕ)} (are : items ≡ fs ++ (g ∷ [])) (same : levels' ≡ levels) where
+      module _ (stops : RunError → P → Item → P → Type 0) (marks' : List Mark) (x : P) {items : List StackFrame} {levels' : List (List ℕ)} (are : items ≡ fs ++ (g ∷ [])) (same : levels' ≡ levels) where
         pub turned_chain : (r : Result (Unit {0}) RunError) → HasDone moves stops file (done_below file on.now (Go chained ∷ [])) r (marks', tree) w x → HasTurned moves stops file (W, c, before) r (items, levels') (marks', tree) x
         turned_chain (Ok a) done = (by_other (steps.on_call fs f on g page next within_chain chained chain_errand stops marks' tree x a refl done) are refl refl refl (λ n l. ap (λ ls. slice_get ls n) same), tt)
         turned_chain (Err e) done = (tt, steps.call_stopped fs f on g page next within_chain chained chain_errand stops marks' tree x e done)
@@ -216,7 +216,7 @@ module _ {P : Type 0} {moves : P → Item → P → Type 0} {file : List ℕ} {W
         child_stopped e done = steps.call_stopped fs f on g page next within_child d child_errand stops marks' tree' x e done
 
         -- it is an undamaged interior page
-        pub child_entered : {levels' : List (List ℕ)} (frame : Frame) → frame.page ≡ number → frame.next ≡ 0 → ((n : ℕ) → n < length (fs ++ (g ∷ [])) → slice_get levels' n ≡ slice_get levels n)
+        pub child_entered : {levels' : List (List ℕ)} (frame : StackFrame) → frame.page ≡ number → frame.next ≡ 0 → ((n : ℕ) → n < length (fs ++ (g ∷ [])) → slice_get levels' n ≡ slice_get levels n)
             → {yes : Bool} → yes ≡ true → Entered stops levels' (marks', tree') x (Ok yes) → IsWalkingOn moves file W c before ((fs ++ (g ∷ [])) ++ (frame ∷ []), levels') (marks', tree') x
         child_entered {levels' = levels'} frame pages start kept is done =
             let e = child_is.depth in

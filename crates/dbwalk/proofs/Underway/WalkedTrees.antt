@@ -30,7 +30,7 @@ use Rattle.dbwalk.specs.Taking.{Gives, readable_rows}
 use Rattle.dbwalk.specs.Underway.{IsAt, HasDone, IsUnderway, IsEntered, entered, IsWalkingOn, tree_walk}
 use Rattle.dbwalk.specs.Done.{IsTreeDone}
 use Rattle.dbwalk.specs.Watching.{watches, fails, Handed}
-use Rattle.dbwalk.specs.declared.steps.Frame.{Frame}
+use Rattle.dbwalk.specs.declared.steps.StackFrame.{StackFrame}
 use Rattle.dbmarks.specs.declared.marks.Mark.{Mark}
 use Rattle.dbwalk.specs.declared.state.Tree.{Tree}
 use Rattle.dbwalk.specs.declared.taker.Taken.{Taken}
@@ -126,7 +126,7 @@ module _ {S T : Type 0} (takes drops : S → Finding → S → Type 0) (keeps : 
 
 module _ {P : Type 0} {moves : P → Item → P → Type 0} {stops : RunError → P → Item → P → Type 0} {file : List ℕ} (W : List Reference) (c : Reference) {w : P} where
   -- the root is an undamaged interior page: the first frame
-  pub tree_started : {levels : List (List ℕ)} {marks : List Mark} {tree : Tree} {x : P} {items : List Frame} (f : Frame) → items ≡ f ∷ [] → f.page ≡ c.page → f.next ≡ 0 → IsNext W c → tree_kind (role_of c) ≡ Some tree.kind → length c.address ≡ 1
+  pub tree_started : {levels : List (List ℕ)} {marks : List Mark} {tree : Tree} {x : P} {items : List StackFrame} (f : StackFrame) → items ≡ f ∷ [] → f.page ≡ c.page → f.next ≡ 0 → IsNext W c → tree_kind (role_of c) ≡ Some tree.kind → length c.address ≡ 1
       → {yes : Bool} → yes ≡ true → HasDone moves stops file (entered file (begin W) c (Ok yes)) (Ok yes) (marks, tree) w x × IsEntered file (begin W) c (Ok yes) levels → IsWalkingOn moves file W c w (items, levels) (marks, tree) x
   tree_started {levels = levels} {marks = marks} {tree = tree} {x = x} f are page start next role one is entry =
       let first = subst (λ y. HasDone moves stops file (entered file (begin W) c (Ok y)) (Ok y) (marks, tree) w x × IsEntered file (begin W) c (Ok y) levels) is entry in
@@ -147,7 +147,7 @@ module _ {P : Type 0} {moves : P → Item → P → Type 0} {stops : RunError �
       })
 
   -- no frame is left
-  pub tree_ended : {levels : List (List ℕ)} {marks : List Mark} {tree : Tree} {frames : List Frame} {x : P} → frames ≡ [] → IsWalkingOn moves file W c w (frames, levels) (marks, tree) x
+  pub tree_ended : {levels : List (List ℕ)} {marks : List Mark} {tree : Tree} {frames : List StackFrame} {x : P} → frames ≡ [] → IsWalkingOn moves file W c w (frames, levels) (marks, tree) x
       → HasDone {A = Unit {0}} moves stops file (tree_walk file W c) (Ok tt) (marks, tree) w x
   tree_ended {marks = marks} {tree = tree} {x = x} empty on = under_end moves stops file (tree_walk file W c) w tt on.now (marks, tree) x
       (subst (λ l. IsUnderway moves file (tree_walk file W c) w on.now (left_over file tree.kind c l) (marks, tree) x) empty on.under)

@@ -3,7 +3,7 @@ use Rattle.dbformat.specs.File.{geometry}
 use Rattle.dbformat.specs.FixedPages.{most_pages}
 use Rattle.dbmarks.proofs.Markings.{marks_of-length}
 use Rattle.dbformat.specs.Starts.{start_at}
-use Rattle.dbexplain.specs.Tallies.{Tallied, HasRoom, IsTallyTo}
+use Rattle.dbexplain.specs.Tallies.{Tallied, HasPageBit, IsTallyTo}
 use Rattle.dbexplain.proofs.ReachedPages.{page_more, room_before, same_words}
 use Rattle.dbexplain.proofs.reached.count_pages.Goals as goal
 
@@ -18,8 +18,8 @@ loop-index-preserved g c = record {
       let less : i < length c.args.marks.now = omega (arith, c.loop-index-test.true, c.pages-index-end.ensures.count) in
       let few : i < most_pages = omega (arith, c.loop-index-test.true, c.pages-index-end.ensures.most) in
       let within : i + 1 ≤ (geometry file).pages = omega (arith, all, less) in
-      let here : HasRoom c.loop-index.tally.pages (i + 1) = room_before c.loop-index.tally.pages (i + 1) (geometry file).pages
-      (subst (λ words. HasRoom words (geometry file).pages) (sym at.1) room) within in (
+      let here : HasPageBit c.loop-index.tally.pages (i + 1) = room_before c.loop-index.tally.pages (i + 1) (geometry file).pages
+      (subst (λ words. HasPageBit words (geometry file).pages) (sym at.1) room) within in (
         subst (IsTallyTo V ts (i + 1)) (sym new) (page_more V ts i few c.loop-index.tally at.0 here),
         ap (λ (t : Tallied). t.pages) new ∙ same_words (start_at V (i + 1)) (i + 1) c.loop-index.tally ∙ at.1,
       ));

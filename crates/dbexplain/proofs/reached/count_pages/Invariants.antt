@@ -5,12 +5,12 @@ use Rattle.dbformat.specs.Survey.{Survey}
 use Rattle.dbtrace.specs.declared.Reported.{Reported}
 use Rattle.dbmarks.specs.Marking.{AreMarksOf}
 use Rattle.dbowner.specs.Climbs.{AreTrees}
-use Rattle.dbexplain.specs.Tallies.{HasRoom, IsTallyOf, IsTallyTo}
+use Rattle.dbexplain.specs.Tallies.{HasPageBit, IsTallyOf, IsTallyTo}
 use Rattle.dbexplain.proofs.reached.count_pages.Given as goal
 
 abbrev pub invariant-loop-index : goal.invariant-loop-index
 invariant-loop-index g l = record {
   trees : (file : List ℕ) (V : List Reference) → Survey file V → AreMarksOf file V l.marks → AreTrees file V l.fn.trees.known → AreTrees file V l.trees.known;
   tally : (file : List ℕ) (V : List Reference) (ts : List Reported) → Survey file V → AreMarksOf file V l.marks → AreTrees file V l.fn.trees.known
-      → IsTallyOf ts l.fn.tally → HasRoom l.fn.tally.pages (geometry file).pages → IsTallyTo V ts l.index l.tally × (l.tally.pages ≡ l.fn.tally.pages);
+      → IsTallyOf ts l.fn.tally → HasPageBit l.fn.tally.pages (geometry file).pages → IsTallyTo V ts l.index l.tally × (l.tally.pages ≡ l.fn.tally.pages);
 }

@@ -8,10 +8,10 @@ use Rattle.dbsource.proofs.Puts.{puts_then, puts_stop}
 use Rattle.dbentries.specs.Kept.{kept_of}
 use Rattle.dbentries.specs.Listing.{size}
 use Rattle.dbscan.specs.Placed.{told_faults}
-use Rattle.dblisting.specs.Listed.{listed}
+use Rattle.dblisting.specs.Listed.{listed_entries}
 use Rattle.dbexplain.specs.Explained.{entry_text}
 use Rattle.dbexplain.specs.Summary.{summary}
-use Rattle.dbexplain.specs.Tallies.{HasRoom, IsTallyOf, Tallied}
+use Rattle.dbexplain.specs.Tallies.{HasPageBit, IsTallyOf, Tallied}
 use Rattle.dbexplain.proofs.Causes.{put_by}
 use Rattle.dbexplain.proofs.Desks.{of_desk}
 use Rattle.dbexplain.proofs.Reports.{report_text, rest_line}
@@ -21,7 +21,7 @@ pub returns-in_err-put_entries-clause-report : goal.returns-in_err-put_entries-c
 returns-in_err-put_entries-clause-report g c = λ file V d all some.
     let held = g.O.Out.held in
     let limit = c.args.kept.now.entries.limit in
-    let es = listed file V in
+    let es = listed_entries file V in
     let first = flat_map (entry_text file V) (take limit es) in
     let rest = more_text (sum_by size (drop limit es)) in
     let last = summary file V (told_faults file V) in
@@ -39,7 +39,7 @@ pub returns-in_err-put_rest-clause-report : goal.returns-in_err-put_rest-clause-
 returns-in_err-put_rest-clause-report g c = λ file V d all some.
     let held = g.O.Out.held in
     let limit = c.args.kept.now.entries.limit in
-    let es = listed file V in
+    let es = listed_entries file V in
     let first = flat_map (entry_text file V) (take limit es) in
     let rest = more_text (sum_by size (drop limit es)) in
     let last = summary file V (told_faults file V) in
@@ -60,7 +60,7 @@ pub returns-clause-report : goal.returns-clause-report
 returns-clause-report g c = λ file V d all some.
     let held = g.O.Out.held in
     let limit = c.args.kept.now.entries.limit in
-    let es = listed file V in
+    let es = listed_entries file V in
     let first = flat_map (entry_text file V) (take limit es) in
     let rest = more_text (sum_by size (drop limit es)) in
     let last = summary file V (told_faults file V) in
@@ -75,7 +75,7 @@ returns-clause-report g c = λ file V d all some.
     let r = c.put_summary.result in
     let end = put_by r (held c.put_rest.new.out) (held c.put_summary.new.out) last
     (c.put_summary.ensures.lines file V is (c.put_entries.ensures.trees file V is known)
-    (subst (λ (t : Tallied). HasRoom t.pages (geometry file).pages) (sym c.make_ready.ensures.tally) all.bits)
+    (subst (λ (t : Tallied). HasPageBit t.pages (geometry file).pages) (sym c.make_ready.ensures.tally) all.bits)
     (subst (IsTallyOf (told_faults file V)) (sym c.make_ready.ensures.tally) all.tally)) c.put_summary.ensures.count in
     subst (Writes r (held c.args.out.now).bytes (held c.put_summary.new.out).bytes) (report_text limit file V some)
     (puts_then r first (rest ++ last) c.in_ok-put_entries.was put (puts_then r rest last c.in_ok-put_rest.was puts end)).held

@@ -5,7 +5,7 @@ use Rattle.std.proofs.lemmas.Result.{err_from_is_err_and}
 use Rattle.dbformat.specs.Lines.{line_feed}
 use Rattle.dbsource.specs.Outs.{Puts}
 use Rattle.dbsource.proofs.Puts.{puts_then, puts_stop}
-use Rattle.dbexplain.specs.Summary.{pages_text, start_name}
+use Rattle.dbexplain.specs.Summary.{faulty_pages_text, start_name}
 use Rattle.dbexplain.specs.Sums.{sum_front}
 use Rattle.dbexplain.proofs.SumPieces.{start_pieces}
 use Rattle.dbexplain.proofs.starts.put_start_sum.Goals as goal
@@ -15,7 +15,7 @@ returns-in_err-put g c =
     let n = c.args.count.now in
     let name = start_name c.args.names.now.encoding c.args.names.now.roots.now.rows c.args.start in
     let front = sum_front c.args.all n.faults ++ codes "in " in
-    let rest = name ++ (pages_text n.faulty n.reached ++ line_feed ∷ []) in
+    let rest = name ++ (faulty_pages_text n.faulty n.reached ++ line_feed ∷ []) in
     let some : (n.faults == 0) ≡ false = grind (arith, nat_tests, c.if-count-eq0.false) in
     let p = err_from_is_err_and c.from_residual.result c.from_residual.ensures.1 in
     let first : Puts c.put.result (g.O.Out.held c.args.out.now) (g.O.Out.held c.put.new.self) front =
@@ -28,7 +28,7 @@ returns-in_err-put_name g c =
     let n = c.args.count.now in
     let name = start_name c.args.names.now.encoding c.args.names.now.roots.now.rows c.args.start in
     let front = sum_front c.args.all n.faults ++ codes "in " in
-    let last = pages_text n.faulty n.reached ++ line_feed ∷ [] in
+    let last = faulty_pages_text n.faulty n.reached ++ line_feed ∷ [] in
     let some : (n.faults == 0) ≡ false = grind (arith, nat_tests, c.if-count-eq0.false) in
     let r = c.from_residual-in_err-put_name.result in
     let p = err_from_is_err_and r c.from_residual-in_err-put_name.ensures.1 in
@@ -42,7 +42,7 @@ returns g c =
     let n = c.args.count.now in
     let name = start_name c.args.names.now.encoding c.args.names.now.roots.now.rows c.args.start in
     let front = sum_front c.args.all n.faults ++ codes "in " in
-    let last = pages_text n.faulty n.reached ++ line_feed ∷ [] in
+    let last = faulty_pages_text n.faulty n.reached ++ line_feed ∷ [] in
     let some : (n.faults == 0) ≡ false = grind (arith, nat_tests, c.if-count-eq0.false) in
     let r = c.put-2.result in
     let first : Puts c.put.result (g.O.Out.held c.args.out.now) (g.O.Out.held c.put.new.self) front =

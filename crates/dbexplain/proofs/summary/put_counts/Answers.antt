@@ -6,7 +6,7 @@ use Rattle.dbformat.specs.Address.{freelist_start}
 use Rattle.dbsource.specs.Outs.{Puts}
 use Rattle.dbsource.proofs.Puts.{puts_then, puts_stop}
 use Rattle.dbexplain.specs.Summary.{count_text, start_name, sum_line, trees_text}
-use Rattle.dbexplain.specs.Sums.{code_sum, freelist_count, numbered_sum, start_sum, tree_counts, without_fault}
+use Rattle.dbexplain.specs.Sums.{code_sum, freelist_start_count, numbered_sum, start_sum, tree_counts, without_fault}
 use Rattle.dbexplain.proofs.summary.put_counts.Goals as goal
 
 pub returns-in_err-put_count : goal.returns-in_err-put_count
@@ -17,7 +17,7 @@ returns-in_err-put_count g c =
     let first = count_text t.all in
     let by_code = flat_map (code_sum t.all) t.codes in
     let by_tree = flat_map (numbered_sum t.all name) (enumerate_from 0 (tree_counts rows t)) in
-    let free = start_sum t.all (name freelist_start) (freelist_count t) in
+    let free = start_sum t.all (name freelist_start) (freelist_start_count t) in
     let whole = sum_line t.all t.whole (codes "in the whole file") in
     let last = trees_text (without_fault (tree_counts rows t)) (length (tree_counts rows t)) in
     let put_first : Puts c.put_count.result (g.O.Out.held c.args.out.now) (g.O.Out.held c.put_count.new.out) first =
@@ -34,7 +34,7 @@ returns-in_err-put_code_sums g c =
     let first = count_text t.all in
     let by_code = flat_map (code_sum t.all) t.codes in
     let by_tree = flat_map (numbered_sum t.all name) (enumerate_from 0 (tree_counts rows t)) in
-    let free = start_sum t.all (name freelist_start) (freelist_count t) in
+    let free = start_sum t.all (name freelist_start) (freelist_start_count t) in
     let whole = sum_line t.all t.whole (codes "in the whole file") in
     let last = trees_text (without_fault (tree_counts rows t)) (length (tree_counts rows t)) in
     let put_first : Puts c.put_count.result (g.O.Out.held c.args.out.now) (g.O.Out.held c.put_count.new.out) first =
@@ -54,7 +54,7 @@ returns-in_err-put_start_sums g c =
     let first = count_text t.all in
     let by_code = flat_map (code_sum t.all) t.codes in
     let by_tree = flat_map (numbered_sum t.all name) (enumerate_from 0 (tree_counts rows t)) in
-    let free = start_sum t.all (name freelist_start) (freelist_count t) in
+    let free = start_sum t.all (name freelist_start) (freelist_start_count t) in
     let whole = sum_line t.all t.whole (codes "in the whole file") in
     let last = trees_text (without_fault (tree_counts rows t)) (length (tree_counts rows t)) in
     let trees : c.trees-trees.result.now ≡ tree_counts rows t = c.trees-trees.ensures.counts ∙ ap (λ n. take (suc n) t.starts) c.len.ensures.count in
@@ -78,7 +78,7 @@ returns-in_err-put_start_sum g c =
     let first = count_text t.all in
     let by_code = flat_map (code_sum t.all) t.codes in
     let by_tree = flat_map (numbered_sum t.all name) (enumerate_from 0 (tree_counts rows t)) in
-    let free = start_sum t.all (name freelist_start) (freelist_count t) in
+    let free = start_sum t.all (name freelist_start) (freelist_start_count t) in
     let whole = sum_line t.all t.whole (codes "in the whole file") in
     let last = trees_text (without_fault (tree_counts rows t)) (length (tree_counts rows t)) in
     let trees : c.trees-trees.result.now ≡ tree_counts rows t = c.trees-trees.ensures.counts ∙ ap (λ n. take (suc n) t.starts) c.len.ensures.count in
@@ -105,7 +105,7 @@ returns-in_err-put_sum g c =
     let first = count_text t.all in
     let by_code = flat_map (code_sum t.all) t.codes in
     let by_tree = flat_map (numbered_sum t.all name) (enumerate_from 0 (tree_counts rows t)) in
-    let free = start_sum t.all (name freelist_start) (freelist_count t) in
+    let free = start_sum t.all (name freelist_start) (freelist_start_count t) in
     let whole = sum_line t.all t.whole (codes "in the whole file") in
     let last = trees_text (without_fault (tree_counts rows t)) (length (tree_counts rows t)) in
     let trees : c.trees-trees.result.now ≡ tree_counts rows t = c.trees-trees.ensures.counts ∙ ap (λ n. take (suc n) t.starts) c.len.ensures.count in
@@ -135,7 +135,7 @@ returns g c =
     let first = count_text t.all in
     let by_code = flat_map (code_sum t.all) t.codes in
     let by_tree = flat_map (numbered_sum t.all name) (enumerate_from 0 (tree_counts rows t)) in
-    let free = start_sum t.all (name freelist_start) (freelist_count t) in
+    let free = start_sum t.all (name freelist_start) (freelist_start_count t) in
     let whole = sum_line t.all t.whole (codes "in the whole file") in
     let last = trees_text (without_fault (tree_counts rows t)) (length (tree_counts rows t)) in
     let trees : c.trees-trees.result.now ≡ tree_counts rows t = c.trees-trees.ensures.counts ∙ ap (λ n. take (suc n) t.starts) c.len.ensures.count in

@@ -1,9 +1,9 @@
-use Rattle.dbmap.specs.Legends.{missing_line}
+use Rattle.dbmap.specs.Legends.{missing_legend_line}
 use Rattle.dbmap.proofs.Drawing.{draws_then}
 use Rattle.dbmap.proofs.legend.draw_some_missing.Goals as goal
 
 pub returns : goal.returns
-unfolding missing_line
+unfolding missing_legend_line
 returns g c =
     let box = rw c.saturating_sub.ensures at c.draw_box.ensures in
     let share = rw c.no_overflow.ensures at c.draw_share.ensures in

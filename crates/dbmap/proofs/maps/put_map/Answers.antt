@@ -13,13 +13,13 @@ use Rattle.dbformat.specs.FixedPages.{geometry_of}
 use Rattle.dbformat.specs.Header.{encoding}
 use Rattle.dbxml.specs.Names.{tree_name}
 use Rattle.dbmap.specs.Drawings.{stated_of}
-use Rattle.dbmap.specs.KeptFaults.{HasRoom}
+use Rattle.dbmap.specs.KeptFaults.{HasTreeRoom}
 use Rattle.dbmap.specs.Grids.{IsLeastRun}
 use Rattle.dbmap.specs.LegendLines.{legend_lines}
-use Rattle.dbmap.specs.Owners.{IsOf, starts_of}
+use Rattle.dbmap.specs.Owners.{IsOf, tree_starts}
 use Rattle.dbmap.specs.PageSets.{has_page, is_noted, shown_codes}
 use Rattle.dbmap.specs.declared.page_set.PageSet.{PageSet}
-use Rattle.dbmap.specs.declared.tally.Tree.{Tree}
+use Rattle.dbmap.specs.declared.tally.RankedTree.{RankedTree}
 use Rattle.dbmap.specs.declared.walk.Walk.{Walk}
 use Rattle.dbmap.proofs.LegendLines.{legend_is}
 use Rattle.dbmap.proofs.Tallying.{largest_of}
@@ -30,7 +30,7 @@ pub returns : goal.returns
 returns g c =
     let drawn = c.draw_picture.ensures.draws in
     let same = drawn.same_out in
-    let begun = λ (file : List ℕ) (V : List Reference) (d : IsDeskOf c.args.desk.now file V) (room : HasRoom (shape_of c.args.desk.now).pages c.args.kept.now.walk.trees.known). (
+    let begun = λ (file : List ℕ) (V : List Reference) (d : IsDeskOf c.args.desk.now file V) (room : HasTreeRoom (shape_of c.args.desk.now).pages c.args.kept.now.walk.trees.known). (
     let marked = c.marks.ensures ∙ d.marks in
     let all : length c.marks.result.now ≡ (geometry file).pages = ap length marked ∙ marks_of-length (geometry file) V in
     let shape = ap (λ (g : Geometry). g.pages) d.header.shape in
@@ -40,7 +40,7 @@ returns g c =
       marks = c.marks-2.ensures ∙ d.marks;
       trees = c.begin.ensures.trees file V d.survey marked (ap (λ (l : Listed). l.rows) c.roots.ensures ∙ d.rows) (omega (arith, all, room, shape, same));
     } in is) in
-    let known = λ (file : List ℕ) (V : List Reference) (d : IsDeskOf c.args.desk.now file V) (room : HasRoom (shape_of c.args.desk.now).pages c.args.kept.now.walk.trees.known). (
+    let known = λ (file : List ℕ) (V : List Reference) (d : IsDeskOf c.args.desk.now file V) (room : HasTreeRoom (shape_of c.args.desk.now).pages c.args.kept.now.walk.trees.known). (
     let of = c.count.ensures.trees file V (begun file V d room) in
     let is : IsOf c.marks-3.result.now c.count.new.trees.known file V = record { survey = d.survey; marks = c.marks-3.ensures ∙ d.marks; trees = of.trees } in is) in
     let k : c.out-1.given.0 ≡ c.draw_picture.new.canvas.out.now = search (rules, same) in
@@ -53,7 +53,7 @@ returns g c =
         shape = geometry_of c.header-3.result.now.bytes c.header-3.result.now.file_len;
         marks = c.marks-3.result.now;
         faults = record { has = has_page c.note_listed.new.self.faulty; codes = shown_codes c.note_listed.new.self.faulty; strong = has_page c.note_listed.new.self.strong };
-        owners = record { start = λ p. None; largest = starts_of c.largest-largest.result.items };
+        owners = record { start = λ p. None; largest = tree_starts c.largest-largest.result.items };
       };
       all = c.draw_picture.ensures.all;
       lines = c.new-legend.result.lines.items;
@@ -69,10 +69,10 @@ returns g c =
         marks = c.marks-3.ensures;
         shape = ap (λ (h : HeaderBytes). geometry_of h.bytes h.file_len) c.header-3.ensures.value;
         tree = ap₂ tree_name (c.encoding.ensures ∙ ap (λ (h : HeaderBytes). encoding h.bytes) c.header.ensures.value) (ap (λ (l : Listed). l.rows) c.roots-2.ensures);
-        names = c.new-2.ensures ∙ ap (λ (ts : List Tree). map (tree_name c.encoding.result c.roots-2.result.now.rows) (starts_of ts)) c.as_slice.ensures.value;
+        names = c.new-2.ensures ∙ ap (λ (ts : List RankedTree). map (tree_name c.encoding.result c.roots-2.result.now.rows) (tree_starts ts)) c.as_slice.ensures.value;
         many = c.draw_picture.ensures.many;
         are = λ file V d room. c.draw_picture.ensures.are file V (known file V d room);
-        largest = λ file V d room. largest_of file V c.count.new.self (starts_of c.largest-largest.result.items) (c.count.ensures.tally file V (begun file V d room)) c.largest-largest.ensures.largest;
+        largest = λ file V d room. largest_of file V c.count.new.self (tree_starts c.largest-largest.result.items) (c.count.ensures.tally file V (begun file V d room)) c.largest-largest.ensures.largest;
         faulty = record {
           has = λ p. ap (λ (s : PageSet _). has_page s p) c.note_listed.ensures.faulty;
           codes = λ p. ap (λ (s : PageSet _). shown_codes s p) c.note_listed.ensures.faulty;
@@ -81,9 +81,9 @@ returns g c =
       };
       legend = λ file V d room.
           (rw c.as_slice-2.ensures.value at c.new-legend.ensures)
-          ∙ legend_is file V c.count.new.self c.new-2.result.names.items c.roots-2.result.now.rows (starts_of c.largest-largest.result.items) c.count-2.result
+          ∙ legend_is file V c.count.new.self c.new-2.result.names.items c.roots-2.result.now.rows (tree_starts c.largest-largest.result.items) c.count-2.result
           (c.count.ensures.tally file V (begun file V d room)) c.largest-largest.ensures.largest (ap (λ (l : Listed). l.rows) c.roots-2.ensures ∙ d.rows)
-          ∙ ap (legend_lines file V c.new-2.result.names.items (starts_of c.largest-largest.result.items))
+          ∙ ap (legend_lines file V c.new-2.result.names.items (tree_starts c.largest-largest.result.items))
           (c.count-2.ensures ∙ ap (λ (s : PageSet _). min (count_by is_noted s.noted.items) 4294967295) c.note_listed.ensures.faulty);
       puts = rw k (put_drawn c.end.result _ _ _ _ _ c.new-canvas.ensures.fresh c.end.ensures (rw (ap g.O.Out.held c.new-canvas.ensures.out) at drawn.drawn));
     }

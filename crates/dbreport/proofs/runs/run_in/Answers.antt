@@ -1,7 +1,7 @@
 use Rattle.std.proofs.lemmas.Result.{err_from_is_err_and}
 use Rattle.dbformat.specs.Log.{IsSomeRunLog}
 use Rattle.dbsource.proofs.Runs.{of_told, read_weaker}
-use Rattle.dbreport.specs.StatSink.{failures_of_each}
+use Rattle.dbreport.specs.StatReporter.{failures_of_each}
 use Rattle.dbreport.proofs.Openings.{no_failure, no_failures, nothing_read, run_failures, run_read}
 use Rattle.dbreport.proofs.RunAnswers.{IsSoundAnswer, none_of, read_refused, read_unwritten, refused_unwritten}
 use Rattle.dbreport.proofs.runs.run_in.Goals as goal

@@ -11,7 +11,7 @@ use Rattle.dbsource.specs.Bench.{Pages}
 use Rattle.dbsource.proofs.Logs.{has_weaker}
 use Rattle.dbmarks.specs.EndMarks.{mark_fault, late_fault}
 use Rattle.dbwalk.specs.Telling.{Tells}
-use Rattle.dbscan.specs.EndPass.{is_fixed_mark, page_items}
+use Rattle.dbscan.specs.EndPass.{is_fixed_mark, page_notices}
 use Rattle.dbmarks.specs.EndMarks.{entry_value}
 use Rattle.dbscan.specs.MapReads.{HasMapFor, IsMapInUse}
 use Rattle.dbscan.proofs.EndItems.{fixed_items, other_items}
@@ -29,7 +29,7 @@ returns-in_err-load-clause-asks g c =
     let level = c.in_err-load.ensures.level in
     rw q.1 (rw q.2 (record {
       log = has_weaker _ _ (log_load size c.args.page level.bytes (Err c.in_err-load.field-0.0) c.in_err-load.ensures.told level.size level.holds) (λ log l. inr (l, used))
-          (λ file bytes mark m e ok same chain. (moves_none g.K.Reporter.hears c.args.sink.now (page_items file c.args.least_other c.args.page mark), tt));
+          (λ file bytes mark m e ok same chain. (moves_none g.K.Reporter.hears c.args.sink.now (page_notices file c.args.least_other c.args.page mark), tt));
       count = c.in_err-load.ensures.count;
     }))
 

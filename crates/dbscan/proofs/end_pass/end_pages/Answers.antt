@@ -10,7 +10,7 @@ use Rattle.dbwalk.specs.Telling.{StopsBy}
 use Rattle.dbmarks.specs.Marking.{mark_of, page_mark}
 use Rattle.dbmarks.proofs.Markings.{page_mark-in, marks_of-length}
 use Rattle.dbwalk.proofs.Telling.Belows.{stops_by_first, stops_by_after}
-use Rattle.dbscan.specs.EndPass.{page_items, pages_items}
+use Rattle.dbscan.specs.EndPass.{page_notices, pages_items}
 use Rattle.dbscan.specs.MapReads.{IsMapInUse, IsMapTurn, MapReadsBefore}
 use Rattle.dbscan.proofs.EndItems.{items_one_more, items_begin, fixed_by_mark}
 use Rattle.dbscan.proofs.MapLogs.{reads_none, reads_more}
@@ -39,7 +39,7 @@ returns-in_err-end_page-clause-asks g c =
     let mark = mark_of (geometry file) V (i + 1) in
     let at = ap (λ l. page_mark l (i + 1)) m ∙ page_mark-in (geometry file) V (i + 1) (omega arith) (omega arith) in
     let t = turn mark at (same ∙ e) ok (fixed_by_mark (geometry file) V (i + 1)) k.1 in
-    let some = stops_by_after g.K.Reporter.hears g.K.Reporter.cuts c.in_err-end_page.field-0.0 c.args.sink.now c.loop-index.sink c.end_page.new.sink (pages_items file V c.args.least_other i) (page_items file c.args.least_other (i + 1) mark) k.0 t.0 in
+    let some = stops_by_after g.K.Reporter.hears g.K.Reporter.cuts c.in_err-end_page.field-0.0 c.args.sink.now c.loop-index.sink c.end_page.new.sink (pages_items file V c.args.least_other i) (page_notices file c.args.least_other (i + 1) mark) k.0 t.0 in
     let more = subst (λ l. StopsBy g.K.Reporter.hears g.K.Reporter.cuts c.in_err-end_page.field-0.0 c.args.sink.now l c.end_page.new.sink) (sym (items_one_more file V c.args.least_other i)) some in
     let rest = items_begin file V c.args.least_other (i + 1) (geometry file).pages (omega arith) in
     subst (λ l. StopsBy g.K.Reporter.hears g.K.Reporter.cuts c.in_err-end_page.field-0.0 c.args.sink.now l c.end_page.new.sink) rest.1
@@ -61,7 +61,7 @@ loop-index-preserved g c =
           let at = ap (λ l. page_mark l (i + 1)) m ∙ page_mark-in (geometry file) V (i + 1) (omega arith) (omega arith) in
           let t = turn mark at (same ∙ e) ok (fixed_by_mark (geometry file) V (i + 1)) k.1 in (
             subst (λ l. Moves g.K.Reporter.hears c.args.sink.now l c.end_page.new.sink) (sym (items_one_more file V c.args.least_other i))
-                (Moves-append g.K.Reporter.hears c.args.sink.now c.loop-index.sink c.end_page.new.sink (pages_items file V c.args.least_other i) (page_items file c.args.least_other (i + 1) mark) k.0 t.0),
+                (Moves-append g.K.Reporter.hears c.args.sink.now c.loop-index.sink c.end_page.new.sink (pages_items file V c.args.least_other i) (page_notices file c.args.least_other (i + 1) mark) k.0 t.0),
             t.1,
           ));
       writes = c.in_ok-end_page.ensures.writes ∙ c.loop-index.invariant.writes;

@@ -13,7 +13,7 @@ use Rattle.dbscan.specs.Desks.{Things, things}
 use Rattle.dbscan.specs.Roots.{Listed}
 use Rattle.dbwalk.specs.Roots.{IsRootAfter}
 use Rattle.dbscan.specs.Starts.{root_of}
-use Rattle.dbscan.specs.Walks.{IsTelling, StopsTelling}
+use Rattle.dbscan.specs.Walks.{IsBetweenStarts, StopsTelling}
 use Rattle.dbscan.proofs.DeskWalks.{desk_asks}
 use Rattle.dbscan.proofs.Starts.{drop_none}
 use Rattle.dbscan.proofs.TreeWalks.{root_told}
@@ -37,7 +37,7 @@ returns-in_err-walk_row-clause-asks g c =
     let marks = c.walk_row.new.marks in
     let e = c.in_err-walk_row.field-0.0 in
     let stops = λ (o : Things) (file : List ℕ). (V : List Reference) → Survey file V → (before : g.row.K.Denot)
-    → IsTelling g.K.Reporter.hears g.K.Reporter.cuts file V before (enumerate_from 1 o.roots.rows) o.marks c.args.sink.now
+    → IsBetweenStarts g.K.Reporter.hears g.K.Reporter.cuts file V before (enumerate_from 1 o.roots.rows) o.marks c.args.sink.now
     → StopsTelling g.K.Reporter.hears g.K.Reporter.cuts file V before [] (Err e) marks c.walk_row.new.sink in
     rw q.1 (rw q.2 (desk_asks g.S.Source.step d c.args.desk.now marks (λ file. c.encoding-encoding.result ≡ encoding file → stops (things d) file) stops
     (Err e) c.desk.invariant c.desk.view_is (λ n. refl)
@@ -68,12 +68,12 @@ pub returns-clause-asks : goal.returns-clause-asks
 returns-clause-asks g c =
     let at = c.loop-index in
     desk_asks g.S.Source.step c.desk.inside c.args.desk.now at.desk-inside.marks _
-    (λ o file. (V : List Reference) → Survey file V → (before : g.row.K.Denot) → IsTelling g.K.Reporter.hears g.K.Reporter.cuts file V before (enumerate_from 1 o.roots.rows) o.marks c.args.sink.now
-    → IsTelling g.K.Reporter.hears g.K.Reporter.cuts file V before [] at.desk-inside.marks at.sink)
+    (λ o file. (V : List Reference) → Survey file V → (before : g.row.K.Denot) → IsBetweenStarts g.K.Reporter.hears g.K.Reporter.cuts file V before (enumerate_from 1 o.roots.rows) o.marks c.args.sink.now
+    → IsBetweenStarts g.K.Reporter.hears g.K.Reporter.cuts file V before [] at.desk-inside.marks at.sink)
     (Ok tt) c.desk.invariant c.desk.view_is (λ n. refl) at.invariant.asks
     (λ file is left V s before h.
     let rows = c.desk.inside.roots.rows in
     let count : at.index ≡ length rows = omega arith in
     let none : drop at.index rows ≡ [] = drop_none rows at.index (omega (arith, count)) in
-    subst (λ l. IsTelling g.K.Reporter.hears g.K.Reporter.cuts file V before (enumerate_from (at.index + 1) l) at.desk-inside.marks at.sink) none
+    subst (λ l. IsBetweenStarts g.K.Reporter.hears g.K.Reporter.cuts file V before (enumerate_from (at.index + 1) l) at.desk-inside.marks at.sink) none
     (left (c.encoding-encoding.ensures ∙ ap encoding is.begins ∙ encoding_within file) V s before h))

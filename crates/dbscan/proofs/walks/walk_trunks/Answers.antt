@@ -9,7 +9,7 @@ use Rattle.dbformat.proofs.HeaderPrefix.{first_trunk_within}
 use Rattle.dbsource.specs.HeaderBytes.{HeaderBytes}
 use Rattle.dbmarks.proofs.Readings.{log_none}
 use Rattle.dbscan.specs.Desks.{Things}
-use Rattle.dbscan.specs.Walks.{AreTold, IsTelling}
+use Rattle.dbscan.specs.Walks.{AreTold, IsBetweenStarts}
 use Rattle.dbscan.proofs.DeskWalks.{desk_asks}
 use Rattle.dbscan.proofs.Tellers.{sink_after}
 use Rattle.dbscan.proofs.TreeWalks.{freelist_told, no_freelist_told}
@@ -31,7 +31,7 @@ returns-clause-same_sink g c = (sink_after g.K.Reporter.held c.walk_freelist.res
 pub returns-clause-asks : goal.returns-clause-asks
 returns-clause-asks g c =
     desk_asks g.S.Source.step c.desk.inside c.args.desk.now c.walk_freelist.new.marks _
-    (λ o file. (V : List Reference) → Survey file V → (before : g.row.K.Denot) → IsTelling g.K.Reporter.hears g.K.Reporter.cuts file V before [] o.marks c.args.teller.now.sink.now
+    (λ o file. (V : List Reference) → Survey file V → (before : g.row.K.Denot) → IsBetweenStarts g.K.Reporter.hears g.K.Reporter.cuts file V before [] o.marks c.args.teller.now.sink.now
     → AreTold g.K.Reporter.hears g.K.Reporter.cuts file V c.walk_freelist.result c.walk_freelist.new.marks before c.walk_freelist.new.sink.sink.now)
     c.walk_freelist.result c.desk.invariant c.desk.view_is (λ n. refl) c.walk_freelist.ensures.asks
     (λ file is walked V s before h.

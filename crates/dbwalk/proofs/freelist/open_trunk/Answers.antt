@@ -12,7 +12,7 @@ use Rattle.std.specs.Prelude.{pos}
 use Rattle.dbsource.specs.declared.error.RunError.TheVariants.{WriteFailed}
 use Rattle.dbtrace.specs.Finding.{told_alone}
 use Rattle.dbwalk.specs.Done.{IsLeft}
-use Rattle.dbwalk.specs.Trunks.{Opens}
+use Rattle.dbwalk.specs.Trunks.{OpensTrunk}
 use Rattle.dbwalk.proofs.FreeTrunks.{opened_fitting, opened_crowded, opened_untold}
 use Rattle.dbwalk.proofs.freelist.open_trunk.Goals as goal
 
@@ -24,7 +24,7 @@ returns-in_err-walk_leaves-clause-opened g c = λ file W d before U e old p r b 
     let tail = map (go e) (next_trunk e.page (page_bytes file e.page) (leaf_count (page_bytes file e.page))) in
     let o = opened_fitting g.K.Sink.takes g.K.Sink.drops file W d before U e old c.args.marks.now c.args.sink.now r f m h l in
     let q = err_from_is_err_and c.from_residual.result c.from_residual.ensures.1 in
-    subst (λ r. Opens g.K.Sink.takes g.K.Sink.drops file W d before e r c.walk_leaves.new.marks c.walk_leaves.new.sink) (sym (q.1 ∙ ap Err q.2))
+    subst (λ r. OpensTrunk g.K.Sink.takes g.K.Sink.drops file W d before e r c.walk_leaves.new.marks c.walk_leaves.new.sink) (sym (q.1 ∙ ap Err q.2))
     (c.in_err-walk_leaves.ensures.done file W (Go d ∷ []) before (U ++ e ∷ []) e tail p
     (subst (λ b. IsLeft g.K.Sink.takes file W (Go d ∷ []) before (U ++ e ∷ []) (leaf_errands e b c.u32_at-count.result ++ tail) (c.args.marks.now, c.args.sink.now)) (sym k)
     (subst (λ n. IsLeft g.K.Sink.takes file W (Go d ∷ []) before (U ++ e ∷ []) (leaf_errands e (page_bytes file e.page) n ++ tail) (c.args.marks.now, c.args.sink.now)) (sym n) o)))
@@ -59,6 +59,6 @@ returns-in_err-fault-clause-opened g c = λ file W d before U e old p r b u f m 
     let l = subst (λ x. most_leaves (usable_size file) < x) n (subst (λ u. u / 4 - 2 < c.u32_at-count.result) u c.if-count-usable.false) in
     let w = c.new-fault.ensures ∙ ap (λ p. fault L01 p 0 (pos c.u32_at-count.result)) (sym p) ∙ ap (λ n. fault L01 e.page 0 (pos n)) n in
     let q = err_from_is_err_and c.from_residual-in_err-fault.result c.from_residual-in_err-fault.ensures.1 in
-    subst (λ r. Opens g.K.Sink.takes g.K.Sink.drops file W d before e r c.args.marks.now c.fault.new.self) (sym (q.1 ∙ ap Err q.2))
+    subst (λ r. OpensTrunk g.K.Sink.takes g.K.Sink.drops file W d before e r c.args.marks.now c.fault.new.self) (sym (q.1 ∙ ap Err q.2))
     (opened_untold g.K.Sink.takes g.K.Sink.drops file W d before U e old c.args.marks.now c.args.sink.now r f m h c.fault.new.self WriteFailed l
     (inl (subst (λ x. g.K.Sink.drops c.args.sink.now (told_alone x) c.fault.new.self) w c.in_err-fault.ensures.item)))

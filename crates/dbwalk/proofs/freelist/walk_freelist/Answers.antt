@@ -28,9 +28,9 @@ returns-in_err-next-clause-asks g c =
     record {
       log = log_then _ _ (ap (λ b. b.geometry.page_size) c.loop-next.invariant.bench) c.loop-next.invariant.log c.in_err-next.ensures.log
           (λ file way turned e W d h next m.
-          subst (λ r. IsDone g.K.Sink.takes g.K.Sink.drops file W (Go d ∷ []) r c.turn.new.marks c.args.sink.now c.turn.new.sink) (sym (q.1 ∙ ap Err q.2))
+          subst (λ r. IsDone g.K.Sink.takes g.K.Sink.drops file W (Go d ∷ []) r c.enter_trunk.new.marks c.args.sink.now c.enter_trunk.new.sink) (sym (q.1 ∙ ap Err q.2))
           (turned (ap (λ b. b.geometry) c.loop-next.invariant.bench ∙ e) W d c.args.sink.now (way e W d h next m)));
-      count = subst (λ r. (g.S.Source.held c.turn.new.source).failures ≡ failures_after is_read_failed r (g.S.Source.held c.args.source.now).failures) (sym (q.1 ∙ ap Err q.2))
+      count = subst (λ r. (g.S.Source.held c.enter_trunk.new.source).failures ≡ failures_after is_read_failed r (g.S.Source.held c.args.source.now).failures) (sym (q.1 ∙ ap Err q.2))
           (c.in_err-next.ensures.reads ∙ ap (failures_after {A = Unit {0}} is_read_failed (Err c.in_err-next.field-0.0)) c.loop-next.invariant.reads);
     }
 
@@ -38,11 +38,11 @@ pub loop-next-preserved : goal.loop-next-preserved
 loop-next-preserved g c = record {
   log = log_then _ _ (ap (λ b. b.geometry.page_size) c.loop-next.invariant.bench) c.loop-next.invariant.log c.in_ok-next.ensures.log
       (λ file way turned e W d h next m.
-      subst (λ o. TrunkTurns g.K.Sink.takes g.K.Sink.drops file W d c.args.sink.now (Ok o) c.turn.new.marks c.turn.new.sink) c.in-Some.is
+      subst (λ o. TrunkTurns g.K.Sink.takes g.K.Sink.drops file W d c.args.sink.now (Ok o) c.enter_trunk.new.marks c.enter_trunk.new.sink) c.in-Some.is
       (turned (ap (λ b. b.geometry) c.loop-next.invariant.bench ∙ e) W d c.args.sink.now (way e W d h next m)));
   reads = c.in_ok-next.ensures.reads ∙ c.loop-next.invariant.reads;
   writes = c.in_ok-next.ensures.writes ∙ c.loop-next.invariant.writes;
-  bench = c.turn.ensures.bench ∙ ap (λ (b : Pages). record b { chain = c.turn.new.bench.chain }) c.loop-next.invariant.bench;
+  bench = c.enter_trunk.ensures.bench ∙ ap (λ (b : Pages). record b { chain = c.enter_trunk.new.bench.chain }) c.loop-next.invariant.bench;
   trunk = subst (λ o. IfSome o (λ next. next.mark ≡ Trunk)) c.in-Some.is c.in_ok-next.ensures.trunk;
 }
 
@@ -50,7 +50,7 @@ pub returns-clause-asks : goal.returns-clause-asks
 returns-clause-asks g c = record {
   log = log_then _ _ (ap (λ b. b.geometry.page_size) c.loop-next.invariant.bench) c.loop-next.invariant.log c.in_ok-next.ensures.log
       (λ file way turned e W d h next m.
-      subst (λ o. TrunkTurns g.K.Sink.takes g.K.Sink.drops file W d c.args.sink.now (Ok o) c.turn.new.marks c.turn.new.sink) c.in_default.is
+      subst (λ o. TrunkTurns g.K.Sink.takes g.K.Sink.drops file W d c.args.sink.now (Ok o) c.enter_trunk.new.marks c.enter_trunk.new.sink) c.in_default.is
       (turned (ap (λ b. b.geometry) c.loop-next.invariant.bench ∙ e) W d c.args.sink.now (way e W d h next m)));
   count = c.in_ok-next.ensures.reads ∙ c.loop-next.invariant.reads;
 }

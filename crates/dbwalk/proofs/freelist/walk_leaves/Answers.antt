@@ -1,9 +1,9 @@
 use Rattle.std.proofs.Common.{◌≡◌, ◌+◌, ◌-◌, ◌<◌, inl, inr, ◌++◌, set, Err, refl, sym, ap, subst, ◌∙◌, arith}
 use Rattle.std.proofs.lemmas.Bool.{cases_Bool}
 use Rattle.std.proofs.lemmas.Result.{err_from_is_err_and}
-use Rattle.dbwalk.specs.Trunks.{Leaves, leaves_from}
+use Rattle.dbwalk.specs.Trunks.{LeavesErrands, leaves_from}
 use Rattle.dbwalk.specs.Done.{IsLeft}
-use Rattle.dbmarks.specs.Marking.{Keeps, unmarked_pages}
+use Rattle.dbmarks.specs.Marking.{KeepsMarks, unmarked_pages}
 use Rattle.dbmarks.specs.declared.marks.Mark.TheVariants.{FreeLeaf}
 use Rattle.dbwalk.proofs.FreeTrunks.{leaf_of, leaves_more, next_of_left, leaf_entered}
 use Rattle.dbwalk.proofs.Telling.Lefts.{left_untold}
@@ -24,7 +24,7 @@ returns-in_err-enter-clause-done g c = λ file W errands before U d tail p h.
     let q = err_from_is_err_and c.from_residual.result c.from_residual.ensures.1 in
     let e = leaf_of d c.args.bytes.now c.loop-index.index in
     let es = leaves_from d c.args.bytes.now (c.loop-index.index + 1) (c.args.count - c.loop-index.index - 1) ++ tail in
-    subst (λ r. Leaves g.K.Sink.takes g.K.Sink.drops file W errands before tail r c.enter.new.marks c.enter.new.sink) (sym (q.1 ∙ ap Err q.2))
+    subst (λ r. LeavesErrands g.K.Sink.takes g.K.Sink.drops file W errands before tail r c.enter.new.marks c.enter.new.sink) (sym (q.1 ∙ ap Err q.2))
     (left_untold g.K.Sink.takes file W errands before k.0 c.loop-index.marks c.loop-index.sink g.K.Sink.drops c.enter.new.sink c.enter.new.marks c.in_err-enter.field-0.0 e es l
     (c.in_err-enter.ensures.entered file k.0 e (record { page = sym c.u32_at.ensures; mark = refl; from = p; item = refl; deep = refl })
     (next_of_left g.K.Sink.takes g.K.Sink.drops file W errands before k.0 e es c.loop-index.marks c.enter.new.marks c.loop-index.sink c.enter.new.sink l) l.marked refl))
@@ -34,8 +34,8 @@ loop-index-preserved g c = record {
   keeps = keeps_then c.args.marks.now c.loop-index.marks c.enter.new.marks c.loop-index.invariant.keeps
       (elim (cases_Bool c.in_ok-enter.field-0) [
         | inl e ↦ (let k = c.in_ok-enter.ensures.marked e in
-            subst (λ m. Keeps c.loop-index.marks m) (sym k.1) (keeps_put c.loop-index.marks c.u32_at.result _ k.0 refl))
-        | inr e ↦ subst (λ m. Keeps c.loop-index.marks m) (sym (c.in_ok-enter.ensures.unmarked e)) (keeps_same c.loop-index.marks)
+            subst (λ m. KeepsMarks c.loop-index.marks m) (sym k.1) (keeps_put c.loop-index.marks c.u32_at.result _ k.0 refl))
+        | inr e ↦ subst (λ m. KeepsMarks c.loop-index.marks m) (sym (c.in_ok-enter.ensures.unmarked e)) (keeps_same c.loop-index.marks)
       ]);
   fewer = elim (cases_Bool c.in_ok-enter.field-0) [
     | inl e ↦ (let k = c.in_ok-enter.ensures.marked e in

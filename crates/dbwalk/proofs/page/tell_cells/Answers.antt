@@ -5,7 +5,7 @@ use Rattle.std.proofs.lemmas.Result.{err_from_is_err_and}
 use Rattle.dbformat.specs.Cell.{count}
 use Rattle.dbformat.specs.PageFaults.{cell_fault, cell_faults}
 use Rattle.dbsource.specs.declared.out.WriteFailed.{WriteFailed}
-use Rattle.dbwalk.specs.Telling.{IsTold, findings}
+use Rattle.dbwalk.specs.Telling.{IsReportedTo, findings}
 use Rattle.dbwalk.proofs.Pages.PageTellings.{told_ok, faults_then, faults_stop, faults_more, faults_rest, none_more}
 use Rattle.dbwalk.proofs.page.tell_cells.Goals as goal
 
@@ -22,7 +22,7 @@ loop-i-preserved g c =
     let f = cell_fault c.args.view.now in
     let b = c.loop-i.good && c.in_ok-good.field-0 in
     record {
-      told = subst (λ fs. IsTold {E = WriteFailed} g.K.Sink.takes g.K.Sink.drops g.K.Sink.held (Ok b) c.args.sink.now (findings fs) c.tell_cell.new.sink) (sym (faults_more f c.loop-i.i))
+      told = subst (λ fs. IsReportedTo {E = WriteFailed} g.K.Sink.takes g.K.Sink.drops g.K.Sink.held (Ok b) c.args.sink.now (findings fs) c.tell_cell.new.sink) (sym (faults_more f c.loop-i.i))
           (faults_then (Ok c.loop-i.good) (Ok b) (flat_map f (range_with_len 0 c.loop-i.i)) (f c.loop-i.i) refl c.loop-i.invariant.told (told_ok b c.tell_cell.result c.in_ok-good.was c.tell_cell.ensures.told));
       good = ap (λ x. x && c.in_ok-good.field-0) c.loop-i.invariant.good ∙ ap (λ x. (length (flat_map f (range_with_len 0 c.loop-i.i)) == 0) && x) c.in_ok-good.ensures.good
           ∙ sym (none_more (flat_map f (range_with_len 0 c.loop-i.i)) (f c.loop-i.i)) ∙ ap (λ fs. length fs == 0) (sym (faults_more f c.loop-i.i));

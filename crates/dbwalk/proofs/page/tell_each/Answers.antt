@@ -5,7 +5,7 @@ use Rattle.std.proofs.lemmas.Grind.{common_steps, flat_map-append}
 use Rattle.std.proofs.lemmas.List.{take-append-drop}
 use Rattle.std.proofs.lemmas.Result.{err_from_is_err_and}
 use Rattle.dbsource.specs.declared.out.WriteFailed.{WriteFailed}
-use Rattle.dbwalk.specs.Telling.{IsTold, findings}
+use Rattle.dbwalk.specs.Telling.{IsReportedTo, findings}
 use Rattle.dbwalk.proofs.Pages.PageTellings.{told_ok, faults_then, faults_stop}
 use Rattle.dbwalk.proofs.page.tell_each.Goals as goal
 
@@ -14,7 +14,7 @@ loop-found-preserved g c =
     let fs = c.args.faults.now in
     let i = c.loop-found.found-index in
     let more : flat_map option_to_list (take (i + 1) fs) ≡ flat_map option_to_list (take i fs) ++ option_to_list (slice_index_or fs i None) = grind (arith, common_steps) in
-    subst (λ l. IsTold {E = WriteFailed} g.K.Sink.takes g.K.Sink.drops g.K.Sink.held (Ok tt) c.args.sink.now (findings l) c.tell_found.new.sink) (sym more)
+    subst (λ l. IsReportedTo {E = WriteFailed} g.K.Sink.takes g.K.Sink.drops g.K.Sink.held (Ok tt) c.args.sink.now (findings l) c.tell_found.new.sink) (sym more)
     (faults_then (Ok tt) (Ok tt) (flat_map option_to_list (take i fs)) (option_to_list (slice_index_or fs i None)) refl c.loop-found.invariant (told_ok tt c.tell_found.result c.in_ok-tell_found.was c.tell_found.ensures))
 
 pub returns-in_err-tell_found : goal.returns-in_err-tell_found

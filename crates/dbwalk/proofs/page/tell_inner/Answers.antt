@@ -3,7 +3,7 @@ use Rattle.std.specs.Option.{is_none, option_to_list}
 use Rattle.std.proofs.lemmas.Grind.{common_steps}
 use Rattle.std.proofs.lemmas.Result.{err_from_is_err_and}
 use Rattle.dbformat.specs.PageFaults.{cell_faults, freeblock_fault, coverage_fault, empty_fault, inner_faults}
-use Rattle.dbwalk.specs.Telling.{IsTold, findings}
+use Rattle.dbwalk.specs.Telling.{IsReportedTo, findings}
 use Rattle.dbwalk.proofs.Pages.PageTellings.{inner_found, faults_then, faults_stop}
 use Rattle.dbwalk.proofs.page.tell_inner.Goals as goal
 
@@ -21,7 +21,7 @@ returns g c =
     let v = c.args.view.now in
     let good = c.in_ok-are_cells_good.ensures.good in
     let none : c.is_none.result ≡ is_none c.freeblock_fault-freeblock.result = search rules in
-    subst (λ l. IsTold g.K.Sink.takes g.K.Sink.drops g.K.Sink.held c.tell_each.result c.args.sink.now (findings l) c.tell_each.new.sink)
+    subst (λ l. IsReportedTo g.K.Sink.takes g.K.Sink.drops g.K.Sink.held c.tell_each.result c.args.sink.now (findings l) c.tell_each.new.sink)
     (inner_found v c.args.is_child (c.in_ok-are_cells_good.are_cells_good && c.is_none.result) c.fragment_fault.result c.freeblock_fault-freeblock.result c.coverage_fault-coverage.result c.empty_fault-empty.result (cell_faults v) refl
     c.fragment_fault.ensures c.freeblock_fault-freeblock.ensures c.coverage_fault-coverage.ensures c.empty_fault-empty.ensures
     (ap (λ x. x && c.is_none.result) good ∙ ap (λ x. (length (cell_faults v) == 0) && x) none))

@@ -1,6 +1,6 @@
 use Rattle.std.proofs.Common.{◌≡◌, ◌∷◌, ◌++◌, [], ap, subst, sym, ◌∙◌}
 use Rattle.dbentries.specs.Listing.{entries}
-use Rattle.dbentries.specs.Store.{Keeps, added, home_of, put_in, turned}
+use Rattle.dbentries.specs.Store.{KeepsEntries, added, home_of, put_at_home, turned}
 use Rattle.dbentries.proofs.Adding.{added_is}
 use Rattle.dbentries.proofs.entries.Entries.add.Goals as goal
 
@@ -10,6 +10,6 @@ returns-clause-entries g c = λ xs is rises.
     let old = c.args.self.now in
     let now : c.put.new.self ≡ added told old =
     c.put.ensures
-    ∙ ap (λ h. put_in h told c.turn_to.new.self) c.home-home.ensures
-    ∙ ap (λ t. put_in (home_of told t) told t) (c.turn_to.ensures ∙ ap (λ r. turned r old) c.rank.ensures) in
-    subst (Keeps (entries (xs ++ told ∷ []))) (sym now) (added_is xs told old is rises)
+    ∙ ap (λ h. put_at_home h told c.turn_to.new.self) c.home-home.ensures
+    ∙ ap (λ t. put_at_home (home_of told t) told t) (c.turn_to.ensures ∙ ap (λ r. turned r old) c.rank.ensures) in
+    subst (KeepsEntries (entries (xs ++ told ∷ []))) (sym now) (added_is xs told old is rises)

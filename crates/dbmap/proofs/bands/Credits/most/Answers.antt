@@ -2,11 +2,11 @@ use Rattle.std.proofs.Common.{◌≡◌, ◌<◌, ◌≤◌, ◌⊎◌, inl, inr
 use Rattle.std.proofs.lemmas.Bool.{false≢true}
 use Rattle.dbmap.specs.Cells.{has_pages}
 use Rattle.dbmap.specs.Shares.{HasTwo}
-use Rattle.dbmap.specs.declared.cell.Cell.{Cell}
+use Rattle.dbmap.specs.declared.cell.OwnerShares.{OwnerShares}
 use Rattle.dbmap.proofs.bands.Credits.most.Goals as goal
 
 -- where some owner has pages, the one that was found has
-found : (c : Cell) (most number : ℕ) → most ≤ 16 → 16 ≤ number → (most ≡ 16 → (m : ℕ) → m < number → has_pages c m ≡ false)
+found : (c : OwnerShares) (most number : ℕ) → most ≤ 16 → 16 ≤ number → (most ≡ 16 → (m : ℕ) → m < number → has_pages c m ≡ false)
     → (most < 16 → has_pages c most ≡ true) → HasTwo c → has_pages c (min most 15) ≡ true
 found c most number l end none some two = by_order (order most)
   where

@@ -2,11 +2,11 @@ use Rattle.std.proofs.Common.{◌≡◌, ◌++◌, get_or, ap, ap₂, ◌∙◌,
 use Rattle.dbformat.specs.Address.{freelist_start}
 use Rattle.dbmap.specs.LegendLines.{line_if, other_trees, others_share, root_if_twice}
 use Rattle.dbmap.specs.Legends.{no_overflow}
-use Rattle.dbmap.specs.Owners.{starts_of}
+use Rattle.dbmap.specs.Owners.{tree_starts}
 use Rattle.dbmap.specs.Tallies.{share_at}
 use Rattle.dbmap.specs.declared.legend.Label.TheVariants as label
 use Rattle.dbmap.specs.declared.legend.Label.TheVariants.{Fixed, Freelist, Nobody, Others}
-use Rattle.dbmap.specs.declared.tally.Tree.{Tree}
+use Rattle.dbmap.specs.declared.tally.RankedTree.{RankedTree}
 use Rattle.dbmap.proofs.LegendLines.{four_more, tree_more, trees_end}
 use Rattle.dbmap.proofs.legend.Legend.of_owners.Goals as goal
 
@@ -16,8 +16,8 @@ loop-rank-preserved g c =
     let rows = c.args.names.now.roots.now.rows in
     let starts = c.args.tally.now.starts in
     let i = c.loop-rank.rank in
-    let none : Tree = record { start = 0; share = record { pages = 0; overflow = 0 } } in
-    let tree : Tree = get_or c.args.largest.now i none in
+    let none : RankedTree = record { start = 0; share = record { pages = 0; overflow = 0 } } in
+    let tree : RankedTree = get_or c.args.largest.now i none in
     let room = c.loop-rank.invariant.room in
     let few = c.requires.few in
     let more = c.add.ensures.room in
@@ -39,7 +39,7 @@ returns-clause-lines g c =
     let room2 = c.add-2.ensures.room in
     let room3 = c.add-3.ensures.room in
     let room4 = c.add-4.ensures.room in
-    four_more (line_if (Others (other_trees (share_at starts) (starts_of c.args.largest.now) c.args.tally.now.trees)) (others_share (share_at starts) (starts_of c.args.largest.now) c.args.tally.now.trees))
+    four_more (line_if (Others (other_trees (share_at starts) (tree_starts c.args.largest.now) c.args.tally.now.trees)) (others_share (share_at starts) (tree_starts c.args.largest.now) c.args.tally.now.trees))
     (line_if Freelist (share_at starts freelist_start)) (line_if Fixed (no_overflow c.args.tally.now.fixed)) (line_if Nobody (no_overflow c.args.tally.now.nobody)) (trees_end names rows (share_at starts) c.args.largest.now c.loop-rank.rank c.loop-rank-test.false c.loop-rank.invariant.lines)
     (c.add-2.ensures.line (omega (arith, few, end, most)) ∙ ap₂ (λ n s. c.loop-rank.legend.lines.items ++ line_if (Others n) s) c.others-count.ensures.trees c.others-count.ensures.share)
     (c.add-3.ensures.line (omega (arith, few, end, most, room2)) ∙ ap (λ s. c.add-2.new.self.lines.items ++ line_if Freelist s) c.share.ensures)

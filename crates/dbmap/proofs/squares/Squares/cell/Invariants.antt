@@ -1,14 +1,14 @@
 use Rattle.std.proofs.Common.{◌≡◌, ◌⊎◌, ◌≤◌, ℕ, ◌-◌, List}
 use Rattle.std.specs.List.{range_with_len}
 use Rattle.dbformat.specs.Reference.{Reference}
-use Rattle.dbmap.specs.Owners.{IsOf, StaysOf, owners_by, starts_of}
+use Rattle.dbmap.specs.Owners.{IsOf, StaysOf, owners_by, tree_starts}
 use Rattle.dbmap.specs.Shares.{AreShares}
 use Rattle.dbmap.proofs.squares.Squares.cell.Given as goal
 
 abbrev pub invariant-loop-page : goal.invariant-loop-page
 invariant-loop-page g l = record {
   shares : (file : List ℕ) (V : List Reference) → IsOf l.self.marks.now l.initial.walk.trees.known file V
-      → AreShares l.self.marks.now (owners_by V (starts_of l.self.largest.items)) (range_with_len l.first (l.page - l.first)) l.cell;
+      → AreShares l.self.marks.now (owners_by V (tree_starts l.self.largest.items)) (range_with_len l.first (l.page - l.first)) l.cell;
   at : (l.page ≡ l.first) ⊎ (l.page ≤ l.last);
   pen : l.walk.pen ≡ l.initial.walk.pen;
   named : (l.walk.name ≡ l.initial.walk.name) × (l.walk.named ≡ l.initial.walk.named);

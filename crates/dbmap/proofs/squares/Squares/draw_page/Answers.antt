@@ -1,7 +1,7 @@
 use Rattle.std.proofs.Common.{[], ap, sym, ◌∙◌}
 use Rattle.std.specs.Option.{option_map_or}
 use Rattle.dbowner.specs.Texts.{place_tree}
-use Rattle.dbmap.specs.Owners.{starts_of}
+use Rattle.dbmap.specs.Owners.{tree_starts}
 use Rattle.dbmap.specs.Squares.{ground_of, of_page}
 use Rattle.dbmap.specs.declared.page.PageSquare.{PageSquare}
 use Rattle.dbmap.specs.declared.pen.Pen.{Pen}
@@ -25,7 +25,7 @@ returns-clause-draws g c =
           tree = c.name.ensures.name ∙ ap (λ o. option_map_or (ground_of c.args.self.now c.args.layout.now).tree o []) (c.place_tree.ensures
               ∙ ap (place_tree c.place_of-place.result) (c.start_of-start.ensures.visit file V of.survey of.marks of.trees));
           faulty = c.faulty.ensures;
-          shade = shade_is c.args.self.now.marks.now V (starts_of c.args.self.now.largest.items) s.page c.place_of-place.ensures.mark
+          shade = shade_is c.args.self.now.marks.now V (tree_starts c.args.self.now.largest.items) s.page c.place_of-place.ensures.mark
               (c.start_of-start.ensures.visit file V of.survey of.marks of.trees) c.owner.ensures c.is_overflow.ensures;
         },
       );

@@ -1,9 +1,9 @@
-use Rattle.dbmap.specs.Squares.{row_text}
+use Rattle.dbmap.specs.Squares.{squares_row_text}
 use Rattle.dbmap.proofs.Drawing.{draws_then}
 use Rattle.dbmap.proofs.squares.Squares.draw_row.Goals as goal
 
 pub returns-clause-draws : goal.returns-clause-draws
-unfolding row_text
+unfolding squares_row_text
 returns-clause-draws g c =
     let cells = rw (c.cells_of_row-first.ensures, c.requires.group) at c.draw_cells.ensures.draws in
     let end = rw cells.group at c.end.ensures.draws in

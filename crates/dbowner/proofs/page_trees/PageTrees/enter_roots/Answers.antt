@@ -1,7 +1,7 @@
 use Rattle.std.proofs.Common.{◌≡◌, ◌+◌, ◌-◌, ◌≤◌, length, Some, None, ap, subst, ◌∙◌, arith}
 use Rattle.std.specs.Prelude.{option_map, slice_get}
 use Rattle.std.proofs.lemmas.List.{length-replicate}
-use Rattle.dbowner.specs.Steps.{entered}
+use Rattle.dbowner.specs.Steps.{known_on_entry}
 use Rattle.dbowner.proofs.RootPages.{listed_start, root_known, roots_right, schema_entered, next_entered, all_entered}
 use Rattle.dbowner.proofs.page_trees.PageTrees.enter_roots.Goals as goal
 
@@ -10,7 +10,7 @@ loop-index-init g c =
     let n = length c.args.self.now.known in
     let long : length c.enter.new.self.known ≡ n = c.enter.ensures.pages ∙ ap length c.forget.ensures.known ∙ length-replicate n None in record {
       entered = schema_entered c.args.marks.now n c.enter.new.self.known c.args.roots.now.rows
-          (λ p. c.enter.ensures.known p ∙ ap (λ known. entered c.args.marks.now known 1 0 p) c.forget.ensures.known) long;
+          (λ p. c.enter.ensures.known p ∙ ap (λ known. known_on_entry c.args.marks.now known 1 0 p) c.forget.ensures.known) long;
       pages = long;
       passed = c.enter.ensures.passed ∙ c.forget.ensures.passed;
     }

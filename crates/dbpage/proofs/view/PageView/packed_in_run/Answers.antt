@@ -5,7 +5,7 @@ use Rattle.dbformat.specs.Coverage.{items}
 use Rattle.dbpage.specs.Beginning.{AreInRun}
 use Rattle.dbpage.specs.Marking.{ShareNoByte}
 use Rattle.dbpage.specs.Packed.{AddUpTo}
-use Rattle.dbpage.specs.declared.run.Run.{Run}
+use Rattle.dbpage.specs.declared.run.CellRun.{CellRun}
 use Rattle.dbpage.proofs.PackedLemmas.{none_read}
 use Rattle.dbpage.proofs.Runs.{no_cells, run_as, cell_joins, run_of_items}
 use Rattle.dbpage.proofs.view.PageView.packed_in_run.Goals as goal
@@ -18,7 +18,7 @@ loop-i-init c =
     let start : content_start v.number v.bytes ≤ v.usable = omega (arith, usable, ap (λ (w : View). content_start w.number w.bytes) c.self.view_is, c.self.invariant.start_is, c.self.invariant.inside) in
     record {
       read = subst (AddUpTo v 0) (sym sums) (none_read v);
-      run = run_as v 0 (no_cells v v.usable start (omega arith)) (omega (arith, ap (λ (r : Run). r.from) c.new-run.ensures, usable)) (omega (arith, ap (λ (r : Run). r.to) c.new-run.ensures, usable));
+      run = run_as v 0 (no_cells v v.usable start (omega arith)) (omega (arith, ap (λ (r : CellRun). r.from) c.new-run.ensures, usable)) (omega (arith, ap (λ (r : CellRun). r.to) c.new-run.ensures, usable));
     }
 
 pub loop-i-preserved : goal.loop-i-preserved

@@ -5,13 +5,13 @@ use Rattle.std.proofs.lemmas.Result.{err_from_is_err_and}
 use Rattle.dbsource.proofs.Puts.{puts_then, puts_stop}
 use Rattle.dbwalk.specs.Rows.{row_of}
 use Rattle.dbreport.specs.Columns.{child_text, page_end}
-use Rattle.dbreport.specs.TreeNames.{label_text}
+use Rattle.dbreport.specs.TreeNames.{tree_label_text}
 use Rattle.dbreport.proofs.StatPieces.{page_pieces}
 use Rattle.dbreport.proofs.statistics.lines.put_page_row.Goals as goal
 
 pub returns-in_err-put_name : goal.returns-in_err-put_name
 returns-in_err-put_name g c =
-    let name = label_text c.args.label.now in
+    let name = tree_label_text c.args.label.now in
     let size = c.args.label.now.page_size in
     let row = row_of c.args.row.now in
     let p = err_from_is_err_and c.from_residual.result c.from_residual.ensures.1 in
@@ -20,7 +20,7 @@ returns-in_err-put_name g c =
 
 pub returns-in_err-put : goal.returns-in_err-put
 returns-in_err-put g c =
-    let name = label_text c.args.label.now in
+    let name = tree_label_text c.args.label.now in
     let size = c.args.label.now.page_size in
     let row = row_of c.args.row.now in
     let r = c.from_residual-in_err-put.result in
@@ -32,7 +32,7 @@ returns-in_err-put g c =
 
 pub returns-in_err-put_children : goal.returns-in_err-put_children
 returns-in_err-put_children g c =
-    let name = label_text c.args.label.now in
+    let name = tree_label_text c.args.label.now in
     let size = c.args.label.now.page_size in
     let row = row_of c.args.row.now in
     let r = c.from_residual-in_err-put_children.result in
@@ -45,7 +45,7 @@ returns-in_err-put_children g c =
 
 pub returns : goal.returns
 returns g c =
-    let name = label_text c.args.label.now in
+    let name = tree_label_text c.args.label.now in
     let size = c.args.label.now.page_size in
     let row = row_of c.args.row.now in
     let r = c.put-2.result in

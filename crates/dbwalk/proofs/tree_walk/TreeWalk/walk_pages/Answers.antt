@@ -57,8 +57,8 @@ loop-frame-init g c =
           tree_started W d (record { page = c.args.page; next = 0 }) items (sym candidate.page) refl next role candidate.depth c.if-not-branch.false entry);
     }
 
-pub turn-requires : goal.turn-requires
-turn-requires g c =
+pub take_step-requires : goal.take_step-requires
+take_step-requires g c =
     let inv = c.loop-frame.invariant in
     let bench = c.loop-frame.bench in
     let at = c.step_of-next in
@@ -74,8 +74,8 @@ pub loop-frame-smaller : goal.loop-frame-smaller
 loop-frame-smaller g c =
     let popped = c.pop.ensures.items ∙ ap (λ o. c.pop.new.self.items ++ option_to_list o) c.in-Some.is in
     let past = ends_past c.loop-frame.self.marks.now c.pop.new.self.items c.in-Some.frame c.step_of-next.result.0 c.step_of-next.ensures.empty.rise in
-    let ends = c.in_ok-turn.ensures.ends in
-    subst (λ l. cost c.turn.new.self.marks.now c.turn.new.frames.items < cost c.loop-frame.self.marks.now l) (sym popped) (omega arith)
+    let ends = c.in_ok-take_step.ensures.ends in
+    subst (λ l. cost c.take_step.new.self.marks.now c.take_step.new.frames.items < cost c.loop-frame.self.marks.now l) (sym popped) (omega arith)
 
 pub loop-frame-preserved : goal.loop-frame-preserved
 loop-frame-preserved g c =
@@ -84,24 +84,24 @@ loop-frame-preserved g c =
     let s = c.loop-frame in
     let popped = c.pop.ensures.items ∙ ap (λ o. c.pop.new.self.items ++ option_to_list o) c.in-Some.is in
     record {
-      walked = walked_behind g.S.Source.held g.K.Sink.held g.T.Taker.refusals c.in_ok-turn.ensures.walked inv.walked;
-      few = c.in_ok-turn.ensures.few;
-      opened = c.in_ok-turn.ensures.«open»;
-      path = c.in_ok-turn.ensures.path;
-      log = log_then _ _ (ap (λ x. x.page_size) inv.walked.shape) inv.log c.in_ok-turn.ensures.log (λ file walking turned e coded W d candidate there followed next m held empty.
+      walked = walked_behind g.S.Source.held g.K.Sink.held g.T.Taker.refusals c.in_ok-take_step.ensures.walked inv.walked;
+      few = c.in_ok-take_step.ensures.few;
+      opened = c.in_ok-take_step.ensures.«open»;
+      path = c.in_ok-take_step.ensures.path;
+      log = log_then _ _ (ap (λ x. x.page_size) inv.walked.shape) inv.log c.in_ok-take_step.ensures.log (λ file walking turned e coded W d candidate there followed next m held empty.
           (turned (inv.walked.shape ∙ e) (inv.walked.coded ∙ coded) W d _ (candidate_as t.kind s.self.tree.kind t.start s.self.tree.start [] [] c.args.page d.page 0 t.start s.self.tree.start d inv.walked.kind inv.walked.start refl candidate.page inv.walked.start candidate)
           (walking_past c.pop.new.self.items (ap (λ x. x.usable) (inv.walked.shape ∙ e)) (candidate_as t.kind s.self.tree.kind t.start s.self.tree.start [] [] c.args.page d.page 0 t.start s.self.tree.start d inv.walked.kind inv.walked.start refl candidate.page inv.walked.start candidate) c.in-Some.frame c.step_of-next.result.0 c.len.ensures.value c.step_of-next.ensures.page c.step_of-next.ensures.empty
           (by_other (walking e coded W d candidate there followed next m held empty) (sym popped) refl refl refl (λ n l. refl))) held (λ z. empty (sym inv.walked.start ∙ z))).0);
     }
 
-pub returns-in_err-turn-clause-log : goal.returns-in_err-turn-clause-log
-returns-in_err-turn-clause-log g c =
+pub returns-in_err-take_step-clause-log : goal.returns-in_err-take_step-clause-log
+returns-in_err-take_step-clause-log g c =
     let inv = c.loop-frame.invariant in
     let t = c.args.self.now.tree in
     let s = c.loop-frame in
     let popped = c.pop.ensures.items ∙ ap (λ o. c.pop.new.self.items ++ option_to_list o) c.in-Some.is in
-    log_then _ _ (ap (λ x. x.page_size) inv.walked.shape) inv.log c.in_err-turn.ensures.log (λ file walking turned e coded W d candidate there followed next m held empty.
-    let q = err_from_is_err_and c.from_residual-in_err-turn.result c.from_residual-in_err-turn.ensures.1 in
+    log_then _ _ (ap (λ x. x.page_size) inv.walked.shape) inv.log c.in_err-take_step.ensures.log (λ file walking turned e coded W d candidate there followed next m held empty.
+    let q = err_from_is_err_and c.from_residual-in_err-take_step.result c.from_residual-in_err-take_step.ensures.1 in
     let stopped = turned (inv.walked.shape ∙ e) (inv.walked.coded ∙ coded) W d _ (candidate_as t.kind s.self.tree.kind t.start s.self.tree.start [] [] c.args.page d.page 0 t.start s.self.tree.start d inv.walked.kind inv.walked.start refl candidate.page inv.walked.start candidate)
     (walking_past c.pop.new.self.items (ap (λ x. x.usable) (inv.walked.shape ∙ e)) (candidate_as t.kind s.self.tree.kind t.start s.self.tree.start [] [] c.args.page d.page 0 t.start s.self.tree.start d inv.walked.kind inv.walked.start refl candidate.page inv.walked.start candidate) c.in-Some.frame c.step_of-next.result.0 c.len.ensures.value c.step_of-next.ensures.page c.step_of-next.ensures.empty
     (by_other (walking e coded W d candidate there followed next m held empty) (sym popped) refl refl refl (λ n l. refl))) held (λ z. empty (sym inv.walked.start ∙ z)) in
@@ -117,10 +117,10 @@ returns-in_err-visit_page-clause-walked g c =
     let q = err_from_is_err_and c.from_residual.result c.from_residual.ensures.1 in
     walked_as g.S.Source.held g.K.Sink.held g.T.Taker.refusals (q.1 ∙ ap Err q.2) c.in_err-visit_page.ensures.walked
 
-pub returns-in_err-turn-clause-walked : goal.returns-in_err-turn-clause-walked
-returns-in_err-turn-clause-walked g c =
-    let q = err_from_is_err_and c.from_residual-in_err-turn.result c.from_residual-in_err-turn.ensures.1 in
-    walked_as g.S.Source.held g.K.Sink.held g.T.Taker.refusals {R = Unit {0}} (q.1 ∙ ap Err q.2) (walked_behind g.S.Source.held g.K.Sink.held g.T.Taker.refusals c.in_err-turn.ensures.walked c.loop-frame.invariant.walked)
+pub returns-in_err-take_step-clause-walked : goal.returns-in_err-take_step-clause-walked
+returns-in_err-take_step-clause-walked g c =
+    let q = err_from_is_err_and c.from_residual-in_err-take_step.result c.from_residual-in_err-take_step.ensures.1 in
+    walked_as g.S.Source.held g.K.Sink.held g.T.Taker.refusals {R = Unit {0}} (q.1 ∙ ap Err q.2) (walked_behind g.S.Source.held g.K.Sink.held g.T.Taker.refusals c.in_err-take_step.ensures.walked c.loop-frame.invariant.walked)
 
 pub returns-clause-walked : goal.returns-clause-walked
 returns-clause-walked g c = c.loop-frame.invariant.walked

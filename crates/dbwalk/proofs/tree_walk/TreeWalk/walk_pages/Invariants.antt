@@ -4,7 +4,7 @@ use Rattle.dbwalk.specs.Walked.{SaysOfFiles, Walked}
 use Rattle.dbwalk.specs.Underway.{IsWalkingOn}
 use Rattle.dbwalk.specs.Watching.{watches}
 use Rattle.dbwalk.specs.Walking.{AreOpen, path_of, cost}
-use Rattle.dbwalk.specs.declared.steps.Frame.{Frame}
+use Rattle.dbwalk.specs.declared.steps.StackFrame.{StackFrame}
 use Rattle.dbwalk.proofs.tree_walk.TreeWalk.walk_pages.Given as goal
 
 abbrev pub invariant-loop-frame : goal.invariant-loop-frame
@@ -12,7 +12,7 @@ invariant-loop-frame g l = record {
   walked : Walked {R = Unit {0}} g.S.Source.held g.K.Sink.held g.T.Taker.refusals (Ok tt) l.fn.bench.geometry l.bench.geometry l.fn.self l.self;
   few : length l.frames.items ≤ 20;
   opened : AreOpen l.bench.geometry.usable l.self.tree.kind l.bench.levels 0 l.frames.items;
-  path : (fs : List Frame) (f : Frame) → l.frames.items ≡ fs ++ (f ∷ []) → l.self.tree.path.items ≡ path_of fs;
+  path : (fs : List StackFrame) (f : StackFrame) → l.frames.items ≡ fs ++ (f ∷ []) → l.self.tree.path.items ≡ path_of fs;
   log : SaysOfFiles g.S.Source.step g.S.Source.held l.fn.bench.geometry l.fn.self l.self (λ file. AtRoot g.T.Taker.takes file l.fn.bench.levels l.page l.fn.self (λ W c.
       IsWalkingOn (watches g.K.Sink.takes g.T.Taker.takes) file W c (l.fn.self.sink.now, l.fn.self.taker.now) (l.frames.items, l.bench.levels) (l.self.marks.now, l.self.tree) (l.self.sink.now, l.self.taker.now)));
 }

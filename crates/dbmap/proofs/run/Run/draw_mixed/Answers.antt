@@ -1,9 +1,0 @@
-use Rattle.dbmap.specs.Runs.{mixed_text}
-use Rattle.dbmap.proofs.Drawing.{draws_then}
-use Rattle.dbmap.proofs.run.Run.draw_mixed.Goals as goal
-
-pub returns : goal.returns
-unfolding mixed_text
-returns g c =
-    draws_then c.draw.ensures (draws_then c.draw_title.ensures (draws_then c.draw-2.ensures
-    (draws_then c.draw_frame_below.ensures (draws_then c.draw_bands.ensures (draws_then c.draw_frame_above.ensures c.draw-3.ensures)))))

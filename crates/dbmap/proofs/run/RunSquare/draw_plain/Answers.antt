@@ -1,0 +1,9 @@
+use Rattle.dbmap.specs.Runs.{plain_text}
+use Rattle.dbmap.proofs.Drawing.{draws_then}
+use Rattle.dbmap.proofs.run.RunSquare.draw_plain.Goals as goal
+
+pub returns : goal.returns
+unfolding plain_text
+returns g c =
+    let first = rw (c.from.ensures, c.tail.ensures) at c.draw.ensures in
+    draws_then first (draws_then c.draw_title.ensures c.draw-2.ensures)

@@ -1,0 +1,42 @@
+-- The reporter of a map: what a fault makes of it, and what it answers at the end.
+use Rattle.std.specs.Prelude.{◌≡◌, ℕ, ◌+◌, List, [], ◌∷◌, Result, IfOk}
+use Rattle.dbformat.specs.File.{geometry}
+use Rattle.dbformat.specs.Lines.{counted}
+use Rattle.dbformat.specs.Reference.{Reference}
+use Rattle.dbformat.specs.Report.{faults, verdict}
+use Rattle.dbformat.specs.declared.Verdict.{Verdict}
+use Rattle.dbtrace.specs.declared.Reported.{Reported}
+use Rattle.dbsource.specs.Outs.{OutState}
+use Rattle.dbsource.specs.declared.error.RunError.{RunError}
+use Rattle.dbwalk.specs.Telling.{SinkState}
+use Rattle.dbscan.specs.Notices.{Notice}
+use Rattle.dblisting.specs.Told.{HearsReported}
+use Rattle.dbmap.specs.KeptFaults.{HearsNone, HasNoted}
+use Rattle.dbmap.specs.Maps.{DrawsMap}
+use Rattle.dbmap.specs.declared.map_reporter.MapReporter.{MapReporter}
+
+module _ {A O : Type 0} where
+  -- a fault is counted and kept, and nothing is put
+  pub record Adds (x : Reported) (s t : MapReporter A O) : Type 0 where
+    pub count : t.faults ≡ counted (s.faults + 1)
+    pub kept : HasNoted x s.kept.now t.kept.now
+    pub out : t.out.now ≡ s.out.now
+    pub name : t.name ≡ s.name
+
+  -- a notice was taken: a fault was added, and nothing else changes it
+  abbrev pub Hears : MapReporter A O → Notice → MapReporter A O → Type 0
+  Hears = HearsReported Adds
+
+  -- none is ever refused
+  abbrev pub Never : MapReporter A O → Notice → MapReporter A O → Type 0
+  Never s notice t = ⊥
+
+-- it borrows its Out, whose failures are counted
+abbrev pub map_held : {A O : Type 0} → (O → OutState) → MapReporter A O → SinkState
+map_held held s = record { lent = s.out.ghost_name ∷ []; failures = (held s.out.now).failures ∷ [] }
+
+-- What a run leaves that had heard nothing before: the verdict, and a picture.
+abbrev pub LeavesMap : {A O : Type 0} → (O → OutState) → List ℕ → List Reference → Result Verdict RunError → MapReporter A O → MapReporter A O → Type 0
+LeavesMap held file V r s t =
+    s.faults ≡ 0 → HearsNone (geometry file).pages s.kept.now
+    → IfOk r (λ v. v ≡ verdict (faults file V)) × DrawsMap r (held s.out.now).bytes (held t.out.now).bytes s.name.now file V

@@ -1,0 +1,26 @@
+use Rattle.std.proofs.Common.{ℕ, Ok, Err, [], ◌∷◌, ap, ap₂, inl, refl}
+use Rattle.std.proofs.lemmas.Result.{err_from_is_err_and}
+use Rattle.dbsource.specs.declared.error.RunError.TheVariants.{WriteFailed}
+use Rattle.dbwalk.specs.Telling.{SinkState}
+use Rattle.dbscan.specs.Notices.{HearsFaults}
+use Rattle.dbscan.proofs.Finished.{finished}
+use Rattle.dbreport.specs.CheckReporter.{LeavesCheck, ShowsFault, check_held}
+use Rattle.dbreport.proofs.Checked.{check_cut, check_ended}
+use Rattle.dbreport.proofs.checking.CheckReporterFinishDesk.finish.Goals as goal
+
+pub returns-in_err-end : goal.returns-in_err-end
+returns-in_err-end g c =
+    let q = err_from_is_err_and c.from_residual.result c.from_residual.ensures.1 in
+    let put = c.in_err-end.ensures in
+    let held = g.O.Out.held in
+    rw q.1 (rw q.2 (finished g.S.Source (HearsFaults (ShowsFault held)) (check_held held) (LeavesCheck held) (Err WriteFailed) c.args._desk.now c.args._source.now c.args.self.now c.end.new.self refl
+    (record { lent = ap (λ n. n ∷ []) put.same_out; failures = inl (put.text.count, refl) })
+    (λ file V first heard. check_cut held file V heard.desk.survey first c.args.self.now c.end.new.self heard.heard c.in_err-end.field-0.0 put.text)))
+
+pub returns : goal.returns
+returns g c =
+    let put = c.in_ok-end.ensures in
+    let held = g.O.Out.held in
+    finished g.S.Source (HearsFaults (ShowsFault held)) (check_held held) (LeavesCheck held) (Ok c.in_ok-end.field-0) c.args._desk.now c.args._source.now c.args.self.now c.end.new.self tt
+    (ap₂ (λ (n m : ℕ). let x : SinkState = record { lent = n ∷ []; failures = m ∷ [] } in x) put.same_out put.text.count)
+    (λ file V first heard. check_ended held file V heard.desk.survey first c.args.self.now c.end.new.self heard.heard c.in_ok-end.field-0 put.text put.verdict)

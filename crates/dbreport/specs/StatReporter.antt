@@ -1,0 +1,160 @@
+-- The sink of the statistics: what a finding makes of it, and what it has written and counted after some.
+use Rattle.std.specs.Prelude.{◌≡◌, ℕ, ◌+◌, Bool, true, false, not, List, [], ◌∷◌, ◌++◌, length, flat_map, Result, Ok, MatchResult}
+use Rattle.std.specs.Io.KnownBytes.{Appends, Keeps}
+use Rattle.dbformat.specs.Lines.{counted, fault_line, page_line, tree_line}
+use Rattle.dbformat.specs.Rows.{StatRow}
+use Rattle.dbformat.specs.declared.Fault.{Fault}
+use Rattle.dbformat.specs.declared.Geometry.{Geometry}
+use Rattle.dbsource.specs.Outs.{Begins, Flushes, OutState}
+use Rattle.dbtrace.specs.Finding.{told_row, told_fault}
+use Rattle.dbmarks.specs.declared.marks.Mark.{Mark}
+use Rattle.dbscan.specs.Notices.{Notice, whole, found, ended, walked}
+use Rattle.dbscan.specs.Starts.{At}
+use Rattle.dbwalk.specs.Telling.{SinkState}
+use Rattle.dbreport.specs.CheckReporter.{PutsAll}
+use Rattle.dbreport.specs.TreeNames.{name_at}
+use Rattle.dbreport.specs.OtherMarks.{marked_lines}
+use Rattle.dbreport.specs.Sums.{sums_of}
+use Rattle.dbreport.specs.declared.statistics.reporter.StatReporter.{StatReporter}
+
+-- what is written of rows as they come
+abbrev pub pages_text : Bool → List ℕ → ℕ → List StatRow → List ℕ
+pages_text true name size rows = []
+pages_text false name size rows = flat_map (page_line name size) rows
+
+-- what is written after the rows of a tree
+abbrev pub tree_end_text : Bool → List ℕ → ℕ → List StatRow → List ℕ
+tree_end_text true name size [] = []
+tree_end_text true name size (row ∷ rows) = tree_line name size (row ∷ rows)
+tree_end_text false name size rows = []
+
+-- what is written of the pages in no tree and in no overflow chain, by the marks of all pages
+abbrev pub other_lines : Bool → Geometry → List Mark → List ℕ
+other_lines true g marks = marked_lines g marks 1 (length marks)
+other_lines false g marks = []
+
+-- what a sink writes of rows as they come at a start
+abbrev pub sink_rows_text : {O E : Type 0} → StatReporter O E → At → List StatRow → List ℕ
+sink_rows_text s at rows = pages_text s.form.aggregate (name_at s.encoding at) s.page_size rows
+
+-- it writes to the same Outs as before
+abbrev pub AreSameOuts : {O E : Type 0} → StatReporter O E → StatReporter O E → Type 0
+AreSameOuts s t = (t.out.ghost_name ≡ s.out.ghost_name) × (t.err.ghost_name ≡ s.err.ghost_name)
+
+-- it writes to the same Outs as before, and in the same way
+pub record IsSameSink {O E : Type 0} (s t : StatReporter O E) : Type 0 where
+  pub out : t.out.ghost_name ≡ s.out.ghost_name
+  pub err : t.err.ghost_name ≡ s.err.ghost_name
+  pub encoding : t.encoding ≡ s.encoding
+  pub page_size : t.page_size ≡ s.page_size
+  pub form : t.form ≡ s.form
+
+-- an Out was flushed: the bytes that it has stay, none of them is pending, and it did not fail
+abbrev pub IsFlushed : OutState → OutState → Type 0
+IsFlushed old new = Flushes {A = Unit {0}} {E = Unit {0}} (Ok tt) old new
+
+-- the Out beside the one that bytes are put to, if they are: it was flushed then, or is as it was
+abbrev pub IsFlushedIf : Bool → OutState → OutState → Type 0
+IsFlushedIf true old new = IsFlushed old new
+IsFlushedIf false old new = new ≡ old
+
+-- a row was taken: it was written, after the faults that came before it, or counted for its tree's
+pub record TakesStatRow {O E : Type 0} (held : O → OutState) (held' : E → OutState) (s : StatReporter O E) (at : At) (r : StatRow) (t : StatReporter O E) : Type 0 where
+  pub same : IsSameSink s t
+  pub err : IsFlushedIf (not s.form.aggregate) (held' s.err.now) (held' t.err.now)
+  pub found : t.found ≡ s.found
+  pub sums : (rows : List StatRow) → s.sums ≡ sums_of rows → t.sums ≡ sums_of (rows ++ (r ∷ []))
+  pub puts : PutsAll (held s.out.now) (held t.out.now) (sink_rows_text s at (r ∷ []))
+
+-- it was not written whole, or the faults before it were not handed on
+pub record CutsRow {O E : Type 0} (held : O → OutState) (held' : E → OutState) (s : StatReporter O E) (at : At) (r : StatRow) (t : StatReporter O E) : Type 0 where
+  pub same : IsSameSink s t
+  pub err : Keeps (held' s.err.now).bytes (held' t.err.now).bytes
+  pub out : Begins (held s.out.now).bytes (held t.out.now).bytes (sink_rows_text s at (r ∷ []))
+
+-- a fault was written, after the rows that came before it, and counted
+pub record TakesFault {O E : Type 0} (held : O → OutState) (held' : E → OutState) (s : StatReporter O E) (f : Fault) (t : StatReporter O E) : Type 0 where
+  pub same : IsSameSink s t
+  pub out : IsFlushed (held s.out.now) (held t.out.now)
+  pub found : t.found ≡ counted (s.found + 1)
+  pub sums : t.sums ≡ s.sums
+  pub puts : PutsAll (held' s.err.now) (held' t.err.now) (fault_line f)
+
+-- it was not written whole, or the rows before it were not handed on
+pub record CutsStatFault {O E : Type 0} (held : O → OutState) (held' : E → OutState) (s : StatReporter O E) (f : Fault) (t : StatReporter O E) : Type 0 where
+  pub same : IsSameSink s t
+  pub out : Keeps (held s.out.now).bytes (held t.out.now).bytes
+  pub err : Begins (held' s.err.now).bytes (held' t.err.now).bytes (fault_line f)
+
+-- the failures of the first Out, and of the second
+abbrev pub failures_of_each : OutState → OutState → List ℕ
+failures_of_each out err = out.failures ∷ err.failures ∷ []
+
+-- it borrows both Outs, whose failures are counted
+abbrev pub stat_held : {O E : Type 0} → (O → OutState) → (E → OutState) → StatReporter O E → SinkState
+stat_held held held' s = record { lent = s.out.ghost_name ∷ s.err.ghost_name ∷ []; failures = failures_of_each (held s.out.now) (held' s.err.now) }
+
+-- From one sink to the other these bytes were written to the first Out, and the lines of these faults to the second.
+pub record HasWritten {O E : Type 0} (held : O → OutState) (held' : E → OutState) (s t : StatReporter O E) (text : List ℕ) (faults : List Fault) : Type 0 where
+  pub form : t.form ≡ s.form
+  pub encoding : t.encoding ≡ s.encoding
+  pub page_size : t.page_size ≡ s.page_size
+  pub found : (n : ℕ) → s.found ≡ counted n → t.found ≡ counted (n + length faults)
+  pub out : Appends (held s.out.now).bytes (held t.out.now).bytes text
+  pub err : Appends (held' s.err.now).bytes (held' t.err.now).bytes (flat_map fault_line faults)
+
+-- a beginning of each was written
+pub record HasBegun {O E : Type 0} (held : O → OutState) (held' : E → OutState) (s t : StatReporter O E) (text : List ℕ) (faults : List Fault) : Type 0 where
+  pub out : Begins (held s.out.now).bytes (held t.out.now).bytes text
+  pub err : Begins (held' s.err.now).bytes (held' t.err.now).bytes (flat_map fault_line faults)
+
+-- at Ok all of both, and at Err a beginning of each
+abbrev pub WritesBoth : {A X O E : Type 0} → (O → OutState) → (E → OutState) → Result A X → StatReporter O E → StatReporter O E → List ℕ → List Fault → Type 0
+WritesBoth held held' r s t text faults = MatchResult r (λ _. HasWritten held held' s t text faults) (λ _. HasBegun held held' s t text faults)
+
+-- A tree has ended: its own row was written, where its rows are added up, after the faults that came before it.
+pub record EndsTree {O E : Type 0} (held : O → OutState) (held' : E → OutState) (s : StatReporter O E) (at : At) (t : StatReporter O E) : Type 0 where
+  pub form : t.form ≡ s.form
+  pub encoding : t.encoding ≡ s.encoding
+  pub page_size : t.page_size ≡ s.page_size
+  pub found : t.found ≡ s.found
+  pub sums : t.sums ≡ sums_of []
+  pub err : IsFlushedIf s.form.aggregate (held' s.err.now) (held' t.err.now)
+  pub writes : (rows : List StatRow) → s.sums ≡ sums_of rows
+      → Appends (held s.out.now).bytes (held t.out.now).bytes (tree_end_text s.form.aggregate (name_at s.encoding at) s.page_size rows)
+
+-- it was not written whole, or the faults before it were not handed on
+pub record CutsEnd {O E : Type 0} (held : O → OutState) (held' : E → OutState) (s : StatReporter O E) (at : At) (t : StatReporter O E) : Type 0 where
+  pub kept : Keeps (held' s.err.now).bytes (held' t.err.now).bytes
+  pub writes : (rows : List StatRow) → s.sums ≡ sums_of rows
+      → Begins (held s.out.now).bytes (held t.out.now).bytes (tree_end_text s.form.aggregate (name_at s.encoding at) s.page_size rows)
+
+-- All starts have been walked from: the rows of the other pages were written, where they are asked for, after the faults that came
+-- before them.
+pub record PutsOthers {O E : Type 0} (held : O → OutState) (held' : E → OutState) (s : StatReporter O E) (g : Geometry) (marks : List Mark) (t : StatReporter O E) : Type 0 where
+  pub same : IsSameSink s t
+  pub found : t.found ≡ s.found
+  pub sums : t.sums ≡ s.sums
+  pub err : IsFlushedIf s.form.all (held' s.err.now) (held' t.err.now)
+  pub writes : Appends (held s.out.now).bytes (held t.out.now).bytes (other_lines s.form.all g marks)
+
+-- they were not written whole, or the faults before them were not handed on
+pub record CutsOthers {O E : Type 0} (held : O → OutState) (held' : E → OutState) (s : StatReporter O E) (g : Geometry) (marks : List Mark) (t : StatReporter O E) : Type 0 where
+  pub kept : Keeps (held' s.err.now).bytes (held' t.err.now).bytes
+  pub writes : Begins (held s.out.now).bytes (held t.out.now).bytes (other_lines s.form.all g marks)
+
+-- a notice was taken
+abbrev pub HearsStat : {O E : Type 0} → (O → OutState) → (E → OutState) → StatReporter O E → Notice → StatReporter O E → Type 0
+HearsStat out err s (whole f) t = TakesFault out err s f t
+HearsStat out err s (found at (told_fault f why)) t = TakesFault out err s f t
+HearsStat out err s (found at (told_row r)) t = TakesStatRow out err s at r t
+HearsStat out err s (ended at) t = EndsTree out err s at t
+HearsStat out err s (walked g marks) t = PutsOthers out err s g marks t
+
+-- it was not taken whole
+abbrev pub CutsStat : {O E : Type 0} → (O → OutState) → (E → OutState) → StatReporter O E → Notice → StatReporter O E → Type 0
+CutsStat out err s (whole f) t = CutsStatFault out err s f t
+CutsStat out err s (found at (told_fault f why)) t = CutsStatFault out err s f t
+CutsStat out err s (found at (told_row r)) t = CutsRow out err s at r t
+CutsStat out err s (ended at) t = CutsEnd out err s at t
+CutsStat out err s (walked g marks) t = CutsOthers out err s g marks t

@@ -1,0 +1,95 @@
+use Rattle.std.proofs.Common.{rules, ◌+◌, sym, ap, ◌∙◌}
+use Rattle.std.proofs.lemmas.Result.{err_from_is_err_and}
+use Rattle.std.specs.Prelude.{slice_get}
+use Rattle.dbformat.specs.Head.{undamaged}
+use Rattle.dbwalk.specs.Found.{damage_fault}
+use Rattle.dbwalk.specs.declared.page_report.PageFound.TheVariants.{Damaged, Interior, Leaf}
+use Rattle.dbwalk.proofs.Pages.PageVisits.{exit_damaged, exit_damaged_stop, exit_stop, exit_interior, exit_leaf, exit_leaf_stop}
+use Rattle.dbwalk.proofs.page_report.tell_page.Goals as goal
+
+pub returns-in_err-keys-in-Ok-clause-told : goal.returns-in_err-keys-in-Ok-clause-told
+returns-in_err-keys-in-Ok-clause-told g c = λ file d from item shape candidate there.
+    let q = err_from_is_err_and c.from_residual.result c.from_residual.ensures.1 in
+    let t = c.args.tree.now in
+    let level = c.len-level.ensures.value in
+    let u = ap (λ s. s.usable) (c.geometry-usable.ensures.value ∙ shape) in
+    let b = there c.uses-uses.result.0.now (ap (slice_get c.args.bench.now.levels) (sym level) ∙ c.uses-uses.ensures.page) in
+    exit_stop _ _ g.K.Sink.takes g.K.Sink.drops g.K.Sink.held file t.kind t.start t.path.items c.args.page from item d candidate
+    c.geometry-usable.result.usable u c.uses-uses.result.0.now b t.leaf c.as_slice.result.now c.as_slice.ensures.value (c.len-level.result + 1) (ap (λ n. n + 1) level) c.args.sink.now
+    c.in-Ok.view c.in-Ok.ensures.view c.in-Ok.ensures.of.0 c.in-Ok.ensures.faults c.tell_undamaged.result c.tell_undamaged.new.sink c.tell_undamaged.ensures.told
+    _ c.from_residual.result c.in_err-keys-in-Ok.was q.1
+
+pub returns-in_err-tell_damaged-in-Err-clause-told : goal.returns-in_err-tell_damaged-in-Err-clause-told
+returns-in_err-tell_damaged-in-Err-clause-told g c = λ file d from item shape candidate there.
+    let q = err_from_is_err_and c.from_residual-in_err-tell_damaged-in-Err.result c.from_residual-in_err-tell_damaged-in-Err.ensures.1 in
+    let t = c.args.tree.now in
+    let level = c.len-level.ensures.value in
+    let u = ap (λ s. s.usable) (c.geometry-usable.ensures.value ∙ shape) in
+    let b = there c.uses-uses.result.0.now (ap (slice_get c.args.bench.now.levels) (sym level) ∙ c.uses-uses.ensures.page) in
+    exit_damaged_stop _ _ g.K.Sink.takes g.K.Sink.drops g.K.Sink.held file t.kind t.start t.path.items c.args.page from item d candidate
+    c.geometry-usable.result.usable u c.uses-uses.result.0.now b t.leaf c.as_slice.result.now c.as_slice.ensures.value (c.len-level.result + 1) (ap (λ n. n + 1) level) c.args.sink.now
+    (damage_fault c.args.page c.uses-uses.result.0.now c.in-Err.damage) c.in-Err.ensures.view c.in-Err.ensures.faults c.tell_damaged.result c.tell_damaged.new.sink c.tell_damaged.ensures
+    _ c.from_residual-in_err-tell_damaged-in-Err.result c.in_err-tell_damaged-in-Err.was q.1
+
+pub returns-in-Err-clause-told : goal.returns-in-Err-clause-told
+returns-in-Err-clause-told g c = λ file d from item shape candidate there.
+    let t = c.args.tree.now in
+    let level = c.len-level.ensures.value in
+    let u = ap (λ s. s.usable) (c.geometry-usable.ensures.value ∙ shape) in
+    let b = there c.uses-uses.result.0.now (ap (slice_get c.args.bench.now.levels) (sym level) ∙ c.uses-uses.ensures.page) in
+    exit_damaged _ _ g.K.Sink.takes g.K.Sink.drops g.K.Sink.held file t.kind t.start t.path.items c.args.page from item d candidate
+    c.geometry-usable.result.usable u c.uses-uses.result.0.now b t.leaf c.as_slice.result.now c.as_slice.ensures.value (c.len-level.result + 1) (ap (λ n. n + 1) level) c.args.sink.now
+    (damage_fault c.args.page c.uses-uses.result.0.now c.in-Err.damage) c.in-Err.ensures.view c.in-Err.ensures.faults c.tell_damaged.result c.tell_damaged.new.sink c.tell_damaged.ensures
+    Damaged c.in_ok-tell_damaged-in-Err.was
+
+pub returns-then-is_interior-clause-told : goal.returns-then-is_interior-clause-told
+returns-then-is_interior-clause-told g c = λ file d from item shape candidate there.
+    let t = c.args.tree.now in
+    let level = c.len-level.ensures.value in
+    let u = ap (λ s. s.usable) (c.geometry-usable.ensures.value ∙ shape) in
+    let b = there c.uses-uses.result.0.now (ap (slice_get c.args.bench.now.levels) (sym level) ∙ c.uses-uses.ensures.page) in
+    exit_interior _ _ g.K.Sink.takes g.K.Sink.drops g.K.Sink.held file t.kind t.start t.path.items c.args.page from item d candidate
+    c.geometry-usable.result.usable u c.uses-uses.result.0.now b t.leaf c.as_slice.result.now c.as_slice.ensures.value (c.len-level.result + 1) (ap (λ n. n + 1) level) c.args.sink.now
+    c.in-Ok.view c.in-Ok.ensures.view c.in-Ok.ensures.of.0 c.in-Ok.ensures.faults c.tell_undamaged.result c.tell_undamaged.new.sink c.tell_undamaged.ensures.told
+    Interior c.in_ok-keys-in-Ok.was (search rules)
+
+pub returns-in_err-tell_depth-clause-told : goal.returns-in_err-tell_depth-clause-told
+returns-in_err-tell_depth-clause-told g c = λ file d from item shape candidate there.
+    let q = err_from_is_err_and c.from_residual-in_err-tell_depth.result c.from_residual-in_err-tell_depth.ensures.1 in
+    let t = c.args.tree.now in
+    let level = c.len-level.ensures.value in
+    let u = ap (λ s. s.usable) (c.geometry-usable.ensures.value ∙ shape) in
+    let b = there c.uses-uses.result.0.now (ap (slice_get c.args.bench.now.levels) (sym level) ∙ c.uses-uses.ensures.page) in
+    exit_leaf_stop _ _ g.K.Sink.takes g.K.Sink.drops g.K.Sink.held file t.kind t.start t.path.items c.args.page from item d candidate
+    c.geometry-usable.result.usable u c.uses-uses.result.0.now b t.leaf c.as_slice.result.now c.as_slice.ensures.value (c.len-level.result + 1) (ap (λ n. n + 1) level) c.args.sink.now
+    c.in-Ok.view c.in-Ok.ensures.view c.in-Ok.ensures.of.0 c.in-Ok.ensures.faults c.tell_undamaged.result c.tell_undamaged.new.sink c.tell_undamaged.ensures.told
+    c.in_ok-keys-in-Ok.was (search rules) c.tell_depth.result c.tell_depth.new.sink c.tell_depth.ensures.told
+    _ c.from_residual-in_err-tell_depth.result c.in_err-tell_depth.was q.1
+
+pub returns-clause-told : goal.returns-clause-told
+returns-clause-told g c = λ file d from item shape candidate there.
+    let t = c.args.tree.now in
+    let level = c.len-level.ensures.value in
+    let u = ap (λ s. s.usable) (c.geometry-usable.ensures.value ∙ shape) in
+    let b = there c.uses-uses.result.0.now (ap (slice_get c.args.bench.now.levels) (sym level) ∙ c.uses-uses.ensures.page) in
+    exit_leaf _ _ g.K.Sink.takes g.K.Sink.drops g.K.Sink.held file t.kind t.start t.path.items c.args.page from item d candidate
+    c.geometry-usable.result.usable u c.uses-uses.result.0.now b t.leaf c.as_slice.result.now c.as_slice.ensures.value (c.len-level.result + 1) (ap (λ n. n + 1) level) c.args.sink.now
+    c.in-Ok.view c.in-Ok.ensures.view c.in-Ok.ensures.of.0 c.in-Ok.ensures.faults c.tell_undamaged.result c.tell_undamaged.new.sink c.tell_undamaged.ensures.told
+    c.in_ok-keys-in-Ok.was (search rules) c.tell_depth.result c.tell_depth.new.sink c.tell_depth.ensures.told
+    (Leaf c.in_ok-keys-in-Ok.keys) c.tell_depth.new.self.leaf c.in_ok-tell_depth.was c.tell_depth.ensures.leaf
+
+pub returns-clause-open : goal.returns-clause-open
+returns-clause-open g c =
+    let b = c.args.bench.now in
+    let bytes = c.uses-uses.result.0.now in
+    record {
+      leaf = record {
+        bytes = bytes;
+        there = ap (slice_get b.levels) (sym c.len-level.ensures.value) ∙ c.uses-uses.ensures.page;
+        view = c.in-Ok.view;
+        viewed = ap (λ k. undamaged k c.args.page b.geometry.usable bytes) c.tell_depth.ensures.others.1
+            ∙ ap (λ s. undamaged c.args.tree.now.kind c.args.page s.usable bytes) (sym c.geometry-usable.ensures.value) ∙ c.in-Ok.ensures.view;
+        leaf = search rules;
+      };
+      span = c.in_ok-keys-in-Ok.ensures.keys;
+    }

@@ -1,0 +1,73 @@
+// What is reported of a page of a tree that was read.
+ghost use Rattle.std.specs.Prelude.{◌≡◌, ◌<◌, length, IfOk, OnOk};
+ghost use Rattle.dbformat.specs.FixedPages.{IsPageNumber};
+ghost use Rattle.dbwalk.specs.Found.{IsFound, page_findings};
+ghost use Rattle.dbwalk.specs.Telling.{IsReportedTo, SinkAfter};
+ghost use Rattle.dbtrace.specs.Progress.{leaf_after};
+ghost use Rattle.dbsource.specs.Failures.{is_any};
+ghost use Rattle.dbwalk.specs.Standing.{AtRead, IsSameButLeaf};
+
+use crate::Sink;
+use crate::page::undamaged;
+use crate::page_row::{PagePlace, tell_damaged, tell_undamaged};
+use crate::state::{KeySpan, Tree};
+use dbsource::{Bench, WriteFailed};
+use std::alloc::Allocator;
+
+/// What a page of a tree is: damaged, an interior page, or a leaf.
+#[derive(Clone, Copy)]
+pub(crate) enum PageFound {
+    Damaged,
+    Interior,
+    /// A leaf, with the span of its keys if its cells have nothing else to look at.
+    Leaf(Option<KeySpan>),
+}
+
+/// Reports the row of a page that was read at the level of the tree's path, and its faults. Of a leaf it also reports that its
+/// depth differs from that of the first leaf.
+///
+/// # Errors
+///
+/// [`WriteFailed`] where the sink failed.
+pub(crate) fn tell_page<A: Allocator, K: Sink>(
+    bench: &mut Bench<A>,
+    tree: &mut Tree,
+    page: u32,
+    sink: &mut K,
+) -> Result<PageFound, WriteFailed>
+    requires level { length tree.old.path.items < 20 }
+    requires page { IsPageNumber page }
+    ensures bench { (bench.new.geometry ≡ bench.old.geometry) × (bench.new.levels ≡ bench.old.levels) }
+    ensures tree { IsSameButLeaf tree.old tree.new }
+    ensures open { IfOk result (λ found. IsFound bench.new.geometry.usable tree.new.kind bench.new.levels (length tree.old.path.items) page found) }
+    ensures writes { SinkAfter is_any result (K.held sink.old) (K.held sink.new) }
+    // For each file in which the bytes at the level are those of the page.
+    ensures told { AtRead bench.old.geometry tree.old bench.old.levels page (λ file c.
+        IsReportedTo K.takes K.drops K.held result sink.old (page_findings file tree.old.leaf c) sink.new
+        × OnOk result (tree.new.leaf ≡ leaf_after file tree.old.leaf c)) }
+{
+    let level = tree.path.len();
+    let usable = bench.geometry().usable;
+    let depth = level as u32 + 1;
+    let place = PagePlace {
+        start: tree.start,
+        path: tree.path.as_slice(),
+        page,
+    };
+    let (bytes, uses) = bench.uses(level);
+    let keys = match undamaged(bytes, page, usable, tree.kind) {
+        Ok(view) => {
+            let keys = tell_undamaged(&view, &place, depth > 1, uses, sink)?;
+            if view.kind().is_interior() {
+                return Ok(PageFound::Interior);
+            }
+            keys
+        }
+        Err(damage) => {
+            tell_damaged(&place, bytes, usable, damage, sink)?;
+            return Ok(PageFound::Damaged);
+        }
+    };
+    tree.tell_depth(page, depth, sink)?;
+    Ok(PageFound::Leaf(keys))
+}

@@ -1,0 +1,140 @@
+// What is reported of one page of a tree: its row, and its faults.
+ghost use Rattle.std.specs.Prelude.{◌≡◌, ◌≤◌, length, IfOk, IfSome};
+ghost use Rattle.dbwalk.specs.LeafCells.{HasSpan};
+ghost use Rattle.dbwalk.specs.Found.{damage_fault, undamaged_findings, damaged_findings};
+ghost use Rattle.dbformat.specs.Looks.{look_of};
+ghost use Rattle.dbwalk.specs.Telling.{IsReportedTo};
+ghost use Rattle.dbformat.specs.Cell.{cells};
+ghost use Rattle.dbpage.specs.Packed.{payload_of, greatest_of};
+
+use crate::page::{Damage, damage_cause, damage_fault, tell_inner, tell_readable};
+use crate::state::KeySpan;
+use crate::{Row, Sink};
+use dbformat::{Counts, PageType};
+use dbpage::PageView;
+use dbsource::WriteFailed;
+
+/// A page of a tree: the number of the tree's start, the children on the way to the page, and its number.
+#[derive(Clone, Copy, Drop)]
+pub(crate) struct PagePlace<'a> {
+    pub(crate) start: u32,
+    pub(crate) path: &'a [u32],
+    pub(crate) page: u32,
+}
+
+/// Reports the row of an undamaged page, and then the faults within it. Answers with the span of its keys, if these rise and no
+/// cell has an overflow page. `uses` is room to work in, a byte for each usable byte of the page.
+///
+/// # Errors
+///
+/// [`WriteFailed`] where the sink failed: it was given only a beginning of this.
+pub(crate) fn tell_undamaged<K: Sink>(
+    view: &PageView<'_>,
+    place: &PagePlace<'_>,
+    is_child: bool,
+    uses: &mut [u8],
+    sink: &mut K,
+) -> Result<Option<KeySpan>, WriteFailed>
+    requires number { place.now.page ≡ view.now.number }
+    requires most { view.now.usable ≤ 65536 }
+    requires room { view.now.usable ≤ length uses.old }
+    ensures told { IsReportedTo K.takes K.drops K.held result sink.old (undamaged_findings place.now.start place.now.path.now view.now is_child) sink.new }
+    ensures keys { IfOk result (λ keys. IfSome keys (HasSpan view.now)) }
+{
+    let packed = view.packed(uses);
+    let sums = match packed {
+        Some(page) => PayloadSums {
+            all: u64::from(page.sums.payload),
+            greatest: u64::from(page.sums.greatest),
+        },
+        None => payload_sums(view),
+    };
+    let pagetype = if view.kind().is_interior() {
+        PageType::Internal
+    } else {
+        PageType::Leaf
+    };
+    sink.row(&Row {
+        start: place.start,
+        path: place.path,
+        chain: None,
+        page: place.page,
+        pagetype,
+        counts: Counts {
+            ncell: u64::from(view.cells()),
+            payload: sums.all,
+            unused: u64::from(view.unused()),
+            mx_payload: sums.greatest,
+        },
+    })?;
+    let Some(page) = packed else {
+        tell_inner(view, place.page, is_child, uses, sink)?;
+        return Ok(None);
+    };
+    tell_readable(view, place.page, is_child, page.unheld, sink)?;
+    if page.sums.has_overflow {
+        return Ok(None);
+    }
+    Ok(Some(KeySpan {
+        cells: view.cells(),
+        first: page.sums.first,
+        last: page.sums.last,
+    }))
+}
+
+/// Reports the row of a damaged page of these bytes, and then its one fault.
+///
+/// # Errors
+///
+/// [`WriteFailed`] where the sink failed: it was given only a beginning of this.
+pub(crate) fn tell_damaged<K: Sink>(
+    place: &PagePlace<'_>,
+    bytes: &[u8],
+    usable: u32,
+    damage: Damage,
+    sink: &mut K,
+) -> Result<(), WriteFailed>
+    requires whole { usable ≤ length bytes.now }
+    requires least { 480 ≤ usable }
+    requires most { usable ≤ 65536 }
+    ensures { IsReportedTo K.takes K.drops K.held result sink.old (damaged_findings place.now.start place.now.path.now place.now.page
+        (look_of place.now.page usable bytes.now) (damage_fault place.now.page bytes.now damage)) sink.new }
+{
+    sink.row(&Row {
+        start: place.start,
+        path: place.path,
+        chain: None,
+        page: place.page,
+        pagetype: PageType::Damaged,
+        counts: Counts::NONE,
+    })?;
+    let fault = damage_fault(bytes, place.page, damage);
+    let cause = damage_cause(bytes, place.page, usable, damage);
+    sink.fault(&fault, &cause)
+}
+
+/// The payload of the readable cells of a page, in bytes: the sum of what is in the cells, and the greatest of one cell.
+#[derive(Clone, Copy)]
+pub(crate) struct PayloadSums {
+    pub(crate) all: u64,
+    pub(crate) greatest: u64,
+}
+
+/// The payload of the readable cells of a page.
+// Most pages are packed and do not need this call.
+#[inline(never)]
+pub(crate) fn payload_sums(view: &PageView<'_>) -> PayloadSums
+    requires { view.now.usable ≤ 65536 }
+    ensures all { result.all ≡ payload_of (cells view.now) }
+    ensures greatest { result.greatest ≡ greatest_of (cells view.now) }
+{
+    let mut all = 0;
+    let mut greatest = 0;
+    for i in 0..view.cells() {
+        if let Ok(cell) = view.cell(i) {
+            all += cell.local.len() as u64;
+            greatest = greatest.max(u64::from(cell.size));
+        }
+    }
+    PayloadSums { all, greatest }
+}
