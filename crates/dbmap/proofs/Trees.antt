@@ -1,8 +1,7 @@
 -- Lists of trees, tree by tree.
-use Rattle.std.proofs.Common.{◌≡◌, ℕ, zero, suc, ◌+◌, ◌<◌, List, [], ◌∷◌, ◌++◌, get_or, length, map, take, arith, Result, Ok, Err, refl, sym, ap, ap₂, ◌∙◌}
+use Rattle.std.proofs.Common.{◌≡◌, ℕ, zero, suc, ◌+◌, ◌<◌, List, [], ◌∷◌, ◌++◌, get_or, length, map, arith, Result, Ok, Err, refl, sym, ap, ap₂, ◌∙◌}
 use Rattle.std.specs.Prelude.{IsOk, OnOk}
 use Rattle.std.proofs.lemmas.Bool.{false≢true}
-use Rattle.std.proofs.lemmas.List.{take_more}
 use Rattle.dbmap.specs.Owners.{tree_starts}
 use Rattle.dbmap.specs.Tallies.{share_at}
 use Rattle.dbmap.specs.TreeLists.{tree_at}
@@ -33,9 +32,3 @@ pub tree_here : (starts : List Share) (ts : List RankedTree) (i : ℕ) (d : Rank
 tree_here starts [] i d h e = absurd (let no : ⊥ = omega arith in no)
 tree_here starts (t ∷ ts) zero d h e = let same : t ≡ tree_at starts t.start = cc in ap (λ (t : RankedTree). t.share) same
 tree_here starts (t ∷ ts) (suc i) d h e = let same : ts ≡ map (tree_at starts) (tree_starts ts) = cc in tree_here starts ts i d (omega arith) same
-
--- the names of the first of some trees, one tree more
-pub names_more : (f : ℕ → List ℕ) (ts : List RankedTree) (i : ℕ) (d : RankedTree) → i < length ts
-    → map f (tree_starts (take (i + 1) ts)) ≡ map f (tree_starts (take i ts)) ++ f (get_or ts i d).start ∷ []
-names_more f ts i d h =
-    ap (λ l. map f (tree_starts l)) (take_more ts i d h) ∙ ap (map f) (starts_push (take i ts) (get_or ts i d)) ∙ map_push f (tree_starts (take i ts)) (get_or ts i d).start
