@@ -3,5 +3,5 @@ mod causes;
 mod explained;
 mod listed;
 mod lost;
-mod made;
+pub(crate) mod made;
 mod refused;

@@ -1,5 +1,6 @@
 // Frames of squares, by the rules: a wide one at the pages of a fault that leads, of the page that its value names and of its cause, and
 // a narrow one where there is another fault.
+use crate::explain::made::made;
 use crate::map::pictures::drawn;
 use dbfiles::{TestFile, schema_row};
 use std::alloc::{AllocError, Global};
@@ -35,7 +36,7 @@ const FRAMES: [&str; 12] = [
     "<rect x=\"197\" y=\"1\" width=\"25\" height=\"25\" stroke=\"#BE0700\" stroke-width=\"4\"><title>page 8: in table b, child of page 6, with P10</title></rect>\n",
     "<rect x=\"225\" y=\"1\" width=\"25\" height=\"25\" stroke=\"#BE0700\" stroke-width=\"4\"><title>page 9: in table b, child of page 6, with P10</title></rect>\n",
     "<rect x=\"252\" width=\"27\" height=\"27\" stroke=\"#BE0700\" stroke-width=\"2\" paint-order=\"stroke\"><title>page 10: in table b, child of page 6, with P10</title></rect>\n",
-    "<rect x=\"280\" width=\"27\" height=\"27\" stroke=\"#BE0700\" stroke-width=\"2\" paint-order=\"stroke\"><title>page 11: in no tree, overflow chain or freelist, with N01</title></rect>\n",
+    "<rect x=\"281\" y=\"1\" width=\"25\" height=\"25\" stroke=\"#BE0700\" stroke-width=\"4\"><title>page 11: in no tree, overflow chain or freelist, with N01</title></rect>\n",
     ">pages with a fault</text><text x=\"580\" y=\"140\" text-anchor=\"end\">7</text>",
 ];
 
@@ -43,5 +44,64 @@ const FRAMES: [&str; 12] = [
 fn faults_that_lead_have_wide_frames(rt: HostRuntime) -> Result<(), Fail> {
     let file = faulty(rt.alloc())?;
     drawn(&rt, rt.alloc(), file.as_slice(), &FRAMES);
+    Ok(())
+}
+
+// Of the pages that nothing refers to, pages 2, 4 and 6 are zeros, and 3 and 5 leaves of an index: two lead.
+const STRIPES: [&str; 5] = [
+    "<rect x=\"29\" y=\"1\" width=\"25\" height=\"25\" stroke=\"#BE0700\" stroke-width=\"4\"><title>page 2: in no tree, overflow chain or freelist, with N01</title></rect>\n",
+    "<rect x=\"57\" y=\"1\" width=\"25\" height=\"25\" stroke=\"#BE0700\" stroke-width=\"4\"><title>page 3: in no tree, overflow chain or freelist, with N01</title></rect>\n",
+    "<rect x=\"84\" width=\"27\" height=\"27\" stroke=\"#BE0700\" stroke-width=\"2\" paint-order=\"stroke\"><title>page 4: in no tree, overflow chain or freelist, with N01</title></rect>\n",
+    "<rect x=\"112\" width=\"27\" height=\"27\" stroke=\"#BE0700\" stroke-width=\"2\" paint-order=\"stroke\"><title>page 5: in no tree, overflow chain or freelist, with N01</title></rect>\n",
+    "<rect x=\"140\" width=\"27\" height=\"27\" stroke=\"#BE0700\" stroke-width=\"2\" paint-order=\"stroke\"><title>page 6: in no tree, overflow chain or freelist, with N01</title></rect>\n",
+];
+
+// Each of the six looks twice: the pages 2 to 7, and 8 to 13.
+const LOOKS: [&str; 4] = [
+    "<rect x=\"29\" y=\"1\" width=\"25\" height=\"25\" stroke=\"#BE0700\" stroke-width=\"4\"><title>page 2: in no tree, overflow chain or freelist, with N01</title></rect>\n",
+    "<rect x=\"169\" y=\"1\" width=\"25\" height=\"25\" stroke=\"#BE0700\" stroke-width=\"4\"><title>page 7: in no tree, overflow chain or freelist, with N01</title></rect>\n",
+    "<rect x=\"196\" width=\"27\" height=\"27\" stroke=\"#BE0700\" stroke-width=\"2\" paint-order=\"stroke\"><title>page 8: in no tree, overflow chain or freelist, with N01</title></rect>\n",
+    "<rect x=\"336\" width=\"27\" height=\"27\" stroke=\"#BE0700\" stroke-width=\"2\" paint-order=\"stroke\"><title>page 13: in no tree, overflow chain or freelist, with N01</title></rect>\n",
+];
+
+#[test]
+fn lost_pages_that_lead_have_wide_frames(rt: HostRuntime) -> Result<(), Fail> {
+    let stripes = made(rt.alloc(), "stripes 6")?;
+    drawn(&rt, rt.alloc(), stripes.as_slice(), &STRIPES);
+    let looks = made(rt.alloc(), "all-looks")?;
+    drawn(&rt, rt.alloc(), looks.as_slice(), &LOOKS);
+    Ok(())
+}
+
+// 33 tables have three empty leaves each: 99 entries of P10. Nothing refers to page 134, of zeros, nor to page 135, a leaf of an index.
+fn many_entries(alloc: Global) -> Result<Vec<u8>, AllocError> {
+    let mut file = TestFile::new(alloc, 4096, 135)?;
+    let mut rows = Vec::new(alloc);
+    for tree in 0..33u8 {
+        let root = tree.wrapping_add(2);
+        let leaf = u32::from(tree).wrapping_mul(3).wrapping_add(35);
+        rows.push(schema_row(b"table", b"t", root))?;
+        file.interior_table(u32::from(root), leaf.wrapping_add(2))
+            .key(leaf, 1)
+            .key(leaf.wrapping_add(1), 2);
+        file.leaf_table(leaf);
+        file.leaf_table(leaf.wrapping_add(1));
+        file.leaf_table(leaf.wrapping_add(2));
+    }
+    file.schema(rows.as_slice());
+    file.leaf_index(135).index_cell(&[0; 7]);
+    Ok(file.into_bytes())
+}
+
+// The 100th entry is that of page 134, and no more are framed.
+const LAST_FRAMED: [&str; 2] = [
+    "<rect x=\"141\" y=\"1\" width=\"25\" height=\"25\" stroke=\"#BE0700\" stroke-width=\"4\"><title>page 134: in no tree, overflow chain or freelist, with N01</title></rect>\n",
+    "<rect x=\"168\" width=\"27\" height=\"27\" stroke=\"#BE0700\" stroke-width=\"2\" paint-order=\"stroke\"><title>page 135: in no tree, overflow chain or freelist, with N01</title></rect>\n",
+];
+
+#[test]
+fn a_hundred_entries_are_framed(rt: HostRuntime) -> Result<(), Fail> {
+    let file = many_entries(rt.alloc())?;
+    drawn(&rt, rt.alloc(), file.as_slice(), &LAST_FRAMED);
     Ok(())
 }

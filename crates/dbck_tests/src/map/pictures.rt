@@ -36,7 +36,7 @@ const TEXTS: [&str; 20] = [
     "<g fill=\"#A001C6\">\n<rect x=\"84\" width=\"27\" height=\"27\"><title>page 4: root of index &lt;&amp;&quot;\\x0a&#39;&gt;</title></rect>\n</g>\n",
     "<g fill=\"#DBDBDB\">\n<rect x=\"112\" width=\"27\" height=\"27\"><title>page 5: trunk of the freelist</title></rect>\n",
     "<rect x=\"140\" width=\"27\" height=\"27\"><title>page 6: leaf of the freelist</title></rect>\n</g>\n",
-    "<rect x=\"168\" width=\"27\" height=\"27\" stroke=\"#BE0700\" stroke-width=\"2\" paint-order=\"stroke\"><title>page 7: in no tree, overflow chain or freelist, with N01</title></rect>\n",
+    "<rect x=\"169\" y=\"1\" width=\"25\" height=\"25\" stroke=\"#BE0700\" stroke-width=\"4\"><title>page 7: in no tree, overflow chain or freelist, with N01</title></rect>\n",
     "</g>\n</g>\n<g transform=\"translate(0 92)\">\n",
     ">table a</text><text x=\"580\" y=\"40\" text-anchor=\"end\">2</text><text x=\"710\" y=\"40\" text-anchor=\"end\">1</text>",
     "<text x=\"790\" y=\"40\" text-anchor=\"end\">1.0 KiB</text><text x=\"860\" y=\"40\" text-anchor=\"end\">28.6</text>",

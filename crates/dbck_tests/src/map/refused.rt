@@ -1,15 +1,16 @@
 // Reads, writes and memory that are refused in turn.
 use crate::map::pictures::small;
+use dbexplain::explain;
 use dbfiles::StatedSource;
 use dbmap::{map, map_in};
 use dbreport::Verdict;
-use dbsource::{MemOut, MemSource, RunError, StreamOut};
+use dbsource::{ByteRange, LogSource, MemOut, MemSource, RunError, StreamOut};
 use linked_list_allocator::LocalHeap;
 use std::alloc::{AllocError, Global};
 use std::process::Abort;
 use std::test::Fail;
 
-// The call of the source with this number fails: nothing was written by then.
+// The call of the source with this number fails: nothing was put by then.
 fn fails_at_read(rt: &impl Abort, alloc: Global, file: &[u8], fails_at: u64) {
     let mut source = StatedSource::new(file, file.len() as u64, fails_at);
     let mut out = MemOut::new(alloc);
@@ -27,10 +28,11 @@ fn fails_in(rt: &impl Abort, alloc: Global, file: &[u8], held: &mut [u8]) {
     holds!(*rt; verdict == Err(RunError::WriteFailed), room);
 }
 
+// Each call of the source fails in turn: its length, its header, the pages 1 to 5, and last page 7, to which nothing refers.
 #[test]
 fn each_read_fails_in_turn(rt: HostRuntime) -> Result<(), Fail> {
     let file = small(rt.alloc())?;
-    for fails_at in 0..7u64 {
+    for fails_at in 0..8u64 {
         fails_at_read(&rt, rt.alloc(), file.as_slice(), fails_at);
     }
     Ok(())
@@ -93,8 +95,11 @@ const STRONG: usize = FAULTY + 16;
 // 200 bytes for each of 100 entries.
 const ENTRIES: usize = STRONG + 100 * 200;
 
+// And six of lost pages.
+const LOST_ENTRIES: usize = ENTRIES + 6 * 200;
+
 // As rows are read, the list of roots takes four rows of 20 bytes, and then 8 bytes of names.
-const ROOTS: usize = ENTRIES + 80;
+const ROOTS: usize = LOST_ENTRIES + 80;
 
 // Each is refused where there is room for those before it alone.
 #[test]
@@ -109,6 +114,7 @@ fn each_growth_is_refused(rt: HostRuntime) -> Result<(), Fail> {
         FAULTY,
         STRONG,
         ENTRIES,
+        LOST_ENTRIES,
         ROOTS,
     ] {
         in_room(
@@ -126,5 +132,31 @@ fn each_growth_is_refused(rt: HostRuntime) -> Result<(), Fail> {
         ROOTS + 16,
         Ok(Verdict::Faulty(1)),
     )?;
+    Ok(())
+}
+
+// Draws a file, and explains it, over sources that keep what they were asked for.
+fn ask(alloc: Global, drawn: &mut LogSource<'_>, explained: &mut LogSource<'_>) {
+    let mut out = MemOut::new(alloc);
+    let _ = map(alloc, "x", drawn, &mut out);
+    let _ = explain(alloc, 100, explained, &mut out);
+}
+
+// The range of the page that nothing refers to.
+const LOST: ByteRange = ByteRange {
+    offset: 3072,
+    len: 512,
+};
+
+// It reads what `explain` reads: last the page that nothing refers to.
+#[test]
+fn reads_what_explain_reads(rt: HostRuntime) -> Result<(), Fail> {
+    let file = small(rt.alloc())?;
+    let mut drawn = LogSource::new(file.as_slice());
+    let mut explained = LogSource::new(file.as_slice());
+    ask(rt.alloc(), &mut drawn, &mut explained);
+    let ranges = drawn.ranges();
+    holds!(rt; ranges == explained.ranges() && ranges.len() == 7);
+    holds!(rt; ranges.last() == Some(&LOST));
     Ok(())
 }
