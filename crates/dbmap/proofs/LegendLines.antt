@@ -6,6 +6,7 @@ use Rattle.std.proofs.lemmas.List.Sums.{sum_by_push}
 use Rattle.std.proofs.lemmas.Bool.Decides.{nat_tests}
 use Rattle.std.proofs.lemmas.List.{drop_all}
 use Rattle.std.proofs.lemmas.Option.{get_or_from_slice_get}
+use Rattle.dbsurvey.proofs.Ranges.{range_push}
 use Rattle.dbsurvey.specs.Address.{IsIn}
 use Rattle.dbformat.specs.Address.{freelist_start, last_root_start}
 use Rattle.dbformat.specs.File.{geometry}
@@ -23,7 +24,6 @@ use Rattle.dbmap.specs.declared.cell.Share.{Share}
 use Rattle.dbmap.specs.declared.legend.Label.TheVariants.{Faulty, Fixed, Freelist, Nobody, Others, Tree}
 use Rattle.dbmap.specs.declared.legend.LegendLine.{LegendLine}
 use Rattle.dbmap.specs.declared.tally.RankedTree as tally
-use Rattle.dbmap.proofs.Shares.{range_push}
 use Rattle.dbmap.proofs.Trees.{tree_here}
 
 -- ---- sums over starts
