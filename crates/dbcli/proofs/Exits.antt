@@ -290,7 +290,7 @@ answer_of : (asked : Request) (file : List ℕ) (outcome : Result Verdict RunErr
     → IsEndFor asked file outcome out out' err mid
     → IsAnswerOf outcome file × IfOk outcome (λ v. v ≡ Clean ↔ Sound file)
 answer_of (request.Report command) file outcome out out' err mid run = (run.answer, run.sound)
-answer_of (request.Explain limit) file outcome out out' err mid run = (run.answer, run.sound)
+answer_of (request.Explain limit) file outcome out out' err mid run = (run.1, run.2)
 answer_of (request.Map name) file outcome out out' err mid run = (run.answer, run.sound)
 
 -- what finishing left of a file, by what its run left of it

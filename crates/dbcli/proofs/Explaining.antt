@@ -1,11 +1,12 @@
 -- What an explanation leaves, before the last handing on and after it.
 use Rattle.std.proofs.Common.{◌≡◌, ℕ, List, [], Option, Some, None, Result, Ok, Err, inl, refl, arith}
-use Rattle.std.specs.Prelude.{◌≢◌, IfOk, OnOk}
+use Rattle.std.specs.Prelude.{◌↔◌, ◌≢◌, IfOk, OnOk}
 use Rattle.std.specs.Io.KnownBytes.{Appends, Keeps}
 use Rattle.std.specs.Option.{option_map_or}
 use Rattle.dbformat.specs.File.{refusal}
 use Rattle.dbformat.specs.Reference.{Reference}
 use Rattle.dbformat.specs.Report.{Report, refused_report, report}
+use Rattle.dbformat.specs.Sound.{Sound}
 use Rattle.dbformat.specs.Survey.{Survey}
 use Rattle.dbformat.specs.declared.Refusal.{Refusal}
 use Rattle.dbformat.specs.declared.Verdict.{Verdict}
@@ -41,7 +42,8 @@ LeavesText limit file V r out out' = Writes r out.bytes out'.bytes (explain_repo
 -- and what is answered
 abbrev pub IsExplainedTo : ℕ → List ℕ → Result Verdict RunError → OutState → OutState → Type 0
 IsExplainedTo limit file r out out' =
-    ((V : List Reference) → Survey file V → LeavesText limit file V r out out' × IfOk r (λ v. (explain_report limit file V).answer ≡ Ok v)) × IsAnswerOf r file
+    ((V : List Reference) → Survey file V → LeavesText limit file V r out out' × IfOk r (λ v. (explain_report limit file V).answer ≡ Ok v))
+    × IsAnswerOf r file × IfOk r (λ v. v ≡ Clean ↔ Sound file)
 
 -- what is left in the end, by what was asked
 abbrev pub IsEndFor : Request → List ℕ → Result Verdict RunError → OutState → OutState → OutState → OutState → Type 0

@@ -167,6 +167,7 @@ module _ (out out' err err' : OutState) where
   still_for (request.Explain limit) file o r first second h run = (
     λ V s. (still_explained limit file V o r first h (run.written V s), still_of (λ v. (explain_report limit file V).answer ≡ Ok v) o r h (run.verdict V s)),
     still_answers o r file h run.answer,
+    still_of (λ v. v ≡ Clean ↔ Sound file) o r h run.sound,
   )
   still_for (request.Map name) file o r first second h run = record {
     survey = run.survey;
