@@ -7,7 +7,7 @@ use crate::report::{put_found, put_report};
 use dbentries::Reported;
 use dbformat::{FaultCode, Verdict};
 use dblines::put_ok;
-use dblisting::{look_at_lost, reported_of};
+use dblisting::{at_start, look_at_lost, of_file};
 use dbscan::{Desk, Finish, Notice, Reporter};
 use dbsource::{Geometry, Out, RunError, Source, WriteFailed};
 use dbwalk::Marks;
@@ -62,8 +62,10 @@ impl<A: Allocator, O: Out> Reporter for ExplainReporter<'_, A, O> {
     ghost held = { explain_held O.held };
 
     fn hear(&mut self, notice: &Notice<'_>) -> Result<(), WriteFailed> {
-        if let Some(told) = reported_of(notice) {
-            self.add(&told);
+        match notice {
+            Notice::Whole(fault) => self.add(&of_file(fault)),
+            Notice::Fault(start, fault, cause) => self.add(&at_start(start, fault, **cause)),
+            Notice::Row(_, _) | Notice::Ended(_) => {}
         }
         Ok(())
     }

@@ -1,7 +1,7 @@
 //! What is listed of the faults of a file: those that lead, with the faults that go back to the same, as `explain` writes them and
 //! `map` frames their pages.
 //!
-//! A fault is listed as it is heard ([`reported_of`]), but for that of a lost page, to which nothing refers: it goes back to what the
+//! A fault is listed as it is heard ([`of_file`], [`at_start`]), but for that of a lost page, to which nothing refers: it goes back to what the
 //! page looks like, and that is known when all pages have been visited. [`look_at_lost`] then reads each lost page, once, in their
 //! order, and lists their faults apart; `Entries::weave` puts the entries of these into their places.
 //!
@@ -12,4 +12,4 @@ mod lost;
 mod told;
 
 pub use lost::{LOST_ENTRIES, look_at_lost};
-pub use told::reported_of;
+pub use told::{at_start, of_file};

@@ -1,11 +1,21 @@
-// The fault of a notice.
+// A fault as it is heard, with the part of the report that it belongs to and its cause.
 ghost use Rattle.std.specs.Prelude.{◌≡◌};
-ghost use Rattle.dbscan.specs.Notices.{notice_of};
-ghost use Rattle.dbscan.specs.Placed.{is_header_code, of_file, part_of_code, reported_of};
+ghost use Rattle.dbscan.specs.Placed.{at_start, is_header_code, of_file, part_of_code};
 
 use dbformat::{Fault, FaultCode};
-use dbscan::Notice;
+use dbscan::Start;
 use dbtrace::{Cause, Part, Reported};
+
+/// A fault that is found from a start.
+pub fn at_start(start: &Start<'_>, fault: &Fault, cause: Cause) -> Reported
+    ensures { result ≡ at_start start.now.number fault.now cause }
+{
+    Reported {
+        part: Part::Start(start.number()),
+        fault: *fault,
+        cause,
+    }
+}
 
 // Whether faults with this code are found in the header alone.
 fn is_header_code(code: FaultCode) -> bool
@@ -23,8 +33,8 @@ fn is_header_code(code: FaultCode) -> bool
     )
 }
 
-// A fault of the whole file.
-fn of_file(fault: &Fault) -> Reported
+/// A fault of the whole file: of its header, or of its end.
+pub fn of_file(fault: &Fault) -> Reported
     ensures { result ≡ of_file (part_of_code fault.now.code) fault.now }
 {
     Reported {
@@ -35,20 +45,5 @@ fn of_file(fault: &Fault) -> Reported
         },
         fault: *fault,
         cause: Cause::Itself,
-    }
-}
-
-/// The fault of a notice, if it is one, with the part of the report that it belongs to and its cause.
-pub fn reported_of(notice: &Notice<'_>) -> Option<Reported>
-    ensures { result ≡ reported_of (notice_of notice.now) }
-{
-    match notice {
-        Notice::Whole(fault) => Some(of_file(fault)),
-        Notice::Fault(start, fault, cause) => Some(Reported {
-            part: Part::Start(start.number()),
-            fault: **fault,
-            cause: **cause,
-        }),
-        Notice::Row(_, _) | Notice::Ended(_) => None,
     }
 }

@@ -7,7 +7,7 @@ use crate::kept::KeptFaults;
 use crate::maps::put_map;
 use dbentries::Reported;
 use dbformat::Verdict;
-use dblisting::{look_at_lost, reported_of};
+use dblisting::{at_start, look_at_lost, of_file};
 use dbscan::{Desk, Finish, Notice, Reporter};
 use dbsource::{Geometry, Out, RunError, Source, WriteFailed};
 use dbwalk::Marks;
@@ -71,8 +71,10 @@ impl<A: Allocator, O: Out> Reporter for MapReporter<'_, A, O> {
     ghost held = { map_held O.held };
 
     fn hear(&mut self, notice: &Notice<'_>) -> Result<(), WriteFailed> {
-        if let Some(told) = reported_of(notice) {
-            self.note(&told);
+        match notice {
+            Notice::Whole(fault) => self.note(&of_file(fault)),
+            Notice::Fault(start, fault, cause) => self.note(&at_start(start, fault, **cause)),
+            Notice::Row(_, _) | Notice::Ended(_) => {}
         }
         Ok(())
     }
