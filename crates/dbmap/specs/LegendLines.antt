@@ -21,7 +21,7 @@ use Rattle.dbmap.specs.declared.legend.LegendLine.{LegendLine}
 
 -- ---- the names of trees
 
--- whether two names are shown alike in so many columns
+-- whether two names are shown alike in a number of columns
 abbrev pub is_like : ℕ → List ℕ → List ℕ → Bool
 is_like width name other = pointwise nat_eq (seen width name) (seen width other)
 
