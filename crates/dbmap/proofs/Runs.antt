@@ -6,7 +6,7 @@ use Rattle.std.proofs.lemmas.Nat.{pow_pos}
 use Rattle.std.proofs.Math.Nat.{lt_of_mul-lt-mul_left, mul-le-mul_right, mul_comm, pow-suc}
 use Rattle.dbmap.specs.Grids.{IsLeastRun}
 
--- so many pieces of a size are enough, where that many times the size is
+-- a number of pieces of a size is enough, where that many times the size is
 ceil_most : (pages size most : ℕ) → 0 < size → pages ≤ most * size → div_ceil pages size ≤ most
 ceil_most pages size most some h =
     let times = (div_ceil_times pages size some).1 in

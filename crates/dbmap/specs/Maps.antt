@@ -68,7 +68,8 @@ pub record HasPicture (P : List ℕ → Type 0) (name file : List ℕ) (V : List
   pub legend : lines ≡ legend_lines file V ground.names ground.owners.largest (faulty_pages file V)
   pub holds : P (picture_text heading ground all lines)
 
--- what the told bytes of an Out become: at Ok a picture was put; at a failed write nothing, or a beginning of one; at any other error nothing
+-- what the bytes of an Out become, where they are known: at Ok a picture was put; at a failed write nothing, or a beginning of one; at
+-- any other error nothing
 abbrev pub DrawsMap : {A : Type 0} → Result A RunError → Option (List ℕ) → Option (List ℕ) → List ℕ → List ℕ → List Reference → Type 0
 DrawsMap (Ok a) old new name file V = HasPicture (Appends old new) name file V
 DrawsMap (Err WriteFailed) old new name file V = Keeps old new ⊎ HasPicture (Begins old new) name file V

@@ -46,7 +46,7 @@ pub fn open_in<A: Allocator + Copy, S: Source>(
     Ok(Desk::new_in(alloc, header)?)
 }
 
-/// The same, and makes what a command keeps beside the desk.
+/// Does what [`open_in`] does, and makes what a command keeps beside the desk.
 ///
 /// # Errors
 ///
