@@ -29,7 +29,7 @@ pub use dbsource::{Out, WriteFailed};
 pub use name::name_text;
 pub use payload::{local_len, most_local};
 pub use plain::plain_name_text;
-pub use row::SchemaRow;
+pub use row::{MAX_NAME, SchemaRow};
 pub use serial::serial_len;
 pub use sieve::RowSieve;
 pub use varints::varint;

@@ -12,8 +12,8 @@ use crate::text::is_well_formed;
 use byteorder::{BigEndian, ByteOrder};
 use dbformat::{Encoding, RowFault, RowKind};
 
-// The most bytes that a stored name may have (own).
-pub(crate) const MAX_NAME: usize = 1000;
+/// The most bytes that a stored name may have (own).
+pub const MAX_NAME: usize = 1000;
 
 /// What is kept of a row of the schema.
 #[derive(Clone, Copy, Debug, PartialEq, Eq)]

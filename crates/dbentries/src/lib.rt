@@ -26,6 +26,7 @@ mod part;
 mod runs;
 mod woven;
 
+pub use dbsource::{Out, WriteFailed};
 pub use dbtrace::{Cause, Part, Reported};
 pub use entries::Entries;
 pub use entry::{Entry, Others};

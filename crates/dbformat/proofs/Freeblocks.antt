@@ -3,7 +3,7 @@ use Rattle.std.proofs.Common.{◌≡◌, ℕ, zero, suc, ◌+◌, ◌-◌, ◌*�
 use Rattle.std.specs.Prelude.{nat_le}
 use Rattle.std.proofs.lemmas.Bool.Decides.{nat_tests}
 use Rattle.dbformat.specs.Head.{View, first_freeblock, content_start}
-use Rattle.dbformat.specs.Coverage.{Span, AreFreeblocksAll, freeblocks, freeblocks_from, freeblock_at, next_freeblock, is_good_freeblock, offset_behind, end_behind}
+use Rattle.dbformat.specs.Coverage.{Span, AreFreeblocksAll, freeblocks, freeblocks_from, freeblock_at, next_freeblock, is_good_freeblock, offset_after, end_after}
 
 -- what a good freeblock is
 pub record IsGood (v : View) (end offset : ℕ) : Type 0 where
@@ -59,12 +59,12 @@ abbrev next_from : View → ℕ → List Span → ℕ
 next_from v offset [] = offset
 next_from v offset (f ∷ fs) = next_from v (next_freeblock v f.offset) fs
 
-end_from_first : (fs : List Span) → end_from 0 fs ≡ end_behind fs
+end_from_first : (fs : List Span) → end_from 0 fs ≡ end_after fs
 end_from_first [] = refl
 end_from_first (f ∷ []) = refl
 end_from_first (f ∷ g ∷ fs) = end_from_first (g ∷ fs)
 
-next_from_first : (v : View) (fs : List Span) → next_from v (first_freeblock v.number v.bytes) fs ≡ offset_behind v fs
+next_from_first : (v : View) (fs : List Span) → next_from v (first_freeblock v.number v.bytes) fs ≡ offset_after v fs
 next_from_first v [] = refl
 next_from_first v (f ∷ []) = refl
 next_from_first v (f ∷ g ∷ fs) = next_from_first v (g ∷ fs)

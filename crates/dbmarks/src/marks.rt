@@ -68,7 +68,7 @@ fn pack(mark: Mark) -> u32
     }
 }
 
-// The mark that is stored so.
+// The mark that a stored word says.
 #[tactic(auto, unfolding(crate::specs::Marking::unpacked))]
 fn unpack(word: u32) -> Mark
     ensures { result ≡ unpacked word }

@@ -4,7 +4,7 @@ use Rattle.std.specs.Prelude.{sum_by}
 use Rattle.std.proofs.lemmas.List.{append_assoc, take_at, length_push, length-take-le}
 use Rattle.std.proofs.lemmas.List.Sums.{sum_by-cons}
 use Rattle.dbformat.specs.Head.{View, content_start, first_freeblock, fragmented_bytes}
-use Rattle.dbformat.specs.Coverage.{Span, freeblocks, freeblocks_from, freeblock_at, next_freeblock, is_good_freeblock, offset_behind, unused}
+use Rattle.dbformat.specs.Coverage.{Span, freeblocks, freeblocks_from, freeblock_at, next_freeblock, is_good_freeblock, offset_after, unused}
 use Rattle.dbpage.specs.Freeblocks.{HasPassed}
 use Rattle.dbformat.proofs.Freeblocks.{good_parts, good_ends, none_past_end, from_good, from_bad}
 
@@ -35,10 +35,10 @@ pub next_good : (v : View) (end offset : ℕ) → is_good_freeblock v end offset
 next_good v end offset h =
     enough_is_enough v.usable (suc v.usable) v end offset (omega arith) (omega arith) ∙ from_good v.usable v end offset h
 
-pub offset_behind_push : (v : View) (fs : List Span) (f : Span) → offset_behind v (fs ++ f ∷ []) ≡ next_freeblock v f.offset
-offset_behind_push v [] f = refl
-offset_behind_push v (g ∷ []) f = refl
-offset_behind_push v (g ∷ h ∷ fs) f = offset_behind_push v (h ∷ fs) f
+pub offset_after_push : (v : View) (fs : List Span) (f : Span) → offset_after v (fs ++ f ∷ []) ≡ next_freeblock v f.offset
+offset_after_push v [] f = refl
+offset_after_push v (g ∷ []) f = refl
+offset_after_push v (g ∷ h ∷ fs) f = offset_after_push v (h ∷ fs) f
 
 -- freeblocks are apart, so that all their sizes fit in what is left of the page
 pub sum-freeblocks_from : (n : ℕ) (v : View) (end offset : ℕ) → end ≤ v.usable → end + sum_by (λ f. f.len) (freeblocks_from n v end offset) ≤ v.usable
@@ -112,7 +112,7 @@ module _ (v : View) (number end offset : ℕ) (place : HasPassed v number end of
       let taken = taken_more (freeblocks v) done rest (freeblock_at v offset) number (whole_at good) count_taken in
       record {
         whole = ap (λ (fs : List Span). fs ++ rest) taken ∙ append_assoc done (freeblock_at v offset ∷ []) rest ∙ whole_at good;
-        behind = ap (offset_behind v) taken ∙ offset_behind_push v done (freeblock_at v offset);
+        behind = ap (offset_after v) taken ∙ offset_after_push v done (freeblock_at v offset);
         few = omega (arith, one_more good);
       }
 

@@ -1,6 +1,6 @@
 // Cells (Database File Format, 1.6, "B-tree Cell Format").
 ghost use Rattle.std.specs.Prelude.{◌≡◌, ◌+◌, ◌<◌, ◌≤◌, IfSome};
-ghost use Rattle.dbformat.specs.Cell.{bytes_from, cell, cell_at, cell_pointer, child_number, count, payload_cell, right_child};
+ghost use Rattle.dbformat.specs.Cell.{bytes_from, cell, cell_at, cell_pointer, child_number, count, overflow_size, payload_cell, right_child};
 ghost use Rattle.dbformat.specs.Varint.{varint};
 ghost use Rattle.dbformat.specs.declared.PageKind.TheVariants.{InteriorIndex, InteriorTable, LeafIndex, LeafTable};
 
@@ -34,6 +34,15 @@ impl<'a> Model for Cell<'a> {
     ghost Value = { Cell };
 
     ghost view = { λ c. record { offset = c.offset; len = c.len; size = c.size; local = c.local.now; left = c.left; key = c.key; overflow = c.overflow } };
+}
+
+impl<'a> Cell<'a> {
+    /// How many bytes of its payload are on overflow pages.
+    pub fn overflow_size(&self) -> u32
+        ensures { result ≡ overflow_size self.now }
+    {
+        u64::from(self.size).saturating_sub(self.local.len() as u64) as u32
+    }
 }
 
 impl<'a> PageView<'a> {

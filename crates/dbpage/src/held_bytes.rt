@@ -6,7 +6,7 @@ ghost use Rattle.dbformat.specs.Coverage.{coverage, first_overlap, items};
 ghost use Rattle.dbpage.specs.Marking.{AreMarked, Holds, HoldsNothing, cell_spans, is_claimed};
 ghost use Rattle.dbformat.specs.declared.Coverage.TheVariants.{Unheld};
 
-use crate::mark_count::Steps;
+use crate::mark_count::MarkCount;
 use crate::mark_table::{claim, clear};
 use crate::view::{PageView, by_kind};
 use dbformat::{Coverage, PageKind};
@@ -17,22 +17,26 @@ use std::sync::ledger::{Blank, Ledger};
 /// content area are in none. Items are the cells, readable or not, and then the good freeblocks.
 ///
 /// `table` is room to work in, at least as many bytes as the page has usable ones. Its contents do not matter, and are
-/// unspecified afterwards. `steps` counts each byte that is marked for an item, and the finding that an item's byte is marked.
-pub fn coverage<L: Ledger>(view: &PageView<'_>, table: &mut [u8], steps: &mut Steps<L>) -> Coverage
+/// unspecified afterwards. `mark_count` counts each byte that is marked for an item, and the finding that an item's byte is marked.
+pub fn coverage<L: Ledger>(
+    view: &PageView<'_>,
+    table: &mut [u8],
+    mark_count: &mut MarkCount<L>,
+) -> Coverage
     requires { view.now.usable ≤ length table.old }
     ensures items { result ≡ coverage view.now }
     // No byte is marked twice, and one finding ends the call.
-    ensures few { steps.new ≤ steps.old + view.now.usable + 1 }
+    ensures few { mark_count.new ≤ mark_count.old + view.now.usable + 1 }
     // Each held byte is marked.
-    ensures each { (n : ℕ) → result ≡ Unheld n → steps.new + n + content_start view.now.number view.now.bytes ≡ steps.old + view.now.usable }
+    ensures each { (n : ℕ) → result ≡ Unheld n → mark_count.new + n + content_start view.now.number view.now.bytes ≡ mark_count.old + view.now.usable }
 {
     let content = view.usable - view.start;
     clear(table, view.usable);
-    let in_cells = match mark_cells(view, table, steps) {
+    let in_cells = match mark_cells(view, table, mark_count) {
         Ok(held) => held,
         Err(overlap) => return Coverage::Overlap(overlap.item),
     };
-    match mark_freeblocks(view, in_cells, table, steps) {
+    match mark_freeblocks(view, in_cells, table, mark_count) {
         Ok(held) => Coverage::Unheld(content - held),
         Err(overlap) => Coverage::Overlap(overlap.item),
     }
@@ -55,8 +59,8 @@ fn coverage_from<L: Ledger>(view: &PageView<'_>, table: &mut [u8], blank: Blank)
     requires some { 0 < blank.parts }
     ensures { result ≡ coverage view.now }
 {
-    let mut steps = Steps::<L>::new(blank);
-    coverage(view, table, &mut steps)
+    let mut mark_count = MarkCount::<L>::new(blank);
+    coverage(view, table, &mut mark_count)
 }
 
 // The number of an item that shares a byte with one before it.
@@ -69,16 +73,16 @@ pub(crate) struct Overlap {
 fn mark_cells<L: Ledger>(
     view: &PageView<'_>,
     table: &mut [u8],
-    steps: &mut Steps<L>,
+    mark_count: &mut MarkCount<L>,
 ) -> Result<u32, Overlap>
     requires room { view.now.usable ≤ length table.old }
     requires free { (byte : ℕ) → byte < view.now.usable → is_claimed table.old byte ≡ false }
     ensures marked { MatchResult result
-        (λ held. (steps.new ≡ steps.old + held)
+        (λ held. (mark_count.new ≡ mark_count.old + held)
         × AreMarked (cell_spans view.now) (content_start view.now.number view.now.bytes) view.now.usable table.new held)
-        (λ overlap. (steps.new ≤ steps.old + view.now.usable + 1) × (first_overlap (items view.now) ≡ Some overlap.item)) }
+        (λ overlap. (mark_count.new ≤ mark_count.old + view.now.usable + 1) × (first_overlap (items view.now) ≡ Some overlap.item)) }
 {
-    by_kind!(view.kind, kind => mark_cells_of(view, kind, table, steps))
+    by_kind!(view.kind, kind => mark_cells_of(view, kind, table, mark_count))
 }
 
 // `mark_cells` of a page of this kind.
@@ -87,20 +91,20 @@ fn mark_cells_of<L: Ledger>(
     view: &PageView<'_>,
     kind: PageKind,
     table: &mut [u8],
-    steps: &mut Steps<L>,
+    mark_count: &mut MarkCount<L>,
 ) -> Result<u32, Overlap>
     requires kind { kind ≡ view.now.kind }
     requires room { view.now.usable ≤ length table.old }
     requires free { (byte : ℕ) → byte < view.now.usable → is_claimed table.old byte ≡ false }
     ensures marked { MatchResult result
-        (λ held. (steps.new ≡ steps.old + held)
+        (λ held. (mark_count.new ≡ mark_count.old + held)
         × AreMarked (cell_spans view.now) (content_start view.now.number view.now.bytes) view.now.usable table.new held)
-        (λ overlap. (steps.new ≤ steps.old + view.now.usable + 1) × (first_overlap (items view.now) ≡ Some overlap.item)) }
+        (λ overlap. (mark_count.new ≤ mark_count.old + view.now.usable + 1) × (first_overlap (items view.now) ≡ Some overlap.item)) }
 {
     let mut held = 0;
     for i in 0..view.cells {
         if let Some((offset, len)) = held_by_cell(view, kind, i) {
-            if !claim(table, offset, len, steps) {
+            if !claim(table, offset, len, mark_count) {
                 return Err(Overlap { item: i });
             }
             held += len;
@@ -127,19 +131,19 @@ pub(crate) fn mark_freeblocks<L: Ledger>(
     view: &PageView<'_>,
     held: u32,
     table: &mut [u8],
-    steps: &mut Steps<L>,
+    mark_count: &mut MarkCount<L>,
 ) -> Result<u32, Overlap>
     requires room { view.now.usable ≤ length table.old }
     requires cells { AreMarked (cell_spans view.now) (content_start view.now.number view.now.bytes) view.now.usable table.old held }
     ensures marked { MatchResult result
-        (λ all. (steps.new + held ≡ steps.old + all)
+        (λ all. (mark_count.new + held ≡ mark_count.old + all)
         × AreMarked (items view.now) (content_start view.now.number view.now.bytes) view.now.usable table.new all)
-        (λ overlap. (steps.new + held ≤ steps.old + view.now.usable + 1) × (first_overlap (items view.now) ≡ Some overlap.item)) }
+        (λ overlap. (mark_count.new + held ≤ mark_count.old + view.now.usable + 1) × (first_overlap (items view.now) ≡ Some overlap.item)) }
 {
     let mut all = held;
     let mut item = view.cells;
     for freeblock in view.freeblocks() {
-        if !claim(table, freeblock.offset, freeblock.size, steps) {
+        if !claim(table, freeblock.offset, freeblock.size, mark_count) {
             return Err(Overlap { item });
         }
         all += freeblock.size;

@@ -3,7 +3,7 @@ ghost use Rattle.std.specs.Prelude.{◌≡◌, ℕ, false, ◌+◌, ◌-◌, ◌
 ghost use Rattle.std.specs.Int.{bit_at};
 ghost use Rattle.dbpage.specs.Marking.{HasByte, HasMarked, Marks, is_claimed, mark_bit};
 
-use crate::mark_count::Steps;
+use crate::mark_count::MarkCount;
 use byteorder::{ByteOrder, LittleEndian};
 use std::simd::prelude::*;
 use std::sync::ledger::Ledger;
@@ -20,19 +20,24 @@ pub(crate) fn clear(table: &mut [u8], bytes: u32)
 
 // Marks `len` bytes from `from` on, unless one of them is marked. The marks of most items are in one window.
 #[inline(always)]
-pub(crate) fn claim<L: Ledger>(table: &mut [u8], from: u32, len: u32, steps: &mut Steps<L>) -> bool
+pub(crate) fn claim<L: Ledger>(
+    table: &mut [u8],
+    from: u32,
+    len: u32,
+    mark_count: &mut MarkCount<L>,
+) -> bool
     requires room { from + len ≤ length table.old }
     requires least { 16 ≤ length table.old }
     requires fits { from + len < 2 ^ 32 }
     ensures marked { MatchBool result (Marks table.old from (from + len) table.new) (HasMarked table.old from (from + len)) }
-    ensures counted { MatchBool result (steps.new ≡ steps.old + len) (steps.new ≡ steps.old + 1) }
+    ensures counted { MatchBool result (mark_count.new ≡ mark_count.old + len) (mark_count.new ≡ mark_count.old + 1) }
 {
     let is_free = if len <= 56 {
         claim_few(table, from, len)
     } else {
         claim_many(table, from, len)
     };
-    steps.add(if is_free { len } else { 1 });
+    mark_count.add(if is_free { len } else { 1 });
     is_free
 }
 

@@ -8,7 +8,7 @@ ghost use Rattle.dbpage.specs.Beginning.{IsBegun};
 ghost use Rattle.dbpage.specs.Packed.{AddUpTo, IsPacked, IsAboveLast, IsUnpacked};
 
 use crate::held_bytes::mark_freeblocks;
-use crate::mark_count::Steps;
+use crate::mark_count::MarkCount;
 use crate::mark_table::{claim, clear};
 use crate::run::CellRun;
 use crate::view::{PageView, by_kind};
@@ -136,9 +136,9 @@ impl<'a> PageView<'a> {
         requires some { 0 < blank.parts }
         ensures { MatchOption result (IsUnpacked self.now) (IsPacked self.now) }
     {
-        let mut steps = Steps::<L>::new(blank);
-        let held = self.mark_beginning(begun, table, &mut steps)?;
-        by_kind!(self.kind, kind => self.packed_from_marks_of(kind, begun, held, table, &mut steps))
+        let mut mark_count = MarkCount::<L>::new(blank);
+        let held = self.mark_beginning(begun, table, &mut mark_count)?;
+        by_kind!(self.kind, kind => self.packed_from_marks_of(kind, begun, held, table, &mut mark_count))
     }
 
     // Marks what the cells of the beginning hold, and counts it. `None` where two share a byte.
@@ -146,7 +146,7 @@ impl<'a> PageView<'a> {
         &self,
         begun: &Beginning,
         table: &mut [u8],
-        steps: &mut Steps<L>,
+        mark_count: &mut MarkCount<L>,
     ) -> Option<u32>
         requires room { self.now.usable ≤ length table.old }
         requires begun { IsBegun self.now begun.now }
@@ -157,13 +157,13 @@ impl<'a> PageView<'a> {
         // This gives the proof what is known of the view.
         let _ = &self.usable;
         let in_run = begun.run.len();
-        if !claim(table, begun.run.from, in_run, steps) {
+        if !claim(table, begun.run.from, in_run, mark_count) {
             return None;
         }
         let Some((offset, len)) = begun.next else {
             return Some(in_run);
         };
-        if !claim(table, offset, len, steps) {
+        if !claim(table, offset, len, mark_count) {
             return None;
         }
         Some(in_run + len)
@@ -177,7 +177,7 @@ impl<'a> PageView<'a> {
         begun: &Beginning,
         in_cells: u32,
         table: &mut [u8],
-        steps: &mut Steps<L>,
+        mark_count: &mut MarkCount<L>,
     ) -> Option<Packed>
         requires kind { kind ≡ self.now.kind }
         requires room { self.now.usable ≤ length table.old }
@@ -189,12 +189,12 @@ impl<'a> PageView<'a> {
         let mut held = in_cells;
         for i in begun.cells..self.cells {
             let (offset, len) = self.add_cell(kind, i, &mut sums)?;
-            if !claim(table, offset, len, steps) {
+            if !claim(table, offset, len, mark_count) {
                 return None;
             }
             held += len;
         }
-        match mark_freeblocks(self, held, table, steps) {
+        match mark_freeblocks(self, held, table, mark_count) {
             Ok(all) => Some(self.packed_from(sums, all)),
             Err(_) => None,
         }

@@ -18,7 +18,7 @@ use Rattle.dbsource.specs.Failures.{failures_after, one_more}
 use Rattle.dbsource.specs.Headed.{over, over_answer, begun, headed, headed_trail, HeadedStep}
 use Rattle.dbsource.specs.HeaderBytes.{HeaderBytes}
 use Rattle.dbsource.specs.Headers.{IsHeaderOf, IsOpenLog, IsRefusalOf, Opens}
-use Rattle.dbsource.specs.Snapshots.{FitsBehindHeader, FitsRun, HasRead, HasReadBehind, HasReadTold, ToldFileIsRead}
+use Rattle.dbsource.specs.Snapshots.{FitsAfterHeader, FitsRun, HasRead, HasReadAfterHeader, HasReadTold, ToldFileIsRead}
 use Rattle.dbsource.specs.Sources.{HasLog, SourceState}
 use Rattle.dbsource.specs.declared.error.OpenError.{OpenError}
 use Rattle.dbsource.specs.declared.error.OpenError.TheVariants.{Refused, ReadFailed}
@@ -75,11 +75,11 @@ over_asked head [] h = refl
 over_asked head (given o bytes ∷ log) h = ap (λ n. range o n ∷ map asked (map (over_answer head) log)) (over_length head bytes o h) ∙ ap (λ l. range o (length bytes) ∷ l) (over_asked head log h)
 over_asked head (failed r ∷ log) h = ap (λ l. r ∷ l) (over_asked head log h)
 
-over_fits : (head file : List ℕ) (log : List Answer) → take 100 file ≡ head → FitsBehindHeader file log → Fits file (map (over_answer head) log)
+over_fits : (head file : List ℕ) (log : List Answer) → take 100 file ≡ head → FitsAfterHeader file log → Fits file (map (over_answer head) log)
 over_fits head file [] e f = tt
 over_fits head file (a ∷ log) e f = (subst (λ d. FitsAnswer file (over_answer d a)) e f.0, over_fits head file log e f.1)
 
-fits_over : (head file : List ℕ) (log : List Answer) → take 100 file ≡ head → Fits file (map (over_answer head) log) → FitsBehindHeader file log
+fits_over : (head file : List ℕ) (log : List Answer) → take 100 file ≡ head → Fits file (map (over_answer head) log) → FitsAfterHeader file log
 fits_over head file [] e f = tt
 fits_over head file (a ∷ log) e f = (subst (λ d. FitsAnswer file (over_answer d a)) (sym e) f.0, fits_over head file log e f.1)
 
@@ -123,11 +123,11 @@ same_front step name name' head head' P Q old new log =
     let m = same_trail name' name head' head new.bytes old.bytes new.trail b.after b.is in (m.0, m.1)
 
 -- what was asked of a source with its header over it, as it was asked of the inner source
-pub read_behind : (step : Step) (name name' : ℕ) (h : HeaderBytes) (head' : List ℕ) (T : List ℕ → Type 0) (old new : SourceState)
+pub read_after : (step : Step) (name name' : ℕ) (h : HeaderBytes) (head' : List ℕ) (T : List ℕ → Type 0) (old new : SourceState)
     → refusal_of h.bytes h.file_len ≡ None → length h.bytes ≡ 100
     → HasLog (HeadedStep step) (IsPageLog (geometry_of h.bytes h.file_len)) (λ file. IsHeaderOf h file → T file) (headed name h.bytes old) (headed name' head' new)
-    → HasReadBehind step (IsPageLog (geometry_of h.bytes h.file_len)) h T old new
-read_behind step name name' h head' T old new accepted size log =
+    → HasReadAfterHeader step (IsPageLog (geometry_of h.bytes h.file_len)) h T old new
+read_after step name name' h head' T old new accepted size log =
     let g = geometry_of h.bytes h.file_len in
     let ok = is_accepted h.bytes h.file_len accepted in
     let b = behind step name h.bytes old.bytes old.trail (headed_trail name' head' new.bytes new.trail) log.log log.leads in
@@ -164,7 +164,7 @@ read_behind step name name' h head' T old new accepted size log =
 -- the header's read, and then what was read after it
 pub ran : (step : Step) (lengths : Lengths) (h : HeaderBytes) (T : List ℕ → Type 0) (old mid new : SourceState)
     → refusal_of h.bytes h.file_len ≡ None → length h.bytes ≡ 100 → Opens step lengths (Ok h) old mid → step old.trail (given 0 h.bytes) mid.trail
-    → HasReadBehind step (IsPageLog (geometry_of h.bytes h.file_len)) h T mid new → HasRead step lengths (IsRunLog (geometry_of h.bytes h.file_len)) (λ file ranges. IsHeaderOf h file × T file) old new
+    → HasReadAfterHeader step (IsPageLog (geometry_of h.bytes h.file_len)) h T mid new → HasRead step lengths (IsRunLog (geometry_of h.bytes h.file_len)) (λ file ranges. IsHeaderOf h file × T file) old new
 ran step lengths h T old mid new accepted size opens first behind =
     let ok = is_accepted h.bytes h.file_len accepted in
     let f = behind.there_is in
@@ -178,7 +178,7 @@ ran step lengths h T old mid new accepted size opens first behind =
       there_is = (f.0, sym f.1.whole, (begin_range h.bytes f.0 size f.1.begins (omega (arith, f.1.whole, ok.long)), f.2));
       files = λ file e k. let is = header_of file h.bytes h.file_len h (sym e) size k.0 accepted refl refl in (is, behind.files file is k.1);
       tells = if_told_both old.bytes (λ file is behind. (sym is.whole, (begin_range h.bytes file size is.begins (omega (arith, is.whole, ok.long)), behind is)))
-          (opens_told (Ok h) opens) (subst (λ o. IfSome o (λ file. IsHeaderOf h file → FitsBehindHeader file behind.log)) opens.asks.log.told behind.tells);
+          (opens_told (Ok h) opens) (subst (λ o. IfSome o (λ file. IsHeaderOf h file → FitsAfterHeader file behind.log)) opens.asks.log.told behind.tells);
       short = λ l. absurd (omega (arith, l, ok.long));
     }
   where
@@ -277,5 +277,5 @@ pub of_told : {step : Step} {lengths : Lengths} {P : List ByteRange → Type 0} 
 of_told T {old = old} h = if_told old.bytes (λ file k. h.files file k.0 k.1) h.tells
 
 -- and of told bytes of this header
-pub of_told_behind : {step : Step} {P : List ByteRange → Type 0} (h : HeaderBytes) (T : List ℕ → Type 0) {old new : SourceState} → HasReadBehind step P h T old new → IfSome old.bytes (λ file. IsHeaderOf h file → T file)
-of_told_behind h T {old = old} k = if_told old.bytes (λ file fits is. k.files file is (fits is)) k.tells
+pub of_told_after : {step : Step} {P : List ByteRange → Type 0} (h : HeaderBytes) (T : List ℕ → Type 0) {old new : SourceState} → HasReadAfterHeader step P h T old new → IfSome old.bytes (λ file. IsHeaderOf h file → T file)
+of_told_after h T {old = old} k = if_told old.bytes (λ file fits is. k.files file is (fits is)) k.tells

@@ -9,15 +9,15 @@ use Rattle.dbsource.specs.Headers.{IsHeaderOf}
 use Rattle.dbsource.specs.Sources.{SourceState}
 
 -- the file agrees with an answer from its byte 100 on: so it does where its own first bytes are put over the answer's
-abbrev pub FitsBehindHeader : List ℕ → List Answer → Type 0
-FitsBehindHeader file [] = Unit {0}
-FitsBehindHeader file (a ∷ log) = FitsAnswer file (over_answer (take 100 file) a) × FitsBehindHeader file log
+abbrev pub FitsAfterHeader : List ℕ → List Answer → Type 0
+FitsAfterHeader file [] = Unit {0}
+FitsAfterHeader file (a ∷ log) = FitsAnswer file (over_answer (take 100 file) a) × FitsAfterHeader file log
 
 -- and with all that a run read: with the first answer, which is the header's, as it is, and with each later one after
 -- the header
 abbrev pub FitsRun : List ℕ → List Answer → Type 0
 FitsRun file [] = Unit {0}
-FitsRun file (a ∷ log) = FitsAnswer file a × FitsBehindHeader file log
+FitsRun file (a ∷ log) = FitsAnswer file a × FitsAfterHeader file log
 
 -- There is a length: one that the source answered, unless it failed at that and nothing was read; and that of the told
 -- bytes, where there are any. The answers to the reads are a log that leads the source's trail from old to new. There
@@ -47,7 +47,7 @@ pub record HasRead (step : Step) (lengths : Lengths) (P : List ByteRange → Typ
 
 -- The same after a header that had been read before. There is a file of this header that agrees with the log from its
 -- byte 100 on. Of each such file Q holds; and told bytes are such a file, where the header is theirs.
-pub record HasReadBehind (step : Step) (P : List ByteRange → Type 0) (h : HeaderBytes) (Q : List ℕ → Type 0) (old new : SourceState) : Type 0 where
+pub record HasReadAfterHeader (step : Step) (P : List ByteRange → Type 0) (h : HeaderBytes) (Q : List ℕ → Type 0) (old new : SourceState) : Type 0 where
   -- the answers to the reads after the header, in their order
   pub log : List Answer
   -- they lead the source from the trail that it had to the one that it has
@@ -57,11 +57,11 @@ pub record HasReadBehind (step : Step) (P : List ByteRange → Type 0) (h : Head
   -- P holds of the requested ranges
   pub holds : P (map asked log)
   -- there is a file of this header that agrees with all that was read
-  pub there_is : (file : List ℕ) × IsHeaderOf h file × FitsBehindHeader file log
+  pub there_is : (file : List ℕ) × IsHeaderOf h file × FitsAfterHeader file log
   -- Q holds of each such file
-  pub files : (file : List ℕ) → IsHeaderOf h file → FitsBehindHeader file log → Q file
+  pub files : (file : List ℕ) → IsHeaderOf h file → FitsAfterHeader file log → Q file
   -- told bytes agree, where this header is theirs
-  pub tells : IfSome old.bytes (λ file. IsHeaderOf h file → FitsBehindHeader file log)
+  pub tells : IfSome old.bytes (λ file. IsHeaderOf h file → FitsAfterHeader file log)
 
 -- What a run made of a source with told bytes.
 pub record HasReadTold (step : Step) (P : List ByteRange → Type 0) (Q : List ℕ → List ByteRange → Type 0) (old new : SourceState) (file : List ℕ) : Type 0 where

@@ -8,7 +8,7 @@ ghost use Rattle.dbtrace.specs.Fold.{IsFold};
 ghost use Rattle.dbtrace.specs.LookBack.{CausesLookBack, FindingsLookBack};
 ghost use Rattle.dbtrace.specs.Steps.{AreAside, HasSteps};
 
-use dbformat::{Fault, Look};
+pub use dbformat::{Fault, Look};
 
 /// A key of a cell: its place, and its value.
 #[derive(Clone, Copy, Debug, PartialEq, Eq)]

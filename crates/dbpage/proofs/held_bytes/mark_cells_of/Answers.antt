@@ -32,12 +32,12 @@ loop-i-preserved g c =
           let more = cell_marked v c.loop-i.i c.loop-i.table c.loop-i.held now.marked w.in-Some.offset w.in-Some.len w.claim.new.table w.in-Some.ensures w.if-not-claim.ensures.marked in
           record {
             marked = subst (λ (t : List ℕ). marked t to.held) (sym w.table-is) (subst (marked w.claim.new.table) (sym w.held-is) more);
-            counted = omega (arith, w.steps-is, w.held-is, w.if-not-claim.ensures.counted, now.counted);
+            counted = omega (arith, w.mark_count-is, w.held-is, w.if-not-claim.ensures.counted, now.counted);
           }
       | in_default w ↦
           let more = cell_passed v c.loop-i.i c.loop-i.table c.loop-i.held now.marked w.in_default.ensures in
           record {
             marked = subst (λ (t : List ℕ). marked t to.held) (sym w.table-is) (subst (marked c.loop-i.table) (sym w.held-is) more);
-            counted = omega (arith, w.steps-is, w.held-is, now.counted);
+            counted = omega (arith, w.mark_count-is, w.held-is, now.counted);
           }
     ]

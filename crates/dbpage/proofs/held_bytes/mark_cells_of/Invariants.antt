@@ -6,5 +6,5 @@ use Rattle.dbpage.proofs.held_bytes.mark_cells_of.Given as goal
 abbrev pub invariant-loop-i : goal.invariant-loop-i
 invariant-loop-i g l = record {
   marked : AreMarked (cells_upto l.view l.i) (content_start l.view.number l.view.bytes) l.view.usable l.table l.held;
-  counted : l.steps ≡ l.fn.steps + l.held;
+  counted : l.mark_count ≡ l.fn.mark_count + l.held;
 }

@@ -11,7 +11,7 @@ invariant-loop-freeblock g l = record {
   whole : done ++ l.freeblock-iterator.left ≡ freeblocks l.view;
   marked : AreMarked (cell_spans l.view ++ done) (content_start l.view.number l.view.bytes) l.view.usable l.table l.all;
   number : l.item ≡ count l.view + length done;
-  counted : l.steps + l.fn.held ≡ l.fn.steps + l.all;
+  counted : l.mark_count + l.fn.held ≡ l.fn.mark_count + l.all;
 }
 
 abbrev pub decreases-loop-freeblock : goal.decreases-loop-freeblock
