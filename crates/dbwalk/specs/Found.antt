@@ -1,5 +1,5 @@
 -- What a page of a tree is, by the bytes at a level, and what is reported of it.
-use Rattle.std.specs.Prelude.{◌≡◌, ℕ, false, pos, List, Option, Some, None, slice_get, IfSome, Bool, [], ◌∷◌, ◌++◌, length, map, option_to_list, fold, max, sum_by, if◌then◌else◌}
+use Rattle.std.specs.Prelude.{◌≡◌, ℕ, false, pos, List, Option, Some, None, slice_get, IfSome, Bool, [], ◌∷◌, ◌++◌, map, option_to_list, if◌then◌else◌}
 use Rattle.dbformat.specs.Faults.{fault}
 use Rattle.dbformat.specs.Head.{View, undamaged, is_interior, content_start, type_byte}
 use Rattle.dbformat.specs.Looks.{look_at}
@@ -31,8 +31,8 @@ use Rattle.dbwalk.specs.LeafCells.{leaf_cause}
 use Rattle.dbwalk.specs.Telling.{findings}
 
 -- the bytes at a level are those of a page
-abbrev pub StandsAt : List (List ℕ) → ℕ → List ℕ → Type 0
-StandsAt levels level page = (bytes : List ℕ) → slice_get levels level ≡ Some bytes → bytes ≡ page
+abbrev pub HasPageAt : List (List ℕ) → ℕ → List ℕ → Type 0
+HasPageAt levels level page = (bytes : List ℕ) → slice_get levels level ≡ Some bytes → bytes ≡ page
 
 -- a damaged page
 pub record IsDamagedAt (usable : ℕ) (kind : TreeKind) (levels : List (List ℕ)) (level page : ℕ) : Type 0 where

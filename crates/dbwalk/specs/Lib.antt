@@ -3,9 +3,9 @@ pub mod Done
 pub mod Entered
 pub mod Found
 pub mod LeafCells
+pub mod Points
 pub mod Roots
 pub mod Rows
-pub mod Standing
 pub mod Steps
 pub mod Taking
 pub mod Telling

@@ -6,7 +6,7 @@ use Rattle.dbformat.specs.Head.{View, undamaged}
 use Rattle.dbformat.specs.declared.CellFault.{CellFault}
 use Rattle.dbformat.specs.declared.TreeKind.{TreeKind}
 use Rattle.dbwalk.specs.declared.steps.Next.{Next}
-use Rattle.dbwalk.specs.declared.steps.Next.TheVariants.{Behind, Nothing, Key, Chain, Child}
+use Rattle.dbwalk.specs.declared.steps.Next.TheVariants.{End, Nothing, Key, Chain, Child}
 
 -- the overflow chain of cell n: its first page, with the number of payload bytes on overflow pages
 pub record IsChainAt (v : View) (s first left : ℕ) : Type 0 where
@@ -43,7 +43,7 @@ pub data IsEmptyAt (v : View) (s : ℕ) : Type 0 where
 
 -- what the page has at the step
 abbrev pub IsNextStep : View → ℕ → Next → Type 0
-IsNextStep v s Behind = child_step (count v) < s
+IsNextStep v s End = child_step (count v) < s
 IsNextStep v s Nothing = IsEmptyAt v s
 IsNextStep v s (Key value) = IsKeyAt v s value
 IsNextStep v s (Chain first left) = IsChainAt v s first left

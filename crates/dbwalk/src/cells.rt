@@ -2,7 +2,7 @@
 ghost use Rattle.std.specs.Prelude.{◌≡◌, ◌-◌, ◌<◌, ◌≤◌, length};
 ghost use Rattle.dbformat.specs.Cell.{count};
 ghost use Rattle.dbwalk.specs.LeafCells.{ArePassedAt, AreRisingFrom, HasCell, HasCells};
-ghost use Rattle.dbwalk.specs.Standing.{IsSameButGreatest};
+ghost use Rattle.dbwalk.specs.Points.{IsSameButGreatest};
 
 use crate::CellKey;
 use crate::page::undamaged;
@@ -60,7 +60,7 @@ pub(crate) fn leaf_cell<A: Allocator>(
     match view.cell(i) {
         Ok(cell) => {
             let overflow = match cell.overflow {
-                Some(first) => Some((first, overflow_size(cell.size, cell.local))),
+                Some(first) => Some((first, cell.overflow_size())),
                 None => None,
             };
             LeafCell {
@@ -70,14 +70,6 @@ pub(crate) fn leaf_cell<A: Allocator>(
         }
         Err(_) => nothing,
     }
-}
-
-/// The number of payload bytes on overflow pages, for a payload of `size` bytes in all and these bytes of it in the cell.
-pub(crate) fn overflow_size(size: u32, local: &[u8]) -> u32
-    ensures value { result ≡ size - length local.now }
-    ensures most { result ≤ size }
-{
-    u64::from(size).saturating_sub(local.len() as u64) as u32
 }
 
 /// Passes over cells of the leaf at the level of the tree's path, from cell `from` on, while they have nothing but their keys

@@ -2,7 +2,7 @@
 ghost use Rattle.std.specs.Prelude.{◌≡◌, ◌<◌, length, ◌≤◌, None, IfErr, IfSome, OnOk, is_some};
 ghost use Rattle.dbformat.specs.FixedPages.{IsPageNumber};
 ghost use Rattle.dbsurvey.specs.Story.{errands_of};
-ghost use Rattle.dbwalk.specs.Standing.{AtLeaf, IsSameButGreatest, AtCell, AtOverflow};
+ghost use Rattle.dbwalk.specs.Points.{AtLeaf, IsSameButGreatest, AtCell, AtOverflow};
 ghost use Rattle.dbformat.specs.Story.{story_of};
 ghost use Rattle.dbwalk.specs.Underway.{done_below};
 ghost use Rattle.dbwalk.specs.Walked.{Does, SaysOfFiles, Walked};

@@ -20,7 +20,7 @@
 //! buffers. One clause of each of its methods, `Walked`, says that it still borrows the same, that each failure of a source, a
 //! sink or a taker is counted and answered, and that no tree but the schema's calls the taker. `SaysOfFiles` has the reads.
 //!
-//! **How far a walk is** (specs/Walking and Underway; Standing has it for clauses). The loop over interior pages keeps one
+//! **How far a walk is** (specs/Walking and Underway; Points has it for clauses). The loop over interior pages keeps one
 //! equation: the walk so far, continued by what its frames still have to do, is the whole walk (`IsUnderway`). Pages on the
 //! path stay in the bench, one level each, at most 20. After a chain the walk goes on where it left the path.
 //!
@@ -52,7 +52,7 @@ mod tree_walk;
 
 pub use chain::CHAIN;
 pub use dbbytes::{RowKind, SchemaRow};
-pub use dbformat::{Encoding, Fault, FaultCode, Geometry, PageType};
+pub use dbformat::{Counts, Encoding, Fault, FaultCode, Geometry, PageType};
 pub use dbmarks::{Mark, Marks};
 pub use dbsource::{Bench, RunError, Source, WriteFailed};
 pub use dbtrace::{Cause, CellChain, CellKey, TreeLeaf};

@@ -9,7 +9,7 @@ ghost use Rattle.dbwalk.specs.Watching.{fails, watches};
 ghost use Rattle.dbwalk.specs.Walking.{IsCandidate, IsOpen};
 ghost use Rattle.dbwalk.specs.Entered.{IsStepOf};
 ghost use Rattle.dbmarks.specs.Marking.{IsUse, unmarked_pages, named_page};
-ghost use Rattle.dbwalk.specs.Standing.{AtPage, AtReference};
+ghost use Rattle.dbwalk.specs.Points.{AtPage, AtReference};
 
 use crate::entering::{Step, enter};
 use crate::page_report::{PageFound, tell_page};

@@ -5,7 +5,7 @@ ghost use Rattle.dbwalk.specs.Found.{IsFound, page_findings};
 ghost use Rattle.dbwalk.specs.Telling.{IsReportedTo, SinkAfter};
 ghost use Rattle.dbtrace.specs.Progress.{leaf_after};
 ghost use Rattle.dbsource.specs.Failures.{is_any};
-ghost use Rattle.dbwalk.specs.Standing.{AtRead, IsSameButLeaf};
+ghost use Rattle.dbwalk.specs.Points.{AtRead, IsSameButLeaf};
 
 use crate::Sink;
 use crate::page::undamaged;

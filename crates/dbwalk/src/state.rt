@@ -6,7 +6,7 @@ ghost use Rattle.dbtrace.specs.declared.Cause.TheVariants as cause;
 ghost use Rattle.std.specs.Prelude.{◌≡◌, [], ◌∷◌, Some, None, false, IsTrue, IsSomeAnd};
 ghost use Rattle.dbwalk.specs.LeafCells.{ArePassed, depth_told, first_of, order_told};
 ghost use Rattle.dbtrace.specs.Progress.{greater_key, key_value};
-ghost use Rattle.dbwalk.specs.Standing.{IsSameButGreatest, IsSameButLeaf};
+ghost use Rattle.dbwalk.specs.Points.{IsSameButGreatest, IsSameButLeaf};
 ghost use Rattle.dbwalk.specs.Telling.{IsReportedTo};
 
 use crate::{Cause, CellKey, Sink, TreeLeaf};

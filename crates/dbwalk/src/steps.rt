@@ -5,7 +5,6 @@ ghost use Rattle.dbformat.specs.Address.{overflow_step, child_step, key_step};
 ghost use Rattle.dbformat.specs.Cell.{count};
 ghost use Rattle.dbwalk.specs.Steps.{AreEmpty, HasNext, IsEmptyAt, IsNextStep};
 
-use crate::cells::overflow_size;
 use crate::page::undamaged;
 use dbformat::TreeKind;
 use dbpage::PageView;
@@ -37,7 +36,7 @@ impl StackFrame {
 #[derive(Clone, Copy)]
 pub(crate) enum Next {
     /// The step is after the last one.
-    Behind,
+    End,
     /// There is nothing at this step.
     Nothing,
     /// The key of a cell.
@@ -63,7 +62,7 @@ pub(crate) fn step_of<A: Allocator>(
 {
     let usable = bench.geometry().usable;
     let Ok(view) = undamaged(bench.page(level), frame.page, usable, kind) else {
-        return (frame, Next::Behind);
+        return (frame, Next::End);
     };
     let (next, what) = next_from(&view, view.cells(), frame.next);
     let page = frame.page;
@@ -106,7 +105,7 @@ fn chain_at(view: &PageView<'_>, cells: u32, i: u32) -> Next
     ensures { IsNextStep view.now (overflow_step i) result }
 {
     if i > cells {
-        return Next::Behind;
+        return Next::End;
     }
     if i == cells {
         return Next::Nothing;
@@ -115,7 +114,7 @@ fn chain_at(view: &PageView<'_>, cells: u32, i: u32) -> Next
         Ok(cell) => match cell.overflow {
             Some(first) => Next::Chain {
                 first,
-                left: overflow_size(cell.size, cell.local),
+                left: cell.overflow_size(),
             },
             None => Next::Nothing,
         },
@@ -129,7 +128,7 @@ fn child_at(view: &PageView<'_>, cells: u32, i: u32) -> Next
     ensures { IsNextStep view.now (child_step i) result }
 {
     if i > cells {
-        return Next::Behind;
+        return Next::End;
     }
     match view.child(i) {
         Some(page) => Next::Child(page),
@@ -143,7 +142,7 @@ fn key_at(view: &PageView<'_>, cells: u32, i: u32) -> Next
     ensures { IsNextStep view.now (key_step i) result }
 {
     if i >= cells {
-        return Next::Behind;
+        return Next::End;
     }
     match view.cell(i) {
         Ok(cell) => match cell.key {

@@ -12,7 +12,7 @@ ghost use Rattle.dbwalk.specs.Telling.{IsReadOrWrite, IsReadWriteOrMemory, SinkA
 ghost use Rattle.dbmarks.specs.Reads.{Reads};
 ghost use Rattle.dbwalk.specs.Taking.{StartsEmpty};
 ghost use Rattle.dbwalk.specs.Roots.{IsRootAfter};
-ghost use Rattle.dbwalk.specs.Standing.{AtRoot};
+ghost use Rattle.dbwalk.specs.Points.{AtRoot};
 ghost use Rattle.dbwalk.specs.Walked.{Does, SaysOfFiles, Walked};
 ghost use Rattle.dbwalk.specs.Underway.{tree_walk};
 ghost use Rattle.dbwalk.specs.Watching.{fails, watches};

@@ -8,7 +8,7 @@ ghost use Rattle.dbwalk.specs.Watching.{fails, watches};
 ghost use Rattle.dbwalk.specs.Walking.{AreOpen, path_of, cost};
 ghost use Rattle.dbwalk.specs.declared.steps.StackFrame.{StackFrame};
 ghost use Rattle.dbwalk.specs.declared.steps.Next.TheVariants.{Child};
-ghost use Rattle.dbwalk.specs.Standing.{AtStep};
+ghost use Rattle.dbwalk.specs.Points.{AtStep};
 
 use crate::chain::{Chain, walk_unfed};
 use crate::state::Tree;
@@ -94,7 +94,7 @@ impl<A: Allocator, S: Source, K: Sink, T: Taker> TreeWalk<'_, '_, '_, '_, A, S, 
             (self.new.marks.now, self.new.tree) (self.new.sink.now, self.new.taker.now))) }
     {
         match next {
-            Next::Behind => {
+            Next::End => {
                 // The path ends at the page above.
                 let _ = self.tree.path.pop();
                 Ok(())

@@ -8,7 +8,7 @@ use Rattle.std.proofs.lemmas.List.Sums.{sum_by-cons}
 use Rattle.dbsource.specs.Bench.{Pages, with_level}
 use Rattle.dbmarks.specs.Marking.{page_mark, is_none, unmarked_pages, cleared, KeepsMarks}
 use Rattle.dbmarks.specs.declared.marks.Mark.{Mark}
-use Rattle.dbwalk.specs.Found.{StandsAt}
+use Rattle.dbwalk.specs.Found.{HasPageAt}
 
 get_set : {X : Type 0} (xs : List X) (i : ℕ) (x y : X) → slice_get (set xs i x) i ≡ Some y → y ≡ x
 get_set [] i x y e = cc
@@ -35,7 +35,7 @@ module _ (old new : Pages) (level : ℕ) (low : level < 20) (bytes : List ℕ) (
   levels_are : new.levels ≡ set old.levels level bytes
   levels_are = ap (λ (b : Pages). b.levels) changed
 
-  pub read_there : (page : List ℕ) → bytes ≡ page → StandsAt new.levels level page
+  pub read_there : (page : List ℕ) → bytes ≡ page → HasPageAt new.levels level page
   read_there page e y h = get_set old.levels level bytes y (ap (λ ls. slice_get ls level) (sym levels_are) ∙ h) ∙ e
 
   pub below_kept : (n : ℕ) → n < level → slice_get new.levels n ≡ slice_get old.levels n

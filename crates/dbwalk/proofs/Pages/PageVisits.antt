@@ -25,7 +25,7 @@ use Rattle.dbtrace.specs.declared.TreeLeaf.{TreeLeaf}
 use Rattle.dbformat.specs.declared.FaultCode.{FaultCode}
 use Rattle.dbtrace.specs.Progress.{leaf_after, depth_faults, depth_of}
 use Rattle.dbwalk.specs.LeafCells.{first_of, depth_told}
-use Rattle.dbwalk.specs.Found.{undamaged_findings, page_cause, page_findings, damaged_findings, StandsAt, IsDamagedAt, IsOpenLeaf}
+use Rattle.dbwalk.specs.Found.{undamaged_findings, page_cause, page_findings, damaged_findings, HasPageAt, IsDamagedAt, IsOpenLeaf}
 use Rattle.dbwalk.specs.Telling.{findings, IsReportedTo, SinkState}
 use Rattle.dbwalk.specs.Walking.{IsCandidate, role_at, IsOpen, IsLeafAt}
 use Rattle.dbtrace.proofs.Causing.{inner_alone}
@@ -234,7 +234,7 @@ module _ {S : Type 0} (A E : Type 0) (takes drops : S → Finding → S → Type
 -- A page of a tree that was read, by what it is.
 
 module _ (file : List ℕ) {kind : TreeKind} {k : ℕ} {children : List ℕ} {p from item : ℕ} {c : Reference} (candidate : IsCandidate kind k children p from item c)
-    {levels levels' : List (List ℕ)} (there : StandsAt levels (length children) (page_bytes file p)) (same : levels' ≡ levels) {kind' : TreeKind} (kinds : kind' ≡ kind) {usable : ℕ} (usables : usable ≡ usable_size file) where
+    {levels levels' : List (List ℕ)} (there : HasPageAt levels (length children) (page_bytes file p)) (same : levels' ≡ levels) {kind' : TreeKind} (kinds : kind' ≡ kind) {usable : ℕ} (usables : usable ≡ usable_size file) where
   bytes_are : (bytes : List ℕ) → slice_get levels' (length children) ≡ Some bytes → bytes ≡ page_bytes file p
   bytes_are bytes e = there bytes (ap (λ ls. slice_get ls (length children)) (sym same) ∙ e)
 

@@ -15,7 +15,7 @@ use Rattle.dbmarks.specs.Marking.{unmarked_pages}
 use Rattle.dbmarks.specs.declared.marks.Mark.{Mark}
 use Rattle.dbwalk.specs.Steps.{IsEmptyAt, no_chain, no_child, unreadable, without_key, IsNextStep, HasNext}
 use Rattle.dbwalk.specs.declared.steps.Next.{Next}
-use Rattle.dbwalk.specs.declared.steps.Next.TheVariants.{Behind, Nothing, Key, Chain, Child}
+use Rattle.dbwalk.specs.declared.steps.Next.TheVariants.{End, Nothing, Key, Chain, Child}
 
 -- Frames and the pages at their levels, as a turn changes them.
 
@@ -160,8 +160,8 @@ read_last file levels level [] f r = ap (slice_get levels) (let e : level + 0 �
 read_last file levels level (g ∷ fs) f r = ap (slice_get levels) (let e : level + suc (length fs) ≡ level + 1 + length fs = omega arith in e) ∙ read_last file levels (level + 1) fs f r.1
 
 -- each step of a page but those after it
-pub step_within : (v : View) (s : ℕ) (next : Next) → (next ≡ Behind → ⊥) → IsNextStep v s next → suc s ≤ 3 * count v + 2
-step_within v s Behind other h = absurd (other refl)
+pub step_within : (v : View) (s : ℕ) (next : Next) → (next ≡ End → ⊥) → IsNextStep v s next → suc s ≤ 3 * count v + 2
+step_within v s End other h = absurd (other refl)
 step_within v s Nothing other h = by_case h
   where
     by_case : IsEmptyAt v s → suc s ≤ 3 * count v + 2
@@ -201,7 +201,7 @@ module _ {usable : ℕ} {kind : TreeKind} {levels : List (List ℕ)} (fs : List 
       }
 
   -- the frame a step on, where the bytes at the levels stay
-  pub step_on : IsAtStep usable kind levels fs f next → (g : StackFrame) → g.page ≡ f.page → g.next ≡ suc f.next → (next ≡ Behind → ⊥) → {items : List StackFrame} → items ≡ fs ++ (g ∷ []) → (usable' : ℕ) (kind' : TreeKind) (levels' : List (List ℕ)) → usable' ≡ usable → kind' ≡ kind
+  pub step_on : IsAtStep usable kind levels fs f next → (g : StackFrame) → g.page ≡ f.page → g.next ≡ suc f.next → (next ≡ End → ⊥) → {items : List StackFrame} → items ≡ fs ++ (g ∷ []) → (usable' : ℕ) (kind' : TreeKind) (levels' : List (List ℕ)) → usable' ≡ usable → kind' ≡ kind
       → ((n : ℕ) → n < length (fs ++ (g ∷ [])) → slice_get levels' n ≡ slice_get levels n) → AreOpen usable' kind' levels' 0 items
   step_on s g page on other are usable' kind' levels' usables kinds same = subst (λ l. AreOpen usable' kind' levels' 0 l) (sym are)
       (open_kept usable kind levels usable' kind' levels' usables kinds 0 (fs ++ (g ∷ [])) (λ n l. same n (omega arith))

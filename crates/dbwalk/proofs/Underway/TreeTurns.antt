@@ -27,7 +27,7 @@ use Rattle.dbwalk.specs.declared.steps.StackFrame.{StackFrame}
 use Rattle.dbmarks.specs.declared.marks.Mark.{Mark}
 use Rattle.dbwalk.specs.declared.state.Tree.{Tree}
 use Rattle.dbwalk.specs.declared.steps.Next.{Next}
-use Rattle.dbwalk.specs.declared.steps.Next.TheVariants.{Behind, Nothing}
+use Rattle.dbwalk.specs.declared.steps.Next.TheVariants.{End, Nothing}
 use Rattle.dbwalk.specs.declared.steps.Next.TheVariants as step
 use Rattle.dbwalk.proofs.Leaves.LeafErrands.{chain_start}
 use Rattle.dbwalk.proofs.Pages.PageTellings.{view_is}
@@ -90,7 +90,7 @@ module _ {P : Type 0} {moves : P → Item → P → Type 0} {file : List ℕ} {W
         within : suc f.next ≤ 3 * count v + 2
         within = step_within v f.next Nothing (λ e. other e) h
           where
-            other : Nothing ≡ Behind → ⊥
+            other : Nothing ≡ End → ⊥
             other e = cc
 
         by_case : IsEmptyAt v f.next → IsWalkingOn moves file W c before (fs ++ (g ∷ []), levels) (marks, tree) w
@@ -110,7 +110,7 @@ module _ {P : Type 0} {moves : P → Item → P → Type 0} {file : List ℕ} {W
       within_key : suc f.next ≤ 3 * count v + 2
       within_key = step_within v f.next (step.Key value) (λ e. other e) h
         where
-          other : step.Key value ≡ Behind → ⊥
+          other : step.Key value ≡ End → ⊥
           other e = cc
 
       key_errand : errands_from file top f.next ≡ tell_cell top v h.n h.x ∷ errands_from file top (suc f.next)
@@ -150,7 +150,7 @@ module _ {P : Type 0} {moves : P → Item → P → Type 0} {file : List ℕ} {W
       within_chain : suc f.next ≤ 3 * count v + 2
       within_chain = step_within v f.next (step.Chain first left) (λ e. other e) h
         where
-          other : step.Chain first left ≡ Behind → ⊥
+          other : step.Chain first left ≡ End → ⊥
           other e = cc
 
       -- it is the one that a call is given, and all visits so far are before it
@@ -187,7 +187,7 @@ module _ {P : Type 0} {moves : P → Item → P → Type 0} {file : List ℕ} {W
       within_child : suc f.next ≤ 3 * count v + 2
       within_child = step_within v f.next (step.Child number) (λ e. other e) h
         where
-          other : step.Child number ≡ Behind → ⊥
+          other : step.Child number ≡ End → ⊥
           other e = cc
 
       child_is : IsCandidate tree.kind tree.start (path_of fs ++ (cell_of_step f.next ∷ [])) d.page top.page (cell_of_step f.next) d

@@ -1,4 +1,4 @@
-use Rattle.std.proofs.Common.{◌≡◌, ◌≤◌, ◌-◌, length, Some, None, sym, ap, ◌∙◌, arith}
+use Rattle.std.proofs.Common.{◌≡◌, ◌≤◌, Some, None, sym, ap, ◌∙◌, arith}
 use Rattle.std.specs.Prelude.{option_map}
 use Rattle.dbformat.specs.Payload.{most_payload}
 use Rattle.dbformat.specs.Cell.{Cell, count, overflow_size}
@@ -19,14 +19,11 @@ returns-in-Some g c =
     let read = sym c.cell.ensures ∙ c.in-Ok-cell.is in
     let is = c.cell-in-Ok-cell.view_is in
     let over : x.overflow ≡ Some c.in-Some.first = sym (ap (λ (c : Cell). c.overflow) is) ∙ c.in-Some.is in
-    let size : c.cell-in-Ok-cell.inside.size ≡ x.size = ap (λ (c : Cell). c.size) is in
-    let len : length c.cell-in-Ok-cell.inside.local.now ≡ length x.local = ap (λ (c : Cell). length c.local) is in
-    let left : c.overflow_size.result ≡ x.size - length x.local = c.overflow_size.ensures.value ∙ ap (λ n. n - length c.cell-in-Ok-cell.inside.local.now) size ∙ ap (λ n. x.size - n) len in
     let short = cell_size c.in-Ok.view c.args.i x read in
     has_cell c.args.bench.now c.args.kind c.args.level c.args.page c.requires c.geometry.result.usable (ap (λ s. s.usable) c.geometry.ensures.value) c.page.result.now c.page.ensures.bytes (Some c.in-Ok.view) c.in-Ok.ensures.view
-    c.args.i (Some (c.in-Some.first, c.overflow_size.result)) c.cell-in-Ok-cell.inside.key (let m : c.overflow_size.result ≤ most_payload = omega arith in m)
+    c.args.i (Some (c.in-Some.first, c.overflow_size.result)) c.cell-in-Ok-cell.inside.key (let size = c.overflow_size.ensures in let m : c.overflow_size.result ≤ most_payload = omega (arith, size, short) in m)
     (λ v e l. readable c.in-Ok.view v e c.args.i x (Some (c.in-Some.first, c.overflow_size.result)) c.cell-in-Ok-cell.inside.key read
-    (ap (λ n. Some (c.in-Some.first, n)) left ∙ ap (λ o. option_map (λ p. (p, overflow_size x)) o) (sym over)) (ap (λ (c : Cell). c.key) is))
+    (ap (λ n. Some (c.in-Some.first, n)) c.overflow_size.ensures ∙ ap (λ o. option_map (λ p. (p, overflow_size x)) o) (sym over)) (ap (λ (c : Cell). c.key) is))
 
 pub returns-in-None : goal.returns-in-None
 returns-in-None g c =

@@ -1,11 +1,11 @@
 use Rattle.std.proofs.Common.{◌≤◌, None, Some, refl, ap, arith}
-use Rattle.dbwalk.specs.declared.steps.Next.TheVariants.{Behind, Nothing}
+use Rattle.dbwalk.specs.declared.steps.Next.TheVariants.{End, Nothing}
 use Rattle.dbwalk.proofs.Leaves.LeafCells.{none_seen, has_next, at_step}
 use Rattle.dbwalk.proofs.steps.step_of.Goals as goal
 
 pub returns-in_default-clause-next : goal.returns-in_default-clause-next
 returns-in_default-clause-next g c = has_next c.args.bench.now c.args.kind c.args.level c.args.frame.page c.requires c.geometry-usable.result.usable (ap (λ s. s.usable) c.geometry-usable.ensures.value) c.page.result.now c.page.ensures.bytes None c.in_default.ensures.view
-    c.args.frame.next Behind (λ v e. none_seen v e)
+    c.args.frame.next End (λ v e. none_seen v e)
 
 pub returns-clause-empty : goal.returns-clause-empty
 returns-clause-empty g c =

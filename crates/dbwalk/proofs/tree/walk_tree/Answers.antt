@@ -10,7 +10,7 @@ use Rattle.dbsource.specs.Failures.{failures_after}
 use Rattle.dbsource.specs.Sources.{Asks}
 use Rattle.dbsource.specs.declared.error.RunError.TheVariants.{ReadFailed}
 use Rattle.dbwalk.specs.Entered.{Enters}
-use Rattle.dbwalk.specs.Found.{StandsAt}
+use Rattle.dbwalk.specs.Found.{HasPageAt}
 use Rattle.dbmarks.specs.Marking.{page_mark}
 use Rattle.dbwalk.specs.Telling.{IsReadOrWrite}
 use Rattle.dbmarks.specs.Reads.{Reads}
@@ -112,7 +112,7 @@ returns-clause-asks g c =
           let one = root_address d.address root.start at.candidate.depth at.candidate.start in
           let t = c.new-tree.result in
           let same = page_read file read.bytes size root.page read.size h (sym (ap (λ s. s.page_size) e)) in
-          let there : StandsAt c.load.new.self.levels 0 (page_bytes file root.page) = read_there c.args.bench.now c.load.new.self 0 low read.bytes read.only (page_bytes file root.page) same in
+          let there : HasPageAt c.load.new.self.levels 0 (page_bytes file root.page) = read_there c.args.bench.now c.load.new.self 0 low read.bytes read.only (page_bytes file root.page) same in
           let kinds = c.new-tree.ensures.names.1 ∙ c.root_kind.ensures.kind ∙ ap (kind_of root.kind root.page) (there (bytes_at c.load.new.self 0) c.root_kind.ensures.there) in
           let starts = c.new-tree.ensures.names.0 in
           let n = subst (λ b. Enters g.K.Sink.takes g.K.Sink.drops file W d (Ok b) c.enter.new.marks c.args.sink.now c.enter.new.sink) c.if-not-branch.false (c.in_ok-enter.ensures.entered file W d is next at.marked (tree_refusal file W d at.candidate)) in

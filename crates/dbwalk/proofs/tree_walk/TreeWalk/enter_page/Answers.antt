@@ -14,7 +14,7 @@ use Rattle.dbmarks.specs.Marking.{unmarked_pages}
 use Rattle.dbwalk.proofs.Telling.Lefts.{tree_refusal}
 use Rattle.dbwalk.proofs.Chaining.Overflows.{page_read}
 use Rattle.dbmarks.proofs.Readings.{log_none, log_page, log_then, put_count}
-use Rattle.dbwalk.specs.Found.{StandsAt}
+use Rattle.dbwalk.specs.Found.{HasPageAt}
 use Rattle.dbwalk.specs.Underway.{HasDone, IsEntered, done_below, entered}
 use Rattle.dbwalk.specs.Watching.{watches, fails}
 use Rattle.dbwalk.proofs.Underway.Visits.{done_refused, refused_handed, entered_past, entered_err, unread}
@@ -108,7 +108,7 @@ returns-clause-log g c =
     let is = c.tree_step-step.ensures.step t.kind t.start t.path.items d (sym c.len-level.ensures.value) candidate in
     let n = subst (λ b. Enters g.K.Sink.takes g.K.Sink.drops file from.visits d (Ok b) c.enter.new.marks c.args.self.now.sink.now c.enter.new.sink) c.if-not-branch.false (c.in_ok-enter.ensures.entered file from.visits d is next at.0 (tree_refusal file from.visits d candidate)) in
     let read = page_read file change.bytes c.args.bench.now.geometry.page_size c.args.page change.size h (sym (ap (λ s. s.page_size) e)) in
-    let there = subst (λ l. StandsAt c.load.new.self.levels l (page_bytes file c.args.page)) c.len-level.ensures.value
+    let there = subst (λ l. HasPageAt c.load.new.self.levels l (page_bytes file c.args.page)) c.len-level.ensures.value
     (read_there c.args.bench.now c.load.new.self c.len-level.result low change.bytes change.only (page_bytes file c.args.page) read) in
     subst (λ s. HasDone (watches g.K.Sink.takes g.T.Taker.takes) (fails g.K.Sink.drops g.T.Taker.refuses) file (entered file from d c.visit_page.result) c.visit_page.result (c.visit_page.new.self.marks.now, c.visit_page.new.self.tree) (s, c.args.self.now.taker.now) (c.visit_page.new.self.sink.now, c.visit_page.new.self.taker.now) × IsEntered file from d c.visit_page.result c.visit_page.new.bench.levels) (sym n.2)
     (done (same ∙ e) coded from d c.args.from c.args.item candidate there next n.0 n.1 at.1 at.2 held room))

@@ -46,15 +46,15 @@ walk_unfed-requires g c =
     let most : c.in-Chain.left ≤ most_payload = omega arith in
     search rules
 
-pub returns-in-Behind-clause-open : goal.returns-in-Behind-clause-open
-returns-in-Behind-clause-open g c = (at_step c.args.frames.now.items c.args.frame c.requires.«open» (next_at refl c.in-Behind.is c.requires.step)).front
+pub returns-in-End-clause-open : goal.returns-in-End-clause-open
+returns-in-End-clause-open g c = (at_step c.args.frames.now.items c.args.frame c.requires.«open» (next_at refl c.in-End.is c.requires.step)).front
 
-pub returns-in-Behind-clause-ends : goal.returns-in-Behind-clause-ends
-returns-in-Behind-clause-ends g c = ends_behind c.args.self.now.marks.now c.args.frames.now.items c.args.frame (at_step c.args.frames.now.items c.args.frame c.requires.«open» (next_at refl c.in-Behind.is c.requires.step)).most
+pub returns-in-End-clause-ends : goal.returns-in-End-clause-ends
+returns-in-End-clause-ends g c = ends_behind c.args.self.now.marks.now c.args.frames.now.items c.args.frame (at_step c.args.frames.now.items c.args.frame c.requires.«open» (next_at refl c.in-End.is c.requires.step)).most
 
-pub returns-in-Behind-clause-log : goal.returns-in-Behind-clause-log
-returns-in-Behind-clause-log g c = log_none c.args.bench.now.geometry.page_size c.args.self.now.marks.now c.args.self.now.marks.now (g.S.Source.held c.args.self.now.source.now) refl (λ file e coded W d before candidate walk held empty.
-    let here = next_here c.args.frames.now.items c.args.frame walk candidate (ap (λ s. s.usable) e) (next_at refl c.in-Behind.is c.requires.step) in
+pub returns-in-End-clause-log : goal.returns-in-End-clause-log
+returns-in-End-clause-log g c = log_none c.args.bench.now.geometry.page_size c.args.self.now.marks.now c.args.self.now.marks.now (g.S.Source.held c.args.self.now.source.now) refl (λ file e coded W d before candidate walk held empty.
+    let here = next_here c.args.frames.now.items c.args.frame walk candidate (ap (λ s. s.usable) e) (next_at refl c.in-End.is c.requires.step) in
     (by_other (turned_behind c.args.frames.now.items c.args.frame walk candidate here) refl refl refl refl (λ n l. refl), tt))
 
 pub returns-in-Nothing-clause-open : goal.returns-in-Nothing-clause-open

@@ -6,7 +6,7 @@ use Rattle.dbformat.specs.Reference.{Reference, tree_view}
 use Rattle.dbtrace.specs.Walk.{Walk}
 use Rattle.dbwalk.specs.Taking.{HasRoom}
 use Rattle.dbwalk.specs.LeafCells.{AreBefore}
-use Rattle.dbwalk.specs.Standing.{IsSameButGreatest}
+use Rattle.dbwalk.specs.Points.{IsSameButGreatest}
 use Rattle.dbwalk.specs.Underway.{IsAt}
 use Rattle.dbwalk.specs.Walked.{Does, SaysOfFiles, Walked}
 use Rattle.dbwalk.specs.Walking.{IsLeafAt}

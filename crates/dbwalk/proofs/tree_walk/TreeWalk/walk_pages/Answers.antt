@@ -2,7 +2,7 @@ use Rattle.std.proofs.Common.{rules, ◌≡◌, ◌<◌, ◌++◌, [], ◌∷◌
 use Rattle.std.specs.Prelude.{option_to_list}
 use Rattle.std.proofs.lemmas.Result.{err_from_is_err_and}
 use Rattle.dbformat.specs.File.{page_bytes}
-use Rattle.dbwalk.specs.Found.{StandsAt}
+use Rattle.dbwalk.specs.Found.{HasPageAt}
 use Rattle.dbwalk.specs.Walking.{IsCandidate, IsOpen, AreOpen, path_of, cost}
 use Rattle.dbsource.proofs.Logs.{has_weaker}
 use Rattle.dbmarks.proofs.Readings.{log_then}
@@ -27,7 +27,7 @@ visit_page-requires g c =
 pub returns-in_err-visit_page-clause-log : goal.returns-in_err-visit_page-clause-log
 returns-in_err-visit_page-clause-log g c = has_weaker _ _ c.in_err-visit_page.ensures.log (λ log r. r) (λ file h e coded W d candidate there followed next m held empty.
     let entry = h e coded (begin W) d 0 c.args.self.now.tree.start (subst (λ l. IsCandidate c.args.self.now.tree.kind c.args.self.now.tree.start l c.args.page 0 c.args.self.now.tree.start d) (sym c.requires.fresh.2) candidate)
-    (subst (λ l. StandsAt c.args.bench.now.levels (length l) (page_bytes file c.args.page)) (sym c.requires.fresh.2) there) next followed m c.requires.fresh.0 c.requires.fresh.1 held
+    (subst (λ l. HasPageAt c.args.bench.now.levels (length l) (page_bytes file c.args.page)) (sym c.requires.fresh.2) there) next followed m c.requires.fresh.0 c.requires.fresh.1 held
     (λ z. empty_room g.T.Taker.takes held c.args.self.now.taker.now (empty z)) in
     let q = err_from_is_err_and c.from_residual.result c.from_residual.ensures.1 in
     stopped_as (q.1 ∙ ap Err q.2) entry.0.handed)
@@ -35,7 +35,7 @@ returns-in_err-visit_page-clause-log g c = has_weaker _ _ c.in_err-visit_page.en
 pub returns-then-not-branch-clause-log : goal.returns-then-not-branch-clause-log
 returns-then-not-branch-clause-log g c = has_weaker _ _ c.in_ok-visit_page.ensures.log (λ log r. r) (λ file h e coded W d candidate there followed next m held empty.
     let entry = h e coded (begin W) d 0 c.args.self.now.tree.start (subst (λ l. IsCandidate c.args.self.now.tree.kind c.args.self.now.tree.start l c.args.page 0 c.args.self.now.tree.start d) (sym c.requires.fresh.2) candidate)
-    (subst (λ l. StandsAt c.args.bench.now.levels (length l) (page_bytes file c.args.page)) (sym c.requires.fresh.2) there) next followed m c.requires.fresh.0 c.requires.fresh.1 held
+    (subst (λ l. HasPageAt c.args.bench.now.levels (length l) (page_bytes file c.args.page)) (sym c.requires.fresh.2) there) next followed m c.requires.fresh.0 c.requires.fresh.1 held
     (λ z. empty_room g.T.Taker.takes held c.args.self.now.taker.now (empty z)) in
     entered_done (begin W) d tt c.if-not-branch.true entry.0)
 
@@ -51,7 +51,7 @@ loop-frame-init g c =
       path = path_last c.push.new.self.items [] (record { page = c.args.page; next = 0 }) n.self.tree.path.items items (ap (λ p. p.items) c.visit_page.ensures.path ∙ c.requires.fresh.2);
       log = has_weaker _ _ c.in_ok-visit_page.ensures.log (λ log r. r) (λ file h e coded W d candidate there followed next m held empty.
           let entry = h e coded (begin W) d 0 c.args.self.now.tree.start (subst (λ l. IsCandidate c.args.self.now.tree.kind c.args.self.now.tree.start l c.args.page 0 c.args.self.now.tree.start d) (sym c.requires.fresh.2) candidate)
-          (subst (λ l. StandsAt c.args.bench.now.levels (length l) (page_bytes file c.args.page)) (sym c.requires.fresh.2) there) next followed m c.requires.fresh.0 c.requires.fresh.1 held
+          (subst (λ l. HasPageAt c.args.bench.now.levels (length l) (page_bytes file c.args.page)) (sym c.requires.fresh.2) there) next followed m c.requires.fresh.0 c.requires.fresh.1 held
           (λ z. empty_room g.T.Taker.takes held c.args.self.now.taker.now (empty z)) in
           let role = kind_is file c.args.self.now.tree.kind c.args.self.now.tree.start [] c.args.page 0 c.args.self.now.tree.start d candidate ∙ ap Some (sym c.visit_page.ensures.walked.kind) in
           tree_started W d (record { page = c.args.page; next = 0 }) items (sym candidate.page) refl next role candidate.depth c.if-not-branch.false entry);

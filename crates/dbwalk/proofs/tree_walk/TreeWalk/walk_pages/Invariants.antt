@@ -1,5 +1,5 @@
 use Rattle.std.proofs.Common.{◌≡◌, ◌≤◌, Ok, ◌++◌, [], ◌∷◌, List, length}
-use Rattle.dbwalk.specs.Standing.{AtRoot}
+use Rattle.dbwalk.specs.Points.{AtRoot}
 use Rattle.dbwalk.specs.Walked.{SaysOfFiles, Walked}
 use Rattle.dbwalk.specs.Underway.{IsWalkingOn}
 use Rattle.dbwalk.specs.Watching.{watches}

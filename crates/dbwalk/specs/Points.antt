@@ -14,7 +14,7 @@ use Rattle.dbformat.specs.declared.Geometry.{Geometry}
 use Rattle.dbwalk.specs.Entered.{IsNext}
 use Rattle.dbtrace.specs.Item.{Item}
 use Rattle.dbtrace.specs.Walk.{Walk}
-use Rattle.dbwalk.specs.Found.{StandsAt}
+use Rattle.dbwalk.specs.Found.{HasPageAt}
 use Rattle.dbwalk.specs.LeafCells.{overflow_errands, AreBefore}
 use Rattle.dbmarks.specs.Marking.{AreMarksOf}
 use Rattle.dbwalk.specs.Taking.{HasRoom, StartsEmpty}
@@ -50,12 +50,12 @@ AtLeaf takes file levels page walk leaves = (from : Walk) (c : Reference) (v : V
 -- at a page of a tree that was read, as far as what is reported of it requires
 abbrev pub AtRead : Geometry → Tree → List (List ℕ) → ℕ → (List ℕ → Reference → Type 0) → Type 0
 AtRead g tree levels page leaves = (file : List ℕ) (c : Reference) (from item : ℕ) → g ≡ geometry file → IsCandidate tree.kind tree.start tree.path.items page from item c
-    → StandsAt levels (length tree.path.items) (page_bytes file page) → leaves file c
+    → HasPageAt levels (length tree.path.items) (page_bytes file page) → leaves file c
 
 -- at a page of a tree that was marked, and then read
 abbrev pub AtPage : {A S K T : Type 0} → (T → SchemaRow → Taken → T → Type 0) → List ℕ → List (List ℕ) → ℕ → TreeWalk A S K T → (Walk → Reference → Type 0) → Type 0
 AtPage takes file levels page walk leaves = (from : Walk) (c : Reference) (above item : ℕ) → IsCandidate walk.tree.kind walk.tree.start walk.tree.path.items page above item c
-    → StandsAt levels (length walk.tree.path.items) (page_bytes file page) → IsNext from.visits c → is_followed (rules_of file) from.visits c ≡ true
+    → HasPageAt levels (length walk.tree.path.items) (page_bytes file page) → IsNext from.visits c → is_followed (rules_of file) from.visits c ≡ true
     → AreMarksOf file (from.visits ++ (c ∷ [])) walk.marks.now → walk.tree.greatest ≡ from.state.greatest → walk.tree.leaf ≡ from.state.leaf → WithRoom takes from walk (leaves from c)
 
 -- at a reference to a page of a tree
@@ -72,7 +72,7 @@ AtStep {K = K} {T = T} moves takes file levels frames walk leaves = (W : List Re
 -- at the root of a tree that was marked, and read; no page of the tree was visited before
 abbrev pub AtRoot : {A S K T : Type 0} → (T → SchemaRow → Taken → T → Type 0) → List ℕ → List (List ℕ) → ℕ → TreeWalk A S K T → (List Reference → Reference → Type 0) → Type 0
 AtRoot {T = T} takes file levels page walk leaves = (W : List Reference) (c : Reference) → IsCandidate walk.tree.kind walk.tree.start [] page 0 walk.tree.start c
-    → StandsAt levels 0 (page_bytes file page) → is_followed (rules_of file) W c ≡ true → IsNext W c → AreMarksOf file (W ++ (c ∷ [])) walk.marks.now
+    → HasPageAt levels 0 (page_bytes file page) → is_followed (rules_of file) W c ≡ true → IsNext W c → AreMarksOf file (W ++ (c ∷ [])) walk.marks.now
     → (held : T → ℕ) → (walk.tree.start ≡ schema_start → StartsEmpty takes held walk.taker.now) → leaves W c
 
 -- only the greatest key of a tree's state may have changed
