@@ -1,11 +1,12 @@
 -- Root pages, by the list of roots.
-use Rattle.std.proofs.Common.{◌≡◌, ℕ, zero, suc, ◌+◌, ◌-◌, ◌≤◌, Bool, true, false, cond, not, ◌&&◌, List, [], ◌∷◌, ◌++◌, length, map, take, drop, set, replicate, Option, Some, None, refl, sym, ap, subst, ◌∙◌, arith, inl, inr}
+use Rattle.std.proofs.Common.{◌≡◌, ℕ, zero, suc, ◌+◌, ◌-◌, ◌<◌, ◌≤◌, Bool, true, false, cond, not, ◌&&◌, List, [], ◌∷◌, ◌++◌, length, map, take, drop, set, replicate, Option, Some, None, refl, sym, ap, subst, ◌∙◌, arith, inl, inr}
 use Rattle.std.specs.Prelude.{find, is_some, nat_le, option_map, option_and_then, slice_get, IfSome, ◌==◌}
 use Rattle.std.specs.List.{enumerate_from}
-use Rattle.std.specs.Option.{option_or}
+use Rattle.std.specs.Option.{option_map_or, option_or}
 use Rattle.std.proofs.lemmas.Bool.{cases_Bool, and_parts, and_from, eqb-true, eq-eqb, ne_eqb, both_ways}
 use Rattle.std.proofs.lemmas.Bool.Decides.{nat_tests}
 use Rattle.std.proofs.lemmas.List.{length-replicate}
+use Rattle.std.proofs.lemmas.Option.{slice_get-get_or}
 use Rattle.dbsurvey.specs.Address.{IsIn}
 use Rattle.dbsurvey.specs.Survey.{Link}
 use Rattle.dbformat.specs.Address.{start_of, schema_start, last_root_start, freelist_start}
@@ -14,6 +15,7 @@ use Rattle.dbformat.specs.Header.{first_trunk}
 use Rattle.dbformat.specs.Reference.{trunk, Way, Reference, role_of, is_root}
 use Rattle.dbformat.specs.Schema.{schema_link, start, root_start, rooted_rows, freelist_starts, later_starts, starts}
 use Rattle.dbformat.specs.SchemaRow.{SchemaRow}
+use Rattle.dbformat.specs.declared.RowKind.TheVariants.{Table}
 use Rattle.dbformat.specs.Survey.{Survey}
 use Rattle.dbformat.proofs.SchemaStart.{schema_below}
 use Rattle.dbformat.proofs.Visited.{allowed}
@@ -23,7 +25,7 @@ use Rattle.dbmarks.specs.Marking.{AreMarksOf}
 use Rattle.dbmarks.proofs.Markings.{marks_of-length}
 use Rattle.dbformat.specs.Starts.{start_at, first_start}
 use Rattle.dbowner.specs.Climbs.{known_of, AreTrees}
-use Rattle.dbscan.specs.Roots.{AreListed}
+use Rattle.dbscan.specs.Roots.{AreListed, root_page}
 use Rattle.dbowner.specs.Steps.{is_open, known_on_entry}
 use Rattle.dbowner.proofs.PageMarks.{root_marked, root_visited}
 use Rattle.dbowner.proofs.Slots.{has_room, open_is, open_slot, within, put_here, put_there, nothing_known}
@@ -40,6 +42,24 @@ row_start k (row ∷ rows) p = cond (row.root == p) (Some k) (row_start (k + 1) 
 -- the start of the tree with this root page: the schema's is page 1, whatever the rows say
 abbrev pub listed_start : List SchemaRow → ℕ → Option ℕ
 listed_start rows p = cond (p == 1) (Some schema_start) (row_start 1 rows p)
+
+-- the root page of a row is that of its start
+pub row_root : (rows : List SchemaRow) (i : ℕ) → i < length rows → option_map (λ row. row.root) (slice_get rows i) ≡ Some (root_page rows (i + 1))
+row_root rows i inside = by_row (slice_get-get_or rows i no_row inside) ∙ ap Some (sym here)
+  where
+    no_row : SchemaRow
+    no_row = record { kind = Table; root = 0; name = None }
+
+    root_at : Option SchemaRow → ℕ
+    root_at o = option_map_or (λ row. row.root) o 0
+
+    here : root_page rows (i + 1) ≡ root_at (slice_get rows i)
+    here =
+        ap (λ b. cond b 1 (root_at (slice_get rows (i + 1 - 1)))) (let e : (i + 1 == 0) ≡ false = grind (arith, nat_tests) in e)
+        ∙ ap (λ j. root_at (slice_get rows j)) (let e : i + 1 - 1 ≡ i = omega arith in e)
+
+    by_row : {row : SchemaRow} → slice_get rows i ≡ Some row → option_map (λ (row : SchemaRow). row.root) (slice_get rows i) ≡ Some (root_at (slice_get rows i))
+    by_row e = ap (option_map (λ (row : SchemaRow). row.root)) e ∙ ap (λ o. Some (root_at o)) (sym e)
 
 -- row by row
 

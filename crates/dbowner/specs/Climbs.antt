@@ -24,14 +24,14 @@ place_by (Some (LaterOverflow from)) = place.OverflowAfter from
 place_by (Some (Child from)) = place.ChildOf from
 place_by _ = place.Nowhere
 
--- the page that a page with this mark is of
+-- the page that refers to a page with this mark
 abbrev pub parent_by : Option Mark → Option ℕ
 parent_by (Some (FirstOverflow from)) = Some from
 parent_by (Some (LaterOverflow from)) = Some from
 parent_by (Some (Child from)) = Some from
 parent_by _ = None
 
--- the page that page p is of, by the marks
+-- the page that refers to page p, by the marks
 abbrev pub parent : List Mark → ℕ → Option ℕ
 parent marks p = parent_by (page_mark marks p)
 

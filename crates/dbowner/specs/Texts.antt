@@ -1,5 +1,5 @@
 -- The texts of trees and pages of a file with survey V: the name of a tree, and what a page is in it, whole and in pieces.
-use Rattle.std.specs.Prelude.{ℕ, zero, suc, ◌-◌, List, [], ◌++◌, take, Option, Some, None, slice_get, codes, decimal}
+use Rattle.std.specs.Prelude.{ℕ, zero, suc, List, [], ◌++◌, take, Option, Some, None, slice_get, codes, decimal}
 use Rattle.std.specs.Option.{option_map_or}
 use Rattle.dbformat.specs.Address.{last_root_start}
 use Rattle.dbformat.specs.Header.{encoding}

@@ -21,7 +21,7 @@ mod tree_names;
 pub use dbformat::{Encoding, Fixed, Geometry};
 pub use dbscan::RootList;
 pub use dbsource::{Out, WriteFailed};
-pub use dbwalk::{Marks, SchemaRow};
+pub use dbwalk::{Mark, Marks, SchemaRow};
 pub use owner::visited_pages_are_owned;
 pub use page_trees::PageTrees;
 pub use place::{Place, mark_of, place_of};

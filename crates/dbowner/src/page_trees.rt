@@ -50,7 +50,7 @@ fn pack(start: Option<u32>) -> u32
     }
 }
 
-// What is stored so.
+// What a stored word says of the start of a page.
 #[tactic(auto, unfolding(crate::specs::Climbs::unpacked_start))]
 fn unpack(word: u32) -> Option<Option<u32>>
     ensures known { result ≡ unpacked_start word }
@@ -63,7 +63,7 @@ fn unpack(word: u32) -> Option<Option<u32>>
     }
 }
 
-// The page that a page is of, by its mark.
+// The page that refers to a page, by its mark.
 fn parent<B: Allocator>(marks: &Marks<B>, page: u32) -> Option<u32>
     ensures { result ≡ climbs.parent marks.now page }
 {
@@ -90,17 +90,6 @@ fn zero<A: Allocator>(words: &mut Vec<u32, A>)
 {
     for index in 0..words.len() {
         words[index] = 0;
-    }
-}
-
-// The root page of the row of a start.
-fn root_page<B: Allocator>(roots: &RootList<B>, start: u32) -> u32
-    requires { (1 ≤ start) × (start ≤ length roots.now.rows) }
-    ensures { option_map (λ row. row.root) (slice_get roots.now.rows (start - 1)) ≡ Some result }
-{
-    match roots.get(start) {
-        Some(row) => row.root,
-        None => 0,
     }
 }
 
@@ -141,7 +130,7 @@ impl<A: Allocator> PageTrees<A> {
         self.forget();
         self.enter(marks, 1, SCHEMA_START);
         for index in 0..roots.len() {
-            self.enter(marks, root_page(roots, index + 1), index + 1);
+            self.enter(marks, roots.root_page(index + 1), index + 1);
         }
     }
 
@@ -201,7 +190,7 @@ impl<A: Allocator> PageTrees<A> {
         }
     }
 
-    // Forgets all.
+    // Forgets what is known of every page.
     fn forget(&mut self)
         ensures known { self.new.known ≡ replicate (length self.old.known) None }
         ensures passed { self.new.passed ≡ 0 }
@@ -222,8 +211,8 @@ impl<A: Allocator> PageTrees<A> {
         }
     }
 
-    // Climbs from a page to the first of which something is known, or which is of no other. It answers that one, and how many
-    // pages it has passed. Until the start is known these are noted as of none, so that a circle ends.
+    // Climbs from a page to the first one of which something is known, or to which no page refers. Answers that page, and how many
+    // pages were passed. Until its start is known a passed page is recorded as ownerless, so that a cycle of marks ends.
     fn climb<B: Allocator>(&mut self, marks: &Marks<B>, page: u32) -> (u32, u32)
         ensures way { IsClimb marks.now page result.1 self.old.known result.0 self.new.known }
         ensures end { slot self.new.known result.0 ≡ Some None → climbs.parent marks.now result.0 ≡ None }
@@ -239,7 +228,7 @@ impl<A: Allocator> PageTrees<A> {
         (at, passed)
     }
 
-    // The page that a page is of, where nothing is known of the page.
+    // The next page of a climb, if nothing is known of this one.
     fn next<B: Allocator>(&self, marks: &Marks<B>, page: u32) -> Option<u32>
         ensures some { IfSome result (λ from. (slot self.now.known page ≡ Some None) × (climbs.parent marks.now page ≡ Some from)) }
         ensures none { result ≡ None → slot self.now.known page ≡ Some None → climbs.parent marks.now page ≡ None }

@@ -9,7 +9,7 @@ ghost use Rattle.dbowner.specs.Owners as owners;
 use dbwalk::{Mark, Marks};
 use std::alloc::Allocator;
 
-/// What a page of a file is, and of which page.
+/// What a page of a file is, and which page it is reached from.
 #[derive(Clone, Copy, Debug, PartialEq, Eq)]
 pub enum Place {
     /// The root of a tree.

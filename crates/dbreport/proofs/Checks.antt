@@ -1,4 +1,4 @@
--- What a check has written and found, by the findings that were reported to its sink.
+-- What a check has written and found, by the findings that its reporter heard.
 use Rattle.std.proofs.Common.{◌≡◌, ℕ, zero, suc, ◌+◌, ◌-◌, ◌^◌, ◌<◌, ◌≤◌, true, false, cond, inl, inr, List, [], ◌∷◌, ◌++◌, length, take, drop, Result, Ok, refl, sym, ap, ap₂, ◌∙◌, subst, arith, length-drop}
 use Rattle.std.specs.Prelude.{flat_map, ◌==◌, nat_lt}
 use Rattle.std.proofs.Math.Seq.{take-nil}
@@ -65,7 +65,7 @@ verdict_is limit fs =
 -- ---- fault after fault
 
 module _ {O : Type 0} (held : O → OutState) where
-  -- the state of the sink after some faults
+  -- the state of the reporter after some faults
   record Saw (s : CheckReporter O) (fs : List Fault) (t : CheckReporter O) : Type 0 where
     same_out : t.out.ghost_name ≡ s.out.ghost_name
     limit : t.limit ≡ s.limit
@@ -206,7 +206,7 @@ module _ {O : Type 0} (held : O → OutState) where
   breaks_by OutOfMemory fs s t l m h = breaks_some fs s t l m h
   breaks_by (Refused r) fs s t l m h = breaks_some fs s t l m h
 
-  -- ---- the whole check, from a sink to which nothing was reported
+  -- ---- the whole check, from a reporter that has heard nothing
 
   module _ (found : List Fault) (s t : CheckReporter O) (none : s.shown ≡ 0) (no_more : s.more ≡ 0) where
     room : s.limit - s.shown ≡ s.limit

@@ -5,13 +5,13 @@ pub mod Hexes
 pub mod ListedNames
 pub mod Openings
 pub mod OtherRows
+pub mod ReporterStates
 pub mod RunAnswers
 pub mod RunLogs
 pub mod RunReports
-pub mod SinkStates
+pub mod StatNotices
 pub mod StatPieces
 pub mod StatReports
-pub mod StatSinks
 pub mod StatStarts
 pub mod StatTexts
 pub mod StatTrees

@@ -9,7 +9,7 @@ use Rattle.dbsource.specs.Errors.{is_read_failed, is_write_failed, run_error}
 use Rattle.dbsource.specs.Failures.{CountsAfter, HasOneMore, MovesIf, failures_after, one_more}
 use Rattle.dbsource.specs.HeaderBytes.{HeaderBytes}
 use Rattle.dbsource.specs.Headers.{Opens}
-use Rattle.dbsource.specs.Snapshots.{HasRead, HasReadBehind}
+use Rattle.dbsource.specs.Snapshots.{HasRead, HasReadAfterHeader}
 use Rattle.dbsource.specs.declared.error.OpenError.{OpenError}
 use Rattle.dbsource.specs.declared.error.OpenError.TheVariants as opening
 use Rattle.dbsource.specs.declared.error.RunError.{RunError}
@@ -70,7 +70,7 @@ module _ {S : Type 0} (source : SourceWords S) (old : S) where
   -- ---- or one after the header
 
   pub run_read : {T : List ℕ → Type 0} (h : HeaderBytes) (mid new : S) → IsOpened source h old mid
-      → HasReadBehind source.step (IsPageLog (geometry_of h.bytes h.file_len)) h T (source.held mid) (source.held new)
+      → HasReadAfterHeader source.step (IsPageLog (geometry_of h.bytes h.file_len)) h T (source.held mid) (source.held new)
       → HasRead source.step source.lengths IsSomeRunLog (λ file ranges. IsRunLog (geometry file) ranges × T file) (source.held old) (source.held new)
   run_read h mid new k behind = whole_run h k.opens k.read k.accepted k.range behind
 

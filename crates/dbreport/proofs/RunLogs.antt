@@ -9,7 +9,7 @@ use Rattle.dbformat.specs.declared.Refusal.TheVariants.{Short, Magic, PageSize, 
 use Rattle.dbsource.specs.Answers.{Lengths, Step, given}
 use Rattle.dbsource.specs.HeaderBytes.{HeaderBytes}
 use Rattle.dbsource.specs.Headers.{IsHeaderOf, IsOpenLog, IsRefusalOf, Opens}
-use Rattle.dbsource.specs.Snapshots.{HasRead, HasReadBehind}
+use Rattle.dbsource.specs.Snapshots.{HasRead, HasReadAfterHeader}
 use Rattle.dbsource.specs.Sources.{SourceState}
 use Rattle.dbsource.specs.declared.error.OpenError.{OpenError}
 use Rattle.dbsource.specs.declared.error.OpenError.TheVariants.{Refused, ReadFailed}
@@ -51,9 +51,9 @@ opened_some_log r log e = (some_geometry, some_range, opened_log some_geometry r
 -- ---- after the header
 
 -- nothing was asked for after the header
-behind_none : {step : Step} {T : List ℕ → Type 0} (h : HeaderBytes) (s : SourceState) (file : List ℕ) → IsHeaderOf h file
-    → ((file : List ℕ) → IsHeaderOf h file → T file) → HasReadBehind step (IsPageLog (geometry_of h.bytes h.file_len)) h T s s
-behind_none h s file is q = record {
+after_none : {step : Step} {T : List ℕ → Type 0} (h : HeaderBytes) (s : SourceState) (file : List ℕ) → IsHeaderOf h file
+    → ((file : List ℕ) → IsHeaderOf h file → T file) → HasReadAfterHeader step (IsPageLog (geometry_of h.bytes h.file_len)) h T s s
+after_none h s file is q = record {
   log = [];
   leads = refl;
   told = refl;
@@ -66,7 +66,7 @@ behind_none h s file is q = record {
 -- the header, and what was read after it, of a run
 pub whole_run : {step : Step} {lengths : Lengths} {T : List ℕ → Type 0} (h : HeaderBytes) {old mid new : SourceState} → Opens step lengths (Ok h) old mid → step old.trail (given 0 h.bytes) mid.trail
     → (refusal_of h.bytes h.file_len ≡ None) × (length h.bytes ≡ 100) → IsInRange (geometry_of h.bytes h.file_len)
-    → HasReadBehind step (IsPageLog (geometry_of h.bytes h.file_len)) h T mid new → HasRead step lengths IsSomeRunLog (λ file ranges. IsRunLog (geometry file) ranges × T file) old new
+    → HasReadAfterHeader step (IsPageLog (geometry_of h.bytes h.file_len)) h T mid new → HasRead step lengths IsSomeRunLog (λ file ranges. IsRunLog (geometry file) ranges × T file) old new
 whole_run {step} {lengths} {T} h {old} {mid} {new} opens first accepted range behind =
     let g = geometry_of h.bytes h.file_len in
     read_weaker (IsRunLog g) _ (ran step lengths h T old mid new accepted.0 accepted.1 opens first behind)
@@ -78,7 +78,7 @@ pub header_run : {step : Step} {lengths : Lengths} {T : List ℕ → Type 0} (h 
     → ((file : List ℕ) → IsHeaderOf h file → T file) → HasRead step lengths IsSomeRunLog (λ file ranges. IsRunLog (geometry file) ranges × T file) old mid
 header_run h {mid = mid} opens first accepted range q =
     let here = opens.there_is in
-    whole_run h opens first accepted range (behind_none h mid here.0 (opens.asks.log.files here.0 here.2 here.1) q)
+    whole_run h opens first accepted range (after_none h mid here.0 (opens.asks.log.files here.0 here.2 here.1) q)
 
 -- a run whose header was not read, or is refused
 pub opened_run : {step : Step} {lengths : Lengths} {T : List ℕ → Type 0} (e : OpenError) {old new : SourceState} → Opens step lengths (Err e) old new → ((file : List ℕ) → IsRefusalOf e file → T file)

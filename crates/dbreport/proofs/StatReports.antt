@@ -8,7 +8,7 @@ use Rattle.dbformat.specs.declared.Command.TheVariants.{Stat}
 use Rattle.dbformat.specs.Header.{encoding as encoding_of}
 use Rattle.dbformat.specs.Lines.{counted, fault_line, form_line}
 use Rattle.dbformat.specs.Reference.{Reference}
-use Rattle.dbformat.specs.Report.{faults, verdict, verdict_of}
+use Rattle.dbformat.specs.Report.{faults, verdict_of}
 use Rattle.dbformat.specs.Rows.{form_rows, other_rows, page_rows, tree_rows}
 use Rattle.dbformat.specs.Survey.{Survey}
 use Rattle.dbformat.specs.declared.Geometry.{Geometry}
@@ -87,7 +87,7 @@ module _ {O E : Type 0} (held : O → OutState) (held' : E → OutState) (file :
   pub stat_ended : (s t : StatReporter O E) → Moves (HearsStat held held') s (run_notices file V) t → (v : Verdict) → v ≡ verdict_of t.found → LeavesStat held held' file V (Ok v) s t
   stat_ended s t told v found for none = whole v s t (run_written {A = Unit {0}} held held' file V survey s t for (Ok tt) told) found for none
 
--- a sink by the header of a file is as the file asks for
+-- a reporter by the header of a file is as the file asks for
 pub for_file : {O E : Type 0} (file : List ℕ) (h : HeaderBytes) (g : Geometry) (s : StatReporter O E) → IsHeaderOf h file → g ≡ geometry file
     → s.encoding ≡ encoding_of h.bytes → s.page_size ≡ g.page_size → s.sums ≡ sums_of [] → IsForFile file s
 for_file file h g s is e code size none = record {

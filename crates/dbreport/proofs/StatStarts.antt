@@ -28,7 +28,8 @@ use Rattle.dbwalk.specs.Telling.{Tells}
 use Rattle.dbwalk.proofs.Telling.Belows.{told_none}
 use Rattle.dbscan.specs.Notices.{Notice, whole, found, ended, walked, errands_left, root_reference, tree_notices, later_notices, start_notices, end_notices, run_notices}
 use Rattle.dbscan.specs.Starts.{At, at_freelist, at_row, at_schema, schema_reference}
-use Rattle.dbreport.specs.StatLines.{tree_rows_text, starts_text, rows_told}
+use Rattle.dbscan.specs.Findings.{found_rows}
+use Rattle.dbreport.specs.StatLines.{tree_rows_text, starts_text}
 use Rattle.dbreport.specs.TreeNames.{name_at}
 use Rattle.dbreport.specs.StatReporter.{CutsStat, HearsStat, tree_end_text, other_lines, pages_text, WritesBoth}
 use Rattle.dbreport.specs.StatStarts.{IsForFile, rows_text}
@@ -36,7 +37,7 @@ use Rattle.dbreport.specs.declared.statistics.reporter.StatReporter.{StatReporte
 use Rattle.dbreport.specs.declared.statistics.Form.{Form}
 use Rattle.dbreport.proofs.ListedNames.{listed_name}
 use Rattle.dbreport.proofs.OtherRows.{others_text}
-use Rattle.dbreport.proofs.StatSinks.{Sheet, all_lines, lines, next, notices_written}
+use Rattle.dbreport.proofs.StatNotices.{Sheet, all_lines, lines, next, notices_written}
 use Rattle.dbreport.proofs.StatTexts.{rows_below}
 use Rattle.dbreport.proofs.StatTrees.{freelist_rows}
 use Rattle.dbscan.proofs.StartByStart.{of_later}
@@ -69,17 +70,17 @@ pages_ended false name size rows = append-nil (pages_text false name size rows)
 -- ---- the lines of what is reported
 
 found_lines : (p : Sheet) (at : At) (items : List Finding) (rest : List Notice)
-    → all_lines p (map (found at) items ++ rest) ≡ pages_text p.form.aggregate (name_at p.encoding at) p.size (rows_told items) ++ all_lines (record p { rows = p.rows ++ rows_told items }) rest
+    → all_lines p (map (found at) items ++ rest) ≡ pages_text p.form.aggregate (name_at p.encoding at) p.size (found_rows items) ++ all_lines (record p { rows = p.rows ++ found_rows items }) rest
 found_lines p at [] rest =
     ap (λ rows. all_lines (record p { rows = rows }) rest) (sym (append-nil p.rows))
     ∙ ap (λ l. l ++ all_lines (record p { rows = p.rows ++ [] }) rest) (sym (no_pages p.form.aggregate (name_at p.encoding at) p.size))
 found_lines p at (told_row r ∷ items) rest =
     let name = name_at p.encoding at in
     let q : Sheet = record p { rows = p.rows ++ r ∷ [] } in
-    let others = pages_text p.form.aggregate name p.size (rows_told items) in
-    ap (λ l. pages_text p.form.aggregate name p.size (r ∷ []) ++ l) (found_lines q at items rest ∙ ap (λ rows. others ++ all_lines (record p { rows = rows }) rest) (append_assoc p.rows (r ∷ []) (rows_told items)))
+    let others = pages_text p.form.aggregate name p.size (found_rows items) in
+    ap (λ l. pages_text p.form.aggregate name p.size (r ∷ []) ++ l) (found_lines q at items rest ∙ ap (λ rows. others ++ all_lines (record p { rows = rows }) rest) (append_assoc p.rows (r ∷ []) (found_rows items)))
     ∙ sym (append_assoc (pages_text p.form.aggregate name p.size (r ∷ [])) others _)
-    ∙ ap (λ l. l ++ all_lines (record p { rows = p.rows ++ (r ∷ rows_told items) }) rest) (pages_more p.form.aggregate name p.size r (rows_told items))
+    ∙ ap (λ l. l ++ all_lines (record p { rows = p.rows ++ (r ∷ found_rows items) }) rest) (pages_more p.form.aggregate name p.size r (found_rows items))
 found_lines p at (told_fault f why ∷ items) rest = found_lines p at items rest
 
 module _ (file : List ℕ) (V : List Reference) (form all : Bool) where
@@ -91,10 +92,10 @@ module _ (file : List ℕ) (V : List Reference) (form all : Bool) where
   shown at = name_at (encoding_of file) at
 
   tree_lines : (at : At) (W : List Reference) (c : Reference) (rest : List Notice)
-      → all_lines sheet (tree_notices at file W c ++ rest) ≡ tree_rows_text form (shown at) (page_size file) (rows_told (told_below file W (Go c ∷ []))) ++ all_lines sheet rest
+      → all_lines sheet (tree_notices at file W c ++ rest) ≡ tree_rows_text form (shown at) (page_size file) (found_rows (told_below file W (Go c ∷ []))) ++ all_lines sheet rest
   tree_lines at W c rest =
       let items = told_below file W (Go c ∷ []) in
-      let rows = rows_told items in
+      let rows = found_rows items in
       ap (all_lines sheet) (append_assoc (map (found at) items) (ended at ∷ []) rest)
       ∙ found_lines sheet at items (ended at ∷ rest)
       ∙ sym (append_assoc (pages_text form (shown at) (page_size file) rows) (tree_end_text form (shown at) (page_size file) rows) (all_lines sheet rest))
@@ -112,11 +113,11 @@ module _ (file : List ℕ) (V : List Reference) (form all : Bool) where
       d : Reference
       d = freelist_reference (first_trunk file)
 
-      none : rows_told (told_below file W (Go d ∷ [])) ≡ []
+      none : found_rows (told_below file W (Go d ∷ [])) ≡ []
       none = rows_below file W (Go d ∷ []) (quiet_go d) ∙ freelist_rows file W (start freelist_start trunk (first_trunk file)) refl
 
-      by_case : (b : Bool) → pages_text form (shown at_freelist) (page_size file) (rows_told (told_below file W (if_none b))) ≡ starts_text form file V W (if_none b)
-      by_case true = ap (λ l. pages_text form (shown at_freelist) (page_size file) (rows_told l)) (told_none file W) ∙ no_pages form (shown at_freelist) (page_size file)
+      by_case : (b : Bool) → pages_text form (shown at_freelist) (page_size file) (found_rows (told_below file W (if_none b))) ≡ starts_text form file V W (if_none b)
+      by_case true = ap (λ l. pages_text form (shown at_freelist) (page_size file) (found_rows l)) (told_none file W) ∙ no_pages form (shown at_freelist) (page_size file)
       by_case false =
           ap (pages_text form (shown at_freelist) (page_size file)) none ∙ no_pages form (shown at_freelist) (page_size file)
           ∙ sym (append-nil _ ∙ ap (tree_rows_text form (tree_name file V freelist_start) (page_size file)) none ∙ no_tree form (tree_name file V freelist_start) (page_size file))
@@ -135,7 +136,7 @@ module _ (file : List ℕ) (V : List Reference) (form all : Bool) where
   next_lines k row rows W ns es h named =
       let c = root_reference file k row in
       let zero_more : k + 0 ≡ k = omega arith in
-      let text : List ℕ → List ℕ = λ name. tree_rows_text form name (page_size file) (rows_told (told_below file W (Go c ∷ []))) in
+      let text : List ℕ → List ℕ = λ name. tree_rows_text form name (page_size file) (found_rows (told_below file W (Go c ∷ []))) in
       let here : shown (at_row k row) ≡ tree_name file V k = subst (λ n. shown (at_row n row) ≡ tree_name file V n) zero_more (named 0 row refl) in
       tree_lines (at_row k row) W c ns
       ∙ ap₂ (λ name rest. text name ++ rest) here (h (λ j r e.
@@ -146,7 +147,7 @@ module _ (file : List ℕ) (V : List Reference) (form all : Bool) where
       let c = schema_reference in
       let U = [] ++ visited_below file [] (Go c ∷ []) in
       let rows = take last_root_start (rooted_rows (schema file V)) in
-      let text : List ℕ → List ℕ = λ name. tree_rows_text form name (page_size file) (rows_told (told_below file [] (Go c ∷ []))) in
+      let text : List ℕ → List ℕ = λ name. tree_rows_text form name (page_size file) (found_rows (told_below file [] (Go c ∷ []))) in
       tree_lines at_schema [] c (later_notices file U (enumerate_from 1 rows))
       ∙ ap₂ (λ name rest. text name ++ rest) (schema_name file V) (of_later file Writes (λ k W named. freelist_lines W) next_lines 1 rows U (λ j r e.
       let n : suc j ≡ 1 + j = omega arith in subst (λ n. shown (at_row n r) ≡ tree_name file V n) n (listed_name file V rows j r refl e)))

@@ -34,7 +34,8 @@ use Rattle.dbtrace.specs.Causes.{cause_of}
 use Rattle.dbtrace.specs.declared.Cause.{Cause}
 use Rattle.dbtrace.specs.Finding.{told_row, told_by, told_at, told_below, visited_below}
 use Rattle.dbwalk.proofs.Telling.Belows.{visited_none}
-use Rattle.dbreport.specs.StatLines.{row_told, rows_told, tree_rows_text, starts_text}
+use Rattle.dbscan.specs.Findings.{found_row, found_rows}
+use Rattle.dbreport.specs.StatLines.{tree_rows_text, starts_text}
 use Rattle.dbscan.proofs.RunItems.{all_visited, goes_named}
 use Rattle.dbscan.proofs.Starts.{quiet_go}
 use Rattle.dbsound.proofs.RowCounts.FormRows.{start_role}
@@ -44,26 +45,26 @@ use Rattle.dbreport.proofs.StatTrees.{rows_none, rows_join, row_of_tree, HasLate
 
 -- the rows among it are those of the visits
 
-no_rows_told : (why : FaultCode → Cause) (fs : List Fault) → rows_told (told_by why fs) ≡ []
-no_rows_told why [] = refl
-no_rows_told why (f ∷ fs) = no_rows_told why fs
+no_found_rows : (why : FaultCode → Cause) (fs : List Fault) → found_rows (told_by why fs) ≡ []
+no_found_rows why [] = refl
+no_found_rows why (f ∷ fs) = no_found_rows why fs
 
-all_rows_told : (rows : List StatRow) → rows_told (map told_row rows) ≡ rows
-all_rows_told [] = refl
-all_rows_told (r ∷ rows) = ap (λ l. r ∷ l) (all_rows_told rows)
+all_found_rows : (rows : List StatRow) → found_rows (map told_row rows) ≡ rows
+all_found_rows [] = refl
+all_found_rows (r ∷ rows) = ap (λ l. r ∷ l) (all_found_rows rows)
 
-at_event : (file : List ℕ) (U : List Reference) (e : Event) → rows_told (told_at file U e) ≡ option_to_list (event_row file e)
+at_event : (file : List ℕ) (U : List Reference) (e : Event) → found_rows (told_at file U e) ≡ option_to_list (event_row file e)
 at_event file U e =
-    filter_map-append row_told (map told_row (option_to_list (event_row file e))) (told_by (cause_of file U e) (event_faults file U e))
-    ∙ ap₂ (λ a b. a ++ b) (all_rows_told (option_to_list (event_row file e))) (no_rows_told (cause_of file U e) (event_faults file U e))
+    filter_map-append found_row (map told_row (option_to_list (event_row file e))) (told_by (cause_of file U e) (event_faults file U e))
+    ∙ ap₂ (λ a b. a ++ b) (all_found_rows (option_to_list (event_row file e))) (no_found_rows (cause_of file U e) (event_faults file U e))
     ∙ append-nil (option_to_list (event_row file e))
 
-in_list : (file : List ℕ) (W : List Reference) (L : List (Told Event)) → rows_told (read_back own_visit (told_at file) W L) ≡ stat_rows file (visits_in own_visit L)
+in_list : (file : List ℕ) (W : List Reference) (L : List (Told Event)) → found_rows (read_back own_visit (told_at file) W L) ≡ stat_rows file (visits_in own_visit L)
 unfolding stat_rows
 in_list file W [] = refl
 in_list file W (t ∷ L) =
     let U = W ++ option_to_list (own_visit t.event) in
-    filter_map-append row_told (told_at file U t.event) (read_back own_visit (told_at file) U L)
+    filter_map-append found_row (told_at file U t.event) (read_back own_visit (told_at file) U L)
     ∙ ap₂ (λ a b. a ++ b) (at_event file U t.event) (in_list file U L)
     ∙ by_event t.event (visits_in own_visit L)
   where
@@ -76,7 +77,7 @@ in_list file W (t ∷ L) =
     by_event (at_key r v cell) V = refl
     by_event (at_refused r) V = refl
 
-pub rows_below : (file : List ℕ) (W : List Reference) (es : List (Errand Way Event)) → AreQuiet own_visit es → rows_told (told_below file W es) ≡ stat_rows file (visited_below file W es)
+pub rows_below : (file : List ℕ) (W : List Reference) (es : List (Errand Way Event)) → AreQuiet own_visit es → found_rows (told_below file W es) ≡ stat_rows file (visited_below file W es)
 rows_below file W es quiet =
     in_list file W (telling_of (rules_of file) (story_of file) (geometry file).pages W es)
     ∙ ap (stat_rows file) (visits_of (rules_of file) (story_of file) (geometry file).pages (are_rules file) (is_story file) own_visit (shows_visits file) W es quiet)

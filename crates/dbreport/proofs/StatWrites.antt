@@ -1,5 +1,5 @@
--- What the sink of the statistics has written, one part after another.
-use Rattle.std.proofs.Common.{◌≡◌, ℕ, ◌+◌, List, [], ◌++◌, length, Result, Ok, Err, refl, sym, ap, ◌∙◌, subst, arith, length-append}
+-- What the reporter of the statistics has written, one part after another.
+use Rattle.std.proofs.Common.{◌≡◌, ℕ, ◌+◌, List, [], ◌++◌, length, refl, sym, ap, ◌∙◌, subst, arith, length-append}
 use Rattle.std.specs.Prelude.{flat_map}
 use Rattle.std.specs.Io.KnownBytes.{Appends}
 use Rattle.std.proofs.lemmas.Grind.{flat_map-append}
@@ -8,7 +8,7 @@ use Rattle.dbformat.specs.declared.Fault.{Fault}
 use Rattle.dbsource.specs.Outs.{OutState}
 use Rattle.dbsource.proofs.Puts.{appends_append, appends_nothing}
 use Rattle.dbsource.proofs.Beginnings.{begins_nothing, begins_more, begins_after}
-use Rattle.dbreport.specs.StatReporter.{HasWritten, HasBegun, WritesBoth}
+use Rattle.dbreport.specs.StatReporter.{HasWritten, HasBegun}
 use Rattle.dbreport.specs.declared.statistics.reporter.StatReporter.{StatReporter}
 
 lines_more : (xs ys : List Fault) → flat_map fault_line xs ++ flat_map fault_line ys ≡ flat_map fault_line (xs ++ ys)

@@ -1,5 +1,5 @@
--- The sink of a check: what a finding makes of it, and what it writes and answers at the end.
-use Rattle.std.specs.Prelude.{◌≡◌, ℕ, ◌+◌, true, ◌==◌, nat_lt, List, [], ◌∷◌, Result, Ok, Err, IfOk, if◌then◌else◌}
+-- The reporter of a check: what a finding makes of it, and what it writes and answers at the end.
+use Rattle.std.specs.Prelude.{◌≡◌, ℕ, ◌+◌, true, ◌==◌, nat_lt, List, [], Result, Ok, Err, IfOk, if◌then◌else◌}
 use Rattle.dbformat.specs.Lines.{counted, fault_line, ok_line}
 use Rattle.dbformat.specs.Reference.{Reference}
 use Rattle.dbformat.specs.Report.{check_text, faults, more_text, verdict, verdict_of}
@@ -7,7 +7,7 @@ use Rattle.dbformat.specs.declared.Fault.{Fault}
 use Rattle.dbformat.specs.declared.Verdict.{Verdict}
 use Rattle.dbsource.specs.Outs.{OutState, Puts, Writes}
 use Rattle.dbsource.specs.declared.error.RunError.{RunError}
-use Rattle.dbwalk.specs.Telling.{SinkState}
+use Rattle.dbwalk.specs.Telling.{SinkState, one_out}
 use Rattle.dbreport.specs.declared.checking.CheckReporter.{CheckReporter}
 
 -- these bytes were put whole
@@ -43,9 +43,9 @@ found_verdict shown more = verdict_of (counted (shown + more))
 
 -- it borrows its Out, whose failures are counted
 abbrev pub check_held : {O : Type 0} → (O → OutState) → CheckReporter O → SinkState
-check_held held s = record { lent = s.out.ghost_name ∷ []; failures = (held s.out.now).failures ∷ [] }
+check_held held s = one_out s.out.ghost_name (held s.out.now).failures
 
--- What a check leaves of its sink, where it heard nothing before: its text, or after an error a beginning of it; and the verdict.
+-- What a check leaves of its reporter, where it heard nothing before: its text, or after an error a beginning of it; and the verdict.
 abbrev pub LeavesCheck : {O : Type 0} → (O → OutState) → List ℕ → List Reference → Result Verdict RunError → CheckReporter O → CheckReporter O → Type 0
 LeavesCheck held file V r s t = s.shown ≡ 0 → s.more ≡ 0
     → Writes r (held s.out.now).bytes (held t.out.now).bytes (check_text s.limit (faults file V)) × IfOk r (λ v. v ≡ verdict (faults file V))

@@ -19,7 +19,7 @@ use Rattle.dbsource.specs.Failures.{CountsAfter, failures_after}
 use Rattle.dbsource.specs.HeaderBytes.{HeaderBytes}
 use Rattle.dbsource.specs.Headers.{IsOpenLog}
 use Rattle.dbsource.specs.Outs.{Writes}
-use Rattle.dbsource.specs.Snapshots.{HasRead, HasReadBehind, ToldFileIsRead}
+use Rattle.dbsource.specs.Snapshots.{HasRead, HasReadAfterHeader, ToldFileIsRead}
 use Rattle.dbsource.specs.Sources.{HasRanges, SourceState}
 use Rattle.dbsource.specs.declared.error.OpenError.TheVariants as opening
 use Rattle.dbsource.specs.declared.error.RunError.{RunError}
@@ -114,8 +114,8 @@ module _ {S O E : Type 0} (source : SourceWords S) (out : OutWords O) (err : Out
       (source.held old.0) (source.held new.0)
 
   -- The same after a header that had been read before: there is a file of this header that agrees, and so on.
-  abbrev pub HasRunBehind : HeaderBytes → Command → Result Verdict RunError → S × O × E → S × O × E → Type 0
-  HasRunBehind h command r old new = HasReadBehind source.step (IsPageLog (geometry_of h.bytes h.file_len)) h
+  abbrev pub HasRunAfterHeader : HeaderBytes → Command → Result Verdict RunError → S × O × E → S × O × E → Type 0
+  HasRunAfterHeader h command r old new = HasReadAfterHeader source.step (IsPageLog (geometry_of h.bytes h.file_len)) h
       (λ file. IsRunOf command file r (out.held old.1).bytes (out.held new.1).bytes (err.held old.2).bytes (err.held new.2).bytes)
       (source.held old.0) (source.held new.0)
 

@@ -1,5 +1,5 @@
 -- What the statistics write of the trees, from the starts on.
-use Rattle.std.specs.Prelude.{ℕ, Bool, true, false, List, [], ◌∷◌, ◌++◌, filter_map, flat_map, Option, Some, None}
+use Rattle.std.specs.Prelude.{ℕ, Bool, true, false, List, [], ◌∷◌, ◌++◌, flat_map}
 use Rattle.dbsurvey.specs.Story.{Errand, Go, Tell}
 use Rattle.dbformat.specs.Address.{start_of}
 use Rattle.dbformat.specs.Header.{page_size}
@@ -7,16 +7,8 @@ use Rattle.dbformat.specs.Lines.{page_line, tree_line, tree_name}
 use Rattle.dbformat.specs.Reference.{Way, Reference}
 use Rattle.dbformat.specs.Rows.{StatRow}
 use Rattle.dbformat.specs.Story.{Event}
-use Rattle.dbtrace.specs.Finding.{Finding, told_row, told_fault, told_below, visited_below}
-
--- the row of a finding, if it is one
-abbrev pub row_told : Finding → Option StatRow
-row_told (told_row r) = Some r
-row_told (told_fault f why) = None
-
--- the rows among findings
-abbrev pub rows_told : List Finding → List StatRow
-rows_told items = filter_map row_told items
+use Rattle.dbtrace.specs.Finding.{told_below, visited_below}
+use Rattle.dbscan.specs.Findings.{found_rows}
 
 -- what is written of the rows of one tree
 abbrev pub tree_rows_text : Bool → List ℕ → ℕ → List StatRow → List ℕ
@@ -33,5 +25,5 @@ errand_start (Tell t) = 0
 abbrev pub starts_text : Bool → List ℕ → List Reference → List Reference → List (Errand Way Event) → List ℕ
 starts_text aggregate file V W [] = []
 starts_text aggregate file V W (e ∷ es) =
-    tree_rows_text aggregate (tree_name file V (errand_start e)) (page_size file) (rows_told (told_below file W (e ∷ [])))
+    tree_rows_text aggregate (tree_name file V (errand_start e)) (page_size file) (found_rows (told_below file W (e ∷ [])))
     ++ starts_text aggregate file V (W ++ visited_below file W (e ∷ [])) es

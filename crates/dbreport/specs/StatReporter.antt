@@ -1,4 +1,4 @@
--- The sink of the statistics: what a finding makes of it, and what it has written and counted after some.
+-- The reporter of the statistics: what a finding makes of it, and what it has written and counted after some.
 use Rattle.std.specs.Prelude.{◌≡◌, ℕ, ◌+◌, Bool, true, false, not, List, [], ◌∷◌, ◌++◌, length, flat_map, Result, Ok, MatchResult}
 use Rattle.std.specs.Io.KnownBytes.{Appends, Keeps}
 use Rattle.dbformat.specs.Lines.{counted, fault_line, page_line, tree_line}
@@ -33,16 +33,16 @@ abbrev pub other_lines : Bool → Geometry → List Mark → List ℕ
 other_lines true g marks = marked_lines g marks 1 (length marks)
 other_lines false g marks = []
 
--- what a sink writes of rows as they come at a start
-abbrev pub sink_rows_text : {O E : Type 0} → StatReporter O E → At → List StatRow → List ℕ
-sink_rows_text s at rows = pages_text s.form.aggregate (name_at s.encoding at) s.page_size rows
+-- what a reporter writes of rows as they come at a start
+abbrev pub reporter_rows_text : {O E : Type 0} → StatReporter O E → At → List StatRow → List ℕ
+reporter_rows_text s at rows = pages_text s.form.aggregate (name_at s.encoding at) s.page_size rows
 
 -- it writes to the same Outs as before
 abbrev pub AreSameOuts : {O E : Type 0} → StatReporter O E → StatReporter O E → Type 0
 AreSameOuts s t = (t.out.ghost_name ≡ s.out.ghost_name) × (t.err.ghost_name ≡ s.err.ghost_name)
 
 -- it writes to the same Outs as before, and in the same way
-pub record IsSameSink {O E : Type 0} (s t : StatReporter O E) : Type 0 where
+pub record IsSameReporter {O E : Type 0} (s t : StatReporter O E) : Type 0 where
   pub out : t.out.ghost_name ≡ s.out.ghost_name
   pub err : t.err.ghost_name ≡ s.err.ghost_name
   pub encoding : t.encoding ≡ s.encoding
@@ -60,21 +60,21 @@ IsFlushedIf false old new = new ≡ old
 
 -- a row was taken: it was written, after the faults that came before it, or counted for its tree's
 pub record TakesStatRow {O E : Type 0} (held : O → OutState) (held' : E → OutState) (s : StatReporter O E) (at : At) (r : StatRow) (t : StatReporter O E) : Type 0 where
-  pub same : IsSameSink s t
+  pub same : IsSameReporter s t
   pub err : IsFlushedIf (not s.form.aggregate) (held' s.err.now) (held' t.err.now)
   pub found : t.found ≡ s.found
   pub sums : (rows : List StatRow) → s.sums ≡ sums_of rows → t.sums ≡ sums_of (rows ++ (r ∷ []))
-  pub puts : PutsAll (held s.out.now) (held t.out.now) (sink_rows_text s at (r ∷ []))
+  pub puts : PutsAll (held s.out.now) (held t.out.now) (reporter_rows_text s at (r ∷ []))
 
 -- it was not written whole, or the faults before it were not handed on
 pub record CutsRow {O E : Type 0} (held : O → OutState) (held' : E → OutState) (s : StatReporter O E) (at : At) (r : StatRow) (t : StatReporter O E) : Type 0 where
-  pub same : IsSameSink s t
+  pub same : IsSameReporter s t
   pub err : Keeps (held' s.err.now).bytes (held' t.err.now).bytes
-  pub out : Begins (held s.out.now).bytes (held t.out.now).bytes (sink_rows_text s at (r ∷ []))
+  pub out : Begins (held s.out.now).bytes (held t.out.now).bytes (reporter_rows_text s at (r ∷ []))
 
 -- a fault was written, after the rows that came before it, and counted
 pub record TakesFault {O E : Type 0} (held : O → OutState) (held' : E → OutState) (s : StatReporter O E) (f : Fault) (t : StatReporter O E) : Type 0 where
-  pub same : IsSameSink s t
+  pub same : IsSameReporter s t
   pub out : IsFlushed (held s.out.now) (held t.out.now)
   pub found : t.found ≡ counted (s.found + 1)
   pub sums : t.sums ≡ s.sums
@@ -82,7 +82,7 @@ pub record TakesFault {O E : Type 0} (held : O → OutState) (held' : E → OutS
 
 -- it was not written whole, or the rows before it were not handed on
 pub record CutsStatFault {O E : Type 0} (held : O → OutState) (held' : E → OutState) (s : StatReporter O E) (f : Fault) (t : StatReporter O E) : Type 0 where
-  pub same : IsSameSink s t
+  pub same : IsSameReporter s t
   pub out : Keeps (held s.out.now).bytes (held t.out.now).bytes
   pub err : Begins (held' s.err.now).bytes (held' t.err.now).bytes (fault_line f)
 
@@ -94,7 +94,7 @@ failures_of_each out err = out.failures ∷ err.failures ∷ []
 abbrev pub stat_held : {O E : Type 0} → (O → OutState) → (E → OutState) → StatReporter O E → SinkState
 stat_held held held' s = record { lent = s.out.ghost_name ∷ s.err.ghost_name ∷ []; failures = failures_of_each (held s.out.now) (held' s.err.now) }
 
--- From one sink to the other these bytes were written to the first Out, and the lines of these faults to the second.
+-- From one reporter to the other these bytes were written to the first Out, and the lines of these faults to the second.
 pub record HasWritten {O E : Type 0} (held : O → OutState) (held' : E → OutState) (s t : StatReporter O E) (text : List ℕ) (faults : List Fault) : Type 0 where
   pub form : t.form ≡ s.form
   pub encoding : t.encoding ≡ s.encoding
@@ -132,7 +132,7 @@ pub record CutsEnd {O E : Type 0} (held : O → OutState) (held' : E → OutStat
 -- All starts have been walked from: the rows of the other pages were written, where they are asked for, after the faults that came
 -- before them.
 pub record PutsOthers {O E : Type 0} (held : O → OutState) (held' : E → OutState) (s : StatReporter O E) (g : Geometry) (marks : List Mark) (t : StatReporter O E) : Type 0 where
-  pub same : IsSameSink s t
+  pub same : IsSameReporter s t
   pub found : t.found ≡ s.found
   pub sums : t.sums ≡ s.sums
   pub err : IsFlushedIf s.form.all (held' s.err.now) (held' t.err.now)

@@ -14,7 +14,7 @@ use Rattle.dbreport.specs.Statistics.{form_of}
 use Rattle.dbreport.specs.Sums.{sums_of}
 use Rattle.dbreport.specs.declared.statistics.reporter.StatReporter.{StatReporter}
 
--- the sink writes as the file asks for, and no row of a tree is left to be added up
+-- the reporter writes as the file asks for, and no row of a tree is left to be added up
 pub record IsForFile {O E : Type 0} (file : List ℕ) (s : StatReporter O E) : Type 0 where
   pub encoding : s.encoding ≡ encoding file
   pub page_size : s.page_size ≡ page_size file
@@ -24,7 +24,7 @@ pub record IsForFile {O E : Type 0} (file : List ℕ) (s : StatReporter O E) : T
 abbrev pub rows_text : Bool → Bool → List ℕ → List Reference → List ℕ
 rows_text aggregate all file V = starts_text aggregate file V [] (start_errands file V) ++ flat_map (form_line file V) (if all then other_rows file V else [])
 
--- What a run leaves of the sink, where it heard nothing before and writes as the file asks for: on each Out its part of the
+-- What a run leaves of the reporter, where it heard nothing before and writes as the file asks for: on each Out its part of the
 -- report, at an error a beginning of it; and the verdict.
 abbrev pub LeavesStat : {O E : Type 0} → (O → OutState) → (E → OutState) → List ℕ → List Reference → Result Verdict RunError → StatReporter O E → StatReporter O E → Type 0
 LeavesStat held held' file V r s t = IsForFile file s → s.found ≡ 0

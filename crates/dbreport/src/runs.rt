@@ -9,13 +9,13 @@ ghost use Rattle.dbformat.specs.Survey.{Survey};
 ghost use Rattle.dbformat.specs.declared.Command.TheVariants.{Check, Stat};
 ghost use Rattle.dbscan.specs.DeskSizes.{DeskFitsInMemory};
 ghost use Rattle.dbscan.specs.Kept.{HasUsed};
-ghost use Rattle.dbreport.specs.Runs.{FailsAsAnswered, HasRun, HasRunBehind, IsCheck, IsLeftAlone, IsReported, ToldReportsAreRead, ToldRunsAreRead};
+ghost use Rattle.dbreport.specs.Runs.{FailsAsAnswered, HasRun, HasRunAfterHeader, IsCheck, IsLeftAlone, IsReported, ToldReportsAreRead, ToldRunsAreRead};
 ghost use Rattle.dbreport.specs.StatReporter.{failures_of_each};
 ghost use Rattle.dbsource.specs.Errors.{is_read_failed, is_write_failed};
 ghost use Rattle.dbsource.specs.Failures.{CountsAfter, failures_after};
 ghost use Rattle.dbsource.specs.Headers.{IsHeaderOf};
 ghost use Rattle.dbsource.specs.Outs.{Writes};
-ghost use Rattle.dbsource.specs.Snapshots.{HasRead, HasReadBehind};
+ghost use Rattle.dbsource.specs.Snapshots.{HasRead, HasReadAfterHeader};
 
 use crate::checking::CheckReporter;
 use crate::opening::open_in;
@@ -32,7 +32,7 @@ fn check_on<A: Allocator, S: Source, O: Out>(
     source: &mut S,
     out: &mut O,
 ) -> Result<Verdict, RunError>
-    ensures read { HasReadBehind S.step (IsPageLog (geometry_of desk.old.header.bytes desk.old.header.file_len)) desk.old.header
+    ensures read { HasReadAfterHeader S.step (IsPageLog (geometry_of desk.old.header.bytes desk.old.header.file_len)) desk.old.header
         (λ file. (V : List Reference) → Survey file V
         → Writes result (O.held out.old).bytes (O.held out.new).bytes (report (Check limit) file V).out
         × IfOk result (λ v. (report (Check limit) file V).answer ≡ Ok v))
@@ -41,8 +41,8 @@ fn check_on<A: Allocator, S: Source, O: Out>(
     ensures out_failures { (O.held out.new).failures ≡ failures_after is_write_failed result (O.held out.old).failures }
     ensures desk { HasUsed result desk.old desk.new }
 {
-    let mut sink = CheckReporter::new(out, limit);
-    run_over(desk, source, &mut sink)
+    let mut reporter = CheckReporter::new(out, limit);
+    run_over(desk, source, &mut reporter)
 }
 
 // The statistics of the file whose header is on the desk.
@@ -53,7 +53,7 @@ fn stat_on<A: Allocator, S: Source, O: Out, E: Out>(
     out: &mut O,
     err: &mut E,
 ) -> Result<Verdict, RunError>
-    ensures read { HasReadBehind S.step (IsPageLog (geometry_of desk.old.header.bytes desk.old.header.file_len)) desk.old.header
+    ensures read { HasReadAfterHeader S.step (IsPageLog (geometry_of desk.old.header.bytes desk.old.header.file_len)) desk.old.header
         (λ file. (V : List Reference) → Survey file V
         → IsReported (Stat form.aggregate form.all) file V result (O.held out.old).bytes (O.held out.new).bytes (E.held err.old).bytes (E.held err.new).bytes)
         (S.held source.old) (S.held source.new) }
@@ -64,8 +64,8 @@ fn stat_on<A: Allocator, S: Source, O: Out, E: Out>(
 {
     let encoding = desk.header().encoding();
     let page_size = desk.geometry().page_size;
-    let mut sink = StatReporter::new(out, err, encoding, page_size, form);
-    run_over(desk, source, &mut sink)
+    let mut reporter = StatReporter::new(out, err, encoding, page_size, form);
+    run_over(desk, source, &mut reporter)
 }
 
 /// Writes what `command` asks of the file whose header is on the desk: for a check the fault lines to `out`, and nothing to
@@ -86,9 +86,9 @@ pub fn run_on<A: Allocator, S: Source, O: Out, E: Out>(
 ) -> Result<Verdict, RunError>
     // Whatever the source answers: there is a file of the desk's header that agrees with what was read after it, and of each
     // such file this was the run.
-    ensures read { HasRunBehind S.Source O.Out E.Out desk.old.header command result (source.old, out.old, err.old) (source.new, out.new, err.new) }
+    ensures read { HasRunAfterHeader S.Source O.Out E.Out desk.old.header command result (source.old, out.old, err.old) (source.new, out.new, err.new) }
     // The verdict is `Clean` exactly where such a file is sound, and so where told bytes are, if the header is theirs.
-    ensures sound { HasReadBehind S.step (IsPageLog (geometry_of desk.old.header.bytes desk.old.header.file_len)) desk.old.header
+    ensures sound { HasReadAfterHeader S.step (IsPageLog (geometry_of desk.old.header.bytes desk.old.header.file_len)) desk.old.header
         (λ file. IfOk result (λ v. v ≡ Verdict.Clean ↔ Sound file)) (S.held source.old) (S.held source.new) }
     ensures told { IfSome (S.held source.old).bytes (λ file. IsHeaderOf desk.old.header file → IfOk result (λ v. v ≡ Verdict.Clean ↔ Sound file)) }
     ensures failed { FailsAsAnswered S.Source O.Out E.Out command result (source.old, out.old, err.old) (source.new, out.new, err.new) }

@@ -1,5 +1,5 @@
 -- The faults of an event are of its page: of the one that is visited, or that a reference is found on.
-use Rattle.std.proofs.Common.{◌≡◌, ℕ, ◌-◌, inl, inr, Bool, true, false, cond, not, ◌&&◌, List, [], ◌∷◌, ◌++◌, map, length, Option, Some, None, Result, Ok, Err, refl, sym, ap, subst, ◌∙◌}
+use Rattle.std.proofs.Common.{◌≡◌, ℕ, inl, inr, Bool, true, false, cond, not, ◌&&◌, List, [], ◌∷◌, ◌++◌, map, length, Option, Some, None, Result, Ok, Err, refl, sym, ap, subst, ◌∙◌}
 use Rattle.std.specs.Prelude.{flat_map, is_none, nat_le, pos, ℤ, ◌==◌}
 use Rattle.std.specs.List.{range_with_len}
 use Rattle.dbsurvey.specs.Address.{IsIn}

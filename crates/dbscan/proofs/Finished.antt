@@ -22,8 +22,6 @@ pub finished : {S K : Type 0} (source : SourceWords S) (hears : K → Notice →
     (r : Result Verdict RunError) (d : Things) (s : S) (old new : K) → IfErr r (λ e. e ≡ WriteFailed) → SinkAfter is_write_failed r (held old) (held new)
     → ((file : List ℕ) (V : List Reference) (first : K) → HasHeard hears d file V first old → leaves file V r first new) → HasFinished source hears held leaves r d d (s, old) (s, new)
 finished source hears held leaves r d s old new only writes left = record {
-  kept = (refl, refl);
   asks = asks_nothing source.step _ r (source.held s) only (reads_none (shape_of d).page_size (IsUnmarked d.marks) 1).reads (λ file V first heard. left file V first heard);
-  writes = writes;
-  only = of_write r only;
+  keeps = record { header = refl; roots = refl; writes = writes; only = of_write r only };
 }

@@ -1,5 +1,5 @@
 pub mod AllTold
-pub mod BehindHeader
+pub mod AfterHeader
 pub mod CountedMarks
 pub mod DeskWalks
 pub mod EndItems

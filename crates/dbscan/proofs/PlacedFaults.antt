@@ -20,7 +20,7 @@ use Rattle.dbtrace.specs.Finding.{Finding, told_row, told_fault, told_below, vis
 use Rattle.dbtrace.specs.declared.Cause.{Cause}
 use Rattle.dbtrace.proofs.ByStarts.{BeginsWith, made_at, made_below, below_start, root_then, all_made}
 use Rattle.dbscan.specs.Notices.{Notice, found, ended, errands_left, root_reference, tree_notices, later_notices, start_notices}
-use Rattle.dbscan.specs.Placed.{at_start, walk_told, told_of, told_in}
+use Rattle.dbscan.specs.Placed.{at_start, walk_told, start_fault_of, start_faults_in}
 use Rattle.dbscan.specs.Starts.{At, at_freelist, at_row, at_schema, schema_reference}
 use Rattle.dbscan.proofs.StartByStart.{of_later}
 use Rattle.dbscan.proofs.ToldStarts.{start_errands_listed}
@@ -79,5 +79,5 @@ module _ {X : Type 0} (make : ℕ → Fault → Cause → X) (read : Notice → 
       ∙ sym (all_made make file V s)
 
 -- the faults with their causes
-pub starts_told : (file : List ℕ) (V : List Reference) → Survey file V → told_in (start_notices file V) ≡ walk_told file V
-starts_told file V s = starts_read at_start told_of (record { of_row = λ at row. refl; of_fault = λ at f why. refl; of_ended = λ at. refl }) file V s
+pub starts_told : (file : List ℕ) (V : List Reference) → Survey file V → start_faults_in (start_notices file V) ≡ walk_told file V
+starts_told file V s = starts_read at_start start_fault_of (record { of_row = λ at row. refl; of_fault = λ at f why. refl; of_ended = λ at. refl }) file V s

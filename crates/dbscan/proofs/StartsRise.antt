@@ -1,4 +1,4 @@
--- What is reported to a sink at starts comes start by start, in their order.
+-- What a reporter hears at starts comes start by start, in their order.
 use Rattle.std.proofs.Common.{◌≡◌, ℕ, ◌+◌, ◌≤◌, inl, inr, List, [], ◌∷◌, ◌++◌, length, map, take, sym, subst, arith}
 use Rattle.std.specs.Prelude.{filter_map}
 use Rattle.std.specs.List.{enumerate_from}

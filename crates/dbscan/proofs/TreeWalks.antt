@@ -50,13 +50,13 @@ at_end file V survey U marks h =
     subst (λ W. AreMarksOf file W marks) (all_visited file V survey) (left_none Any file [] (start_errands file V) tt U marks tt {A = Unit {0}} Any tt h).marked
 
 module _ {S : Type 0} (hears cuts : S → Notice → S → Type 0) where
-  -- ---- what is reported to a teller, as what its sink hears
+  -- ---- what is reported to a teller, as what its reporter hears
 
   module _ (items : List Finding) (w t : Teller S) where
-    moved : Moves (HandsOn hears) w items t → Moves hears w.sink.now (map (found w.start.now) items) t.sink.now
+    moved : Moves (HandsOn hears) w items t → Moves hears w.reporter.now (map (found w.start.now) items) t.reporter.now
     moved h = (teller_moves hears cuts items w t h).0
 
-    stopped : (e : RunError) → StopsBy (HandsOn hears) (HandsOn cuts) e w items t → StopsBy hears cuts e w.sink.now (map (found w.start.now) items) t.sink.now
+    stopped : (e : RunError) → StopsBy (HandsOn hears) (HandsOn cuts) e w items t → StopsBy hears cuts e w.reporter.now (map (found w.start.now) items) t.reporter.now
     stopped e h = teller_stops hears cuts e items w t h
 
   -- ---- one tree
@@ -71,7 +71,7 @@ module _ {S : Type 0} (hears cuts : S → Notice → S → Type 0) where
     -- an error stopped the walk
     pub tree_stopped : (e : RunError) → IsDoneBy (Err e) → IsWalkedOver {A = Unit {0}} hears cuts keeps file W c (Err e) marks w m first u
     tree_stopped e d = record {
-      tree = record { marked = tt; told = stops_by_first hears cuts e w.sink.now m.sink.now (map (found w.start.now) items) (ended w.start.now ∷ []) (stopped items w m e d.done.told) };
+      tree = record { marked = tt; told = stops_by_first hears cuts e w.reporter.now m.reporter.now (map (found w.start.now) items) (ended w.start.now ∷ []) (stopped items w m e d.done.told) };
       has_rows = tt;
       given = λ k. tt;
     }
@@ -81,23 +81,23 @@ module _ {S : Type 0} (hears cuts : S → Notice → S → Type 0) where
       start_kept = (teller_moves hears cuts items w m d.done.told).1
 
       -- all was reported, and then the tree ended
-      pub tree_ended : hears m.sink.now (ended m.start.now) t.sink.now → t.has_rows ≡ m.has_rows → IsWalkedOver {A = Unit {0}} hears cuts keeps file W c (Ok tt) marks w t first u
+      pub tree_ended : hears m.reporter.now (ended m.start.now) t.reporter.now → t.has_rows ≡ m.has_rows → IsWalkedOver {A = Unit {0}} hears cuts keeps file W c (Ok tt) marks w t first u
       tree_ended e rows = record {
         tree = record {
           marked = d.done.marked;
-          told = Moves-append hears w.sink.now m.sink.now t.sink.now (map (found w.start.now) items) (ended w.start.now ∷ []) (moved items w m d.done.told)
-              (t.sink.now, subst (λ at. hears m.sink.now (ended at) t.sink.now) start_kept e, refl);
+          told = Moves-append hears w.reporter.now m.reporter.now t.reporter.now (map (found w.start.now) items) (ended w.start.now ∷ []) (moved items w m d.done.told)
+              (t.reporter.now, subst (λ at. hears m.reporter.now (ended at) t.reporter.now) start_kept e, refl);
         };
         has_rows = rows ∙ (teller_moves hears cuts items w m d.done.told).2;
         given = d.given;
       }
 
-      pub tree_cut : cuts m.sink.now (ended m.start.now) t.sink.now → IsWalkedOver {A = Unit {0}} hears cuts keeps file W c (Err WriteFailed) marks w t first u
+      pub tree_cut : cuts m.reporter.now (ended m.start.now) t.reporter.now → IsWalkedOver {A = Unit {0}} hears cuts keeps file W c (Err WriteFailed) marks w t first u
       tree_cut e = record {
         tree = record {
           marked = tt;
-          told = stops_by_after hears cuts WriteFailed w.sink.now m.sink.now t.sink.now (map (found w.start.now) items) (ended w.start.now ∷ []) (moved items w m d.done.told)
-              (inl (subst (λ at. cuts m.sink.now (ended at) t.sink.now) start_kept e));
+          told = stops_by_after hears cuts WriteFailed w.reporter.now m.reporter.now t.reporter.now (map (found w.start.now) items) (ended w.start.now ∷ []) (moved items w m d.done.told)
+              (inl (subst (λ at. cuts m.reporter.now (ended at) t.reporter.now) start_kept e));
         };
         has_rows = tt;
         given = λ k. tt;
@@ -160,9 +160,9 @@ module _ {S : Type 0} (hears cuts : S → Notice → S → Type 0) where
     -- ---- the freelist, which is the last
 
     pub freelist_told : (marks marks' : List Mark) (w t : Teller S) (first : ℕ) (r : Result (Unit {0}) RunError) → w.start.now ≡ at_freelist → (first == 0) ≡ false → first ≡ first_trunk file
-        → IsBetweenStarts hears cuts file V before [] marks w.sink.now
+        → IsBetweenStarts hears cuts file V before [] marks w.reporter.now
         → ((U : List Reference) (d : Reference) → IsFirstTrunk first d → IsNext U d → AreMarksOf file U marks → IsDone (HandsOn hears) (HandsOn cuts) file U (Go d ∷ []) r marks' w t)
-        → AreTold hears cuts file V r marks' before t.sink.now
+        → AreTold hears cuts file V r marks' before t.reporter.now
     freelist_told marks marks' w t first r start some e h walked = by_result r (walked h.visits d (record { page = refl; role = refl; from = refl; item = refl }) at.past at.marked)
       where
         d : Reference
@@ -181,16 +181,16 @@ module _ {S : Type 0} (hears cuts : S → Notice → S → Type 0) where
         all : h.notices ++ map (found w.start.now) items ≡ start_notices file V
         all = ap (λ at. h.notices ++ map (found at) items) start ∙ ap (λ es. h.notices ++ map (found at_freelist) (told_below file h.visits es)) (sym one) ∙ h.rest
 
-        by_result : (r : Result (Unit {0}) RunError) → IsDone (HandsOn hears) (HandsOn cuts) file h.visits (Go d ∷ []) r marks' w t → AreTold hears cuts file V r marks' before t.sink.now
+        by_result : (r : Result (Unit {0}) RunError) → IsDone (HandsOn hears) (HandsOn cuts) file h.visits (Go d ∷ []) r marks' w t → AreTold hears cuts file V r marks' before t.reporter.now
         by_result (Ok u) k = record {
           marked = at_end file V survey _ marks' (at_next file V h.visits d [] marks marks' at k.marked);
-          told = subst (λ L. Moves hears before L t.sink.now) all
-              (Moves-append hears before w.sink.now t.sink.now h.notices (map (found w.start.now) items) h.told (moved items w t k.told));
+          told = subst (λ L. Moves hears before L t.reporter.now) all
+              (Moves-append hears before w.reporter.now t.reporter.now h.notices (map (found w.start.now) items) h.told (moved items w t k.told));
         }
         by_result (Err x) k = record {
           marked = tt;
-          told = subst (λ L. StopsBy hears cuts x before L t.sink.now) all
-              (stops_by_after hears cuts x before w.sink.now t.sink.now h.notices (map (found w.start.now) items) h.told (stopped items w t x k.told));
+          told = subst (λ L. StopsBy hears cuts x before L t.reporter.now) all
+              (stops_by_after hears cuts x before w.reporter.now t.reporter.now h.notices (map (found w.start.now) items) h.told (stopped items w t x k.told));
         }
 
     -- there is none

@@ -1,4 +1,4 @@
--- Which findings are faults, and which show that the schema has a row.
+-- Which findings are faults, which are rows, and which show that the schema has one.
 use Rattle.std.specs.Prelude.{Bool, true, false, not, ◌&&◌, ◌==◌, List, filter_map, Option, Some, None}
 use Rattle.dbformat.specs.Address.{schema_start}
 use Rattle.dbformat.specs.Rows.{StatRow}
@@ -15,6 +15,15 @@ fault_in (told_fault f why) = Some f
 -- the faults among findings
 abbrev pub faults_in : List Finding → List Fault
 faults_in items = filter_map fault_in items
+
+-- the row of a finding, if it is one
+abbrev pub found_row : Finding → Option StatRow
+found_row (told_row r) = Some r
+found_row (told_fault f why) = None
+
+-- the rows among findings
+abbrev pub found_rows : List Finding → List StatRow
+found_rows items = filter_map found_row items
 
 -- whether a page is a leaf
 abbrev pub is_leaf : PageType → Bool

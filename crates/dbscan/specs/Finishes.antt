@@ -1,22 +1,22 @@
 -- What a reporter has heard when its report is to end, and what a run makes of it.
-use Rattle.std.specs.Prelude.{◌≡◌, ◌⊎◌, ℕ, List, Result, Err, IfErr}
+use Rattle.std.specs.Prelude.{◌≡◌, ◌⊎◌, ℕ, List, Result, Err}
 use Rattle.dbsurvey.specs.Moves.{Moves}
 use Rattle.dbformat.specs.Log.{IsPageLog}
 use Rattle.dbformat.specs.Reference.{Reference}
 use Rattle.dbformat.specs.Survey.{Survey}
 use Rattle.dbformat.specs.declared.Verdict.{Verdict}
-use Rattle.dbsource.specs.Errors.{is_read_failed, is_write_failed}
+use Rattle.dbsource.specs.Errors.{is_read_failed}
 use Rattle.dbsource.specs.Failures.{failures_after}
 use Rattle.dbsource.specs.Headers.{IsHeaderOf}
-use Rattle.dbsource.specs.Snapshots.{HasReadBehind}
+use Rattle.dbsource.specs.Snapshots.{HasReadAfterHeader}
 use Rattle.dbsource.specs.Sources.{Asks}
 use Rattle.dbsource.specs.declared.error.RunError.{RunError}
 use Rattle.dbsource.specs.declared.source.Source.{Ghosts as SourceWords}
 use Rattle.dbmarks.specs.Marking.{AreMarksOf}
 use Rattle.dbscan.specs.Roots.{AreListed}
-use Rattle.dbwalk.specs.Telling.{IsReadOrWrite, SinkAfter, SinkState, StopsBy}
+use Rattle.dbwalk.specs.Telling.{SinkState, StopsBy}
 use Rattle.dbscan.specs.Desks.{Things, shape_of}
-use Rattle.dbscan.specs.Kept.{HasUsed}
+use Rattle.dbscan.specs.Kept.{KeepsHeader, KeepsRoots}
 use Rattle.dbscan.specs.Looks.{IsUnmarked, ReadsRising}
 use Rattle.dbscan.specs.Notices.{Notice, run_notices}
 
@@ -37,12 +37,10 @@ pub record HasHeard {K : Type 0} (hears : K → Notice → K → Type 0) (d : Th
 -- leaves. The answer says who failed.
 pub record HasFinished {S K : Type 0} (source : SourceWords S) (hears : K → Notice → K → Type 0) (held : K → SinkState) (leaves : List ℕ → List Reference → Result Verdict RunError → K → K → Type 0)
     (r : Result Verdict RunError) (before after : Things) (old new : S × K) : Type 0 where
-  pub kept : (after.header ≡ before.header) × (after.roots ≡ before.roots)
   pub asks : Asks source.step (ReadsRising (shape_of before).page_size (IsUnmarked before.marks))
       (λ file. (V : List Reference) → (first : K) → HasHeard hears before file V first old.1 → leaves file V r first new.1)
       is_read_failed r (source.held old.0) (source.held new.0)
-  pub writes : SinkAfter is_write_failed r (held old.1) (held new.1)
-  pub only : IfErr r IsReadOrWrite
+  pub keeps : KeepsRoots r before after (held old.1) (held new.1)
 
 -- What a run leaves of a reporter: what a reporter leaves at the end of the file; or, if an error stopped it before, what it is
 -- after a beginning of the notices.
@@ -54,8 +52,7 @@ Leaves hears cuts leaves file V r s t = leaves file V r s t ⊎ ((e : RunError) 
 -- with all that was read after it, and of each such file, by any survey, this is what a run leaves. The answer says who failed.
 pub record HasReported {S K : Type 0} (source : SourceWords S) (held : K → SinkState) (leaves : List ℕ → List Reference → Result Verdict RunError → K → K → Type 0)
     (r : Result Verdict RunError) (before after : Things) (old new : S × K) : Type 0 where
-  pub read : HasReadBehind source.step (IsPageLog (shape_of before)) before.header (λ file. (V : List Reference) → Survey file V → leaves file V r old.1 new.1)
+  pub read : HasReadAfterHeader source.step (IsPageLog (shape_of before)) before.header (λ file. (V : List Reference) → Survey file V → leaves file V r old.1 new.1)
       (source.held old.0) (source.held new.0)
   pub reads : (source.held new.0).failures ≡ failures_after is_read_failed r (source.held old.0).failures
-  pub writes : SinkAfter is_write_failed r (held old.1) (held new.1)
-  pub desk : HasUsed r before after
+  pub keeps : KeepsHeader r before after (held old.1) (held new.1)

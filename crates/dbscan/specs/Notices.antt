@@ -62,6 +62,10 @@ CutsFaults cuts s (found at (told_row r)) t = ⊥
 CutsFaults cuts s (ended at) t = ⊥
 CutsFaults cuts s (walked g marks) t = ⊥
 
+-- one that takes every notice
+abbrev pub CutsNever : {S : Type 0} → S → Notice → S → Type 0
+CutsNever s notice t = ⊥
+
 -- the reference to the root of a row, as that of start k
 abbrev pub root_reference : List ℕ → ℕ → SchemaRow → Reference
 root_reference file k r = record { address = k ∷ []; page = r.root; role = record { role = root (root_kind file r); from = 0; item = k } }

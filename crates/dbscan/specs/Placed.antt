@@ -44,13 +44,13 @@ abbrev pub faults_of : List Reported → List Fault
 faults_of ts = map (λ t. t.fault) ts
 
 -- the fault of a notice, if it is one at a start
-abbrev pub told_of : Notice → Option Reported
-told_of (found at (told_fault f why)) = Some (at_start at.number f why)
-told_of _ = None
+abbrev pub start_fault_of : Notice → Option Reported
+start_fault_of (found at (told_fault f why)) = Some (at_start at.number f why)
+start_fault_of _ = None
 
 -- those among notices
-abbrev pub told_in : List Notice → List Reported
-told_in notices = filter_map told_of notices
+abbrev pub start_faults_in : List Notice → List Reported
+start_faults_in notices = filter_map start_fault_of notices
 
 -- Where faults at starts are.
 

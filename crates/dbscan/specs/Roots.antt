@@ -1,6 +1,7 @@
 -- The list of roots: the rows of the schema that have a root page, as far as there is room.
-use Rattle.std.specs.Prelude.{◌≡◌, ℕ, ◌+◌, ◌*◌, ◌≤◌, nat_le, List, ◌++◌, length, take, drop, map, All, vec_len, Option, Some, None, if◌then◌else◌}
-use Rattle.dbformat.specs.Address.{last_root_start}
+use Rattle.std.specs.Prelude.{◌≡◌, ℕ, ◌+◌, ◌-◌, ◌*◌, ◌≤◌, ◌==◌, nat_le, List, ◌++◌, length, take, drop, map, slice_get, All, vec_len, Option, Some, None, if◌then◌else◌}
+use Rattle.std.specs.Option.{option_map_or}
+use Rattle.dbformat.specs.Address.{last_root_start, schema_start}
 use Rattle.dbformat.specs.Reference.{Reference}
 use Rattle.dbformat.specs.Schema.{schema, rooted_rows}
 use Rattle.dbformat.specs.SchemaRow.{SchemaRow}
@@ -19,6 +20,10 @@ pub record Listed : Type 0 where
 -- these rows are those of the schema that have a root page, the first 65536
 abbrev pub AreListed : List ℕ → List Reference → List SchemaRow → Type 0
 AreListed file V rows = rows ≡ take last_root_start (rooted_rows (schema file V))
+
+-- the root page of start k: page 1 of the schema, and 0 where there is no such start
+abbrev pub root_page : List SchemaRow → ℕ → ℕ
+root_page rows k = if k == schema_start then 1 else option_map_or (λ row. row.root) (slice_get rows (k - 1)) 0
 
 -- a name of at most 1000 bytes, or none
 abbrev pub short_name : Option (List ℕ) → Option (List ℕ)

@@ -6,12 +6,12 @@ use Rattle.dbscan.specs.Findings.{is_schema_row}
 use Rattle.dbscan.specs.Notices.{Notice, found}
 use Rattle.dbscan.specs.declared.teller.Teller.{Teller}
 
--- a finding was handed on with the start, and this relation holds of the sink before and after it
+-- a finding was handed on with the start, and this relation holds of the reporter before and after it
 pub record HandsOn {K : Type 0} (moves : K → Notice → K → Type 0) (s : Teller K) (item : Finding) (t : Teller K) : Type 0 where
-  pub moved : moves s.sink.now (found s.start.now item) t.sink.now
+  pub moved : moves s.reporter.now (found s.start.now item) t.reporter.now
   pub start : t.start.now ≡ s.start.now
   pub has_rows : t.has_rows ≡ (s.has_rows || is_schema_row item)
 
--- it borrows the sink, and what that borrows
+-- it borrows the reporter, and what that borrows
 abbrev pub lent_by : {K : Type 0} → (K → SinkState) → Teller K → SinkState
-lent_by held s = record { lent = s.sink.ghost_name ∷ (held s.sink.now).lent; failures = (held s.sink.now).failures }
+lent_by held s = record { lent = s.reporter.ghost_name ∷ (held s.reporter.now).lent; failures = (held s.reporter.now).failures }

@@ -40,7 +40,7 @@ pub record IsTreeWalked {S A : Type 0} (hears cuts : S → Notice → S → Type
 -- schema's, the taker was given the rows that can be read.
 pub record IsWalkedOver {S T A : Type 0} (hears cuts : S → Notice → S → Type 0) (keeps : T → SchemaRow → Taken → T → Type 0) (file : List ℕ) (W : List Reference) (c : Reference) (r : Result A RunError)
     (marks : List Mark) (before after : Teller S) (first t : T) : Type 0 where
-  pub tree : IsTreeWalked hears cuts before.start.now file W c r marks before.sink.now after.sink.now
+  pub tree : IsTreeWalked hears cuts before.start.now file W c r marks before.reporter.now after.reporter.now
   pub has_rows : OnOk r (after.has_rows ≡ (before.has_rows || list_any is_schema_row (told_below file W (Go c ∷ []))))
   pub given : start_of c.address ≡ schema_start → OnOk r (Moves (gives keeps) first (readable_rows file (W ++ visited_below file W (Go c ∷ []))) t)
 

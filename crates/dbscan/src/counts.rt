@@ -14,7 +14,7 @@ pub(crate) struct EndCounts {
     pub(crate) least_other: Option<u32>,
 }
 
-// One, where the page is on the freelist.
+// 1 if a page with this mark is on the freelist, else 0.
 fn free_page(mark: Mark) -> u32
     ensures { result ≡ cond (is_free_mark mark) 1 0 }
 {
@@ -24,7 +24,7 @@ fn free_page(mark: Mark) -> u32
     }
 }
 
-// The greater one, where the page is a root.
+// `page` if it is a root and greater, else `greatest`.
 fn greater_root(greatest: u32, page: u32, mark: Mark) -> u32
     ensures { result ≡ cond (is_root_mark mark) (max greatest page) greatest }
 {
@@ -40,7 +40,7 @@ fn is_other(mark: Mark) -> bool
     !matches!(&mark, Mark::Unmarked | Mark::Fixed | Mark::Root)
 }
 
-// The first one, where there is none yet.
+// The first page in use that is no root: `least`, or else this page.
 fn first_other(least: Option<u32>, page: u32, mark: Mark) -> Option<u32>
     ensures { result ≡ option_or least (cond (is_other_mark mark) (Some page) None) }
 {

@@ -74,7 +74,7 @@ impl<A: Allocator> Desk<A> {
 }
 
 impl<A: Allocator + Copy> Desk<A> {
-    /// A desk for the file of this header: 22 buffers and the marks, each in one growth, from any allocator. Behind that
+    /// A desk for the file of this header: 22 buffers and the marks, each in one growth, from any allocator. After that
     /// only the list of roots grows.
     ///
     /// # Errors

@@ -63,17 +63,17 @@ fn end_page<S: Source, K: Reporter, A: Allocator, B: Allocator>(
     marks: &Marks<B>,
     page: u32,
     least_other: Option<u32>,
-    sink: &mut K,
+    reporter: &mut K,
 ) -> Result<(), RunError>
     requires page { (1 ≤ page) × (page ≤ length marks.now) }
     // The bytes are those of the map page that the next page asks for, where they were those of the one that this page asks for.
     ensures asks { Asks S.step (IsMapTurn bench.old.geometry page)
         (λ file. (mark : marking.Mark) → page_mark marks.now page ≡ Some mark → bench.old.geometry ≡ geometry file → refusal file ≡ None
         → is_fixed_mark mark ≡ is_fixed (geometry file) page → HasMapFor file (geometry file) page bench.old.chain
-        → Tells K.hears K.cuts result sink.old (page_notices file least_other page mark) sink.new
+        → Tells K.hears K.cuts result reporter.old (page_notices file least_other page mark) reporter.new
         × OnOk result (HasMapFor file (geometry file) (page + 1) bench.new.chain))
         is_read_failed result (S.held source.old) (S.held source.new) }
-    ensures writes { SinkAfter is_write_failed result (K.held sink.old) (K.held sink.new) }
+    ensures writes { SinkAfter is_write_failed result (K.held reporter.old) (K.held reporter.new) }
     ensures only { IfErr result IsReadOrWrite }
     ensures bench { bench.new ≡ record bench.old { chain = bench.new.chain } }
 {
@@ -90,27 +90,27 @@ fn end_page<S: Source, K: Reporter, A: Allocator, B: Allocator>(
         use_fault(page, entry, mark),
         late_fault(has_map, page, mark, least_other),
     ];
-    tell_all(&faults, sink)
+    tell_all(&faults, reporter)
 }
 
-// Does so for all pages, by number.
+// Does this for each page, by number.
 fn end_pages<S: Source, K: Reporter, A: Allocator, B: Allocator>(
     source: &mut S,
     bench: &mut Bench<A>,
     marks: &Marks<B>,
     least_other: Option<u32>,
-    sink: &mut K,
+    reporter: &mut K,
 ) -> Result<(), RunError>
     ensures asks { Asks S.step (MapReads bench.old.geometry) (λ file. bench.old.geometry ≡ geometry file → refusal file ≡ None
         → (V : List Reference) → AreMarksOf file V marks.now
-        → Tells K.hears K.cuts result sink.old (pages_items file V least_other (geometry file).pages) sink.new)
+        → Tells K.hears K.cuts result reporter.old (pages_items file V least_other (geometry file).pages) reporter.new)
         is_read_failed result (S.held source.old) (S.held source.new) }
-    ensures writes { SinkAfter is_write_failed result (K.held sink.old) (K.held sink.new) }
+    ensures writes { SinkAfter is_write_failed result (K.held reporter.old) (K.held reporter.new) }
     ensures only { IfErr result IsReadOrWrite }
     ensures bench { bench.new ≡ record bench.old { chain = bench.new.chain } }
 {
     for index in 0..marks.pages() {
-        end_page(source, bench, marks, index + 1, least_other, sink)?;
+        end_page(source, bench, marks, index + 1, least_other, reporter)?;
     }
     Ok(())
 }
@@ -127,20 +127,20 @@ pub fn tell_end<S: Source, K: Reporter, A: Allocator>(
     desk: &mut Desk<A>,
     source: &mut S,
     any_rows: bool,
-    sink: &mut K,
+    reporter: &mut K,
 ) -> Result<(), RunError>
     ensures desk { desk.new ≡ record desk.old { pages = desk.new.pages } }
     ensures asks { Asks S.step (MapReads (shape_of desk.old)) (λ file. IsHeaderOf desk.old.header file
         → (V : List Reference) → Survey file V → AreMarksOf file V desk.old.marks → any_rows ≡ has_rows file V
-        → Tells K.hears K.cuts result sink.old (end_notices file V) sink.new)
+        → Tells K.hears K.cuts result reporter.old (end_notices file V) reporter.new)
         is_read_failed result (S.held source.old) (S.held source.new) }
-    ensures writes { SinkAfter is_write_failed result (K.held sink.old) (K.held sink.new) }
+    ensures writes { SinkAfter is_write_failed result (K.held reporter.old) (K.held reporter.new) }
     ensures only { IfErr result IsReadOrWrite }
 {
-    sink.walked(desk.header.geometry(), &desk.marks)?;
+    reporter.walked(desk.header.geometry(), &desk.marks)?;
     let counts = count_marks(&desk.marks);
     let faults = counted_faults(&desk.header, any_rows, counts);
-    tell_all(&faults, sink)?;
+    tell_all(&faults, reporter)?;
     let least = counts.least_other;
-    end_pages(source, &mut desk.bench, &desk.marks, least, sink)
+    end_pages(source, &mut desk.bench, &desk.marks, least, reporter)
 }

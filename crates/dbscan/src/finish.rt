@@ -36,7 +36,7 @@ pub trait Finish<D: Viewed>: Reporter {
     ghost use Rattle.dbformat.specs.declared.Verdict.{Verdict};
     ghost use Rattle.dbsource.specs.declared.error.RunError.{RunError};
 
-    // What a run over a file leaves, by a survey of the file and the answer, of the reporter that the first of the two was before.
+    // What a run over a file makes of a reporter: by a survey of the file and the answer, from the state before to the one after.
     ghost leaves: { List ℕ → List Reference → Result Verdict RunError → Self → Self → Type 0 };
 
     /// Ends the report of a file, when all of it has been heard, by what the walks left on the desk. It may read pages that were not
@@ -54,16 +54,16 @@ pub trait Finish<D: Viewed>: Reporter {
 fn report<A: Allocator, S: Source, K: Finish<Desk<A>>>(
     desk: &mut Desk<A>,
     source: &mut S,
-    sink: &mut K,
+    reporter: &mut K,
 ) -> Result<Verdict, RunError>
     requires fresh { IsFresh desk.old }
     ensures asks { Asks S.step (IsPageLog (shape_of desk.old)) (λ file. IsHeaderOf desk.old.header file → (V : List Reference) → Survey file V
-        → Leaves K.hears K.cuts K.leaves file V result sink.old sink.new)
+        → Leaves K.hears K.cuts K.leaves file V result reporter.old reporter.new)
         is_read_failed result (S.held source.old) (S.held source.new) }
-    ensures keeps { KeepsHeader result desk.old desk.new (K.held sink.old) (K.held sink.new) }
+    ensures keeps { KeepsHeader result desk.old desk.new (K.held reporter.old) (K.held reporter.new) }
 {
-    scan(desk, source, sink)?;
-    sink.finish(desk, source)
+    scan(desk, source, reporter)?;
+    reporter.finish(desk, source)
 }
 
 /// Tells a reporter all that is found in the file whose header is on the desk, and has it end its report. The header is not
@@ -76,12 +76,12 @@ fn report<A: Allocator, S: Source, K: Finish<Desk<A>>>(
 pub fn run_over<A: Allocator, S: Source, K: Finish<Desk<A>>>(
     desk: &mut Desk<A>,
     source: &mut S,
-    sink: &mut K,
+    reporter: &mut K,
 ) -> Result<Verdict, RunError>
-    ensures { HasReported S.Source K.held (Leaves K.hears K.cuts K.leaves) result desk.old desk.new (source.old, sink.old) (source.new, sink.new) }
+    ensures { HasReported S.Source K.held (Leaves K.hears K.cuts K.leaves) result desk.old desk.new (source.old, reporter.old) (source.new, reporter.new) }
 {
     desk.renew();
     let header = *desk.header();
     let mut headed = HeadedSource::new(&header, source);
-    report(desk, &mut headed, sink)
+    report(desk, &mut headed, reporter)
 }

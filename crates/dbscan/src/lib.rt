@@ -32,7 +32,7 @@ mod walks;
 
 pub use dbformat::{Fault, Geometry, Look, Verdict};
 pub use dbsource::{Bench, Header, ReadFailed, RunError, Source, WriteFailed};
-pub use dbwalk::{Cause, Marks, Row};
+pub use dbwalk::{Cause, Marks, Row, SchemaRow, Taken, Taker};
 pub use desk::Desk;
 pub use end_pass::tell_end;
 pub use finish::{Finish, Viewed, run_over};
@@ -41,6 +41,6 @@ pub use placed::{faults_are_of_reached_pages, faults_are_told_with_their_causes}
 pub use reporter::Reporter;
 pub use roots::RootList;
 pub use scans::scan;
-pub use start::Start;
+pub use start::{STARTS, Start};
 pub use tell::tell_header;
 pub use walks::walk_starts;

@@ -5,14 +5,14 @@ ghost use Rattle.dbformat.specs.Numbers.{u32_at};
 use dbformat::u32_at;
 use dbmarks::MapEntry;
 
-// The entry that a map page holds of the page that is `behind` pages after it.
-pub(crate) fn stored_entry(map_page: &[u8], behind: u32) -> MapEntry
-    requires first { 1 ≤ behind }
-    requires room { (5 * behind ≤ length map_page.now) × (length map_page.now ≤ 65536) }
-    ensures kind { result.kind ≡ slice_index map_page.now (5 * (behind - 1)) }
-    ensures number { result.number ≡ u32_at (5 * (behind - 1) + 1) map_page.now }
+// The entry in a map page of the page that is `distance` pages after it.
+pub(crate) fn stored_entry(map_page: &[u8], distance: u32) -> MapEntry
+    requires first { 1 ≤ distance }
+    requires room { (5 * distance ≤ length map_page.now) × (length map_page.now ≤ 65536) }
+    ensures kind { result.kind ≡ slice_index map_page.now (5 * (distance - 1)) }
+    ensures number { result.number ≡ u32_at (5 * (distance - 1) + 1) map_page.now }
 {
-    let at = 5 * (behind - 1);
+    let at = 5 * (distance - 1);
     MapEntry {
         kind: map_page[at as usize],
         number: u32_at(map_page, at + 1),

@@ -11,13 +11,13 @@ ghost use Rattle.dbformat.specs.declared.Fault.{Fault};
 ghost use Rattle.dbtrace.specs.declared.Reported.{Reported};
 ghost use Rattle.dbscan.specs.Notices.{run_notices, start_notices};
 ghost use Rattle.dbscan.specs.Placed.{AreStarts, IsOfStart, StartsRise, faults_of, is_end_code, is_header_code, is_walk_code};
-ghost use Rattle.dbscan.specs.Placed.{reported_in, told_faults, told_in, walk_told};
+ghost use Rattle.dbscan.specs.Placed.{reported_in, told_faults, start_faults_in, walk_told};
 
 /// What is reported at the starts of a file is each fault of the walk, with the cause that it has by all pages of the survey, start
 /// by start in their order. With the faults of the header before it and those at the end after it, which go back to nothing else,
 /// it is all faults of the file. The three differ in their codes.
 pub fn faults_are_told_with_their_causes()
-    ensures told { (file : List ℕ) (V : List Reference) → Survey file V → told_in (start_notices file V) ≡ walk_told file V }
+    ensures told { (file : List ℕ) (V : List Reference) → Survey file V → start_faults_in (start_notices file V) ≡ walk_told file V }
     ensures heard { (file : List ℕ) (V : List Reference) → Survey file V → reported_in (run_notices file V) ≡ told_faults file V }
     ensures rising { (file : List ℕ) (V : List Reference) → StartsRise (start_notices file V) }
     ensures starts { (file : List ℕ) (V : List Reference) → AreStarts (start_notices file V) }

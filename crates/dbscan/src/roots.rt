@@ -2,17 +2,14 @@
 ghost use Rattle.std.specs.Prelude.{◌≡◌, ◌+◌, ◌-◌, ◌<◌, ◌≤◌, [], ◌∷◌, ◌++◌, length, option_map, slice_get, vec_len, IfOk, IfErr, OnOk, OnErr};
 ghost use Rattle.std.specs.Option.{option_copied};
 ghost use Rattle.dbwalk.specs.Rows.{schema_row_of};
-ghost use Rattle.dbscan.specs.Roots.{kept_row, short_name, name_in, IsWithin, Grows};
+ghost use Rattle.dbscan.specs.Roots.{kept_row, root_page, short_name, name_in, IsWithin, Grows};
 
-use dbbytes::SchemaRow;
-use dbformat::{MOST_ROOTS, RowKind};
+use dbbytes::{MAX_NAME, SchemaRow};
+use dbformat::{MOST_ROOTS, RowKind, SCHEMA_START};
 use dbsource::Failures;
 use dbwalk::{Taken, Taker};
 use std::alloc::{AllocError, Allocator, Global};
 use std::marker::Model;
-
-// How many bytes of a name are kept: a limit of our own.
-const MAX_NAME: usize = 1000;
 
 // The place of a name among the bytes of all names.
 #[derive(Clone, Copy)]
@@ -101,6 +98,19 @@ impl<A: Allocator> RootList<A> {
             root: entry.page,
             name,
         })
+    }
+
+    /// The root page of a start: page 1 of the schema; and 0 where there is no such start.
+    pub fn root_page(&self, start: u32) -> u32
+        ensures { result ≡ root_page self.now.rows start }
+    {
+        if start == SCHEMA_START {
+            return 1;
+        }
+        match self.get(start) {
+            Some(row) => row.root,
+            None => 0,
+        }
     }
 
     /// Takes all rows away, and gives no memory back. The count of refusals stays.

@@ -27,16 +27,16 @@ use std::alloc::Allocator;
 pub fn scan<A: Allocator, S: Source, K: Reporter>(
     desk: &mut Desk<A>,
     source: &mut S,
-    sink: &mut K,
+    reporter: &mut K,
 ) -> Result<(), RunError>
     requires fresh { IsFresh desk.old }
     ensures asks { Asks S.step (ReadsMarked (shape_of desk.old) desk.new.marks) (λ file. IsHeaderOf desk.old.header file
         → (V : List Reference) → Survey file V
-        → IsScanned K.hears K.cuts file V result desk.new.marks desk.new.roots.rows sink.old sink.new)
+        → IsScanned K.hears K.cuts file V result desk.new.marks desk.new.roots.rows reporter.old reporter.new)
         is_read_failed result (S.held source.old) (S.held source.new) }
-    ensures keeps { KeepsHeader result desk.old desk.new (K.held sink.old) (K.held sink.new) }
+    ensures keeps { KeepsHeader result desk.old desk.new (K.held reporter.old) (K.held reporter.new) }
 {
-    tell_header(desk.header(), sink)?;
-    let any_rows = walk_starts(desk, source, sink)?;
-    tell_end(desk, source, any_rows, sink)
+    tell_header(desk.header(), reporter)?;
+    let any_rows = walk_starts(desk, source, reporter)?;
+    tell_end(desk, source, any_rows, reporter)
 }

@@ -14,14 +14,17 @@ use dbformat::Fault;
 use dbsource::{Header, RunError};
 
 // Reports those that are faults.
-pub(crate) fn tell_all<K: Reporter>(faults: &[Option<Fault>], sink: &mut K) -> Result<(), RunError>
-    ensures told { Tells K.hears K.cuts result sink.old (items_of faults.now) sink.new }
-    ensures writes { SinkAfter is_write_failed result (K.held sink.old) (K.held sink.new) }
+pub(crate) fn tell_all<K: Reporter>(
+    faults: &[Option<Fault>],
+    reporter: &mut K,
+) -> Result<(), RunError>
+    ensures told { Tells K.hears K.cuts result reporter.old (items_of faults.now) reporter.new }
+    ensures writes { SinkAfter is_write_failed result (K.held reporter.old) (K.held reporter.new) }
     ensures only { IfErr result (λ e. e ≡ WriteFailed) }
 {
     for fault in faults {
         if let Some(fault) = fault {
-            sink.hear(&Notice::Whole(fault))?;
+            reporter.hear(&Notice::Whole(fault))?;
         }
     }
     Ok(())
@@ -31,12 +34,12 @@ pub(crate) fn tell_all<K: Reporter>(faults: &[Option<Fault>], sink: &mut K) -> R
 ///
 /// # Errors
 ///
-/// [`RunError::WriteFailed`] exactly where the sink failed.
-pub fn tell_header<K: Reporter>(header: &Header, sink: &mut K) -> Result<(), RunError>
-    ensures told { Tells K.hears K.cuts result sink.old (map whole (header_faults header.now.bytes header.now.file_len)) sink.new }
-    ensures writes { SinkAfter is_write_failed result (K.held sink.old) (K.held sink.new) }
+/// [`RunError::WriteFailed`] exactly where the reporter failed.
+pub fn tell_header<K: Reporter>(header: &Header, reporter: &mut K) -> Result<(), RunError>
+    ensures told { Tells K.hears K.cuts result reporter.old (map whole (header_faults header.now.bytes header.now.file_len)) reporter.new }
+    ensures writes { SinkAfter is_write_failed result (K.held reporter.old) (K.held reporter.new) }
     ensures only { IfErr result (λ e. e ≡ WriteFailed) }
 {
     let faults = faults_of(header);
-    tell_all(&faults, sink)
+    tell_all(&faults, reporter)
 }

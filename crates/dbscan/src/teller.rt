@@ -16,21 +16,21 @@ use dbwalk::{Cause, Fault, PageType, Row, Sink};
 // Hands on what it hears, and notes whether the schema has a row.
 #[derive(Drop)]
 pub(crate) struct Teller<'a, K> {
-    sink: &'a mut K,
+    reporter: &'a mut K,
     start: &'a Start<'a>,
     has_rows: bool,
 }
 
 impl<'a, K: Reporter> Teller<'a, K> {
     // One that heard nothing.
-    pub(crate) fn new(sink: &'a mut K, start: &'a Start<'a>) -> Teller<'a, K>
-        ensures same_sink { result.sink.ghost_name ≡ sink.entry.ghost_name }
-        ensures sink { result.sink.now ≡ sink.old }
+    pub(crate) fn new(reporter: &'a mut K, start: &'a Start<'a>) -> Teller<'a, K>
+        ensures same_reporter { result.reporter.ghost_name ≡ reporter.entry.ghost_name }
+        ensures reporter { result.reporter.now ≡ reporter.old }
         ensures start { result.start.now ≡ start.now }
         ensures none { result.has_rows ≡ false }
     {
         Teller {
-            sink,
+            reporter,
             start,
             has_rows: false,
         }
@@ -45,13 +45,13 @@ impl<'a, K: Reporter> Teller<'a, K> {
 
     // Hands on that the tree has ended.
     pub(crate) fn end(&mut self) -> Result<(), WriteFailed>
-        ensures same_sink { self.new.sink.ghost_name ≡ self.old.sink.ghost_name }
+        ensures same_reporter { self.new.reporter.ghost_name ≡ self.old.reporter.ghost_name }
         ensures rows { self.new.has_rows ≡ self.old.has_rows }
-        ensures ends { MatchResult result (λ _. K.hears self.old.sink.now (ended self.old.start.now) self.new.sink.now)
-            (λ _. K.cuts self.old.sink.now (ended self.old.start.now) self.new.sink.now) }
-        ensures count { SinkAfter is_any result (K.held self.old.sink.now) (K.held self.new.sink.now) }
+        ensures ends { MatchResult result (λ _. K.hears self.old.reporter.now (ended self.old.start.now) self.new.reporter.now)
+            (λ _. K.cuts self.old.reporter.now (ended self.old.start.now) self.new.reporter.now) }
+        ensures count { SinkAfter is_any result (K.held self.old.reporter.now) (K.held self.new.reporter.now) }
     {
-        self.sink.hear(&Notice::Ended(self.start))
+        self.reporter.hear(&Notice::Ended(self.start))
     }
 }
 
@@ -65,12 +65,12 @@ impl<K: Reporter> Sink for Teller<'_, K> {
     ghost held = { lent_by K.held };
 
     fn fault(&mut self, fault: &Fault, cause: &Cause) -> Result<(), WriteFailed> {
-        self.sink.hear(&Notice::Fault(self.start, fault, cause))
+        self.reporter.hear(&Notice::Fault(self.start, fault, cause))
     }
 
     fn row(&mut self, row: &Row<'_>) -> Result<(), WriteFailed> {
         self.has_rows = self.has_rows || is_schema_leaf(row);
-        self.sink.hear(&Notice::Row(self.start, row))
+        self.reporter.hear(&Notice::Row(self.start, row))
     }
 }
 

@@ -77,14 +77,14 @@ fn walk_over<A: Allocator, S: Source, T: Taker, K: Reporter>(
     teller: &mut Teller<'_, K>,
 ) -> Result<(), RunError>
     requires schema { (root.kind ≡ root_kind.Schema) ↔ (root.start ≡ schema_start) }
-    ensures same_sink { teller.new.sink.ghost_name ≡ teller.old.sink.ghost_name }
+    ensures same_reporter { teller.new.reporter.ghost_name ≡ teller.old.reporter.ghost_name }
     ensures shape { bench.new.geometry ≡ bench.old.geometry }
     ensures asks { Asks S.step (Reads bench.old.geometry.page_size marks.old marks.new) (λ file. bench.old.geometry ≡ geometry file
         → root.encoding ≡ encoding_of file → (W : List Reference) (c : Reference) → IsRootAfter file root W c marks.old
         → (held : T → ℕ) → (root.kind ≡ root_kind.Schema → StartsEmpty T.takes held taker.old)
         → IsWalkedOver K.hears K.cuts T.takes file W c result marks.new teller.old teller.new taker.old taker.new)
         is_read_failed result (S.held source.old) (S.held source.new) }
-    ensures writes { SinkAfter is_write_failed result (K.held teller.old.sink.now) (K.held teller.new.sink.now) }
+    ensures writes { SinkAfter is_write_failed result (K.held teller.old.reporter.now) (K.held teller.new.reporter.now) }
     ensures refusals { T.refusals taker.new ≡ failures_after is_out_of_memory result (T.refusals taker.old) }
     ensures only { IfErr result IsReadWriteOrMemory }
     ensures later { 1 ≤ root.start → IfErr result IsReadOrWrite }
@@ -97,17 +97,17 @@ fn walk_over<A: Allocator, S: Source, T: Taker, K: Reporter>(
 fn walk_schema<A: Allocator, S: Source, K: Reporter>(
     desk: &mut Desk<A>,
     source: &mut S,
-    sink: &mut K,
+    reporter: &mut K,
 ) -> Result<bool, RunError>
     requires fresh { IsFresh desk.old }
     ensures asks { AsksOver S.step desk.old desk.new (λ file.
-        IsSchemaWalked K.hears K.cuts file result desk.new.marks desk.new.roots.rows sink.old sink.new)
+        IsSchemaWalked K.hears K.cuts file result desk.new.marks desk.new.roots.rows reporter.old reporter.new)
         result (S.held source.old) (S.held source.new) }
-    ensures keeps { KeepsHeader result desk.old desk.new (K.held sink.old) (K.held sink.new) }
+    ensures keeps { KeepsHeader result desk.old desk.new (K.held reporter.old) (K.held reporter.new) }
 {
     let root = schema_root(desk.header.encoding());
     let start = Start::schema();
-    let mut teller = Teller::new(sink, &start);
+    let mut teller = Teller::new(reporter, &start);
     walk_over(
         source,
         &mut desk.bench,
@@ -119,7 +119,7 @@ fn walk_schema<A: Allocator, S: Source, K: Reporter>(
     Ok(teller.has_rows())
 }
 
-// Walks over the tree of a row of a list, to its end. The sink borrows its name from the list.
+// Walks over the tree of a row of a list, to its end. The reporter is given its name, borrowed from the list.
 fn walk_row<A: Allocator, S: Source, K: Reporter>(
     source: &mut S,
     bench: &mut Bench<A>,
@@ -127,7 +127,7 @@ fn walk_row<A: Allocator, S: Source, K: Reporter>(
     roots: &RootList<A>,
     encoding: Encoding,
     number: u32,
-    sink: &mut K,
+    reporter: &mut K,
 ) -> Result<(), RunError>
     requires within { (1 ≤ number) × (number ≤ length roots.now.rows) }
     requires most { number ≤ 65536 }
@@ -135,9 +135,9 @@ fn walk_row<A: Allocator, S: Source, K: Reporter>(
     ensures asks { Asks S.step (Reads bench.old.geometry.page_size marks.old marks.new) (λ file. bench.old.geometry ≡ geometry file
         → encoding ≡ encoding_of file → (row : NamingRow) → slice_get roots.now.rows (number - 1) ≡ Some row
         → (W : List Reference) (c : Reference) → IsRootAfter file (root_of encoding number row) W c marks.old
-        → IsTreeWalked K.hears K.cuts (at_row number row) file W c result marks.new sink.old sink.new)
+        → IsTreeWalked K.hears K.cuts (at_row number row) file W c result marks.new reporter.old reporter.new)
         is_read_failed result (S.held source.old) (S.held source.new) }
-    ensures writes { SinkAfter is_write_failed result (K.held sink.old) (K.held sink.new) }
+    ensures writes { SinkAfter is_write_failed result (K.held reporter.old) (K.held reporter.new) }
     ensures only { IfErr result IsReadOrWrite }
 {
     let Some(row) = roots.get(number) else {
@@ -145,7 +145,7 @@ fn walk_row<A: Allocator, S: Source, K: Reporter>(
     };
     let root = root_of(&row, number, encoding);
     let start = Start::tree(number, row.name);
-    let mut teller = Teller::new(sink, &start);
+    let mut teller = Teller::new(reporter, &start);
     walk_over(source, bench, marks, root, &mut NoRows, &mut teller)
 }
 
@@ -153,13 +153,13 @@ fn walk_row<A: Allocator, S: Source, K: Reporter>(
 fn walk_roots<A: Allocator, S: Source, K: Reporter>(
     desk: &mut Desk<A>,
     source: &mut S,
-    sink: &mut K,
+    reporter: &mut K,
 ) -> Result<(), RunError>
     ensures asks { AsksOver S.step desk.old desk.new (λ file. (V : List Reference) → Survey file V → (before : K)
-        → IsBetweenStarts K.hears K.cuts file V before (enumerate_from 1 desk.old.roots.rows) desk.old.marks sink.old
-        → StopsTelling K.hears K.cuts file V before [] result desk.new.marks sink.new)
+        → IsBetweenStarts K.hears K.cuts file V before (enumerate_from 1 desk.old.roots.rows) desk.old.marks reporter.old
+        → StopsTelling K.hears K.cuts file V before [] result desk.new.marks reporter.new)
         result (S.held source.old) (S.held source.new) }
-    ensures keeps { KeepsRoots result desk.old desk.new (K.held sink.old) (K.held sink.new) }
+    ensures keeps { KeepsRoots result desk.old desk.new (K.held reporter.old) (K.held reporter.new) }
 {
     let encoding = desk.header.encoding();
     for index in 0..desk.roots.len() {
@@ -170,7 +170,7 @@ fn walk_roots<A: Allocator, S: Source, K: Reporter>(
             &desk.roots,
             encoding,
             index + 1,
-            sink,
+            reporter,
         )?;
     }
     Ok(())
@@ -183,12 +183,12 @@ fn walk_trunks<A: Allocator, S: Source, K: Reporter>(
     teller: &mut Teller<'_, K>,
 ) -> Result<(), RunError>
     requires start { teller.old.start.now ≡ at_freelist }
-    ensures same_sink { teller.new.sink.ghost_name ≡ teller.old.sink.ghost_name }
+    ensures same_reporter { teller.new.reporter.ghost_name ≡ teller.old.reporter.ghost_name }
     ensures asks { AsksOver S.step desk.old desk.new (λ file. (V : List Reference) → Survey file V → (before : K)
-        → IsBetweenStarts K.hears K.cuts file V before [] desk.old.marks teller.old.sink.now
-        → AreTold K.hears K.cuts file V result desk.new.marks before teller.new.sink.now)
+        → IsBetweenStarts K.hears K.cuts file V before [] desk.old.marks teller.old.reporter.now
+        → AreTold K.hears K.cuts file V result desk.new.marks before teller.new.reporter.now)
         result (S.held source.old) (S.held source.new) }
-    ensures keeps { KeepsRoots result desk.old desk.new (K.held teller.old.sink.now) (K.held teller.new.sink.now) }
+    ensures keeps { KeepsRoots result desk.old desk.new (K.held teller.old.reporter.now) (K.held teller.new.reporter.now) }
 {
     let first = desk.header.first_trunk();
     if first == 0 {
@@ -201,39 +201,39 @@ fn walk_trunks<A: Allocator, S: Source, K: Reporter>(
 fn walk_later<A: Allocator, S: Source, K: Reporter>(
     desk: &mut Desk<A>,
     source: &mut S,
-    sink: &mut K,
+    reporter: &mut K,
 ) -> Result<(), RunError>
     ensures asks { AsksOver S.step desk.old desk.new (λ file. (V : List Reference) → Survey file V → (before : K)
-        → IsBetweenStarts K.hears K.cuts file V before (enumerate_from 1 desk.old.roots.rows) desk.old.marks sink.old
-        → AreTold K.hears K.cuts file V result desk.new.marks before sink.new)
+        → IsBetweenStarts K.hears K.cuts file V before (enumerate_from 1 desk.old.roots.rows) desk.old.marks reporter.old
+        → AreTold K.hears K.cuts file V result desk.new.marks before reporter.new)
         result (S.held source.old) (S.held source.new) }
-    ensures keeps { KeepsRoots result desk.old desk.new (K.held sink.old) (K.held sink.new) }
+    ensures keeps { KeepsRoots result desk.old desk.new (K.held reporter.old) (K.held reporter.new) }
 {
-    walk_roots(desk, source, sink)?;
+    walk_roots(desk, source, reporter)?;
     let start = Start::freelist();
-    walk_trunks(desk, source, &mut Teller::new(sink, &start))
+    walk_trunks(desk, source, &mut Teller::new(reporter, &start))
 }
 
 /// Walks from all starts: over the schema's tree and the trees that it names, and along the freelist. The list takes the
-/// rows of the schema; the answer is whether there are any. The sink hears that a tree has ended
+/// rows of the schema; the answer is whether there are any. The reporter hears that a tree has ended
 /// before the next page is read.
 ///
 /// # Errors
 ///
-/// [`RunError::ReadFailed`] exactly where the source failed, [`RunError::WriteFailed`] exactly where the sink failed, and
+/// [`RunError::ReadFailed`] exactly where the source failed, [`RunError::WriteFailed`] exactly where the reporter failed, and
 /// [`RunError::OutOfMemory`] exactly where the list was refused memory.
 pub fn walk_starts<A: Allocator, S: Source, K: Reporter>(
     desk: &mut Desk<A>,
     source: &mut S,
-    sink: &mut K,
+    reporter: &mut K,
 ) -> Result<bool, RunError>
     requires fresh { IsFresh desk.old }
     ensures asks { AsksOver S.step desk.old desk.new (λ file. (V : List Reference) → Survey file V
-        → AreWalked K.hears K.cuts file V result desk.new.marks desk.new.roots.rows sink.old sink.new)
+        → AreWalked K.hears K.cuts file V result desk.new.marks desk.new.roots.rows reporter.old reporter.new)
         result (S.held source.old) (S.held source.new) }
-    ensures keeps { KeepsHeader result desk.old desk.new (K.held sink.old) (K.held sink.new) }
+    ensures keeps { KeepsHeader result desk.old desk.new (K.held reporter.old) (K.held reporter.new) }
 {
-    let any_rows = walk_schema(desk, source, sink)?;
-    walk_later(desk, source, sink)?;
+    let any_rows = walk_schema(desk, source, reporter)?;
+    walk_later(desk, source, reporter)?;
     Ok(any_rows)
 }

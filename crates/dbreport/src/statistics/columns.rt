@@ -4,7 +4,7 @@ ghost use Rattle.std.specs.Prelude.{◌≡◌, ◌+◌, ◌-◌, ◌*◌, ◌≤
 ghost use Rattle.dbformat.specs.Lines.{tab, chain_text};
 ghost use Rattle.dbreport.specs.Columns.{counts_text, offset_text};
 
-use crate::statistics::hex::append_hex;
+use crate::statistics::hex::append_hex_number;
 use arrayvec::ArrayVec;
 use dbformat::Counts;
 use dblines::{append, append_number};
@@ -71,8 +71,8 @@ pub(crate) fn append_chain<const CAP: usize>(
     ensures short { array_vec_len line.new ≤ array_vec_len line.old + 17 }
 {
     if let Some((cell, number)) = chain {
-        append_hex(line, 3, cell);
+        append_hex_number(line, 3, cell);
         append(line, "+");
-        append_hex(line, 6, number);
+        append_hex_number(line, 6, number);
     }
 }

@@ -11,7 +11,11 @@ use dbformat::hex_digit;
 const MAX_DIGITS: usize = 8;
 
 // Adds a number in lower-case hexadecimal, with zeros in front up to a width.
-pub(crate) fn append_hex<const CAP: usize>(line: &mut ArrayVec<u8, CAP>, width: usize, number: u32)
+pub(crate) fn append_hex_number<const CAP: usize>(
+    line: &mut ArrayVec<u8, CAP>,
+    width: usize,
+    number: u32,
+)
     requires width { width ≤ 8 }
     requires room { array_vec_len line.old + 8 ≤ CAP }
     ensures text { line.new.items ≡ line.old.items ++ hex_text width number }

@@ -13,7 +13,7 @@ ghost use Rattle.dbreport.specs.TreeNames.{tree_label_text};
 use crate::statistics::columns::{
     append_chain, append_count, append_counts, append_place, append_text,
 };
-use crate::statistics::hex::append_hex;
+use crate::statistics::hex::append_hex_number;
 use crate::statistics::page_texts::{OtherPage, other_text, pagetype_text};
 use crate::statistics::sums::Sums;
 use crate::statistics::tree_name::TreeLabel;
@@ -53,7 +53,7 @@ fn child_text(child: u32) -> ArrayVec<u8, 16>
     ensures { result.items ≡ child_text child }
 {
     let mut text = ArrayVec::new();
-    append_hex(&mut text, 3, child);
+    append_hex_number(&mut text, 3, child);
     append(&mut text, "/");
     text
 }

@@ -39,11 +39,11 @@ returns-in_err-end_page-clause-asks g c =
     let mark = mark_of (geometry file) V (i + 1) in
     let at = ap (λ l. page_mark l (i + 1)) m ∙ page_mark-in (geometry file) V (i + 1) (omega arith) (omega arith) in
     let t = turn mark at (same ∙ e) ok (fixed_by_mark (geometry file) V (i + 1)) k.1 in
-    let some = stops_by_after g.K.Reporter.hears g.K.Reporter.cuts c.in_err-end_page.field-0.0 c.args.sink.now c.loop-index.sink c.end_page.new.sink (pages_items file V c.args.least_other i) (page_notices file c.args.least_other (i + 1) mark) k.0 t.0 in
-    let more = subst (λ l. StopsBy g.K.Reporter.hears g.K.Reporter.cuts c.in_err-end_page.field-0.0 c.args.sink.now l c.end_page.new.sink) (sym (items_one_more file V c.args.least_other i)) some in
+    let some = stops_by_after g.K.Reporter.hears g.K.Reporter.cuts c.in_err-end_page.field-0.0 c.args.reporter.now c.loop-index.reporter c.end_page.new.reporter (pages_items file V c.args.least_other i) (page_notices file c.args.least_other (i + 1) mark) k.0 t.0 in
+    let more = subst (λ l. StopsBy g.K.Reporter.hears g.K.Reporter.cuts c.in_err-end_page.field-0.0 c.args.reporter.now l c.end_page.new.reporter) (sym (items_one_more file V c.args.least_other i)) some in
     let rest = items_begin file V c.args.least_other (i + 1) (geometry file).pages (omega arith) in
-    subst (λ l. StopsBy g.K.Reporter.hears g.K.Reporter.cuts c.in_err-end_page.field-0.0 c.args.sink.now l c.end_page.new.sink) rest.1
-    (stops_by_first g.K.Reporter.hears g.K.Reporter.cuts c.in_err-end_page.field-0.0 c.args.sink.now c.end_page.new.sink (pages_items file V c.args.least_other (i + 1)) rest.0 more))))
+    subst (λ l. StopsBy g.K.Reporter.hears g.K.Reporter.cuts c.in_err-end_page.field-0.0 c.args.reporter.now l c.end_page.new.reporter) rest.1
+    (stops_by_first g.K.Reporter.hears g.K.Reporter.cuts c.in_err-end_page.field-0.0 c.args.reporter.now c.end_page.new.reporter (pages_items file V c.args.least_other (i + 1)) rest.0 more))))
 
 pub loop-index-preserved : goal.loop-index-preserved
 loop-index-preserved g c =
@@ -60,8 +60,8 @@ loop-index-preserved g c =
           let mark = mark_of (geometry file) V (i + 1) in
           let at = ap (λ l. page_mark l (i + 1)) m ∙ page_mark-in (geometry file) V (i + 1) (omega arith) (omega arith) in
           let t = turn mark at (same ∙ e) ok (fixed_by_mark (geometry file) V (i + 1)) k.1 in (
-            subst (λ l. Moves g.K.Reporter.hears c.args.sink.now l c.end_page.new.sink) (sym (items_one_more file V c.args.least_other i))
-                (Moves-append g.K.Reporter.hears c.args.sink.now c.loop-index.sink c.end_page.new.sink (pages_items file V c.args.least_other i) (page_notices file c.args.least_other (i + 1) mark) k.0 t.0),
+            subst (λ l. Moves g.K.Reporter.hears c.args.reporter.now l c.end_page.new.reporter) (sym (items_one_more file V c.args.least_other i))
+                (Moves-append g.K.Reporter.hears c.args.reporter.now c.loop-index.reporter c.end_page.new.reporter (pages_items file V c.args.least_other i) (page_notices file c.args.least_other (i + 1) mark) k.0 t.0),
             t.1,
           ));
       writes = c.in_ok-end_page.ensures.writes ∙ c.loop-index.invariant.writes;
@@ -75,4 +75,4 @@ returns-clause-asks g c = asks_weaker (MapReadsBefore c.args.bench.now.geometry 
     let len : length c.args.marks.now ≡ (geometry file).pages = ap length m ∙ marks_of-length (geometry file) V in
     let n = c.pages-index-end.ensures.count in
     let all : c.loop-index.index ≡ (geometry file).pages = omega arith in
-    subst (λ n. Moves g.K.Reporter.hears c.args.sink.now (pages_items file V c.args.least_other n) c.loop-index.sink) all k.0)
+    subst (λ n. Moves g.K.Reporter.hears c.args.reporter.now (pages_items file V c.args.least_other n) c.loop-index.reporter) all k.0)

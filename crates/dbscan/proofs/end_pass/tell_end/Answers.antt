@@ -30,7 +30,7 @@ returns-in_err-walked-clause-asks g c =
     let header = ap (λ (d : Things). d.header) c.desk.view_is in
     let marks = ap (λ (d : Things). d.marks) c.desk.view_is in
     rw q.1 (rw q.2 (asks_nothing g.S.Source.step _ (Err WriteFailed) _ refl (reads_none shape.page_size (IsMapInUse shape) 1).reads (λ file is V s m rows.
-    inl (subst (λ n. g.K.Reporter.cuts c.args.sink.now n c.walked.new.self) (ap₂ walked (c.geometry.ensures.shape ∙ (subst (λ h. IsHeaderOf h file) (sym header) is).shape) (marks ∙ m)) c.in_err-walked.ensures.notice))))
+    inl (subst (λ n. g.K.Reporter.cuts c.args.reporter.now n c.walked.new.self) (ap₂ walked (c.geometry.ensures.shape ∙ (subst (λ h. IsHeaderOf h file) (sym header) is).shape) (marks ∙ m)) c.in_err-walked.ensures.notice))))
 
 pub returns-in_err-tell_all-clause-asks : goal.returns-in_err-tell_all-clause-asks
 returns-in_err-tell_all-clause-asks g c =
@@ -44,24 +44,24 @@ returns-in_err-tell_all-clause-asks g c =
     let its = subst (λ h. IsHeaderOf h file) (sym header) is in
     let items = all_items file V s c.desk.inside.header c.args.any_rows c.desk.inside.marks counts.greatest_root counts.free_pages c.counted_faults-faults.result its (marks ∙ m) rows
     c.count_marks-counts.ensures.greatest c.count_marks-counts.ensures.free c.counted_faults-faults.ensures in
-    walked_then {A = Unit {0}} g.K.Reporter.hears g.K.Reporter.cuts file V (Err c.in_err-tell_all.field-0.0) c.args.sink.now c.walked.new.self c.tell_all.new.sink c.geometry.result c.desk.inside.marks
+    walked_then {A = Unit {0}} g.K.Reporter.hears g.K.Reporter.cuts file V (Err c.in_err-tell_all.field-0.0) c.args.reporter.now c.walked.new.self c.tell_all.new.reporter c.geometry.result c.desk.inside.marks
     (c.geometry.ensures.shape ∙ its.shape) (marks ∙ m) c.in_ok-walked.ensures.notice
-    (subst (λ l. StopsBy g.K.Reporter.hears g.K.Reporter.cuts c.in_err-tell_all.field-0.0 c.walked.new.self l c.tell_all.new.sink) items
-    (stops_by_first g.K.Reporter.hears g.K.Reporter.cuts c.in_err-tell_all.field-0.0 c.walked.new.self c.tell_all.new.sink (items_of c.counted_faults-faults.result) pages c.in_err-tell_all.ensures.told)))))
+    (subst (λ l. StopsBy g.K.Reporter.hears g.K.Reporter.cuts c.in_err-tell_all.field-0.0 c.walked.new.self l c.tell_all.new.reporter) items
+    (stops_by_first g.K.Reporter.hears g.K.Reporter.cuts c.in_err-tell_all.field-0.0 c.walked.new.self c.tell_all.new.reporter (items_of c.counted_faults-faults.result) pages c.in_err-tell_all.ensures.told)))))
 
 pub returns-clause-asks : goal.returns-clause-asks
 returns-clause-asks g c =
     subst (λ (d : Things). Asks g.S.Source.step (MapReads (geometry_of d.header.bytes d.header.file_len)) (λ file. IsHeaderOf d.header file → (V : List Reference) → Survey file V → AreMarksOf file V d.marks
-    → c.args.any_rows ≡ has_rows file V → Tells g.K.Reporter.hears g.K.Reporter.cuts c.end_pages.result c.args.sink.now (end_notices file V) c.end_pages.new.sink)
+    → c.args.any_rows ≡ has_rows file V → Tells g.K.Reporter.hears g.K.Reporter.cuts c.end_pages.result c.args.reporter.now (end_notices file V) c.end_pages.new.reporter)
     is_read_failed c.end_pages.result (g.S.Source.held c.args.source.now) (g.S.Source.held c.end_pages.new.source)) c.desk.view_is
     (asks_weaker _ _ c.end_pages.result (λ n. refl) c.end_pages.ensures.asks (λ log r. subst (λ g. MapReads g log) c.desk.invariant.shape r) (λ file ended is V s m rows.
     let counts = c.count_marks-counts.result in
     let items = all_items file V s c.desk.inside.header c.args.any_rows c.desk.inside.marks counts.greatest_root counts.free_pages c.counted_faults-faults.result is m rows
     c.count_marks-counts.ensures.greatest c.count_marks-counts.ensures.free c.counted_faults-faults.ensures in
     let least = c.count_marks-counts.ensures.least ∙ ap least_other_marked m in
-    let rest = subst (λ o. Tells g.K.Reporter.hears g.K.Reporter.cuts c.end_pages.result c.tell_all.new.sink (pages_items file V o (geometry file).pages) c.end_pages.new.sink) least (ended (c.desk.invariant.shape ∙ is.shape) is.is_read V m) in
-    walked_then g.K.Reporter.hears g.K.Reporter.cuts file V c.end_pages.result c.args.sink.now c.walked.new.self c.end_pages.new.sink c.geometry.result c.desk.inside.marks
+    let rest = subst (λ o. Tells g.K.Reporter.hears g.K.Reporter.cuts c.end_pages.result c.tell_all.new.reporter (pages_items file V o (geometry file).pages) c.end_pages.new.reporter) least (ended (c.desk.invariant.shape ∙ is.shape) is.is_read V m) in
+    walked_then g.K.Reporter.hears g.K.Reporter.cuts file V c.end_pages.result c.args.reporter.now c.walked.new.self c.end_pages.new.reporter c.geometry.result c.desk.inside.marks
     (c.geometry.ensures.shape ∙ is.shape) m c.in_ok-walked.ensures.notice
-    (subst (λ l. Tells g.K.Reporter.hears g.K.Reporter.cuts c.end_pages.result c.walked.new.self l c.end_pages.new.sink) items
-    (tells_then g.K.Reporter.hears g.K.Reporter.cuts c.end_pages.result c.walked.new.self c.tell_all.new.sink c.end_pages.new.sink (items_of c.counted_faults-faults.result) (pages_items file V (least_other_marked (marks_of (geometry file) V)) (geometry file).pages)
+    (subst (λ l. Tells g.K.Reporter.hears g.K.Reporter.cuts c.end_pages.result c.walked.new.self l c.end_pages.new.reporter) items
+    (tells_then g.K.Reporter.hears g.K.Reporter.cuts c.end_pages.result c.walked.new.self c.tell_all.new.reporter c.end_pages.new.reporter (items_of c.counted_faults-faults.result) (pages_items file V (least_other_marked (marks_of (geometry file) V)) (geometry file).pages)
     c.in_ok-tell_all.ensures.told rest))))

@@ -28,12 +28,10 @@ returns-clause-asks g c =
     (λ l m r k. looks_log geo d.marks l m r (subst (λ (s : Geometry). ReadsRising s.page_size (IsUnmarked d.marks) m) shape k))
     (λ file done ended is V s.
     let k = done is V s in
-    inl (ended V c.args.sink.now (record {
+    inl (ended V c.args.reporter.now (record {
       desk = record { header = subst (λ (h : HeaderBytes). IsHeaderOf h file) (sym same) is; survey = s; marks = k.marked; rows = k.listed };
       heard = k.told;
     })))
 
 pub returns-clause-keeps : goal.returns-clause-keeps
-returns-clause-keeps g c =
-    let end = c.finish.ensures in
-    keeps_then c.in_ok-scan.ensures.keeps (record { header = end.kept.0; roots = end.kept.1; writes = end.writes; only = end.only })
+returns-clause-keeps g c = keeps_then c.in_ok-scan.ensures.keeps c.finish.ensures.keeps

@@ -11,7 +11,7 @@ use Rattle.dbmarks.proofs.Readings.{log_none}
 use Rattle.dbscan.specs.Desks.{Things}
 use Rattle.dbscan.specs.Walks.{AreTold, IsBetweenStarts}
 use Rattle.dbscan.proofs.DeskWalks.{desk_asks}
-use Rattle.dbscan.proofs.Tellers.{sink_after}
+use Rattle.dbscan.proofs.Tellers.{reporter_after}
 use Rattle.dbscan.proofs.TreeWalks.{freelist_told, no_freelist_told}
 use Rattle.dbscan.proofs.walks.walk_trunks.Goals as goal
 
@@ -21,18 +21,18 @@ returns-then-first-eq0-clause-asks g c =
     record {
       log = log_none (geometry_of c.args.desk.now.header.bytes c.args.desk.now.header.file_len).page_size c.args.desk.now.marks c.args.desk.now.marks (g.S.Source.held c.args.source.now) refl (λ file is V s before h.
           let none : first_trunk file ≡ 0 = sym (first_trunk_within file) ∙ ap first_trunk (sym (ap (λ (h : HeaderBytes). h.bytes) header ∙ is.begins)) ∙ sym c.first_trunk-first.ensures ∙ c.if-first-eq0.true in
-          no_freelist_told g.K.Reporter.hears g.K.Reporter.cuts file V s before c.args.desk.now.marks c.args.teller.now.sink.now none h);
+          no_freelist_told g.K.Reporter.hears g.K.Reporter.cuts file V s before c.args.desk.now.marks c.args.teller.now.reporter.now none h);
       count = refl;
     }
 
-pub returns-clause-same_sink : goal.returns-clause-same_sink
-returns-clause-same_sink g c = (sink_after g.K.Reporter.held c.walk_freelist.result c.args.teller.now c.walk_freelist.new.sink c.walk_freelist.ensures.writes).0
+pub returns-clause-same_reporter : goal.returns-clause-same_reporter
+returns-clause-same_reporter g c = (reporter_after g.K.Reporter.held c.walk_freelist.result c.args.teller.now c.walk_freelist.new.sink c.walk_freelist.ensures.writes).0
 
 pub returns-clause-asks : goal.returns-clause-asks
 returns-clause-asks g c =
     desk_asks g.S.Source.step c.desk.inside c.args.desk.now c.walk_freelist.new.marks _
-    (λ o file. (V : List Reference) → Survey file V → (before : g.row.K.Denot) → IsBetweenStarts g.K.Reporter.hears g.K.Reporter.cuts file V before [] o.marks c.args.teller.now.sink.now
-    → AreTold g.K.Reporter.hears g.K.Reporter.cuts file V c.walk_freelist.result c.walk_freelist.new.marks before c.walk_freelist.new.sink.sink.now)
+    (λ o file. (V : List Reference) → Survey file V → (before : g.row.K.Denot) → IsBetweenStarts g.K.Reporter.hears g.K.Reporter.cuts file V before [] o.marks c.args.teller.now.reporter.now
+    → AreTold g.K.Reporter.hears g.K.Reporter.cuts file V c.walk_freelist.result c.walk_freelist.new.marks before c.walk_freelist.new.sink.reporter.now)
     c.walk_freelist.result c.desk.invariant c.desk.view_is (λ n. refl) c.walk_freelist.ensures.asks
     (λ file is walked V s before h.
     let some = c.first_trunk-first.ensures ∙ ap first_trunk is.begins ∙ first_trunk_within file in

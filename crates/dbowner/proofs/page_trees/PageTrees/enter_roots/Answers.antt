@@ -1,8 +1,7 @@
-use Rattle.std.proofs.Common.{◌≡◌, ◌+◌, ◌-◌, ◌≤◌, length, Some, None, ap, subst, ◌∙◌, arith}
-use Rattle.std.specs.Prelude.{option_map, slice_get}
+use Rattle.std.proofs.Common.{◌≡◌, ◌≤◌, ◌<◌, length, Some, None, sym, ap, ◌∙◌, arith}
 use Rattle.std.proofs.lemmas.List.{length-replicate}
 use Rattle.dbowner.specs.Steps.{known_on_entry}
-use Rattle.dbowner.proofs.RootPages.{listed_start, root_known, roots_right, schema_entered, next_entered, all_entered}
+use Rattle.dbowner.proofs.RootPages.{listed_start, root_known, roots_right, row_root, schema_entered, next_entered, all_entered}
 use Rattle.dbowner.proofs.page_trees.PageTrees.enter_roots.Goals as goal
 
 pub loop-index-init : goal.loop-index-init
@@ -18,9 +17,10 @@ loop-index-init g c =
 pub loop-index-preserved : goal.loop-index-preserved
 loop-index-preserved g c =
     let i = c.loop-index.index in
-    let e : i + 1 - 1 ≡ i = omega arith in record {
-      entered = next_entered c.args.marks.now c.args.roots.now.rows i c.root_page.result c.loop-index.self.known c.enter-in-loop-index.new.self.known
-          (subst (λ i. option_map (λ row. row.root) (slice_get c.args.roots.now.rows i) ≡ Some c.root_page.result) e c.root_page.ensures)
+    let rows = c.args.roots.now.rows in
+    let inside : i < length rows = omega (arith, c.loop-index-test.true, c.len-index-end.ensures.count) in record {
+      entered = next_entered c.args.marks.now rows i c.root_page.result c.loop-index.self.known c.enter-in-loop-index.new.self.known
+          (row_root rows i inside ∙ ap Some (sym c.root_page.ensures))
           c.enter-in-loop-index.ensures.known c.enter-in-loop-index.ensures.pages c.loop-index.invariant.entered;
       pages = c.enter-in-loop-index.ensures.pages ∙ c.loop-index.invariant.pages;
       passed = c.enter-in-loop-index.ensures.passed ∙ c.loop-index.invariant.passed;

@@ -1,7 +1,7 @@
-use Rattle.std.proofs.Common.{ℕ, Ok, Err, [], ◌∷◌, ap, ap₂, inl, refl}
+use Rattle.std.proofs.Common.{Ok, Err, [], ◌∷◌, ap, ap₂, inl, refl}
 use Rattle.std.proofs.lemmas.Result.{err_from_is_err_and}
 use Rattle.dbsource.specs.declared.error.RunError.TheVariants.{WriteFailed}
-use Rattle.dbwalk.specs.Telling.{SinkState}
+use Rattle.dbwalk.specs.Telling.{one_out}
 use Rattle.dbscan.specs.Notices.{HearsFaults}
 use Rattle.dbscan.proofs.Finished.{finished}
 use Rattle.dbreport.specs.CheckReporter.{LeavesCheck, ShowsFault, check_held}
@@ -22,5 +22,5 @@ returns g c =
     let put = c.in_ok-end.ensures in
     let held = g.O.Out.held in
     finished g.S.Source (HearsFaults (ShowsFault held)) (check_held held) (LeavesCheck held) (Ok c.in_ok-end.field-0) c.args._desk.now c.args._source.now c.args.self.now c.end.new.self tt
-    (ap₂ (λ (n m : ℕ). let x : SinkState = record { lent = n ∷ []; failures = m ∷ [] } in x) put.same_out put.text.count)
+    (ap₂ one_out put.same_out put.text.count)
     (λ file V first heard. check_ended held file V heard.desk.survey first c.args.self.now c.end.new.self heard.heard c.in_ok-end.field-0 put.text put.verdict)

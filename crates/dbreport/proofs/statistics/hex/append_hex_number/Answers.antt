@@ -2,7 +2,7 @@ use Rattle.std.proofs.Common.{◌≡◌, drop, arith}
 use Rattle.std.proofs.lemmas.Grind.{common_steps}
 use Rattle.dbformat.specs.Text.{hex_text}
 use Rattle.dbreport.proofs.Hexes.{hex_cut}
-use Rattle.dbreport.proofs.statistics.hex.append_hex.Goals as goal
+use Rattle.dbreport.proofs.statistics.hex.append_hex_number.Goals as goal
 
 pub returns-clause-text : goal.returns-clause-text
 returns-clause-text g c =

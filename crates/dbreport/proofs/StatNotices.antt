@@ -1,4 +1,4 @@
--- What the sink of the statistics writes of what it hears, notice after notice.
+-- What the reporter of the statistics writes of what it hears, notice after notice.
 use Rattle.std.proofs.Common.{◌≡◌, ℕ, ◌+◌, ◌⊎◌, inl, inr, Bool, not, List, [], ◌∷◌, ◌++◌, Result, Ok, Err, refl, sym, ap, ◌∙◌, subst, arith, append-nil}
 use Rattle.std.specs.Io.KnownBytes.{Appends}
 use Rattle.dbsurvey.specs.Moves.{Moves, Stops, MovesBySome}
@@ -15,7 +15,7 @@ use Rattle.dbtrace.specs.Finding.{told_row, told_fault}
 use Rattle.dbwalk.specs.Telling.{Tells}
 use Rattle.dbscan.specs.Notices.{Notice, whole, found, ended, walked, faults_heard}
 use Rattle.dbscan.specs.Starts.{At}
-use Rattle.dbreport.specs.StatReporter.{tree_end_text, other_lines, pages_text, CutsStatFault, CutsStat, HasBegun, HasWritten, HearsStat, IsSameSink, TakesFault, WritesBoth}
+use Rattle.dbreport.specs.StatReporter.{tree_end_text, other_lines, pages_text, CutsStatFault, CutsStat, HasBegun, HasWritten, HearsStat, IsSameReporter, TakesFault, WritesBoth}
 use Rattle.dbreport.specs.Sums.{sums_of}
 use Rattle.dbreport.specs.TreeNames.{name_at}
 use Rattle.dbreport.specs.declared.statistics.Form.{Form}
@@ -128,7 +128,7 @@ module _ {O E : Type 0} (held : O → OutState) (held' : E → OutState) where
         subst (λ (a : Form). P (f a.aggregate (name_at p.encoding at) p.size)) on.form (subst (λ e. P (f s.form.aggregate (name_at e at) p.size)) on.encoding (subst (λ z. P (f s.form.aggregate (name_at s.encoding at) z)) on.size h))
 
     -- after a notice that changes at most the rows of the tree
-    on_same : (m : StatReporter O E) → IsSameSink s m → (rows : List StatRow) → m.sums ≡ sums_of rows → IsOn (record p { rows = rows }) m
+    on_same : (m : StatReporter O E) → IsSameReporter s m → (rows : List StatRow) → m.sums ≡ sums_of rows → IsOn (record p { rows = rows }) m
     on_same m same rows e = record { form = same.form ∙ on.form; encoding = same.encoding ∙ on.encoding; size = same.page_size ∙ on.size; summed = e }
 
     one_written : (n : Notice) (m : StatReporter O E) → all s n m → HasWritten held held' s m (lines p n) (faults_of (n ∷ [])) × IsOn (next p n) m

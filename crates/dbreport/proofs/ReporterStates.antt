@@ -1,11 +1,10 @@
--- What a sink borrows after an answer, and what its Outs count.
-use Rattle.std.proofs.Common.{◌≡◌, ℕ, inl, inr, List, [], ◌∷◌, Ok, Err, Result, ap, ◌∙◌}
+-- What a reporter borrows after an answer, and what its Outs count.
+use Rattle.std.proofs.Common.{◌≡◌, ℕ, inl, inr, List, [], ◌∷◌, Ok, Err, Result, ap}
 use Rattle.dbsource.specs.Errors.{is_write_failed}
 use Rattle.dbsource.specs.Failures.{CountsAfter, failures_after}
-use Rattle.dbsource.specs.Outs.{OutState}
 use Rattle.dbsource.specs.declared.error.RunError.{RunError}
 use Rattle.dbsource.specs.declared.error.RunError.TheVariants.{ReadFailed, WriteFailed, OutOfMemory, Refused}
-use Rattle.dbwalk.specs.Telling.{SinkAfter, SinkState}
+use Rattle.dbwalk.specs.Telling.{SinkAfter, SinkState, one_out}
 use Rattle.dbscan.proofs.Tellers.{first}
 
 -- the second of some numbers
@@ -22,8 +21,7 @@ lent_same (Err OutOfMemory) s t h = ap (λ (x : SinkState). x.lent) h
 lent_same (Err WriteFailed) s t h = h.lent
 
 -- if it borrows one Out, this failed once more exactly at a failed write
-pub one_failed : {A : Type 0} (r : Result A RunError) (a b : List ℕ) (m n : ℕ) → SinkAfter is_write_failed r (record { lent = a; failures = m ∷ [] }) (record { lent = b; failures = n ∷ [] })
-    → n ≡ failures_after is_write_failed r m
+pub one_failed : {A : Type 0} (r : Result A RunError) (a b m n : ℕ) → SinkAfter is_write_failed r (one_out a m) (one_out b n) → n ≡ failures_after is_write_failed r m
 one_failed (Ok x) a b m n h = ap (λ (s : SinkState). first s.failures) h
 one_failed (Err (Refused r)) a b m n h = ap (λ (s : SinkState). first s.failures) h
 one_failed (Err ReadFailed) a b m n h = ap (λ (s : SinkState). first s.failures) h
