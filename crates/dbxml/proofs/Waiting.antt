@@ -4,7 +4,7 @@ use Rattle.std.proofs.lemmas.List.{drop_all}
 use Rattle.dbsource.specs.Failures.{one_more}
 use Rattle.dbsource.specs.Outs.{Begins, OutState, Puts}
 use Rattle.dbsource.specs.declared.out.WriteFailed.{WriteFailed}
-use Rattle.dbsource.proofs.Puts.{appends_append, appends_nothing, puts_then}
+use Rattle.dbsource.proofs.Puts.{appends_append, puts_then}
 use Rattle.dbsource.proofs.Beginnings.{begins_after, begins_more}
 use Rattle.dbxml.specs.Pieces.{piece_text, pieces_text}
 use Rattle.dbxml.specs.Puts.{LeavesWaiting, Takes}

@@ -1,4 +1,4 @@
--- What a picture is put together of: the bytes of each piece.
+-- What an XML text is put together of: the bytes of each piece.
 use Rattle.std.specs.Prelude.{ℕ, ◌/◌, ◌%◌, ◌==◌, List, [], ◌∷◌, ◌++◌, length, take, flat_map, codes, decimal, if◌then◌else◌}
 use Rattle.dbxml.specs.Widths.{fitting}
 use Rattle.dbxml.specs.Xml.{escaped}

@@ -12,5 +12,5 @@ fitting width [] = 0
 fitting width (byte ∷ text) = if nat_lt width (char_columns byte) then 0 else suc (fitting (width - char_columns byte) text)
 
 -- the bytes that do
-abbrev pub seen : ℕ → List ℕ → List ℕ
-seen width text = take (fitting width text) text
+abbrev pub fitting_bytes : ℕ → List ℕ → List ℕ
+fitting_bytes width text = take (fitting width text) text

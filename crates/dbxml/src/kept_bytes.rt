@@ -9,9 +9,9 @@ use std::marker::Model;
 /// How many bytes of a text are kept: more than the widest that is shown.
 pub(crate) const KEPT: usize = 320;
 
-/// The first bytes that are put. A put for which there is no room takes what there is room for, and fails.
+/// An Out that keeps the first 320 bytes that are put. A put for which there is no room takes what there is room for, and fails.
 #[derive(Drop)]
-pub(crate) struct KeptBytes {
+pub struct KeptBytes {
     bytes: ArrayVec<u8, KEPT>,
     failures: Failures,
 }
@@ -29,8 +29,8 @@ impl Model for KeptBytes {
 }
 
 impl KeptBytes {
-    /// Nothing.
-    pub(crate) fn new() -> KeptBytes
+    /// No bytes yet.
+    pub fn new() -> KeptBytes
         ensures { result ≡ empty_out }
     {
         KeptBytes {

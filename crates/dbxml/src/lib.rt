@@ -1,5 +1,5 @@
 //! The text of an XML document, put together of pieces: markup, numbers, and texts of a file or of the command line, which come
-//! into it escaped, and cut to a width (specs/Xml). specs/Names has the names of files and trees.
+//! into it escaped, and cut to a width (specs/Xml). specs/Names has the names of files.
 //!
 //! ```
 //! let name = shown_file("a & b.db");
@@ -12,7 +12,7 @@ mod pieces;
 mod shown;
 mod xml;
 
-pub use dbowner::TreeNames;
 pub use dbsource::{Out, WriteFailed};
+pub use kept_bytes::KeptBytes;
 pub use pieces::{Piece, put_all};
-pub use shown::{Shown, shown_file, shown_tree};
+pub use shown::{Shown, shown_file};

@@ -1,4 +1,4 @@
-// What the picture's text is put together of.
+// What an XML text is put together of.
 ghost use Rattle.std.specs.Prelude.{◌≡◌, [], decimal, OnOk};
 ghost use Rattle.dbsource.specs.Outs.{Puts};
 ghost use Rattle.dbxml.specs.Pieces.{piece_text, pieces_text, tenths_text};
@@ -9,7 +9,7 @@ use arrayvec::ArrayVec;
 use dbsource::{Out, WriteFailed};
 use itoa::Buffer;
 
-/// A piece of the picture's text.
+/// A piece of an XML text.
 #[derive(Clone, Copy)]
 pub enum Piece<'a> {
     /// Markup, or plain words of this crate.
@@ -28,8 +28,8 @@ const ROOM: usize = 192;
 // Bytes that wait to be put together.
 type Waiting = ArrayVec<u8, ROOM>;
 
-// Puts what waits.
-fn hand_on<O: Out>(out: &mut O, waiting: &mut Waiting) -> Result<(), WriteFailed>
+// Puts the waiting bytes, so that none waits.
+fn put_waiting<O: Out>(out: &mut O, waiting: &mut Waiting) -> Result<(), WriteFailed>
     ensures puts { Puts result (O.held out.old) (O.held out.new) waiting.old.items }
     ensures empty { OnOk result (waiting.new.items ≡ []) }
 {
@@ -45,7 +45,7 @@ fn add<O: Out>(out: &mut O, waiting: &mut Waiting, bytes: &[u8]) -> Result<(), W
     match waiting.try_extend_from_slice(bytes) {
         Ok(()) => Ok(()),
         Err(_) => {
-            hand_on(out, waiting)?;
+            put_waiting(out, waiting)?;
             out.put(bytes)
         }
     }
@@ -68,7 +68,7 @@ fn add_tenths<O: Out>(out: &mut O, waiting: &mut Waiting, tenths: u64) -> Result
     add_number(out, waiting, tenths % 10)
 }
 
-// Adds a piece.
+// Adds the bytes of a piece.
 fn add_piece<O: Out>(
     out: &mut O,
     waiting: &mut Waiting,
@@ -83,7 +83,7 @@ fn add_piece<O: Out>(
         Piece::Shown(shown, width) => match shown.plain(*width) {
             Some(text) => add(out, waiting, text),
             None => {
-                hand_on(out, waiting)?;
+                put_waiting(out, waiting)?;
                 put_shown(out, shown, *width)
             }
         },
@@ -102,5 +102,5 @@ pub fn put_all<O: Out>(out: &mut O, pieces: &[Piece<'_>]) -> Result<(), WriteFai
     for piece in pieces {
         add_piece(out, &mut waiting, piece)?;
     }
-    hand_on(out, &mut waiting)
+    put_waiting(out, &mut waiting)
 }

@@ -1,8 +1,8 @@
-// Texts of the file and of the command line as the picture shows them.
-ghost use Rattle.std.specs.Prelude.{◌≡◌, ◌≤◌, [], length, nat_eq, IfSome};
+// Texts of a file and of the command line, as an XML text shows them.
+ghost use Rattle.std.specs.Prelude.{◌≡◌, ◌⊎◌, ◌≤◌, [], length, nat_eq, IfSome, Some};
 ghost use Rattle.std.specs.Cmp.Lexicographic.{pointwise};
 ghost use Rattle.dbsource.specs.Outs.{Puts};
-ghost use Rattle.dbxml.specs.Names.{file_name, tree_name};
+ghost use Rattle.dbxml.specs.Names.{shown_file};
 ghost use Rattle.dbxml.specs.Pieces.{shown_text};
 ghost use Rattle.dbxml.specs.Widths as widths;
 
@@ -11,13 +11,11 @@ use crate::xml::{is_plain, put_escaped};
 use arrayvec::ArrayVec;
 use dbbytes::plain_name_text;
 use dbformat::Encoding;
-use dbowner::TreeNames;
 use dbsource::{Out, WriteFailed};
-use std::alloc::Allocator;
 use std::marker::Model;
 
-/// A text, or its beginning. It is UTF-8, in which the bytes of control characters, and of those that turn a text around or that XML
-/// forbids, are shown by their codes.
+/// A text, or its beginning. It is meant to be UTF-8, in which control characters, and those that turn a text around or that XML forbids, are
+/// written by their codes: who makes one sees to that ([`Shown::of`]).
 #[derive(Drop)]
 pub struct Shown {
     bytes: ArrayVec<u8, KEPT>,
@@ -38,12 +36,24 @@ impl Default for Shown {
 }
 
 impl Shown {
-    /// Nothing.
+    /// An empty text.
     pub fn new() -> Shown
         ensures { result ≡ [] }
     {
         Shown {
             bytes: ArrayVec::new(),
+        }
+    }
+
+    /// The text that was put, or its first 320 bytes. The caller puts UTF-8 in which control characters, and others that turn a text around
+    /// or that XML forbids, are written by their codes already, as `plain_name_text` does.
+    pub fn of(kept: KeptBytes) -> Shown
+        ensures bytes { kept.bytes ≡ Some result }
+        ensures full { (kept.failures ≡ 0) ⊎ (length result ≡ 320) }
+        ensures most { length result ≤ 320 }
+    {
+        Shown {
+            bytes: kept.into_bytes(),
         }
     }
 
@@ -61,14 +71,14 @@ impl Shown {
 
     /// Whether it is shown as another one is, in a number of columns.
     pub fn is_like(&self, other: &Shown, width: u32) -> bool
-        ensures { result ≡ pointwise nat_eq (widths.seen width self.now) (widths.seen width other.now) }
+        ensures { result ≡ pointwise nat_eq (widths.fitting_bytes width self.now) (widths.fitting_bytes width other.now) }
     {
-        self.seen(width) == other.seen(width)
+        self.fitting_bytes(width) == other.fitting_bytes(width)
     }
 
     // The bytes that fit in a number of columns.
-    fn seen(&self, width: u32) -> &[u8]
-        ensures { result.now ≡ widths.seen width self.now }
+    fn fitting_bytes(&self, width: u32) -> &[u8]
+        ensures { result.now ≡ widths.fitting_bytes width self.now }
     {
         let text = self.bytes.as_slice();
         &text[..fitting(text, width)]
@@ -77,24 +87,11 @@ impl Shown {
 
 /// The name of a file, or its first 320 bytes.
 pub fn shown_file(name: &str) -> Shown
-    ensures { result ≡ file_name name.now }
+    ensures { result ≡ shown_file name.now }
 {
     let mut kept = KeptBytes::new();
     let _ = plain_name_text(name.as_bytes(), Encoding::Utf8, &mut kept);
-    Shown {
-        bytes: kept.into_bytes(),
-    }
-}
-
-/// The tree of a start, or the first 320 bytes of its text.
-pub fn shown_tree<A: Allocator>(names: &TreeNames<'_, A>, start: u32) -> Shown
-    ensures { result ≡ tree_name names.now.encoding names.now.roots.now.rows start }
-{
-    let mut kept = KeptBytes::new();
-    let _ = names.put_tree(&mut kept, start);
-    Shown {
-        bytes: kept.into_bytes(),
-    }
+    Shown::of(kept)
 }
 
 // How many columns a character takes, by its first byte: those that are written in three or four bytes are mostly wide.

@@ -1,4 +1,4 @@
-// Text in the picture, with what is markup in XML escaped.
+// A text in XML, with what would be markup escaped.
 ghost use Rattle.std.specs.Prelude.{◌≡◌, true, false, [], ◌∷◌};
 ghost use Rattle.dbsource.specs.Outs.{Puts};
 ghost use Rattle.dbxml.specs.Xml.{byte_text, escaped};

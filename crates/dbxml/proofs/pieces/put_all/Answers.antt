@@ -19,4 +19,4 @@ loop-piece-preserved g c =
 
 pub returns : goal.returns
 returns g c =
-    taken_all c.hand_on.result c.loop-piece.invariant (no_piece c.args.pieces.now c.loop-piece.piece-index c.loop-piece-test.false) c.hand_on.ensures.puts
+    taken_all c.put_waiting.result c.loop-piece.invariant (no_piece c.args.pieces.now c.loop-piece.piece-index c.loop-piece-test.false) c.put_waiting.ensures.puts

@@ -5,5 +5,5 @@ use Rattle.dbxml.proofs.shown.shown_file.Goals as goal
 
 pub returns : goal.returns
 returns c =
-    kept_is c.plain_name_text.result c.plain_name_text.new.out (plain_name Utf8 c.args.name.now) c.into_bytes.result.items
-    (rw (c.new-kept.ensures, c.as_bytes.ensures.value) at c.plain_name_text.ensures) c.into_bytes.ensures.bytes c.into_bytes.ensures.full c.into_bytes.ensures.most
+    kept_is c.plain_name_text.result c.plain_name_text.new.out (plain_name Utf8 c.args.name.now) c.of.result
+    (rw (c.new-kept.ensures, c.as_bytes.ensures.value) at c.plain_name_text.ensures) c.of.ensures.bytes c.of.ensures.full c.of.ensures.most
