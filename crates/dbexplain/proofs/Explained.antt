@@ -20,19 +20,17 @@ use Rattle.dbsource.specs.declared.out.Out.{Ghosts as OutWords}
 use Rattle.dbsource.specs.declared.source.Source.{Ghosts as SourceWords}
 use Rattle.dbsource.proofs.Beginnings.{begins_nothing}
 use Rattle.dbsource.proofs.Puts.{appends_nothing}
-use Rattle.dbentries.specs.Listing.{entries}
-use Rattle.dbentries.specs.Woven.{woven}
-use Rattle.dbentries.proofs.Weaving.{keeps_first}
 use Rattle.dbwalk.specs.Telling.{IsReadWriteOrMemory}
 use Rattle.dbscan.specs.Finishes.{Leaves}
+use Rattle.dbscan.specs.Notices.{CutsNever}
 use Rattle.dbreport.specs.Runs.{FailsOnce, IsAnswerOf}
 use Rattle.dbreport.proofs.RunAnswers.{if_ok, read_answer}
 use Rattle.dbreport.proofs.RunReports.{check_answer}
-use Rattle.dblisting.specs.Listed.{listed_entries, lost_faults, other_faults}
-use Rattle.dblisting.proofs.Woven.{all_lost}
+use Rattle.dblisting.specs.Listed.{first_entries, listed_entries, lost_faults, other_faults}
+use Rattle.dblisting.specs.Lists.{ListsFirst}
 use Rattle.dbexplain.specs.Explained.{explain_report, explain_text, found_text}
-use Rattle.dbexplain.specs.Keeping.{HasFound, IsEmpty}
-use Rattle.dbexplain.specs.Reporting.{Ends, Hears, IsLeft, LeavesExplained, Never, PutsLines}
+use Rattle.dbexplain.specs.Keeping.{IsEmpty}
+use Rattle.dbexplain.specs.Reporting.{Ends, Hears, IsReportLeft, LeavesExplained, PutsLines}
 use Rattle.dbexplain.specs.Runs.{ExplainFails, IsExplained, OutFailures, PutsFound, WritesReport}
 use Rattle.dbexplain.specs.declared.reporter.ExplainReporter.{ExplainReporter}
 use Rattle.dbexplain.proofs.Left.{is_left}
@@ -62,22 +60,16 @@ explain_sound limit file read v e =
 
 -- ---- by what a run leaves of the reporter, and then the lines after a failed read
 
-module _ {A O : Type 0} (held : O → OutState) (file : List ℕ) (V : List Reference) (read : refusal file ≡ None) (first now after : ExplainReporter A O) where
-  abbrev limit : ℕ
-  limit = first.kept.now.entries.limit
-
-  found_put : IsLeft held file V (Err ReadFailed) first now → PutsLines held now after → PutsFound limit file V (held first.out.now) (held after.out.now)
+module _ {A O : Type 0} (held : O → OutState) (limit : ℕ) (file : List ℕ) (V : List Reference) (read : refusal file ≡ None) (first now after : ExplainReporter A O) where
+  found_put : IsReportLeft held limit file V (Err ReadFailed) first now → PutsLines held now after → PutsFound limit file V (held first.out.now) (held after.out.now)
   found_put k lines =
-      let found : HasFound file V now.kept.now = k.1 in
-      let text = λ (n : ℕ). found_text n (woven (entries found.told) (entries found.lost)) in
-      let put = lines.lines (entries found.told) (entries found.lost) (keeps_first (entries found.told) now.kept.now.entries found.told_listed)
-      (all_lost file V found.lost now.kept.now.lost found.lost_first found.lost_listed found.most_lost) in record {
-        text = text limit;
-        found = record { told = found.told; lost = found.lost; told_first = found.told_first; lost_first = found.lost_first; lines = refl };
+      let found : ListsFirst limit file V now.kept.now.listing = k.1 in
+      let text = found_text limit (first_entries found.first) in record {
+        text = text;
+        found = record { first = found.first; lines = refl };
         answer = lines.put;
         put = record {
-          held = subst (λ o. Writes lines.put (held o).bytes (held after.out.now).bytes (text limit)) k.0
-              (subst (λ n. Writes lines.put (held now.out.now).bytes (held after.out.now).bytes (text n)) k.2 put);
+          held = subst (λ o. Writes lines.put (held o).bytes (held after.out.now).bytes text) k.0 (lines.lines limit file V found.first found.listed);
           count = lines.count ∙ ap (λ o. failures_after is_any lines.put (held o).failures) k.0;
         };
       }
@@ -89,24 +81,22 @@ module _ {A O : Type 0} (held : O → OutState) (file : List ℕ) (V : List Refe
       subst (λ o. Writes r (held first.out.now).bytes (held o).bytes (explain_report limit file V).out) (sym e)
       (subst (Writes r (held first.out.now).bytes (held now.out.now).bytes) (out_is limit file V read) w)
 
-  written : (r : Result Verdict RunError) → IsLeft held file V r first now → Ends held r now after → WritesReport limit file V r (held first.out.now) (held after.out.now)
+  written : (r : Result Verdict RunError) → IsReportLeft held limit file V r first now → Ends held r now after → WritesReport limit file V r (held first.out.now) (held after.out.now)
   written (Ok v) k e = as_left (Ok v) k.0 e
   written (Err ReadFailed) k e = found_put k e
   written (Err WriteFailed) k e = as_left (Err WriteFailed) k e
   written (Err OutOfMemory) k e = as_left (Err OutOfMemory) k e
   written (Err (Refused x)) k e = as_left (Err (Refused x)) k e
 
-  found : (r : Result Verdict RunError) → IsLeft held file V r first now → IfOk r (λ v. (explain_report limit file V).answer ≡ Ok v)
+  found : (r : Result Verdict RunError) → IsReportLeft held limit file V r first now → IfOk r (λ v. (explain_report limit file V).answer ≡ Ok v)
   found (Ok v) k = answer_is limit file V read v k.1
   found (Err e) k = tt
 
-  pub explained : (r : Result Verdict RunError) (old new : O) (n : ℕ) → Survey file V → IsEmpty limit (geometry file) first.kept.now → limit ≡ n → first.out.now ≡ old → new ≡ after.out.now
-      → Leaves Hears Never (LeavesExplained held) file V r first now → Ends held r now after
-      → WritesReport n file V r (held old) (held new) × IfOk r (λ v. (explain_report n file V).answer ≡ Ok v)
-  explained r old new n survey empty most begun ended left ends =
-      let k = is_left held file V survey first now empty r left in
-      let P : ℕ → Type 0 = λ n. WritesReport n file V r (held old) (held new) × IfOk r (λ v. (explain_report n file V).answer ≡ Ok v) in
-      subst P most (
+  pub explained : (r : Result Verdict RunError) (old new : O) → Survey file V → IsEmpty limit (geometry file) first.kept.now → first.out.now ≡ old → new ≡ after.out.now
+      → Leaves Hears CutsNever (LeavesExplained held) file V r first now → Ends held r now after
+      → WritesReport limit file V r (held old) (held new) × IfOk r (λ v. (explain_report limit file V).answer ≡ Ok v)
+  explained r old new survey empty begun ended left ends =
+      let k = is_left held file V survey first now limit empty r left in (
         subst (λ o. WritesReport limit file V r (held old) (held o)) (sym ended) (subst (λ o. WritesReport limit file V r (held o) (held after.out.now)) begun (written r k ends)),
         found r k,
       )
@@ -158,10 +148,7 @@ not_explained limit file e out answer = record {
     unwritten V ReadFailed = record {
       text = [];
       found = record {
-        told = [];
-        lost = [];
-        told_first = (other_faults file V, refl);
-        lost_first = (lost_faults file V, refl);
+        first = record { told = []; lost = []; told_first = (other_faults file V, refl); lost_first = (lost_faults file V, refl) };
         lines = none limit;
       };
       answer = Ok tt;

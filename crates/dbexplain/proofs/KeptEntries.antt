@@ -8,11 +8,10 @@ use Rattle.dbtrace.specs.declared.Reported.{Reported}
 use Rattle.dbentries.specs.Kept.{lone_entry, kept_of}
 use Rattle.dbentries.specs.Listing as listing
 use Rattle.dbentries.specs.Listing.{changed_at, entries, home, joined, most, with_fault}
-use Rattle.dbentries.specs.Store.{Stored}
-use Rattle.dbentries.specs.Woven.{KeepsFirst}
 use Rattle.dbentries.specs.declared.entry.Entry.{Entry}
 use Rattle.dbentries.proofs.KeptLists.{no_entry}
 use Rattle.dbentries.proofs.Noting.{first_kept}
+use Rattle.dblisting.specs.Lists.{Lists, Shows}
 use Rattle.dbexplain.specs.Explained.{found_text}
 use Rattle.dbexplain.specs.Keeping.{lines_of}
 
@@ -38,9 +37,8 @@ same_lines [] = refl
 same_lines (e ∷ es) = ap₂ (λ (f : Reported) text. fault_line f.fault ++ text) (first_kept e.others (lone_entry e.first)) (same_lines es)
 
 -- the lines of the first entries, by what is kept of them
-pub found_lines : (es : List listing.Entry) (s : Stored) (limit : ℕ) → KeepsFirst es s → s.limit ≡ limit → lines_of s.listed ≡ found_text limit es
-found_lines es s limit k e =
-    ap lines_of k.listed ∙ same_lines (take s.limit es) ∙ ap (λ n. found_text n es) e
+pub found_lines : (limit : ℕ) (es : List listing.Entry) (l : Lists) → Shows limit es l → lines_of l.entries.listed ≡ found_text limit es
+found_lines limit es l shown = ap lines_of shown.listed ∙ same_lines (take limit es)
 
 -- ---- where there is a fault there is an entry
 

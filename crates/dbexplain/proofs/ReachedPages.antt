@@ -1,5 +1,5 @@
 -- A tally with one page more.
-use Rattle.std.proofs.Common.{◌≡◌, ℕ, zero, suc, ◌+◌, ◌-◌, ◌^◌, ◌<◌, ◌≤◌, Bool, true, false, cond, ◌&&◌, List, [], min, Option, Some, None, refl, sym, ap, ap₂, ◌∙◌, arith}
+use Rattle.std.proofs.Common.{◌≡◌, ℕ, ◌+◌, ◌-◌, ◌^◌, ◌<◌, ◌≤◌, Bool, true, false, cond, ◌&&◌, List, min, Option, Some, None, refl, sym, ap, ap₂, ◌∙◌, arith}
 use Rattle.std.specs.Prelude.{count_by, slice_get, slice_set, slice_index_or, ◌==◌}
 use Rattle.std.specs.List.{range_with_len}
 use Rattle.std.specs.Option.{option_map_or}
@@ -8,7 +8,6 @@ use Rattle.std.proofs.lemmas.Bool.Decides.{nat_tests}
 use Rattle.std.proofs.lemmas.List.FromFn.{length-range_with_len}
 use Rattle.std.proofs.lemmas.List.Sums.{count_by-le-length}
 use Rattle.std.proofs.lemmas.Option.{get_or_from_slice_get, slice_get_within}
-use Rattle.dbsurvey.proofs.Lists.{count_more}
 use Rattle.dbformat.specs.Address.{freelist_start}
 use Rattle.dbformat.specs.FixedPages.{most_pages}
 use Rattle.dbformat.specs.Lines.{counted}
@@ -18,7 +17,7 @@ use Rattle.dbtrace.specs.declared.Reported.{Reported}
 use Rattle.dbformat.specs.Starts.{start_at}
 use Rattle.dbowner.proofs.Slots.{get_set, get_set_other}
 use Rattle.dbexplain.specs.Summary.{start_count, is_reached}
-use Rattle.dbexplain.specs.Tallies.{Tallied, IsTallyOf, IsTallyTo, HasPageBit, counted_start, has_bit, is_told, no_count, one_reached_page}
+use Rattle.dbexplain.specs.Tallies.{Tallied, IsTallyTo, HasPageBit, counted_start, has_bit, is_told, no_count, one_reached_page}
 use Rattle.dbexplain.specs.TallySteps.{reached_counted}
 use Rattle.dbexplain.specs.declared.tally.StartCount.{StartCount}
 

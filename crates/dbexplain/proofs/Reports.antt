@@ -11,11 +11,10 @@ use Rattle.dbmarks.specs.declared.marks.Mark.{Mark}
 use Rattle.dbmarks.proofs.Markings.{marks_of-length}
 use Rattle.dbentries.specs.Listing as listing
 use Rattle.dbentries.specs.Listing.{entries, size}
-use Rattle.dbentries.specs.Store.{Stored}
-use Rattle.dbentries.specs.Woven.{KeepsFirst}
 use Rattle.dbscan.specs.Placed.{told_faults}
 use Rattle.dbreport.proofs.Checks.{more_counted}
 use Rattle.dblisting.specs.Listed.{listed_entries, looked_at, reported}
+use Rattle.dblisting.specs.Lists.{Lists, Shows}
 use Rattle.dbexplain.specs.Explained.{entry_text, explain_text}
 use Rattle.dbexplain.specs.Summary.{summary}
 use Rattle.dbexplain.proofs.KeptEntries.{some_listed}
@@ -27,8 +26,8 @@ marks_fit file V marks room marked fits =
     omega (arith, all, fits)
 
 -- the line that counts the faults of the other entries
-pub rest_line : (es : List listing.Entry) (s : Stored) (limit : ℕ) → KeepsFirst es s → s.limit ≡ limit → more_text s.rest ≡ more_text (sum_by size (drop limit es))
-rest_line es s limit k e = ap more_text k.rest ∙ more_counted (sum_by size (drop s.limit es)) ∙ ap (λ n. more_text (sum_by size (drop n es))) e
+pub rest_line : (limit : ℕ) (es : List listing.Entry) (l : Lists) → Shows limit es l → more_text l.entries.rest ≡ more_text (sum_by size (drop limit es))
+rest_line limit es l shown = ap more_text shown.rest ∙ more_counted (sum_by size (drop limit es))
 
 -- where faults were reported, there are entries
 pub none_told : (file : List ℕ) (V : List Reference) → listed_entries file V ≡ [] → told_faults file V ≡ []

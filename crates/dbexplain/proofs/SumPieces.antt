@@ -8,7 +8,8 @@ use Rattle.dbformat.specs.SchemaRow.{SchemaRow}
 use Rattle.dbformat.specs.declared.Encoding.{Encoding}
 use Rattle.dbowner.specs.Texts.{tree_of_row}
 use Rattle.dbentries.specs.Lines.{indented}
-use Rattle.dbexplain.specs.Summary.{aligned, faulty_pages_text, root_page, start_name}
+use Rattle.dbscan.specs.Roots.{root_page}
+use Rattle.dbexplain.specs.Summary.{aligned, faulty_pages_text, start_name}
 use Rattle.dbexplain.specs.Sums.{code_sum, numbered_sum, start_sum, sum_front}
 use Rattle.dbexplain.specs.declared.tally.CodeCount.{CodeCount}
 use Rattle.dbexplain.specs.declared.tally.StartCount.{StartCount}

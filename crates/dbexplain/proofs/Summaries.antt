@@ -172,9 +172,6 @@ module _ (file : List ℕ) (V : List Reference) (s : Survey file V) where
   abbrev rows : List SchemaRow
   rows = listed_rows file V
 
-  are : starts file V ≡ schema_link ∷ (map (root_start file) (enumerate_from 1 rows) ++ freelist_starts file)
-  are = starts_are file V s rows refl
-
   -- no fault was reported at the freelist's start where there is no first trunk
   none_free : freelist_starts file ≡ [] → start_count ts freelist_start ≡ 0
   none_free none = count_none (λ (t : Reported). is_part_of_start freelist_start t.part) ts (λ t i. by_case t i (is_part_of_start freelist_start t.part) refl)
@@ -191,7 +188,7 @@ module _ (file : List ℕ) (V : List Reference) (s : Survey file V) where
       by_case t i true e =
           let at = (of_starts file V s t i freelist_start (start_is freelist_start t.part e)).start in
           let m = IsIn-from_map (λ (l : Link Way). l.step) (starts file V) freelist_start at in
-          absurd (no_step m.0 (subst (IsIn m.0) are m.1) m.2)
+          absurd (no_step m.0 (subst (IsIn m.0) (starts_are file V s rows refl) m.1) m.2)
 
   free_line : start_sum_line file V ts freelist_start ≡ flat_map (λ (l : Link Way). start_sum_line file V ts l.step) (freelist_starts file)
   free_line = by_case (first_trunk file == 0) none_free
@@ -208,7 +205,7 @@ module _ (file : List ℕ) (V : List Reference) (s : Survey file V) where
       let M = map (root_start file) (enumerate_from 1 rows) in
       ap₂ (λ a b. start_sum_line file V ts 0 ++ (a ++ b)) (sym (rows_lines 1 rows)) free_line
       ∙ ap (λ w. start_sum_line file V ts 0 ++ w) (sym (flat_map-append f M (freelist_starts file)))
-      ∙ ap (flat_map f) (sym are)
+      ∙ ap (flat_map f) (sym (starts_are file V s rows refl))
 
   module _ (t : Tallied) (is : IsTallyTo V ts n t) where
     trees_are : tree_counts rows t ≡ map (counted_start V ts n) (range_with_len 0 (tree_count rows))

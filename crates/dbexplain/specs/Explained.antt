@@ -13,12 +13,10 @@ use Rattle.dbformat.specs.declared.FaultCode.{FaultCode}
 use Rattle.dbformat.specs.declared.FaultCode.TheVariants.{H06}
 use Rattle.dbtrace.specs.declared.Cause.{Cause}
 use Rattle.dbtrace.specs.declared.Cause.TheVariants as cause
-use Rattle.dbtrace.specs.declared.Reported.{Reported}
 use Rattle.dbentries.specs.Lines.{cause_text, indented, key_text}
-use Rattle.dbentries.specs.Listing.{Entry, entries, size}
+use Rattle.dbentries.specs.Listing.{Entry, size}
 use Rattle.dbentries.specs.Others.{others_text}
-use Rattle.dbentries.specs.Woven.{woven}
-use Rattle.dblisting.specs.Listed.{IsBeginning, listed_entries, lost_faults, other_faults}
+use Rattle.dblisting.specs.Listed.{FirstFaults, first_entries, listed_entries}
 use Rattle.dbexplain.specs.Below.{lines_below, place_line}
 use Rattle.dbscan.specs.Placed.{told_faults}
 use Rattle.dbexplain.specs.Summary.{summary}
@@ -70,8 +68,5 @@ found_text limit es = flat_map (λ (e : Entry). fault_line e.first.fault) (take 
 -- The fault lines of the first entries of the faults found so far: of a beginning of those that the walks and the marks tell, and
 -- of the first lost pages.
 pub record IsFoundText (limit : ℕ) (file : List ℕ) (V : List Reference) (text : List ℕ) : Type 0 where
-  pub told : List Reported
-  pub lost : List Reported
-  pub told_first : IsBeginning told (other_faults file V)
-  pub lost_first : IsBeginning lost (lost_faults file V)
-  pub lines : text ≡ found_text limit (woven (entries told) (entries lost))
+  pub first : FirstFaults file V
+  pub lines : text ≡ found_text limit (first_entries first)

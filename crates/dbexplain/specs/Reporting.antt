@@ -1,5 +1,5 @@
 -- The reporter of `explain`: what a notice makes of it, and what a run leaves.
-use Rattle.std.specs.Prelude.{◌≡◌, ℕ, ◌≤◌, List, [], ◌∷◌, ◌++◌, length, map, Result, Ok, Err}
+use Rattle.std.specs.Prelude.{◌≡◌, ℕ, List, [], ◌∷◌, ◌++◌, length, Result, Ok, Err}
 use Rattle.std.specs.Io.KnownBytes.{Appends}
 use Rattle.dbformat.specs.File.{geometry}
 use Rattle.dbformat.specs.Reference.{Reference}
@@ -11,17 +11,13 @@ use Rattle.dbsource.specs.Outs.{Begins, OutState, Writes}
 use Rattle.dbsource.specs.declared.error.RunError.{RunError}
 use Rattle.dbsource.specs.declared.error.RunError.TheVariants.{ReadFailed}
 use Rattle.dbsource.specs.declared.out.WriteFailed.{WriteFailed}
-use Rattle.dbwalk.specs.Telling.{SinkState}
+use Rattle.dbwalk.specs.Telling.{SinkState, one_out}
 use Rattle.dbscan.specs.Notices.{Notice}
-use Rattle.dbentries.specs.Kept.{kept_of}
-use Rattle.dbentries.specs.Listing as listing
-use Rattle.dbentries.specs.Listing.{rank}
-use Rattle.dbentries.specs.Store.{AreEntriesOf}
-use Rattle.dbentries.specs.Woven.{KeepsFirst, woven}
-use Rattle.dblisting.specs.Listed.{listed_entries}
-use Rattle.dblisting.specs.Told.{HearsReported, listed_now}
+use Rattle.dblisting.specs.Listed.{FirstFaults, first_entries, listed_entries}
+use Rattle.dblisting.specs.Lists.{HoldsFaults, ListsFault, ListsFirst}
+use Rattle.dblisting.specs.Reported.{HearsReported}
 use Rattle.dbexplain.specs.Explained.{explain_text, found_text}
-use Rattle.dbexplain.specs.Keeping.{HasFound, IsEmpty}
+use Rattle.dbexplain.specs.Keeping.{IsEmpty}
 use Rattle.dbexplain.specs.Tallies.{IsTallyOf}
 use Rattle.dbexplain.specs.declared.reporter.ExplainReporter.{ExplainReporter}
 
@@ -30,10 +26,7 @@ module _ {A O : Type 0} where
   pub record Adds (x : Reported) (s t : ExplainReporter A O) : Type 0 where
     pub tally : (ts : List Reported) → IsTallyOf ts s.kept.now.tally → IsTallyOf (ts ++ x ∷ []) t.kept.now.tally
     pub bits : length t.kept.now.tally.pages ≡ length s.kept.now.tally.pages
-    pub entries : (xs : List Reported) → AreEntriesOf xs s.kept.now.entries → s.kept.now.entries.part ≤ rank x.part → AreEntriesOf (xs ++ listed_now x) t.kept.now.entries
-    pub part : s.kept.now.entries.part ≤ rank x.part → t.kept.now.entries.part ≤ rank x.part
-    pub limit : t.kept.now.entries.limit ≡ s.kept.now.entries.limit
-    pub lost : t.kept.now.lost ≡ s.kept.now.lost
+    pub listing : ListsFault x s.kept.now.listing t.kept.now.listing
     pub trees : t.kept.now.trees ≡ s.kept.now.trees
     pub out : t.out.now ≡ s.out.now
 
@@ -41,32 +34,27 @@ module _ {A O : Type 0} where
   abbrev pub Hears : ExplainReporter A O → Notice → ExplainReporter A O → Type 0
   Hears = HearsReported Adds
 
-  -- none is ever refused
-  abbrev pub Never : ExplainReporter A O → Notice → ExplainReporter A O → Type 0
-  Never s notice t = ⊥
-
   module _ (held : O → OutState) where
     -- it borrows its Out, whose failures are counted
     abbrev pub explain_held : ExplainReporter A O → SinkState
-    explain_held s = record { lent = s.out.ghost_name ∷ []; failures = (held s.out.now).failures ∷ [] }
+    explain_held s = one_out s.out.ghost_name (held s.out.now).failures
 
     -- By the answer of a run over a file: the report was put, and this was found; after a failed read nothing was put yet, and the first
     -- faults are listed; and at another error a beginning of the report was put.
-    abbrev pub IsLeft : List ℕ → List Reference → Result Verdict RunError → ExplainReporter A O → ExplainReporter A O → Type 0
-    IsLeft file V (Ok v) s t =
-        Appends (held s.out.now).bytes (held t.out.now).bytes (explain_text s.kept.now.entries.limit file V (listed_entries file V)) × (v ≡ verdict (faults file V))
-    IsLeft file V (Err ReadFailed) s t = (t.out.now ≡ s.out.now) × HasFound file V t.kept.now × (t.kept.now.entries.limit ≡ s.kept.now.entries.limit)
-    IsLeft file V (Err e) s t = Begins (held s.out.now).bytes (held t.out.now).bytes (explain_text s.kept.now.entries.limit file V (listed_entries file V))
+    abbrev pub IsReportLeft : ℕ → List ℕ → List Reference → Result Verdict RunError → ExplainReporter A O → ExplainReporter A O → Type 0
+    IsReportLeft limit file V (Ok v) s t = Appends (held s.out.now).bytes (held t.out.now).bytes (explain_text limit file V (listed_entries file V)) × (v ≡ verdict (faults file V))
+    IsReportLeft limit file V (Err ReadFailed) s t = (t.out.now ≡ s.out.now) × ListsFirst limit file V t.kept.now.listing
+    IsReportLeft limit file V (Err e) s t = Begins (held s.out.now).bytes (held t.out.now).bytes (explain_text limit file V (listed_entries file V))
 
     -- what a run leaves of a reporter of which nothing had been heard
     abbrev pub LeavesExplained : List ℕ → List Reference → Result Verdict RunError → ExplainReporter A O → ExplainReporter A O → Type 0
-    LeavesExplained file V r s t = IsEmpty s.kept.now.entries.limit (geometry file) s.kept.now → IsLeft file V r s t
+    LeavesExplained file V r s t = (limit : ℕ) → IsEmpty limit (geometry file) s.kept.now → IsReportLeft limit file V r s t
 
     -- What the end of a run makes of it: after a failed read the lines of the entries found so far were put, as far as the Out took them.
     pub record PutsLines (s t : ExplainReporter A O) : Type 0 where
       pub put : Result (Unit {0}) WriteFailed
-      pub lines : (es ls : List listing.Entry) → KeepsFirst es s.kept.now.entries → s.kept.now.lost.listed ≡ map kept_of ls
-          → Writes put (held s.out.now).bytes (held t.out.now).bytes (found_text s.kept.now.entries.limit (woven es ls))
+      pub lines : (limit : ℕ) (file : List ℕ) (V : List Reference) (first : FirstFaults file V) → HoldsFaults limit first.told first.lost s.kept.now.listing
+          → Writes put (held s.out.now).bytes (held t.out.now).bytes (found_text limit (first_entries first))
       pub count : (held t.out.now).failures ≡ failures_after is_any put (held s.out.now).failures
 
     -- by the answer

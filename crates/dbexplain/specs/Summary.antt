@@ -1,6 +1,6 @@
 -- The summary of `explain` (own): how many faults a file has, with each code and reported at each start, on how many of the pages that were
 -- reached from there, and how many of the trees have no fault.
-use Rattle.std.specs.Prelude.{◌≡◌, ℕ, suc, ◌+◌, ◌-◌, Bool, true, false, ◌&&◌, List, [], ◌∷◌, ◌++◌, length, replicate, take, flat_map, count_by, sum_by, codes, decimal, slice_get, ◌==◌, if◌then◌else◌}
+use Rattle.std.specs.Prelude.{◌≡◌, ℕ, suc, ◌+◌, ◌-◌, Bool, true, false, ◌&&◌, List, [], ◌∷◌, ◌++◌, length, replicate, take, flat_map, count_by, sum_by, codes, decimal, ◌==◌, if◌then◌else◌}
 use Rattle.std.specs.List.{list_any, range_with_len}
 use Rattle.std.specs.Option.{option_map_or}
 use Rattle.dbformat.specs.Address.{freelist_start, last_root_start}
@@ -21,6 +21,7 @@ use Rattle.dbtrace.specs.declared.Reported.{Reported}
 use Rattle.dbowner.specs.Texts.{tree_of_row}
 use Rattle.dbformat.specs.Starts.{start_at}
 use Rattle.dbscan.specs.Placed.{told_faults}
+use Rattle.dbscan.specs.Roots.{root_page}
 
 -- Faults.
 
@@ -69,10 +70,6 @@ faulty_pages_at file ts k = count_by (is_faulty_at ts k) (page_numbers (geometry
 -- the rows of the schema that have a start
 abbrev pub listed_rows : List ℕ → List Reference → List SchemaRow
 listed_rows file V = take last_root_start (rooted_rows (schema file V))
-
--- the root page of a start, by these rows: the schema's is page 1
-abbrev pub root_page : List SchemaRow → ℕ → ℕ
-root_page rows k = if k == 0 then 1 else option_map_or (λ row. row.root) (slice_get rows (k - 1)) 0
 
 -- a start by its name: the freelist, or a tree and its root page
 abbrev pub start_name : Encoding → List SchemaRow → ℕ → List ℕ

@@ -34,11 +34,17 @@ pub(crate) struct Owners<'a, A: Allocator = Global> {
 #[derive(Clone, Copy)]
 pub(crate) enum Below {
     Nothing,
+    /// The number of pages that the header states.
     StatedPages,
+    /// The greatest root page that the header states.
     GreatestRoot,
+    /// The number of pages on the freelist that the header states.
     FreelistCount,
+    /// Where the fault is.
     Own,
+    /// Where the fault is, and where the page is that its value names.
     Both,
+    /// Where the page is, and the entry of the pointer map that it should have.
     Entry,
 }
 

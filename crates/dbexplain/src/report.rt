@@ -1,12 +1,10 @@
 // The report, when all of a file is known, and what is put of it after a failed read.
-ghost use Rattle.std.specs.Prelude.{◌≡◌, ℕ, List, [], map};
+ghost use Rattle.std.specs.Prelude.{◌≡◌, ℕ, List, []};
 ghost use Rattle.dbformat.specs.Reference.{Reference};
 ghost use Rattle.dbsource.specs.Failures.{failures_after, is_any};
 ghost use Rattle.dbsource.specs.Outs.{Writes};
-ghost use Rattle.dbentries.specs.Kept.{kept_of};
-ghost use Rattle.dbentries.specs.Listing as listing;
-ghost use Rattle.dbentries.specs.Woven.{KeepsFirst, woven};
-ghost use Rattle.dblisting.specs.Listed.{listed_entries};
+ghost use Rattle.dblisting.specs.Listed.{FirstFaults, first_entries, listed_entries};
+ghost use Rattle.dblisting.specs.Lists.{HoldsFaults, Shows};
 ghost use Rattle.dbowner.specs.Climbs.{AreTrees};
 ghost use Rattle.dbscan.specs.Finishes.{IsDeskOf};
 ghost use Rattle.dbscan.specs.Placed.{told_faults};
@@ -37,14 +35,13 @@ fn owners_of<A: Allocator>(desk: &Desk<A>) -> Owners<'_, A>
 
 // Makes ready what is kept when all of a file is known: whose each page is, and the entries of lost pages in their places.
 fn make_ready<A: Allocator>(desk: &Desk<A>, kept: &mut Kept<A>)
-    ensures trees { (file : List ℕ) (V : List Reference) → IsDeskOf desk.now file V → HasAll file V kept.old → AreTrees file V kept.new.trees.known }
-    ensures entries { (file : List ℕ) (V : List Reference) → IsDeskOf desk.now file V → HasAll file V kept.old
-        → KeepsFirst (listed_entries file V) kept.new.entries }
-    ensures limit { kept.new.entries.limit ≡ kept.old.entries.limit }
+    ensures trees { (limit : ℕ) (file : List ℕ) (V : List Reference) → IsDeskOf desk.now file V → HasAll limit file V kept.old
+        → AreTrees file V kept.new.trees.known }
+    ensures listed { (limit : ℕ) (file : List ℕ) (V : List Reference) → HasAll limit file V kept.old → Shows limit (listed_entries file V) kept.new.listing }
     ensures tally { kept.new.tally ≡ kept.old.tally }
 {
     kept.trees.enter_roots(desk.marks(), desk.roots());
-    kept.entries.weave(kept.lost.listed());
+    kept.listing.weave();
 }
 
 /// Puts the report of a file in which faults were found: the first entries, how many faults belong to none of them, and the
@@ -58,14 +55,14 @@ pub(crate) fn put_report<A: Allocator, O: Out>(
     kept: &mut Kept<A>,
     out: &mut O,
 ) -> Result<(), WriteFailed>
-    ensures report { (file : List ℕ) (V : List Reference) → IsDeskOf desk.now file V → HasAll file V kept.old → (told_faults file V ≡ [] → ⊥)
-        → Writes result (O.held out.old).bytes (O.held out.new).bytes (explain_text kept.old.entries.limit file V (listed_entries file V)) }
+    ensures report { (limit : ℕ) (file : List ℕ) (V : List Reference) → IsDeskOf desk.now file V → HasAll limit file V kept.old → (told_faults file V ≡ [] → ⊥)
+        → Writes result (O.held out.old).bytes (O.held out.new).bytes (explain_text limit file V (listed_entries file V)) }
     ensures count { (O.held out.new).failures ≡ failures_after is_any result (O.held out.old).failures }
 {
     make_ready(desk, kept);
     let owners = owners_of(desk);
-    put_entries(&owners, &mut kept.trees, out, kept.entries.listed())?;
-    put_rest(out, kept.entries.rest())?;
+    put_entries(&owners, &mut kept.trees, out, kept.listing.listed())?;
+    put_rest(out, kept.listing.rest())?;
     put_summary(out, &owners, &mut kept.trees, &mut kept.tally)
 }
 
@@ -78,10 +75,10 @@ pub(crate) fn put_found<A: Allocator, O: Out>(
     kept: &mut Kept<A>,
     out: &mut O,
 ) -> Result<(), WriteFailed>
-    ensures lines { (es ls : List listing.Entry) → KeepsFirst es kept.old.entries → kept.old.lost.listed ≡ map kept_of ls
-        → Writes result (O.held out.old).bytes (O.held out.new).bytes (found_text kept.old.entries.limit (woven es ls)) }
+    ensures lines { (limit : ℕ) (file : List ℕ) (V : List Reference) (first : FirstFaults file V) → HoldsFaults limit first.told first.lost kept.old.listing
+        → Writes result (O.held out.old).bytes (O.held out.new).bytes (found_text limit (first_entries first)) }
     ensures count { (O.held out.new).failures ≡ failures_after is_any result (O.held out.old).failures }
 {
-    kept.entries.weave(kept.lost.listed());
-    put_fault_lines(out, kept.entries.listed())
+    kept.listing.weave();
+    put_fault_lines(out, kept.listing.listed())
 }

@@ -5,9 +5,9 @@ ghost use Rattle.dbexplain.specs.Reporting.{Adds, Ends, explain_held};
 use crate::kept::Kept;
 use crate::report::{put_found, put_report};
 use dbentries::Reported;
-use dbformat::{FaultCode, Verdict};
+use dbformat::Verdict;
 use dblines::put_ok;
-use dblisting::{at_start, look_at_lost, of_file};
+use dblisting::{at_start, of_file};
 use dbscan::{Desk, Finish, Notice, Reporter};
 use dbsource::{Geometry, Out, RunError, Source, WriteFailed};
 use dbwalk::Marks;
@@ -30,15 +30,13 @@ impl<'a, A: Allocator, O: Out> ExplainReporter<'a, A, O> {
         ExplainReporter { kept, out }
     }
 
-    // Counts a fault, and lists it, but for that of a lost page.
+    // Counts a fault, and lists it.
     fn add(&mut self, told: &Reported)
         ensures added { Adds told.now self.old self.new }
         ensures held { explain_held O.held self.new ≡ explain_held O.held self.old }
     {
         self.kept.tally.add(told);
-        if told.fault.code != FaultCode::N01 {
-            self.kept.entries.add(told);
-        }
+        self.kept.listing.add(told);
     }
 
     /// After a failed read, puts the lines of the entries found so far. That the Out fails then too is not reported.
@@ -53,11 +51,12 @@ impl<'a, A: Allocator, O: Out> ExplainReporter<'a, A, O> {
 }
 
 impl<A: Allocator, O: Out> Reporter for ExplainReporter<'_, A, O> {
-    ghost use Rattle.dbexplain.specs.Reporting.{Hears, Never, explain_held};
+    ghost use Rattle.dbscan.specs.Notices.{CutsNever};
+    ghost use Rattle.dbexplain.specs.Reporting.{Hears, explain_held};
 
     ghost hears = { Hears };
 
-    ghost cuts = { Never };
+    ghost cuts = { CutsNever };
 
     ghost held = { explain_held O.held };
 
@@ -95,7 +94,7 @@ impl<A: Allocator, O: Out> Finish<Desk<A>> for ExplainReporter<'_, A, O> {
             put_ok(self.out)?;
             return Ok(verdict);
         }
-        look_at_lost(desk, source, &mut self.kept.lost)?;
+        self.kept.listing.look_at_lost(desk, source)?;
         put_report(desk, self.kept, self.out)?;
         Ok(verdict)
     }

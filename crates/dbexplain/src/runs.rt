@@ -5,7 +5,7 @@ ghost use Rattle.dbformat.specs.Reference.{Reference};
 ghost use Rattle.dbformat.specs.Survey.{Survey};
 ghost use Rattle.dbsource.specs.Errors.{is_read_failed};
 ghost use Rattle.dbsource.specs.Failures.{failures_after};
-ghost use Rattle.dbsource.specs.Snapshots.{HasReadBehind};
+ghost use Rattle.dbsource.specs.Snapshots.{HasReadAfterHeader};
 ghost use Rattle.dbwalk.specs.Telling.{IsReadWriteOrMemory};
 ghost use Rattle.dbscan.specs.DeskSizes.{DeskFitsInMemory};
 ghost use Rattle.dbscan.specs.Desks.{shape_of};
@@ -30,10 +30,9 @@ fn explain_on<A: Allocator, S: Source, O: Out>(
     source: &mut S,
     out: &mut O,
 ) -> Result<Verdict, RunError>
-    requires { IsEmpty kept.old.entries.limit (shape_of desk.old) kept.old }
-    ensures read { HasReadBehind S.step (IsPageLog (shape_of desk.old)) desk.old.header (λ file. (V : List Reference) → Survey file V
-        → WritesReport kept.old.entries.limit file V result (O.held out.old) (O.held out.new)
-        × IfOk result (λ v. (explain_report kept.old.entries.limit file V).answer ≡ Ok v))
+    ensures read { (limit : ℕ) → IsEmpty limit (shape_of desk.old) kept.old
+        → HasReadAfterHeader S.step (IsPageLog (shape_of desk.old)) desk.old.header (λ file. (V : List Reference) → Survey file V
+        → WritesReport limit file V result (O.held out.old) (O.held out.new) × IfOk result (λ v. (explain_report limit file V).answer ≡ Ok v))
         (S.held source.old) (S.held source.new) }
     ensures reads { (S.held source.new).failures ≡ failures_after is_read_failed result (S.held source.old).failures }
     ensures writes { OutFailures result (O.held out.old).failures (O.held out.new).failures }

@@ -4,30 +4,17 @@ ghost use Rattle.std.specs.Prelude.{◌≡◌, ◌+◌, ◌≤◌, ◌∷◌, []
 ghost use Rattle.std.specs.List.{enumerate_from, flat_map};
 ghost use Rattle.dbformat.specs.Lines.{line_feed};
 ghost use Rattle.dbsource.specs.Outs.{Puts};
-ghost use Rattle.dbexplain.specs.Summary.{faulty_pages_text, root_page, start_name};
+ghost use Rattle.dbexplain.specs.Summary.{faulty_pages_text, start_name};
 ghost use Rattle.dbexplain.specs.Sums.{numbered_sum, start_sum, sum_front, without_fault};
 
 use crate::sums::sum_front;
 use crate::tally::StartCount;
 use arrayvec::ArrayVec;
-use dbformat::{FREELIST_START, SCHEMA_START};
+use dbformat::FREELIST_START;
 use dblines::{append, append_number};
-use dbowner::{RootList, TreeNames};
+use dbowner::TreeNames;
 use dbsource::{Out, WriteFailed};
 use std::alloc::Allocator;
-
-// The root page of a start: the schema's is page 1.
-fn root_page<A: Allocator>(roots: &RootList<A>, start: u32) -> u32
-    ensures { result ≡ root_page roots.now.rows start }
-{
-    if start == SCHEMA_START {
-        return 1;
-    }
-    match roots.get(start) {
-        Some(row) => row.root,
-        None => 0,
-    }
-}
 
 // A root page, after its tree.
 fn root_text(page: u32) -> ArrayVec<u8, 64>
@@ -52,11 +39,11 @@ fn put_name<A: Allocator, O: Out>(
         return out.put(b"the freelist");
     }
     names.put_tree(out, start)?;
-    out.put(root_text(root_page(names.roots, start)).as_slice())
+    out.put(root_text(names.roots.root_page(start)).as_slice())
 }
 
 // What is before the name of a start in the line of its count.
-fn start_front(all: u64, count: u64) -> ArrayVec<u8, 160>
+fn count_front(all: u64, count: u64) -> ArrayVec<u8, 160>
     ensures { result.items ≡ sum_front all count ++ codes "in " }
 {
     let mut front = sum_front(all, count);
@@ -94,12 +81,12 @@ pub(crate) fn put_start_sum<A: Allocator, O: Out>(
     if count.faults == 0 {
         return Ok(());
     }
-    out.put(start_front(all, count.faults).as_slice())?;
+    out.put(count_front(all, count.faults).as_slice())?;
     put_name(out, names, start)?;
     out.put(pages_text(count.faulty, count.reached).as_slice())
 }
 
-// Puts that of each tree, from the schema's on.
+// Puts the line of each tree, from the schema's on.
 pub(crate) fn put_start_sums<A: Allocator, O: Out>(
     out: &mut O,
     names: &TreeNames<'_, A>,

@@ -8,12 +8,10 @@ ghost use Rattle.dbexplain.specs.Sums.{freelist_start_count};
 ghost use Rattle.dbexplain.specs.TallySteps.{bit_set, page_of_start_counted, start_fault_counted};
 
 use dbformat::{FREELIST_START, FaultCode, Geometry};
+use dbscan::STARTS;
 use dbtrace::{Part, Reported};
 use std::alloc::{AllocError, Allocator, Global};
 use std::marker::Model;
-
-// How many starts there are.
-const STARTS: usize = FREELIST_START as usize + 1;
 
 /// How many faults have a code.
 #[derive(Clone, Copy, Debug, PartialEq, Eq)]
@@ -61,7 +59,7 @@ const NO_COUNT: StartCount = StartCount {
     faulty: 0,
 };
 
-// A code that no fault was reported with yet.
+// The count of a code, 0.
 fn zero_count(code: FaultCode) -> CodeCount
     ensures { result ≡ counted_code [] code }
 {

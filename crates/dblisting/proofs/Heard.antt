@@ -13,7 +13,8 @@ use Rattle.dbscan.specs.Notices.{Notice, whole, found, ended, walked, run_notice
 use Rattle.dbscan.specs.Placed.{at_start, of_file, part_of_code, reported_in, reported_of, told_faults}
 use Rattle.dbscan.proofs.HeardFaults.{run_heard}
 use Rattle.dblisting.specs.Listed.{IsBeginning}
-use Rattle.dblisting.specs.Told.{HearsReported}
+use Rattle.dblisting.specs.Lists.{Lists, ListsFault}
+use Rattle.dblisting.specs.Reported.{HearsReported}
 use Rattle.dblisting.proofs.PartsRise.{PartsRise, parts_rise}
 
 -- up to some point is to the end of a beginning
@@ -28,15 +29,15 @@ never_stops move [] s t h = h
 never_stops move (e ∷ es) s t (inl h) = h
 never_stops move (e ∷ es) s t (inr (m, k, h)) = never_stops move es m t h
 
--- By what is so of a reporter that has heard some faults, where the part of the last one is not after those of the next.
-module _ {K : Type 0} (adds : Reported → K → K → Type 0) (part : K → ℕ) (Has : List Reported → K → Type 0)
-    (one : (x : Reported) (ts : List Reported) (s t : K) → part s ≤ rank x.part → Has ts s → adds x s t → Has (ts ++ x ∷ []) t)
-    (last : (x : Reported) (s t : K) → part s ≤ rank x.part → adds x s t → part t ≤ rank x.part) where
+-- By what is so of a reporter that has heard some faults and lists them, where the part of the last one is not after those of the next.
+module _ {K : Type 0} (adds : Reported → K → K → Type 0) (listing : K → Lists) (lists : (x : Reported) (s t : K) → adds x s t → ListsFault x (listing s) (listing t))
+    (Has : List Reported → K → Type 0)
+    (one : (x : Reported) (ts : List Reported) (s t : K) → (listing s).entries.part ≤ rank x.part → Has ts s → adds x s t → Has (ts ++ x ∷ []) t) where
   abbrev IsBefore : K → List Reported → Type 0
-  IsBefore s ts = (x : Reported) → IsIn x ts → part s ≤ rank x.part
+  IsBefore s ts = (x : Reported) → IsIn x ts → (listing s).entries.part ≤ rank x.part
 
-  after_one : (x : Reported) (rest : List Reported) (s t : K) → PartsRise (x ∷ rest) → part s ≤ rank x.part → adds x s t → IsBefore t rest
-  after_one x rest s t rise most a y i = let l = last x s t most a in let k = rise.0 y i in omega (arith, l, k)
+  after_one : (x : Reported) (rest : List Reported) (s t : K) → PartsRise (x ∷ rest) → (listing s).entries.part ≤ rank x.part → adds x s t → IsBefore t rest
+  after_one x rest s t rise most a y i = let l = (lists x s t a).part most in let k = rise.0 y i in omega (arith, l, k)
 
   -- notice after notice
   all_heard : (ns : List Notice) (ts : List Reported) (s t : K) → PartsRise (reported_in ns) → IsBefore s (reported_in ns) → Has ts s → Moves (HearsReported adds) s ns t
@@ -72,7 +73,7 @@ module _ {K : Type 0} (adds : Reported → K → K → Type 0) (part : K → ℕ
       )
 
   -- of a file, by one that had heard nothing
-  module _ (file : List ℕ) (V : List Reference) (survey : Survey file V) (s t : K) (first : part s ≡ 0) (none : Has [] s) where
+  module _ (file : List ℕ) (V : List Reference) (survey : Survey file V) (s t : K) (first : (listing s).entries.part ≡ 0) (none : Has [] s) where
     rises : PartsRise (reported_in (run_notices file V))
     rises = subst PartsRise (sym (run_heard file V survey)) (parts_rise file V survey)
 

@@ -36,7 +36,7 @@ use Rattle.dbscan.specs.Placed.{at_start, is_header_code, is_walk_code, of_file,
 use Rattle.dbscan.proofs.FileCodes.{header_codes}
 use Rattle.dbscan.proofs.WalkCodes.{walk_codes}
 use Rattle.dblisting.specs.Listed.{IsBeginning, looked_at, lost_faults}
-use Rattle.dblisting.specs.Lost.{is_nowhere, lost_at, lost_page}
+use Rattle.dblisting.specs.Lost.{is_unreached, lost_at, lost_page}
 
 -- ---- by the marks
 
@@ -50,27 +50,27 @@ visit_marked trunk from = refl
 visit_marked free_leaf from = refl
 
 -- a page is lost just where its mark is none
-nowhere_by_mark : (file : List ℕ) (V : List Reference) (p : ℕ) → is_none (mark_of (geometry file) V p) ≡ is_nowhere file V p
+nowhere_by_mark : (file : List ℕ) (V : List Reference) (p : ℕ) → is_none (mark_of (geometry file) V p) ≡ is_unreached file V p
 unfolding mark_of
 nowhere_by_mark file V p = by_case (is_fixed (geometry file) p) refl (visit_of V p) refl
   where
-    by_case : (b : Bool) → is_fixed (geometry file) p ≡ b → (o : Option Reference) → visit_of V p ≡ o → is_none (mark_of (geometry file) V p) ≡ is_nowhere file V p
+    by_case : (b : Bool) → is_fixed (geometry file) p ≡ b → (o : Option Reference) → visit_of V p ≡ o → is_none (mark_of (geometry file) V p) ≡ is_unreached file V p
     by_case true e o f = rw e refl
     by_case false e None f = rw (e, f) refl
     by_case false e (Some r) f = rw (e, f) (visit_marked (role_of r) (from_of r))
 
 -- where the marks are those of a survey, a page of the file has none just where it is lost
 pub unmarked_nowhere : (file : List ℕ) (V : List Reference) (marks : List Mark) (p : ℕ) → AreMarksOf file V marks → 1 ≤ p → p ≤ (geometry file).pages
-    → is_unmarked marks p ≡ is_nowhere file V p
+    → is_unmarked marks p ≡ is_unreached file V p
 unmarked_nowhere file V marks p m low high =
     ap (λ marks. is_unmarked marks p) m
     ∙ ap (λ o. option_map_or is_none o false) (page_mark-in (geometry file) V p low high)
     ∙ nowhere_by_mark file V p
 
-pub lost_here : (file : List ℕ) (V : List Reference) (p : ℕ) → is_nowhere file V p ≡ true → lost_at file V p ≡ lost_page file p ∷ []
+pub lost_here : (file : List ℕ) (V : List Reference) (p : ℕ) → is_unreached file V p ≡ true → lost_at file V p ≡ lost_page file p ∷ []
 lost_here file V p h = rw h refl
 
-pub not_lost : (file : List ℕ) (V : List Reference) (p : ℕ) → is_nowhere file V p ≡ false → lost_at file V p ≡ []
+pub not_lost : (file : List ℕ) (V : List Reference) (p : ℕ) → is_unreached file V p ≡ false → lost_at file V p ≡ []
 not_lost file V p h = rw h refl
 
 -- ---- their faults

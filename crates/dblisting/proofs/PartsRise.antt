@@ -14,7 +14,7 @@ use Rattle.dbtrace.specs.declared.Part.TheVariants as part
 use Rattle.dbtrace.specs.declared.Reported.{Reported}
 use Rattle.dbentries.specs.Listing.{rank}
 use Rattle.dbscan.specs.Notices.{Notice, whole, found, ended, walked, start_notices}
-use Rattle.dbscan.specs.Placed.{StartsRise, number_of, of_file, told_faults, told_in, walk_told}
+use Rattle.dbscan.specs.Placed.{StartsRise, number_of, of_file, told_faults, start_faults_in, walk_told}
 use Rattle.dbscan.proofs.PlacedFaults.{starts_told}
 use Rattle.dbscan.proofs.StartsRise.{are_starts, starts_rise}
 
@@ -39,7 +39,7 @@ part_rises p (f ∷ fs) = (
 -- ---- those of the walks
 
 -- the start of a fault is that of its notice
-numbered : (ns : List Notice) (x : Reported) → IsIn x (told_in ns) → (k : ℕ) × IsIn k (filter_map number_of ns) × (rank x.part ≡ k + 1)
+numbered : (ns : List Notice) (x : Reported) → IsIn x (start_faults_in ns) → (k : ℕ) × IsIn k (filter_map number_of ns) × (rank x.part ≡ k + 1)
 numbered [] x i = absurd i
 numbered (whole f ∷ ns) x i = numbered ns x i
 numbered (walked g marks ∷ ns) x i = numbered ns x i
@@ -48,7 +48,7 @@ numbered (found at (told_row r) ∷ ns) x i = let k = numbered ns x i in (k.0, i
 numbered (found at (told_fault f why) ∷ ns) x (inl e) = let P : Reported → Type 0 = λ y. rank y.part ≡ at.number + 1 in (at.number, inl refl, subst P (sym e) refl)
 numbered (found at (told_fault f why) ∷ ns) x (inr i) = let k = numbered ns x i in (k.0, inr k.1, k.2)
 
-found_rises : (ns : List Notice) → StartsRise ns → PartsRise (told_in ns)
+found_rises : (ns : List Notice) → StartsRise ns → PartsRise (start_faults_in ns)
 found_rises [] h = tt
 found_rises (whole f ∷ ns) h = found_rises ns h
 found_rises (walked g marks ∷ ns) h = found_rises ns h

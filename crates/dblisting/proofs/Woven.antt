@@ -6,9 +6,8 @@ use Rattle.dbtrace.specs.declared.Reported.{Reported}
 use Rattle.dbentries.specs.Kept.{kept_of}
 use Rattle.dbentries.specs.Listing.{entries}
 use Rattle.dbentries.specs.Store.{AreEntriesOf, Stored}
-use Rattle.dbentries.specs.Woven.{woven}
 use Rattle.dbentries.proofs.Apart.{weaving_is_listing}
-use Rattle.dblisting.specs.Listed.{IsBeginning, listed_entries, lost_faults, other_faults, reported}
+use Rattle.dblisting.specs.Listed.{FirstFaults, IsBeginning, first_entries, listed_entries, lost_faults, other_faults, reported}
 use Rattle.dblisting.proofs.FewLost.{few_first_lost}
 use Rattle.dblisting.proofs.ReportOrder.{in_report_order}
 
@@ -22,9 +21,15 @@ all_lost file V ys s first are six =
 pub all_begins : (ys : List Reported) → IsBeginning ys ys
 all_begins ys = ([], append-nil ys)
 
-pub every_lost : (file : List ℕ) (V : List Reference) (s : Stored) → AreEntriesOf (lost_faults file V) s → s.limit ≡ 6 → s.listed ≡ map kept_of (entries (lost_faults file V))
-every_lost file V s are six = all_lost file V (lost_faults file V) s (all_begins (lost_faults file V)) are six
+-- all faults are first ones
+abbrev pub all_faults : (file : List ℕ) (V : List Reference) → FirstFaults file V
+all_faults file V = record {
+  told = other_faults file V;
+  lost = lost_faults file V;
+  told_first = all_begins (other_faults file V);
+  lost_first = all_begins (lost_faults file V);
+}
 
--- with those in their places, they are all entries
-pub all_woven : (file : List ℕ) (V : List Reference) → woven (entries (other_faults file V)) (entries (lost_faults file V)) ≡ listed_entries file V
+-- with those of lost pages in their places, their entries are all that is listed
+pub all_woven : (file : List ℕ) (V : List Reference) → first_entries (all_faults file V) ≡ listed_entries file V
 all_woven file V = sym (weaving_is_listing (reported file V) (in_report_order file V))

@@ -1,3 +1,4 @@
 pub mod Listed
+pub mod Lists
 pub mod Lost
-pub mod Told
+pub mod Reported

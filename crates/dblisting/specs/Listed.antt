@@ -7,6 +7,7 @@ use Rattle.dbtrace.specs.declared.Cause.TheVariants as cause
 use Rattle.dbtrace.specs.declared.Reported.{Reported}
 use Rattle.dbentries.specs.Apart.{is_lost}
 use Rattle.dbentries.specs.Listing.{Entry, entries}
+use Rattle.dbentries.specs.Woven.{woven}
 use Rattle.dbscan.specs.Placed.{told_faults}
 
 -- ---- all faults, each with what it goes back to
@@ -29,9 +30,24 @@ listed_entries file V = entries (reported file V)
 abbrev pub lost_faults : List ℕ → List Reference → List Reported
 lost_faults file V = filter is_lost (reported file V)
 
-abbrev pub other_faults : List ℕ → List Reference → List Reported
-other_faults file V = filter (λ x. not (is_lost x)) (reported file V)
+abbrev pub others_of : List Reported → List Reported
+others_of xs = filter (λ x. not (is_lost x)) xs
 
--- the first of some faults
+abbrev pub other_faults : List ℕ → List Reference → List Reported
+other_faults file V = others_of (reported file V)
+
+-- ---- the first of them
+
 abbrev pub IsBeginning : List Reported → List Reported → Type 0
 IsBeginning xs ys = (rest : List Reported) × (xs ++ rest ≡ ys)
+
+-- the first faults of lost pages, and the first of the others
+pub record FirstFaults (file : List ℕ) (V : List Reference) : Type 0 where
+  pub told : List Reported
+  pub lost : List Reported
+  pub told_first : IsBeginning told (other_faults file V)
+  pub lost_first : IsBeginning lost (lost_faults file V)
+
+-- their entries, those of lost pages in their places
+abbrev pub first_entries : {file : List ℕ} {V : List Reference} → FirstFaults file V → List Entry
+first_entries first = woven (entries first.told) (entries first.lost)

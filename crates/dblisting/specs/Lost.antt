@@ -1,5 +1,5 @@
 -- Lost pages: no visit names them, and they have no fixed use. Each has a fault, which goes back to what the page looks like.
-use Rattle.std.specs.Prelude.{◌≡◌, ℕ, ◌≤◌, not, Bool, ◌&&◌, List, [], ◌∷◌, ◌++◌, pos, is_some, Result, MatchResult, if◌then◌else◌}
+use Rattle.std.specs.Prelude.{◌≡◌, ℕ, not, Bool, ◌&&◌, List, [], ◌∷◌, ◌++◌, pos, is_some, Result, MatchResult, if◌then◌else◌}
 use Rattle.dbformat.specs.EndFaults.{visit_of}
 use Rattle.dbformat.specs.Faults.{fault}
 use Rattle.dbformat.specs.File.{geometry}
@@ -10,13 +10,11 @@ use Rattle.dbformat.specs.declared.FaultCode.TheVariants.{N01}
 use Rattle.dbtrace.specs.declared.Cause.TheVariants as cause
 use Rattle.dbtrace.specs.declared.Part.TheVariants as part
 use Rattle.dbtrace.specs.declared.Reported.{Reported}
-use Rattle.dbentries.specs.Listing.{rank}
-use Rattle.dbentries.specs.Store.{AreEntriesOf, Stored}
-use Rattle.dblisting.specs.Listed.{IsBeginning, lost_faults}
+use Rattle.dblisting.specs.Lists.{HoldsFaults, Lists, ListsAll, ListsFirst}
 
 -- whether page p is of no fixed use, and no visit names it
-abbrev pub is_nowhere : List ℕ → List Reference → ℕ → Bool
-is_nowhere file V p = not (is_fixed (geometry file) p) && not (is_some (visit_of V p))
+abbrev pub is_unreached : List ℕ → List Reference → ℕ → Bool
+is_unreached file V p = not (is_fixed (geometry file) p) && not (is_some (visit_of V p))
 
 -- the fault of a lost page
 abbrev pub lost_page : List ℕ → ℕ → Reported
@@ -24,20 +22,13 @@ lost_page file p = record { part = part.End; fault = fault N01 p 0 (pos 0); caus
 
 -- that of page p, if p is lost
 abbrev pub lost_at : List ℕ → List Reference → ℕ → List Reported
-lost_at file V p = if is_nowhere file V p then lost_page file p ∷ [] else []
-
--- no fault has been listed
-pub record IsUnused (s : Stored) : Type 0 where
-  pub none : AreEntriesOf [] s
-  pub part : s.part ≡ 0
+lost_at file V p = if is_unreached file V p then lost_page file p ∷ [] else []
 
 -- The fault of page p was listed after those of the pages before it, if p is lost; after a failed read it was not.
-pub record AddsLost {A E : Type 0} (file : List ℕ) (V : List Reference) (p : ℕ) (r : Result A E) (old new : Stored) : Type 0 where
-  pub listed : MatchResult r (λ _. (xs : List Reported) → AreEntriesOf xs old → old.part ≤ rank part.End → AreEntriesOf (xs ++ lost_at file V p) new)
-      (λ _. new ≡ old)
-  pub part : old.part ≤ rank part.End → new.part ≤ rank part.End
+abbrev pub AddsLost : {A E : Type 0} → List ℕ → List Reference → ℕ → Result A E → Lists → Lists → Type 0
+AddsLost file V p r old new =
+    MatchResult r (λ _. (limit : ℕ) (xs ys : List Reported) → HoldsFaults limit xs ys old → HoldsFaults limit xs (ys ++ lost_at file V p) new) (λ _. new ≡ old)
 
 -- the faults of all lost pages were listed; after a failed read the first of them
-abbrev pub HasLooked : {A E : Type 0} → List ℕ → List Reference → Result A E → Stored → Type 0
-HasLooked file V r new =
-    MatchResult r (λ _. AreEntriesOf (lost_faults file V) new) (λ _. (xs : List Reported) × IsBeginning xs (lost_faults file V) × AreEntriesOf xs new)
+abbrev pub HasLooked : {A E : Type 0} → ℕ → List ℕ → List Reference → Result A E → Lists → Type 0
+HasLooked limit file V r new = MatchResult r (λ _. ListsAll limit file V new) (λ _. ListsFirst limit file V new)

@@ -10,17 +10,17 @@ ghost use Rattle.dbmarks.specs.Marking.{is_unmarked};
 ghost use Rattle.dbscan.specs.Desks.{shape_of};
 ghost use Rattle.dbscan.specs.Finishes.{IsDeskOf};
 ghost use Rattle.dbscan.specs.Looks.{IsUnmarked, ReadsOrNot, ReadsRising};
-ghost use Rattle.dblisting.specs.Lost.{AddsLost, HasLooked, IsUnused};
+ghost use Rattle.dbscan.specs.Placed.{told_faults};
+ghost use Rattle.dblisting.specs.Lists.{HasListed};
+ghost use Rattle.dblisting.specs.Lost.{AddsLost, HasLooked};
 
-use dbentries::{Cause, Entries, Part, Reported};
+use crate::listing::Listing;
+use dbentries::{Cause, Part, Reported};
 use dbformat::{Fault, FaultCode};
 use dbscan::Desk;
 use dbsource::{ReadFailed, Source};
 use dbwalk::Mark;
 use std::alloc::Allocator;
-
-/// How many entries lost pages have at most: one for each kind of page of a tree, one for zeros, and one for all others.
-pub const LOST_ENTRIES: u32 = 6;
 
 // The fault of a page to which nothing refers.
 fn lost_fault(page: u32) -> Fault
@@ -46,50 +46,52 @@ fn is_lost<A: Allocator>(desk: &Desk<A>, page: u32) -> bool
     marks.get(page) == Mark::Unmarked
 }
 
-// Looks at a page of the file, if nothing refers to it, and adds its fault.
-fn look_at_page<A: Allocator, S: Source>(
-    desk: &mut Desk<A>,
-    source: &mut S,
-    lost: &mut Entries<A>,
-    page: u32,
-) -> Result<(), ReadFailed>
-    ensures desk { desk.new ≡ record desk.old { pages = desk.new.pages } }
-    ensures asks { Asks S.step (ReadsOrNot (shape_of desk.old).page_size (IsUnmarked desk.old.marks) page) (λ file. (V : List Reference)
-        → IsDeskOf desk.old file V → 1 ≤ page → page ≤ (geometry file).pages → AddsLost file V page result lost.old lost.new)
-        is_any result (S.held source.old) (S.held source.new) }
-    ensures limit { lost.new.limit ≡ lost.old.limit }
-{
-    if !is_lost(desk, page) {
-        return Ok(());
+impl<A: Allocator> Listing<A> {
+    // Looks at a page of the file, if nothing refers to it, and lists its fault.
+    fn look_at_page<S: Source>(
+        &mut self,
+        desk: &mut Desk<A>,
+        source: &mut S,
+        page: u32,
+    ) -> Result<(), ReadFailed>
+        ensures desk { desk.new ≡ record desk.old { pages = desk.new.pages } }
+        ensures others { self.new.entries ≡ self.old.entries }
+        ensures asks { Asks S.step (ReadsOrNot (shape_of desk.old).page_size (IsUnmarked desk.old.marks) page) (λ file. (V : List Reference)
+            → IsDeskOf desk.old file V → 1 ≤ page → page ≤ (geometry file).pages → AddsLost file V page result self.old self.new)
+            is_any result (S.held source.old) (S.held source.new) }
+    {
+        if !is_lost(desk, page) {
+            return Ok(());
+        }
+        let look = desk.look_at(source, page)?;
+        self.lost.add(&Reported {
+            part: Part::End,
+            fault: lost_fault(page),
+            cause: Cause::Look(look),
+        });
+        Ok(())
     }
-    let look = desk.look_at(source, page)?;
-    lost.add(&Reported {
-        part: Part::End,
-        fault: lost_fault(page),
-        cause: Cause::Look(look),
-    });
-    Ok(())
-}
 
-/// Looks at each page to which nothing refers, in their order, and lists their faults.
-///
-/// # Errors
-///
-/// [`ReadFailed`] exactly where the source failed. Then the faults of the pages before are listed.
-pub fn look_at_lost<A: Allocator, S: Source>(
-    desk: &mut Desk<A>,
-    source: &mut S,
-    lost: &mut Entries<A>,
-) -> Result<(), ReadFailed>
-    ensures desk { desk.new ≡ record desk.old { pages = desk.new.pages } }
-    ensures asks { Asks S.step (ReadsRising (shape_of desk.old).page_size (IsUnmarked desk.old.marks)) (λ file. (V : List Reference)
-        → IsDeskOf desk.old file V → IsUnused lost.old → HasLooked file V result lost.new)
-        is_any result (S.held source.old) (S.held source.new) }
-    ensures limit { lost.new.limit ≡ lost.old.limit }
-{
-    let pages = desk.geometry().pages;
-    for index in 0..pages {
-        look_at_page(desk, source, lost, index + 1)?;
+    /// Looks at each page to which nothing refers, in their order, and lists their faults.
+    ///
+    /// # Errors
+    ///
+    /// [`ReadFailed`] exactly where the source failed. Then the faults of the pages before are listed.
+    pub fn look_at_lost<S: Source>(
+        &mut self,
+        desk: &mut Desk<A>,
+        source: &mut S,
+    ) -> Result<(), ReadFailed>
+        ensures desk { desk.new ≡ record desk.old { pages = desk.new.pages } }
+        ensures others { self.new.entries ≡ self.old.entries }
+        ensures asks { Asks S.step (ReadsRising (shape_of desk.old).page_size (IsUnmarked desk.old.marks)) (λ file. (limit : ℕ) (V : List Reference)
+            → IsDeskOf desk.old file V → HasListed limit (told_faults file V) self.old → HasLooked limit file V result self.new)
+            is_any result (S.held source.old) (S.held source.new) }
+    {
+        let pages = desk.geometry().pages;
+        for index in 0..pages {
+            self.look_at_page(desk, source, index + 1)?;
+        }
+        Ok(())
     }
-    Ok(())
 }

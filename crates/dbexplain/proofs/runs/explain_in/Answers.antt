@@ -1,9 +1,7 @@
-use Rattle.std.proofs.Common.{ℕ, subst}
 use Rattle.std.proofs.lemmas.Result.{err_from_is_err_and}
-use Rattle.dbscan.proofs.BehindHeader.{behind_weaker}
+use Rattle.dbscan.proofs.AfterHeader.{after_weaker}
 use Rattle.dbreport.proofs.Openings.{fails_once, nothing_read, run_failures, run_read, untouched}
 use Rattle.dbreport.proofs.RunAnswers.{read_refused, read_unwritten}
-use Rattle.dbexplain.specs.Runs.{IsExplained}
 use Rattle.dbexplain.proofs.Explained.{failed_before, is_explained, not_explained}
 use Rattle.dbexplain.proofs.runs.explain_in.Goals as goal
 
@@ -32,11 +30,9 @@ returns-in_err-desk-clause-refused g c =
 pub returns-clause-read : goal.returns-clause-read
 returns-clause-read g c =
     let held = g.O.Out.held in
-    let most = c.in_ok-desk.ensures.1.most in
     run_read g.S.Source c.args.source.now c.in_ok-desk.desk.header c.open_with.new.source c.explain_on.new.source c.in_ok-desk.ensures.0
-    (behind_weaker _ _ c.explain_on.ensures.read (λ file is told.
-    let P : ℕ → Type 0 = λ limit. IsExplained limit file c.explain_on.result (held c.args.out.now) (held c.explain_on.new.out) in
-    subst P most (is_explained c.in_ok-desk.kept.entries.limit file c.explain_on.result (held c.args.out.now) (held c.explain_on.new.out) c.explain_on.ensures.only is.is_read told)))
+    (after_weaker _ _ (c.explain_on.ensures.read c.args.limit c.in_ok-desk.ensures.1) (λ file is told.
+    is_explained c.args.limit file c.explain_on.result (held c.args.out.now) (held c.explain_on.new.out) c.explain_on.ensures.only is.is_read told))
 
 pub returns-clause-failed : goal.returns-clause-failed
 returns-clause-failed g c = record {

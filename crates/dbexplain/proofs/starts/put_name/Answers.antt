@@ -6,7 +6,7 @@ use Rattle.dbformat.specs.Address.{freelist_start}
 use Rattle.dbsource.specs.Outs.{Puts}
 use Rattle.dbsource.proofs.Puts.{puts_then, puts_stop}
 use Rattle.dbowner.specs.Texts.{tree_of_row}
-use Rattle.dbexplain.specs.Summary.{root_page}
+use Rattle.dbscan.specs.Roots.{root_page}
 use Rattle.dbexplain.proofs.SumPieces.{freelist_name, tree_name}
 use Rattle.dbexplain.proofs.starts.put_name.Goals as goal
 

@@ -19,7 +19,7 @@ returns-in_err-put g c =
     let some : (n.faults == 0) ≡ false = grind (arith, nat_tests, c.if-count-eq0.false) in
     let p = err_from_is_err_and c.from_residual.result c.from_residual.ensures.1 in
     let first : Puts c.put.result (g.O.Out.held c.args.out.now) (g.O.Out.held c.put.new.self) front =
-    subst (λ text. Puts c.put.result (g.O.Out.held c.args.out.now) (g.O.Out.held c.put.new.self) text) (c.as_slice.ensures.value ∙ c.start_front.ensures) c.put.ensures in
+    subst (λ text. Puts c.put.result (g.O.Out.held c.args.out.now) (g.O.Out.held c.put.new.self) text) (c.as_slice.ensures.value ∙ c.count_front.ensures) c.put.ensures in
     subst (λ text. Puts c.from_residual.result (g.O.Out.held c.args.out.now) (g.O.Out.held c.put.new.self) text) (start_pieces c.args.all name n (omega arith) (omega arith) some)
     (puts_stop front rest c.in_err-put.was p.1 first)
 
@@ -33,7 +33,7 @@ returns-in_err-put_name g c =
     let r = c.from_residual-in_err-put_name.result in
     let p = err_from_is_err_and r c.from_residual-in_err-put_name.ensures.1 in
     let first : Puts c.put.result (g.O.Out.held c.args.out.now) (g.O.Out.held c.put.new.self) front =
-    subst (λ text. Puts c.put.result (g.O.Out.held c.args.out.now) (g.O.Out.held c.put.new.self) text) (c.as_slice.ensures.value ∙ c.start_front.ensures) c.put.ensures in
+    subst (λ text. Puts c.put.result (g.O.Out.held c.args.out.now) (g.O.Out.held c.put.new.self) text) (c.as_slice.ensures.value ∙ c.count_front.ensures) c.put.ensures in
     subst (λ text. Puts r (g.O.Out.held c.args.out.now) (g.O.Out.held c.put_name.new.out) text) (start_pieces c.args.all name n (omega arith) (omega arith) some)
     (puts_then r front (name ++ last) c.in_ok-put.was first (puts_stop name last c.in_err-put_name.was p.1 c.put_name.ensures))
 
@@ -46,7 +46,7 @@ returns g c =
     let some : (n.faults == 0) ≡ false = grind (arith, nat_tests, c.if-count-eq0.false) in
     let r = c.put-2.result in
     let first : Puts c.put.result (g.O.Out.held c.args.out.now) (g.O.Out.held c.put.new.self) front =
-    subst (λ text. Puts c.put.result (g.O.Out.held c.args.out.now) (g.O.Out.held c.put.new.self) text) (c.as_slice.ensures.value ∙ c.start_front.ensures) c.put.ensures in
+    subst (λ text. Puts c.put.result (g.O.Out.held c.args.out.now) (g.O.Out.held c.put.new.self) text) (c.as_slice.ensures.value ∙ c.count_front.ensures) c.put.ensures in
     let third : Puts r (g.O.Out.held c.put_name.new.out) (g.O.Out.held c.put-2.new.self) last =
     subst (λ text. Puts r (g.O.Out.held c.put_name.new.out) (g.O.Out.held c.put-2.new.self) text) (c.as_slice-2.ensures.value ∙ c.pages_text.ensures) c.put-2.ensures in
     subst (λ text. Puts r (g.O.Out.held c.args.out.now) (g.O.Out.held c.put-2.new.self) text) (start_pieces c.args.all name n (omega arith) (omega arith) some)

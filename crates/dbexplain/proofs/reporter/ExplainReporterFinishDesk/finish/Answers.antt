@@ -1,16 +1,15 @@
-use Rattle.std.proofs.Common.{◌≢◌, ℕ, [], ◌∷◌, Ok, Err, Result, inl, inr, refl, sym, ap, ◌∙◌}
+use Rattle.std.proofs.Common.{◌≢◌, Ok, Err, Result, inl, inr, refl, sym, ap, ◌∙◌}
 use Rattle.std.proofs.lemmas.Result.{err_from_is_err_and}
 use Rattle.dbformat.specs.Report.{faults}
 use Rattle.dbsource.specs.declared.error.RunError.TheVariants as error
 use Rattle.dbsource.specs.declared.error.RunError.TheVariants.{ReadFailed}
 use Rattle.dbsource.specs.declared.out.WriteFailed.{WriteFailed}
 use Rattle.dbsource.proofs.Logs.{asks_weaker}
-use Rattle.dbwalk.specs.Telling.{SinkState}
-use Rattle.dbscan.specs.Desks.{Things}
+use Rattle.dbwalk.specs.Telling.{one_out}
 use Rattle.dbscan.proofs.Finished.{finished}
 use Rattle.dbexplain.specs.Reporting.{Hears, LeavesExplained, explain_held}
-use Rattle.dblisting.proofs.Desks.{desk_kept}
-use Rattle.dbexplain.proofs.Left.{all_counted, all_kept, clean_put, faulty_put, found_kept, found_limit, found_out, told_some, unused}
+use Rattle.dblisting.proofs.Desks.{desk_kept, looked_keeps}
+use Rattle.dbexplain.proofs.Left.{all, all_counted, all_kept, clean_put, told_some, written}
 use Rattle.dbexplain.proofs.reporter.ExplainReporterFinishDesk.finish.Goals as goal
 
 -- the answer of a put
@@ -27,35 +26,29 @@ returns-in_err-put_ok g c =
     let none = sym c.all-faults.ensures ∙ c.if-faults-eq0.true in
     rw q.1 (rw q.2 (finished g.S.Source Hears (explain_held held) (LeavesExplained held) (Err error.WriteFailed) c.args.desk.now c.args.source.now c.args.self.now _ refl
     (record { lent = refl; failures = inl (c.in_err-put_ok.ensures.count, refl) })
-    (λ file V first heard empty. clean_put held file V heard.desk.survey first c.args.self.now empty heard.heard none (cut c.in_err-put_ok.field-0.0) c.put_ok.new.out c.in_err-put_ok.ensures.held)))
+    (λ file V first heard limit empty. clean_put held file V heard.desk.survey first c.args.self.now limit empty heard.heard none (cut c.in_err-put_ok.field-0.0) c.put_ok.new.out c.in_err-put_ok.ensures.held)))
 
 pub returns-then-faults-eq0 : goal.returns-then-faults-eq0
 returns-then-faults-eq0 g c =
     let held = g.O.Out.held in
     let none = sym c.all-faults.ensures ∙ c.if-faults-eq0.true in
     finished g.S.Source Hears (explain_held held) (LeavesExplained held) (Ok _) c.args.desk.now c.args.source.now c.args.self.now _ tt
-    (ap (λ (n : ℕ). let x : SinkState = record { lent = c.args.self.now.out.ghost_name ∷ []; failures = n ∷ [] } in x) c.in_ok-put_ok.ensures.count)
-    (λ file V first heard empty. (
-      clean_put held file V heard.desk.survey first c.args.self.now empty heard.heard none done c.put_ok.new.out c.in_ok-put_ok.ensures.held,
-      c.of-verdict.ensures.faults (faults file V) (c.all-faults.ensures ∙ all_counted held file V heard.desk.survey first c.args.self.now empty heard.heard),
+    (ap (one_out c.args.self.now.out.ghost_name) c.in_ok-put_ok.ensures.count)
+    (λ file V first heard limit empty. (
+      clean_put held file V heard.desk.survey first c.args.self.now limit empty heard.heard none done c.put_ok.new.out c.in_ok-put_ok.ensures.held,
+      c.of-verdict.ensures.faults (faults file V) (c.all-faults.ensures ∙ all_counted held file V heard.desk.survey first c.args.self.now limit empty heard.heard),
     ))
 
 pub returns-in_err-look_at_lost : goal.returns-in_err-look_at_lost
 returns-in_err-look_at_lost g c =
     let q = err_from_is_err_and c.from_residual-in_err-look_at_lost.result c.from_residual-in_err-look_at_lost.ensures.1 in
     let held = g.O.Out.held in
-    let some : c.args.self.now.kept.now.tally.all ≢ 0 = λ e. c.if-faults-eq0.false (c.all-faults.ensures ∙ e) in
     let look = c.in_err-look_at_lost.ensures in
     rw q.1 (rw q.2 (record {
-      kept = (ap (λ (d : Things). d.header) look.desk, ap (λ (d : Things). d.roots) look.desk);
-      asks = asks_weaker _ _ (Err ReadFailed) (λ n. refl) look.asks (λ log l. l) (λ file way V first heard empty.
-          let k = way V heard.desk (unused held file V heard.desk.survey first c.args.self.now empty heard.heard some) in (
-            found_out held file V heard.desk.survey first c.args.self.now empty heard.heard some,
-            found_kept held file V heard.desk.survey first c.args.self.now empty heard.heard some c.look_at_lost.new.lost look.limit k.0 k.1 k.2,
-            found_limit held file V heard.desk.survey first c.args.self.now empty heard.heard some,
-          ));
-      writes = refl;
-      only = inl refl;
+      asks = asks_weaker _ _ (Err ReadFailed) (λ n. refl) look.asks (λ log l. l) (λ file way V first heard limit empty.
+          let k = all held file V heard.desk.survey first c.args.self.now limit empty heard.heard in
+          (k.out, way limit V heard.desk k.listing));
+      keeps = looked_keeps look.desk refl (inl refl);
     }))
 
 pub returns-in_err-put_report : goal.returns-in_err-put_report
@@ -66,15 +59,13 @@ returns-in_err-put_report g c =
     let look = c.in_ok-look_at_lost.ensures in
     let put = c.in_err-put_report.ensures in
     rw q.1 (rw q.2 (record {
-      kept = (ap (λ (d : Things). d.header) look.desk, ap (λ (d : Things). d.roots) look.desk);
-      asks = asks_weaker _ _ (Err error.WriteFailed) (λ n. refl) look.asks (λ log l. l) (λ file way V first heard empty.
-          let k = way V heard.desk (unused held file V heard.desk.survey first c.args.self.now empty heard.heard some) in
-          let kept = all_kept held file V heard.desk.survey first c.args.self.now empty heard.heard some c.look_at_lost.new.lost look.limit k in
+      asks = asks_weaker _ _ (Err error.WriteFailed) (λ n. refl) look.asks (λ log l. l) (λ file way V first heard limit empty.
+          let k = way limit V heard.desk (all held file V heard.desk.survey first c.args.self.now limit empty heard.heard).listing in
+          let kept = all_kept held file V heard.desk.survey first c.args.self.now limit empty heard.heard c.look_at_lost.new.self k in
           let here = desk_kept c.args.desk.now c.look_at_lost.new.desk file V look.desk heard.desk in
-          faulty_put held file V heard.desk.survey first c.args.self.now empty heard.heard some (cut c.in_err-put_report.field-0.0) c.put_report.new.out
-          (put.report file V here kept (told_some held file V heard.desk.survey first c.args.self.now empty heard.heard some)));
-      writes = record { lent = refl; failures = inl (put.count, refl) };
-      only = inr refl;
+          written held file V heard.desk.survey first c.args.self.now limit empty heard.heard (cut c.in_err-put_report.field-0.0) c.put_report.new.out _ refl
+          (put.report limit file V here kept (told_some held file V heard.desk.survey first c.args.self.now limit empty heard.heard some)));
+      keeps = looked_keeps look.desk (record { lent = refl; failures = inl (put.count, refl) }) (inr refl);
     }))
 
 pub returns : goal.returns
@@ -83,15 +74,13 @@ returns g c =
     let some : c.args.self.now.kept.now.tally.all ≢ 0 = λ e. c.if-faults-eq0.false (c.all-faults.ensures ∙ e) in
     let look = c.in_ok-look_at_lost.ensures in
     let put = c.in_ok-put_report.ensures in record {
-      kept = (ap (λ (d : Things). d.header) look.desk, ap (λ (d : Things). d.roots) look.desk);
-      asks = asks_weaker _ _ (Ok _) (λ n. refl) look.asks (λ log l. l) (λ file way V first heard empty.
-          let k = way V heard.desk (unused held file V heard.desk.survey first c.args.self.now empty heard.heard some) in
-          let kept = all_kept held file V heard.desk.survey first c.args.self.now empty heard.heard some c.look_at_lost.new.lost look.limit k in
+      asks = asks_weaker _ _ (Ok _) (λ n. refl) look.asks (λ log l. l) (λ file way V first heard limit empty.
+          let k = way limit V heard.desk (all held file V heard.desk.survey first c.args.self.now limit empty heard.heard).listing in
+          let kept = all_kept held file V heard.desk.survey first c.args.self.now limit empty heard.heard c.look_at_lost.new.self k in
           let here = desk_kept c.args.desk.now c.look_at_lost.new.desk file V look.desk heard.desk in (
-            faulty_put held file V heard.desk.survey first c.args.self.now empty heard.heard some done c.put_report.new.out
-                (put.report file V here kept (told_some held file V heard.desk.survey first c.args.self.now empty heard.heard some)),
-            c.of-verdict.ensures.faults (faults file V) (c.all-faults.ensures ∙ all_counted held file V heard.desk.survey first c.args.self.now empty heard.heard),
+            written held file V heard.desk.survey first c.args.self.now limit empty heard.heard done c.put_report.new.out _ refl
+                (put.report limit file V here kept (told_some held file V heard.desk.survey first c.args.self.now limit empty heard.heard some)),
+            c.of-verdict.ensures.faults (faults file V) (c.all-faults.ensures ∙ all_counted held file V heard.desk.survey first c.args.self.now limit empty heard.heard),
           ));
-      writes = ap (λ (n : ℕ). let x : SinkState = record { lent = c.args.self.now.out.ghost_name ∷ []; failures = n ∷ [] } in x) put.count;
-      only = tt;
+      keeps = looked_keeps look.desk (ap (one_out c.args.self.now.out.ghost_name) put.count) tt;
     }

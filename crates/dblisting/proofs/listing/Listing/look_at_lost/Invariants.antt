@@ -1,24 +1,23 @@
-use Rattle.std.proofs.Common.{◌≡◌, ◌+◌, ◌≤◌, List, Ok, flat_map}
+use Rattle.std.proofs.Common.{◌≡◌, ℕ, ◌+◌, List, [], Ok, flat_map}
 use Rattle.std.specs.List.{range_with_len}
 use Rattle.dbformat.specs.Reference.{Reference}
-use Rattle.dbtrace.specs.declared.Part.TheVariants as part
+use Rattle.dbtrace.specs.declared.Reported.{Reported}
 use Rattle.dbsource.specs.Failures.{is_any}
 use Rattle.dbsource.specs.Sources.{Asks}
 use Rattle.dbsource.specs.declared.source.ReadFailed.{ReadFailed}
-use Rattle.dbentries.specs.Listing.{rank}
-use Rattle.dbentries.specs.Store.{AreEntriesOf}
 use Rattle.dbscan.specs.Desks.{shape_of}
 use Rattle.dbscan.specs.Finishes.{IsDeskOf}
 use Rattle.dbscan.specs.Looks.{IsUnmarked, ReadsRisingBefore}
-use Rattle.dblisting.specs.Lost.{IsUnused, lost_at}
-use Rattle.dblisting.proofs.lost.look_at_lost.Given as goal
+use Rattle.dblisting.specs.Lists.{HoldsFaults}
+use Rattle.dblisting.specs.Lost.{lost_at}
+use Rattle.dblisting.proofs.listing.Listing.look_at_lost.Given as goal
 
 abbrev pub invariant-loop-index : goal.invariant-loop-index
 invariant-loop-index g l = record {
   desk : l.desk ≡ record l.initial.desk { pages = l.desk.pages };
+  others : l.self.entries ≡ l.initial.self.entries;
   asks : Asks {A = Unit {0}} {E = ReadFailed} g.S.Source.step (ReadsRisingBefore (shape_of l.initial.desk).page_size (IsUnmarked l.initial.desk.marks) (l.index + 1))
-      (λ file. (V : List Reference) → IsDeskOf l.initial.desk file V → IsUnused l.initial.lost
-      → AreEntriesOf (flat_map (lost_at file V) (range_with_len 1 l.index)) l.lost × (l.lost.part ≤ rank part.End))
+      (λ file. (V : List Reference) → IsDeskOf l.initial.desk file V → (limit : ℕ) (xs : List Reported) → HoldsFaults limit xs [] l.initial.self
+      → HoldsFaults limit xs (flat_map (lost_at file V) (range_with_len 1 l.index)) l.self)
       is_any (Ok tt) (g.S.Source.held l.initial.source) (g.S.Source.held l.source);
-  limit : l.lost.limit ≡ l.initial.lost.limit;
 }

@@ -1,4 +1,4 @@
-use Rattle.std.proofs.Common.{◌≡◌, ◌++◌, ◌≤◌, List, ◌∷◌, [], inl, inr, Ok, Err, refl, sym, ap, subst, append-nil, arith, ◌∙◌}
+use Rattle.std.proofs.Common.{◌≡◌, ℕ, ◌++◌, List, ◌∷◌, [], inl, inr, Ok, Err, refl, sym, ap, subst, append-nil, ◌∙◌}
 use Rattle.std.specs.Prelude.{pos}
 use Rattle.std.proofs.lemmas.Result.{err_from_is_err_and}
 use Rattle.dbformat.specs.Faults.{fault}
@@ -9,21 +9,18 @@ use Rattle.dbtrace.specs.declared.Cause.TheVariants as cause
 use Rattle.dbtrace.specs.declared.Part.TheVariants as part
 use Rattle.dbtrace.specs.declared.Reported.{Reported}
 use Rattle.dbsource.proofs.Logs.{asks_weaker, has_none}
-use Rattle.dbentries.specs.Listing.{rank}
 use Rattle.dbentries.specs.Store.{AreEntriesOf}
+use Rattle.dblisting.specs.Lists.{HoldsFaults, Lists}
 use Rattle.dblisting.specs.Lost.{lost_at}
 use Rattle.dblisting.proofs.LostPages.{lost_here, not_lost, unmarked_nowhere}
-use Rattle.dblisting.proofs.lost.look_at_page.Goals as goal
+use Rattle.dblisting.proofs.listing.Listing.look_at_page.Goals as goal
 
 pub returns-then-not-is_lost-clause-asks : goal.returns-then-not-is_lost-clause-asks
 returns-then-not-is_lost-clause-asks g c = record {
   log = has_none _ _ refl refl (inl refl) (λ file V d low high.
       let p = c.args.page in
       let none = not_lost file V p (sym (unmarked_nowhere file V c.args.desk.now.marks p d.marks low high) ∙ sym c.is_lost.ensures.mark ∙ c.if-not-is_lost.true) in
-      record {
-        listed = λ xs a most. subst (λ l. AreEntriesOf l c.args.lost.now) (sym (ap (λ l. xs ++ l) none ∙ append-nil xs)) a;
-        part = λ h. h;
-      });
+      λ limit xs ys a. subst (λ l. HoldsFaults limit xs l c.args.self.now) (sym (ap (λ l. ys ++ l) none ∙ append-nil ys)) a);
   count = refl;
 }
 
@@ -31,18 +28,19 @@ pub returns-in_err-look-clause-asks : goal.returns-in_err-look-clause-asks
 returns-in_err-look-clause-asks g c =
     let q = err_from_is_err_and c.from_residual.result c.from_residual.ensures.1 in
     let yes = sym c.is_lost.ensures.mark ∙ c.if-not-is_lost.false in
-    rw q.1 (rw q.2 (asks_weaker _ _ (Err _) (λ n. refl) c.in_err-look.ensures.asks (λ log l. inr (l, yes))
-    (λ file w V d low high. record { listed = refl; part = λ h. h })))
+    rw q.1 (rw q.2 (asks_weaker _ _ (Err _) (λ n. refl) c.in_err-look.ensures.asks (λ log l. inr (l, yes)) (λ file w V d low high. refl)))
 
 pub returns-clause-asks : goal.returns-clause-asks
 returns-clause-asks g c =
     let p = c.args.page in
     let yes = sym c.is_lost.ensures.mark ∙ c.if-not-is_lost.false in
+    let new : Lists = record { entries = c.self.inside.entries; lost = c.add.new.self } in
     asks_weaker _ _ (Ok _) (λ n. refl) c.in_ok-look.ensures.asks (λ log l. inr (l, yes)) (λ file w V d low high.
     let some = lost_here file V p (sym (unmarked_nowhere file V c.args.desk.now.marks p d.marks low high) ∙ yes) in
     let told : Fault → Look → List Reported = λ f look. record { part = part.End; fault = f; cause = cause.Look look } ∷ [] in
     let same : told c.lost_fault.result c.in_ok-look.look ≡ lost_at file V p = ap (λ f. told f c.in_ok-look.look) c.lost_fault.ensures ∙ ap (told (fault N01 p 0 (pos 0))) (w d.header) ∙ sym some in
-    record {
-      listed = λ xs a most. subst (λ l. AreEntriesOf (xs ++ l) c.add.new.self) same (c.add.ensures.entries xs a most);
-      part = λ most. subst (λ n. n ≤ rank part.End) (sym c.add.ensures.part) (omega arith);
-    })
+    subst (λ (old : Lists). (limit : ℕ) (xs ys : List Reported) → HoldsFaults limit xs ys old → HoldsFaults limit xs (ys ++ lost_at file V p) new) c.self.view_is (λ limit xs ys a. record {
+      others = a.others;
+      lost = subst (λ l. AreEntriesOf (ys ++ l) c.add.new.self) same (c.add.ensures.entries ys a.lost c.self.invariant.part);
+      room = a.room;
+    }))

@@ -1,13 +1,8 @@
--- A fault as it is heard: it is listed at once, but for that of a lost page, which waits until its page is looked at.
-use Rattle.std.specs.Prelude.{◌≡◌, List, [], ◌∷◌, Option, Some, None, if◌then◌else◌}
+-- A fault as it is heard.
+use Rattle.std.specs.Prelude.{◌≡◌, Option, Some, None}
 use Rattle.dbtrace.specs.declared.Reported.{Reported}
-use Rattle.dbentries.specs.Apart.{is_lost}
 use Rattle.dbscan.specs.Notices.{Notice}
 use Rattle.dbscan.specs.Placed.{reported_of}
-
--- what is listed of a fault as it is heard
-abbrev pub listed_now : Reported → List Reported
-listed_now x = if is_lost x then [] else x ∷ []
 
 -- A reporter on which only faults have an effect, each with its part and its cause: its state after a fault, if there is one.
 abbrev pub TakesAny : {K : Type 0} → (Reported → K → K → Type 0) → Option Reported → K → K → Type 0

@@ -3,31 +3,34 @@ use Rattle.std.proofs.lemmas.Result.{err_from_is_err_and}
 use Rattle.std.specs.List.{range_with_len}
 use Rattle.dbformat.specs.File.{geometry}
 use Rattle.dbformat.specs.declared.Geometry.{Geometry}
-use Rattle.dbtrace.specs.declared.Part.TheVariants as part
 use Rattle.dbsource.proofs.Logs.{asks_then, asks_weaker, has_none}
-use Rattle.dbentries.specs.Listing.{rank}
-use Rattle.dbentries.specs.Store.{AreEntriesOf}
 use Rattle.dbscan.specs.Desks.{Things, shape_of}
 use Rattle.dbscan.specs.Looks.{IsUnmarked, ReadsOrNot, ReadsRisingBefore}
 use Rattle.dbscan.proofs.MapLogs.{reads_more, reads_none}
+use Rattle.dblisting.specs.Listed.{other_faults}
+use Rattle.dblisting.specs.Lists.{HoldsFaults}
 use Rattle.dblisting.specs.Lost.{lost_at}
-use Rattle.dblisting.proofs.LostPages.{ends, fits, lost_are, lost_first, lost_more}
 use Rattle.dblisting.proofs.Desks.{desk_kept}
-use Rattle.dblisting.proofs.lost.look_at_lost.Goals as goal
+use Rattle.dblisting.proofs.ListedFaults.{heard_others}
+use Rattle.dblisting.proofs.LostPages.{ends, fits, lost_are, lost_first, lost_more}
+use Rattle.dblisting.proofs.Woven.{all_faults}
+use Rattle.dblisting.proofs.listing.Listing.look_at_lost.Goals as goal
 
 pub loop-index-init : goal.loop-index-init
 loop-index-init g c = record {
   desk = refl;
+  others = refl;
   asks = record {
-    log = has_none _ _ refl refl (reads_none (shape_of c.args.desk.now).page_size (IsUnmarked c.args.desk.now.marks) 1)
-        (λ file V d unused. (unused.none, subst (λ n. n ≤ rank part.End) (sym unused.part) (omega arith)));
+    log = has_none _ _ refl refl (reads_none (shape_of c.args.desk.now).page_size (IsUnmarked c.args.desk.now.marks) 1) (λ file V d limit xs a. a);
     count = refl;
   };
-  limit = refl;
 }
 
 pub returns-in_err-look_at_page-clause-desk : goal.returns-in_err-look_at_page-clause-desk
 returns-in_err-look_at_page-clause-desk g c = c.look_at_page.ensures.desk ∙ ap (λ (d : Things). record d { pages = c.look_at_page.new.desk.pages }) c.loop-index.invariant.desk
+
+pub returns-in_err-look_at_page-clause-others : goal.returns-in_err-look_at_page-clause-others
+returns-in_err-look_at_page-clause-others g c = c.look_at_page.ensures.others ∙ c.loop-index.invariant.others
 
 pub returns-in_err-look_at_page-clause-asks : goal.returns-in_err-look_at_page-clause-asks
 returns-in_err-look_at_page-clause-asks g c =
@@ -41,14 +44,14 @@ returns-in_err-look_at_page-clause-asks g c =
     c.loop-index.invariant.asks c.in_err-look_at_page.ensures.asks
     (λ a b h k. (reads_more (shape_of old).page_size (IsUnmarked old.marks) (i + 1) (i + 1) a b (omega arith) h
     (subst (λ (d : Things). ReadsOrNot (shape_of d).page_size (IsUnmarked d.marks) (i + 1) b) same k)).reads)
-    (λ file way turn V d unused.
-    let k = way V d unused in
+    (λ file way turn limit V d heard.
     let high : i + 1 ≤ (geometry file).pages = fits d.header.shape (ap (λ (g : Geometry). g.pages) c.geometry-pages.ensures.shape) c.loop-index-test.true in
-    let t = turn V (desk_kept old here file V same d) (omega arith) high in (
-      flat_map (lost_at file V) (range_with_len 1 i),
-      lost_first file V i (omega (arith, high)),
-      subst (λ s. AreEntriesOf (flat_map (lost_at file V) (range_with_len 1 i)) s) (sym t.listed) k.0,
-    ))))
+    let t = turn V (desk_kept old here file V same d) (omega arith) high in
+    let ys = flat_map (lost_at file V) (range_with_len 1 i) in
+    record {
+      first = record (all_faults file V) { lost = ys; lost_first = lost_first file V i (omega (arith, high)) };
+      listed = subst (HoldsFaults limit (other_faults file V) ys) (sym t) (way V d limit (other_faults file V) (heard_others limit file V c.args.self.now heard));
+    })))
 
 pub loop-index-preserved : goal.loop-index-preserved
 loop-index-preserved g c =
@@ -57,19 +60,16 @@ loop-index-preserved g c =
     let i = c.loop-index.index in
     let same = c.loop-index.invariant.desk in record {
       desk = c.look_at_page.ensures.desk ∙ ap (λ (d : Things). record d { pages = c.look_at_page.new.desk.pages }) same;
+      others = c.look_at_page.ensures.others ∙ c.loop-index.invariant.others;
       asks = asks_then (ReadsRisingBefore (shape_of old).page_size (IsUnmarked old.marks) (i + 1))
           (ReadsOrNot (shape_of here).page_size (IsUnmarked here.marks) (i + 1)) _ _ (Ok tt) (λ n. refl) (λ n. refl)
           c.loop-index.invariant.asks c.in_ok-look_at_page.ensures.asks
           (λ a b h k. reads_more (shape_of old).page_size (IsUnmarked old.marks) (i + 1) (i + 1) a b (omega arith) h
           (subst (λ (d : Things). ReadsOrNot (shape_of d).page_size (IsUnmarked d.marks) (i + 1) b) same k))
-          (λ file way turn V d unused.
-          let k = way V d unused in
+          (λ file way turn V d limit xs a.
           let high : i + 1 ≤ (geometry file).pages = fits d.header.shape (ap (λ (g : Geometry). g.pages) c.geometry-pages.ensures.shape) c.loop-index-test.true in
-          let t = turn V (desk_kept old here file V same d) (omega arith) high in (
-            subst (λ l. AreEntriesOf l c.look_at_page.new.lost) (sym (lost_more file V i)) (t.listed (flat_map (lost_at file V) (range_with_len 1 i)) k.0 k.1),
-            t.part k.1,
-          ));
-      limit = c.look_at_page.ensures.limit ∙ c.loop-index.invariant.limit;
+          subst (λ l. HoldsFaults limit xs l c.look_at_page.new.self) (sym (lost_more file V i))
+          (turn V (desk_kept old here file V same d) (omega arith) high limit xs (flat_map (lost_at file V) (range_with_len 1 i)) (way V d limit xs a)));
     }
 
 pub returns-clause-asks : goal.returns-clause-asks
@@ -77,7 +77,7 @@ returns-clause-asks g c =
     let old = c.args.desk.now in
     let i = c.loop-index.index in
     asks_weaker (ReadsRisingBefore (shape_of old).page_size (IsUnmarked old.marks) (i + 1)) _ (Ok tt) (λ n. refl)
-    c.loop-index.invariant.asks (λ log h. h.reads) (λ file way V d unused.
-    let k = way V d unused in
+    c.loop-index.invariant.asks (λ log h. h.reads) (λ file way limit V d heard.
     let all : i ≡ (geometry file).pages = ends d.header.shape (ap (λ (g : Geometry). g.pages) c.geometry-pages.ensures.shape) c.loop-index.auto.index-end c.loop-index-test.false in
-    subst (λ l. AreEntriesOf l c.loop-index.lost) (ap (λ n. flat_map (lost_at file V) (range_with_len 1 n)) all ∙ sym (lost_are file V)) k.0)
+    subst (λ l. HoldsFaults limit (other_faults file V) l c.loop-index.self) (ap (λ n. flat_map (lost_at file V) (range_with_len 1 n)) all ∙ sym (lost_are file V))
+    (way V d limit (other_faults file V) (heard_others limit file V c.args.self.now heard)))
