@@ -13,28 +13,25 @@ use Rattle.dbformat.specs.declared.FaultCode.{FaultCode}
 use Rattle.dbformat.specs.declared.Verdict.{Verdict}
 use Rattle.dbformat.proofs.Verdicts.{verdict_counted}
 use Rattle.dbtrace.specs.declared.Reported.{Reported}
-use Rattle.dbentries.specs.Store.{AreEntriesOf, Stored}
 use Rattle.dbsource.proofs.Puts.{keeps_same}
 use Rattle.dbsource.specs.Outs.{OutState}
 use Rattle.dbsource.specs.declared.error.RunError.{RunError}
 use Rattle.dbsource.specs.declared.error.RunError.TheVariants.{OutOfMemory, ReadFailed, Refused, WriteFailed}
 use Rattle.dbwalk.specs.Telling.{StopsBy}
 use Rattle.dbscan.specs.Finishes.{Leaves}
-use Rattle.dbscan.specs.Notices.{run_notices}
+use Rattle.dbscan.specs.Notices.{CutsNever, run_notices}
 use Rattle.dbscan.specs.Placed.{faults_of, told_faults}
 use Rattle.dbscan.proofs.AllTold.{all_told}
-use Rattle.dblisting.specs.Listed.{lost_faults}
-use Rattle.dblisting.specs.Lost.{IsUnused}
+use Rattle.dblisting.specs.Lists.{HasListed, Lists, ListsAll}
 use Rattle.dblisting.proofs.Heard.{never_stops}
-use Rattle.dblisting.proofs.ListedFaults.{others_are}
 use Rattle.dbmap.specs.FaultyPages.{coded}
 use Rattle.dbmap.specs.KeptFaults.{HasFaults, HasTreeRoom, HearsNone, IsUnnoted}
 use Rattle.dbmap.specs.Maps.{DrawsMap}
-use Rattle.dbmap.specs.MapReporter.{Hears, LeavesMap, Never}
+use Rattle.dbmap.specs.MapReporter.{Hears, LeavesMap}
 use Rattle.dbmap.specs.PageSets.{AreNoted}
 use Rattle.dbmap.specs.declared.map_reporter.MapReporter.{MapReporter}
-use Rattle.dbmap.specs.declared.walk.Walk.{Walk}
-use Rattle.dbmap.proofs.Heard.{HasHeardFaults, all_heard, codes_told, some_untouched}
+use Rattle.dbmap.specs.declared.draw_state.DrawState.{DrawState}
+use Rattle.dbmap.proofs.Heard.{HasNotedFaults, all_heard, codes_told, some_untouched}
 
 -- the pages and codes of faults that were reported
 coded_told : (ts : List Reported) → codes_told ts ≡ map coded (faults_of ts)
@@ -45,7 +42,7 @@ module _ {A O : Type 0} (file : List ℕ) (V : List Reference) (survey : Survey 
     (empty : HearsNone (geometry file).pages s.kept.now) where
   -- all of a run was heard, and nothing before it: its faults were counted, and these are kept
   module _ (heard : Moves Hears s (run_notices file V) t) where
-    all : HasHeardFaults (told_faults file V) s t
+    all : HasNotedFaults (told_faults file V) s t
     all = all_heard file V survey s t none empty heard
 
     as_many : length (told_faults file V) ≡ length (faults file V)
@@ -60,20 +57,17 @@ module _ {A O : Type 0} (file : List ℕ) (V : List Reference) (survey : Survey 
     pub map_finds : verdict_of t.faults ≡ verdict (faults file V)
     map_finds = ap verdict_of map_counts ∙ verdict_counted (faults file V)
 
-    pub map_unused : IsUnused t.kept.now.lost
-    map_unused = subst IsUnused (sym all.lost) empty.lost
+    pub map_lists : HasListed 100 (told_faults file V) t.kept.now.listing
+    map_lists = all.listing
 
     -- with the lost pages
-    pub map_keeps : (lost : Stored) → lost.limit ≡ t.kept.now.lost.limit → AreEntriesOf (lost_faults file V) lost → HasFaults file V (record t.kept.now { lost = lost })
-    map_keeps lost kept are = record {
-      room = subst (λ (w : Walk A). HasTreeRoom (geometry file).pages w.trees.known) (sym all.walk) empty.room;
+    pub map_keeps : (l : Lists) → ListsAll 100 file V l → HasFaults file V (record t.kept.now { listing = l })
+    map_keeps l listed = record {
+      room = subst (λ (w : DrawState A). HasTreeRoom (geometry file).pages w.trees.known) (sym all.state) empty.room;
       faulty = subst (λ (fs : List (ℕ × FaultCode)). AreNoted fs t.kept.now.faulty) (coded_told (told_faults file V) ∙ ap (map coded) (all_told file V)) all.faulty;
       pages = all.pages ∙ empty.faulty.pages;
       strong = subst (IsUnnoted (geometry file).pages) (sym all.strong) empty.strong;
-      entries = subst (λ l. AreEntriesOf l t.kept.now.entries) (sym (others_are file (told_faults file V))) all.entries;
-      limit = all.limit ∙ empty.limit;
-      lost = are;
-      most_lost = kept ∙ ap (λ (s : Stored). s.limit) all.lost ∙ empty.most_lost;
+      listing = listed;
       few = empty.few;
     }
 
@@ -81,7 +75,7 @@ module _ {A O : Type 0} (file : List ℕ) (V : List Reference) (survey : Survey 
     pub map_unput : (held : O → OutState) → Keeps (held s.out.now).bytes (held t.out.now).bytes
     map_unput held = subst (λ (o : O). Keeps (held s.out.now).bytes (held o).bytes) (sym map_untouched) (keeps_same (held s.out.now).bytes)
 
-  stopped : (e : RunError) → StopsBy Hears Never e s (run_notices file V) t → t.out.now ≡ s.out.now
+  stopped : (e : RunError) → StopsBy Hears CutsNever e s (run_notices file V) t → t.out.now ≡ s.out.now
   stopped (Refused r) h = some_untouched file V survey s t none empty h
   stopped ReadFailed h = some_untouched file V survey s t none empty h
   stopped OutOfMemory h = some_untouched file V survey s t none empty h
@@ -95,7 +89,7 @@ module _ {A O : Type 0} (file : List ℕ) (V : List Reference) (survey : Survey 
   unbegun WriteFailed old new kept = inl kept
 
   -- a run that came to its end, or not
-  pub map_left : (held : O → OutState) (r : Result Verdict RunError) → Leaves Hears Never (LeavesMap held) file V r s t
+  pub map_left : (held : O → OutState) (r : Result Verdict RunError) → Leaves Hears CutsNever (LeavesMap held) file V r s t
       → IfOk r (λ v. v ≡ verdict (faults file V)) × DrawsMap r (held s.out.now).bytes (held t.out.now).bytes s.name.now file V
   map_left held r (inl h) = h none empty
   map_left held r (inr (e, is, k)) =

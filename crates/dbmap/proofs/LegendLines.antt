@@ -1,5 +1,5 @@
 -- The lines of a legend, by what a tally has, and by the file.
-use Rattle.std.proofs.Common.{◌≡◌, ℕ, zero, suc, ◌+◌, ◌-◌, ◌<◌, ◌≤◌, ◌⊎◌, inl, inr, Bool, true, false, cond, not, ◌&&◌, List, [], ◌∷◌, ◌++◌, length, map, get_or, drop, count_by, take, Some, append_assoc, append-nil, drop-cons, refl, sym, ap, ap₂, subst, ◌∙◌, add-one, arith}
+use Rattle.std.proofs.Common.{◌≡◌, ℕ, zero, suc, ◌+◌, ◌-◌, ◌<◌, ◌≤◌, inl, inr, Bool, true, false, cond, not, ◌&&◌, List, [], ◌∷◌, ◌++◌, length, map, get_or, drop, count_by, take, Some, append_assoc, append-nil, drop-cons, refl, sym, ap, ap₂, subst, ◌∙◌, add-one, arith}
 use Rattle.std.specs.Prelude.{◌==◌}
 use Rattle.std.specs.List.{range_with_len, sum_by}
 use Rattle.std.proofs.lemmas.List.Sums.{sum_by_push}
@@ -13,14 +13,14 @@ use Rattle.dbformat.specs.File.{geometry}
 use Rattle.dbformat.specs.Reference.{Reference}
 use Rattle.dbformat.specs.Schema.{schema, rooted_rows}
 use Rattle.dbformat.specs.SchemaRow.{SchemaRow}
-use Rattle.dbmap.specs.Cells.{no_share}
+use Rattle.dbmap.specs.OwnerShares.{no_share}
 use Rattle.dbmap.specs.LegendLines.{file_share, is_other, legend_lines, line_if, other_trees, others_share, owner_lines, root_if_twice, tree_lines}
 use Rattle.dbmap.specs.Legends.{no_overflow}
 use Rattle.dbmap.specs.Owners.{rank_of, tree_starts}
-use Rattle.dbmap.specs.Shares.{capped_pages, joined}
+use Rattle.dbmap.specs.Shares.{capped_pages, share_sum}
 use Rattle.dbmap.specs.Tallies.{AreLargest, IsPageTallyOf, PagesTallied, fixed_count, lost_pages, pages_at, share_at, start_share}
 use Rattle.dbmap.specs.TreeLists.{tree_at}
-use Rattle.dbmap.specs.declared.cell.Share.{Share}
+use Rattle.dbmap.specs.declared.owner_shares.Share.{Share}
 use Rattle.dbmap.specs.declared.legend.Label.TheVariants.{Faulty, Fixed, Freelist, Nobody, Others, Tree}
 use Rattle.dbmap.specs.declared.legend.LegendLine.{LegendLine}
 use Rattle.dbmap.specs.declared.tally.RankedTree as tally
@@ -62,7 +62,7 @@ nothing_more a = omega arith
 module _ (share : ℕ → Share) (largest : List ℕ) (n : ℕ) where
   -- start n is one of them
   pub other_more : is_other share largest n ≡ true
-      → (other_trees share largest (n + 1) ≡ capped_pages (other_trees share largest n + 1)) × (others_share share largest (n + 1) ≡ joined (others_share share largest n) (share n))
+      → (other_trees share largest (n + 1) ≡ capped_pages (other_trees share largest n + 1)) × (others_share share largest (n + 1) ≡ share_sum (others_share share largest n) (share n))
   other_more e = (
     ap capped_pages (sum_more (λ k. cond (is_other share largest k) 1 0) n ∙ ap (λ b. count_by (is_other share largest) (range_with_len 0 n) + cond b 1 0) e)
         ∙ capped_sum (count_by (is_other share largest) (range_with_len 0 n)) 1,

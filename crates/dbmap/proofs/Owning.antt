@@ -8,7 +8,7 @@ use Rattle.dbmarks.specs.declared.marks.Mark.{Mark}
 use Rattle.dbformat.specs.Starts.{start_at}
 use Rattle.dbowner.specs.declared.place.Place.{Place}
 use Rattle.dbmap.specs.Owners.{is_overflow, marked_owner, owner_by, owners_by, place_at, rank_from, shade_at, tree_starts}
-use Rattle.dbmap.specs.declared.cell.Owner.{Owner}
+use Rattle.dbmap.specs.declared.owner_shares.Owner.{Owner}
 use Rattle.dbmap.specs.declared.tally.RankedTree.{RankedTree}
 
 -- whose page p is, by its place and its start

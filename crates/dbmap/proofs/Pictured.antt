@@ -21,7 +21,7 @@ use Rattle.dbscan.specs.Desks.{Things, shape_of}
 use Rattle.dbscan.specs.Finishes.{IsDeskOf}
 use Rattle.dbscan.specs.Notices.{Notice}
 use Rattle.dbscan.specs.Roots.{AreListed}
-use Rattle.dbxml.specs.Names.{kept_text}
+use Rattle.dbxml.specs.Names.{short_text}
 use Rattle.dbmap.specs.Drawings.{PutsPicture, stated_of}
 use Rattle.dbmap.specs.KeptFaults.{HasFaults, HasTreeRoom}
 use Rattle.dbmap.specs.Grids.{IsLeastRun}
@@ -50,10 +50,10 @@ pub pictured : {A E K : Type 0} {r : Result A E} {old new : OutState} {d : Thing
     → PutsPicture r old new name d k n → IsDeskOf d file V → n ≡ counted (length (faults file V)) → HasFaults file V k → HasPicture (Writes r old.bytes new.bytes) name file V
 pictured {r = r} {old = old} {new = new} {d = d} {k = k} file V put desk count has =
     let shape = desk.header.shape in
-    let room : HasTreeRoom (shape_of d).pages k.walk.trees.known = subst (λ (g : Geometry). HasTreeRoom g.pages k.walk.trees.known) (sym shape) has.room in
+    let room : HasTreeRoom (shape_of d).pages k.state.trees.known = subst (λ (g : Geometry). HasTreeRoom g.pages k.state.trees.known) (sym shape) has.room in
     record {
       heading = put.heading;
-      ground = surveyed put.ground V;
+      drawn = surveyed put.drawn V;
       all = put.all;
       lines = put.lines;
       is = record {
@@ -62,19 +62,19 @@ pictured {r = r} {old = old} {new = new} {d = d} {k = k} file V put desk count h
         found = put.is.found ∙ count;
         pages = put.is.pages ∙ ap (λ (g : Geometry). g.pages) shape;
         stated = put.is.stated ∙ ap stated_of desk.header.begins;
-        run = subst (λ (g : Geometry). IsLeastRun g.pages put.ground.grid.run) shape put.is.run;
+        run = subst (λ (g : Geometry). IsLeastRun g.pages put.drawn.grid.run) shape put.is.run;
         width = put.is.width;
-        cells = put.is.cells ∙ ap (λ (g : Geometry). div_ceil g.pages put.ground.grid.run) shape;
+        squares = put.is.squares ∙ ap (λ (g : Geometry). div_ceil g.pages put.drawn.grid.run) shape;
         many = put.is.many;
         are = put.is.are file V desk room;
         places = λ p. ap (λ (marks : List Mark). place_by (page_mark marks p)) (put.is.marks ∙ desk.marks) ∙ place_is file V desk.survey p;
-        faulty = faults_shown file V k has put.ground.faults put.is.faulty;
+        faulty = faults_shown file V k has put.drawn.faults put.is.faulty;
         starts = λ p. refl;
         largest = put.is.largest file V desk room;
         fixed = put.is.shape ∙ shape;
-        trees = λ start. ap (λ (tree : ℕ → List ℕ). tree start) put.is.tree ∙ ap (λ (tree : ℕ → List ℕ). kept_text (tree start)) (known_trees file V d.header d.roots.rows desk.header desk.rows);
+        trees = λ start. ap (λ (tree : ℕ → List ℕ). tree start) put.is.tree ∙ ap (λ (tree : ℕ → List ℕ). short_text (tree start)) (known_trees file V d.header d.roots.rows desk.header desk.rows);
         names = put.is.names;
       };
-      legend = put.legend file V desk room ∙ ap (legend_lines file V put.ground.names put.ground.owners.largest) (pages_counted file V k has);
-      holds = subst (Writes r old.bytes new.bytes) (same_picture put.ground V put.heading put.all put.lines) put.puts.held;
+      legend = put.legend file V desk room ∙ ap (legend_lines file V put.drawn.names put.drawn.owners.largest) (pages_counted file V k has);
+      holds = subst (Writes r old.bytes new.bytes) (same_picture put.drawn V put.heading put.all put.lines) put.puts.held;
     }

@@ -1,5 +1,5 @@
 -- What each owner has of some pages, page by page.
-use Rattle.std.proofs.Common.{◌≡◌, ℕ, zero, suc, ◌+◌, ◌-◌, ◌*◌, ◌<◌, ◌≤◌, ◌⊎◌, inl, inr, Bool, true, false, cond, not, ◌&&◌, List, [], ◌∷◌, ◌++◌, map, min, count_by, Option, Some, None, refl, sym, ap, ap₂, subst, ◌∙◌, arith, eq-eqb}
+use Rattle.std.proofs.Common.{◌≡◌, ℕ, zero, suc, ◌+◌, ◌-◌, ◌*◌, ◌<◌, ◌≤◌, ◌⊎◌, inl, inr, Bool, true, false, cond, not, ◌&&◌, List, [], ◌∷◌, ◌++◌, min, count_by, Option, Some, None, refl, sym, ap, ap₂, subst, ◌∙◌, arith, eq-eqb}
 use Rattle.std.specs.Prelude.{◌==◌, nat_le}
 use Rattle.std.specs.List.{range_with_len}
 use Rattle.std.proofs.lemmas.Bool.{eqb-true, false≢true}
@@ -11,14 +11,14 @@ use Rattle.dbmarks.specs.declared.marks.Mark.{Mark}
 use Rattle.dbsurvey.proofs.Ranges.{range_push}
 use Rattle.dbowner.specs.declared.place.Place.{Place}
 use Rattle.dbowner.specs.declared.place.Place.TheVariants as place
-use Rattle.dbmap.specs.Cells.{has_pages, owner_number, owner_numbered, share_of}
-use Rattle.dbmap.specs.Owners.{OwnersGround, is_overflow, marked_owner, owner_by, place_at, rank_from, rank_of}
+use Rattle.dbmap.specs.OwnerShares.{has_pages, owner_number, owner_numbered, share_of}
+use Rattle.dbmap.specs.Owners.{KnownOwners, is_overflow, marked_owner, owner_by, place_at, rank_from, rank_of}
 use Rattle.dbmap.specs.PageSets.{pages_between}
 use Rattle.dbmap.specs.Shares.{AreShares, HasNone, HasTwo, IsOnly, capped_pages, is_numbered, one_page, share_in}
-use Rattle.dbmap.specs.declared.cell.OwnerShares.{OwnerShares}
-use Rattle.dbmap.specs.declared.cell.Owner.{Owner}
-use Rattle.dbmap.specs.declared.cell.Owner.TheVariants as owner
-use Rattle.dbmap.specs.declared.cell.Share.{Share}
+use Rattle.dbmap.specs.declared.owner_shares.OwnerShares.{OwnerShares}
+use Rattle.dbmap.specs.declared.owner_shares.Owner.{Owner}
+use Rattle.dbmap.specs.declared.owner_shares.Owner.TheVariants as owner
+use Rattle.dbmap.specs.declared.owner_shares.Share.{Share}
 
 capped : (n : ℕ) → capped_pages (capped_pages n + 1) ≡ capped_pages (n + 1)
 capped n = omega arith
@@ -65,10 +65,10 @@ some_counted mine (q ∷ ps) h = by_case (mine q) refl (some_counted mine ps)
         let k = more (omega (arith, sum, none, h)) in
         (k.0, inr k.1, k.2)
 
--- ---- cells
+-- ---- squares
 
 -- one more page is counted for its owner
-pub shares_push : (marks : List Mark) (o : OwnersGround) (ps : List ℕ) (p : ℕ) (owner : Owner) (over : Bool) (c d : OwnerShares) → owner ≡ marked_owner marks o p → over ≡ is_overflow (place_at marks p)
+pub shares_push : (marks : List Mark) (o : KnownOwners) (ps : List ℕ) (p : ℕ) (owner : Owner) (over : Bool) (c d : OwnerShares) → owner ≡ marked_owner marks o p → over ≡ is_overflow (place_at marks p)
     → ((number : ℕ) → number < 16 → share_of d number ≡ cond (owner_number owner == number) (one_page over (share_of c number)) (share_of c number))
     → AreShares marks o ps c → AreShares marks o (ps ++ p ∷ []) d
 shares_push marks o ps p owner over c d e f added h = λ number l.
@@ -80,7 +80,7 @@ shares_push marks o ps p owner over c d e f added h = λ number l.
     a ∙ b ∙ sym (share_push (is_numbered marks o number) (λ p. is_overflow (place_at marks p)) ps p))
 
 -- so it is of the pages from one to another
-pub shares_next : (marks : List Mark) (o : OwnersGround) (first p : ℕ) (owner : Owner) (over : Bool) (c d : OwnerShares) → first ≤ p → owner ≡ marked_owner marks o p → over ≡ is_overflow (place_at marks p)
+pub shares_next : (marks : List Mark) (o : KnownOwners) (first p : ℕ) (owner : Owner) (over : Bool) (c d : OwnerShares) → first ≤ p → owner ≡ marked_owner marks o p → over ≡ is_overflow (place_at marks p)
     → ((number : ℕ) → number < 16 → share_of d number ≡ cond (owner_number owner == number) (one_page over (share_of c number)) (share_of c number))
     → AreShares marks o (range_with_len first (p - first)) c → AreShares marks o (range_with_len first (p + 1 - first)) d
 shares_next marks o first p owner over c d l e f added h =
@@ -128,7 +128,7 @@ few_numbers owner.Nobody = omega arith
 
 -- ---- one owner or several
 
-module _ (marks : List Mark) (o : OwnersGround) (first last : ℕ) (c : OwnerShares) (h : AreShares marks o (pages_between first last) c) where
+module _ (marks : List Mark) (o : KnownOwners) (first last : ℕ) (c : OwnerShares) (h : AreShares marks o (pages_between first last) c) where
   within : (p : ℕ) → first ≤ p → p ≤ last → IsIn p (pages_between first last)
   within p l m = IsIn-range first (last + 1 - first) p l (omega arith)
 

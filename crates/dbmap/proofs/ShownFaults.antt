@@ -1,5 +1,5 @@
 -- What is kept of the faults of a file is what its squares show of them.
-use Rattle.std.proofs.Common.{◌≡◌, ℕ, suc, ◌+◌, ◌-◌, ◌<◌, ◌≤◌, min, Bool, false, cond, List, [], ◌∷◌, length, map, take, get_or, inl, inr, refl, sym, ap, ap₂, subst, ◌∙◌, arith}
+use Rattle.std.proofs.Common.{◌≡◌, ℕ, suc, ◌+◌, ◌-◌, ◌<◌, ◌≤◌, min, Bool, false, cond, List, [], ◌∷◌, length, get_or, inl, inr, refl, sym, ap, ap₂, subst, ◌∙◌, arith}
 use Rattle.std.specs.Prelude.{count_by, not, vec_len, ◌==◌}
 use Rattle.std.specs.List.{range_with_len}
 use Rattle.std.proofs.lemmas.Bool.Decides.{nat_tests}
@@ -9,17 +9,10 @@ use Rattle.dbsurvey.proofs.Lists.{count-append}
 use Rattle.dbformat.specs.File.{geometry}
 use Rattle.dbformat.specs.Reference.{Reference}
 use Rattle.dbformat.specs.declared.FaultCode.{FaultCode}
-use Rattle.dbentries.specs.Kept.{kept_of}
-use Rattle.dbentries.specs.Listing as listing
-use Rattle.dbentries.specs.Listing.{entries}
-use Rattle.dbentries.specs.Woven.{KeepsFirst, woven}
-use Rattle.dbentries.proofs.Weaving.{keeps_first}
-use Rattle.dblisting.specs.Listed.{lost_faults, other_faults}
-use Rattle.dblisting.proofs.Woven.{all_woven, every_lost}
 use Rattle.dbmap.specs.CodeSets.{no_codes}
-use Rattle.dbmap.specs.FaultyPages.{AreFaultsOf, FaultsGround, ShowsCodes, faulty_pages, leading_faults, coded_faults}
-use Rattle.dbmap.specs.FramedPages.{first_faults, framed}
-use Rattle.dbmap.specs.KeptFaults.{HasFaults, IsKeptGround, noted_pages}
+use Rattle.dbmap.specs.FaultyPages.{AreFaultsOf, KnownFaults, ShowsCodes, faulty_pages, leading_faults, coded_faults}
+use Rattle.dbmap.specs.FramedPages.{framed}
+use Rattle.dbmap.specs.KeptFaults.{HasFaults, IsKeptFaults, noted_pages}
 use Rattle.dbmap.specs.PageSets.{AreNoted, IsNoteOf, has_page, is_faulty, is_noted, number_at, set_numbered, shown_codes}
 use Rattle.dbmap.specs.declared.kept.KeptFaults.{KeptFaults}
 use Rattle.dbmap.specs.declared.page_set.Codes.{Codes}
@@ -69,27 +62,17 @@ number_next xs i =
     let place : 1 + i - 1 ≡ i = omega arith in
     rw some (ap (λ n. get_or xs n 0) place)
 
--- ---- those that lead
+-- ---- a file
 
 module _ {A : Type 0} (file : List ℕ) (V : List Reference) (k : KeptFaults A) (has : HasFaults file V k) where
-  -- the pages of the first entries were noted
-  leads : (set : PageSet A) → ((es ls : List listing.Entry) → KeepsFirst es k.entries → k.lost.listed ≡ map kept_of ls → AreNoted [] k.strong
-      → AreNoted (framed (first_faults (take k.entries.limit (woven es ls)))) set) → AreNoted (framed (leading_faults file V)) set
-  leads set noted =
-      let others = entries (other_faults file V) in
-      let lost = entries (lost_faults file V) in
-      subst (λ es. AreNoted (framed (first_faults (take 100 es))) set) (all_woven file V)
-      (subst (λ n. AreNoted (framed (first_faults (take n (woven others lost)))) set) has.limit
-      (noted others lost (keeps_first others k.entries has.entries) (every_lost file V k.lost has.lost has.most_lost) has.strong.none))
-
   -- the squares
-  pub faults_shown : (g : FaultsGround) → IsKeptGround k g → AreFaultsOf file V g
+  pub faults_shown : (g : KnownFaults) → IsKeptFaults k g → AreFaultsOf file V g
   faults_shown g is = record {
     has = λ p l h. is.has p ∙ has_noted (coded_faults file V) k.faulty has.faulty p l (let e = has.pages in omega (arith, h, e));
     codes = λ p l h. subst (ShowsCodes (coded_faults file V) p) (sym (is.codes p)) (codes_noted (coded_faults file V) k.faulty has.faulty p l (let e = has.pages in omega (arith, h, e)));
     strong = λ p l h.
         let room = is.strong.pages in let e = has.strong.pages in
-        is.strong.is p ∙ has_noted (framed (leading_faults file V)) is.strong.set (leads is.strong.set is.strong.noted) p l (omega (arith, h, e, room));
+        is.strong.is p ∙ has_noted (framed (leading_faults file V)) is.strong.set (is.strong.noted file V has.listing has.strong.none) p l (omega (arith, h, e, room));
   }
 
   -- the legend

@@ -11,28 +11,28 @@ use Rattle.dbmap.specs.Outlines.{outlines_text}
 use Rattle.dbmap.specs.Owners.{IsOf, StaysOf}
 use Rattle.dbmap.specs.Pens.{group_end_text}
 use Rattle.dbmap.specs.Pictures.{head_text, heading_text, picture_text, row_names}
-use Rattle.dbmap.specs.Squares.{AreRows, AreSquares, Ground, IsRow, IsSquare, Square, of_one, of_page, of_several, before_text, row_front_text, group_after, last_group, squares_row_text, squares_rows_text, square_text, squares_text, surveyed}
+use Rattle.dbmap.specs.Squares.{AreRows, AreSquares, DrawnFrom, IsRow, IsSquare, Square, of_one, of_page, of_several, before_text, row_front_text, group_after, last_group, squares_row_text, squares_rows_text, square_text, squares_text, surveyed}
 use Rattle.dbmap.specs.declared.canvas.Canvas.{Canvas}
-use Rattle.dbmap.specs.declared.cell.Owner.{Owner}
+use Rattle.dbmap.specs.declared.owner_shares.Owner.{Owner}
 use Rattle.dbmap.specs.declared.legend.LegendLine.{LegendLine}
 use Rattle.dbmap.specs.declared.picture.Heading.{Heading}
 use Rattle.dbmap.proofs.Drawing.{draws_nothing, draws_then}
 
 -- ---- squares
 
-are_more : (g : Ground) (cell : ℕ) (ss : List Square) (s : Square) → AreSquares g cell ss → IsSquare g (cell + length ss) s → AreSquares g cell (ss ++ s ∷ [])
-are_more g cell [] s h k =
-    let e : cell + 0 ≡ cell = omega arith in
+are_more : (g : DrawnFrom) (index : ℕ) (ss : List Square) (s : Square) → AreSquares g index ss → IsSquare g (index + length ss) s → AreSquares g index (ss ++ s ∷ [])
+are_more g index [] s h k =
+    let e : index + 0 ≡ index = omega arith in
     (subst (λ (n : ℕ). IsSquare g n s) e k, tt)
-are_more g cell (q ∷ ss) s h k =
-    let e : cell + suc (length ss) ≡ cell + 1 + length ss = omega arith in
-    (h.0, are_more g (cell + 1) ss s h.1 (subst (λ (n : ℕ). IsSquare g n s) e k))
+are_more g index (q ∷ ss) s h k =
+    let e : index + suc (length ss) ≡ index + 1 + length ss = omega arith in
+    (h.0, are_more g (index + 1) ss s h.1 (subst (λ (n : ℕ). IsSquare g n s) e k))
 
 last_more : (group : Option (Owner × Bool)) (ss : List Square) (s : Square) → last_group group (ss ++ s ∷ []) ≡ group_after (last_group group ss) s
 last_more group [] s = refl
 last_more group (q ∷ ss) s = last_more (group_after group q) ss s
 
-text_more : (g : Ground) (group : Option (Owner × Bool)) (ss : List Square) (s : Square)
+text_more : (g : DrawnFrom) (group : Option (Owner × Bool)) (ss : List Square) (s : Square)
     → squares_text g group (ss ++ s ∷ []) ≡ squares_text g group ss ++ (before_text (last_group group ss) s ++ square_text g s)
 text_more g group [] s = append-nil (before_text group s ++ square_text g s)
 text_more g group (q ∷ ss) s =
@@ -42,20 +42,20 @@ text_more g group (q ∷ ss) s =
 count_more : {X : Type 0} (xs : List X) (x : X) (n : ℕ) → length xs ≡ n → length (xs ++ x ∷ []) ≡ n + 1
 count_more xs x n e = length-append xs (x ∷ []) ∙ ap (λ m. m + 1) e
 
-module _ {O : Type 0} {held : O → OutState} {g : Ground} {known : List (Option (Option ℕ))} where
-  pub no_squares : (cell : ℕ) (group : Option (Owner × Bool)) (s : Canvas O) → DrawsSquares held g known cell 0 group group s s
-  no_squares cell group s = record { squares = []; many = refl; are = λ file V of. tt; group = refl; draws = draws_nothing s }
+module _ {O : Type 0} {held : O → OutState} {g : DrawnFrom} {known : List (Option (Option ℕ))} where
+  pub no_squares : (index : ℕ) (group : Option (Owner × Bool)) (s : Canvas O) → DrawsSquares held g known index 0 group group s s
+  no_squares index group s = record { squares = []; many = refl; are = λ file V of. tt; group = refl; draws = draws_nothing s }
 
-  pub squares_more : {cell count : ℕ} {before mid after : Option (Owner × Bool)} {s m t : Canvas O} {now : List (Option (Option ℕ))} → StaysOf g.marks known now
-      → DrawsSquares held g known cell count before mid s m → DrawsSquare held g now (cell + count) mid after m t → DrawsSquares held g known cell (count + 1) before after s t
-  squares_more {cell = cell} {count = count} {before = before} {mid = mid} {after = after} {s = s} {m = m} {t = t} stays h k =
-      let at : cell + count ≡ cell + length h.squares = ap (λ n. cell + n) (sym h.many) in
+  pub squares_more : {index count : ℕ} {before mid after : Option (Owner × Bool)} {s m t : Canvas O} {now : List (Option (Option ℕ))} → StaysOf g.marks known now
+      → DrawsSquares held g known index count before mid s m → DrawsSquare held g now (index + count) mid after m t → DrawsSquares held g known index (count + 1) before after s t
+  squares_more {index = index} {count = count} {before = before} {mid = mid} {after = after} {s = s} {m = m} {t = t} stays h k =
+      let at : index + count ≡ index + length h.squares = ap (λ n. index + n) (sym h.many) in
       let more : Draws held m (before_text (last_group before h.squares) k.square ++ square_text g k.square) t =
       subst (λ (o : Option (Owner × Bool)). Draws held m (before_text o k.square ++ square_text g k.square) t) h.group k.draws in
       record {
         squares = h.squares ++ k.square ∷ [];
         many = count_more h.squares k.square count h.many;
-        are = λ file V of. are_more (surveyed g V) cell h.squares k.square (h.are file V of)
+        are = λ file V of. are_more (surveyed g V) index h.squares k.square (h.are file V of)
             (subst (λ (n : ℕ). IsSquare (surveyed g V) n k.square) at (k.is file V (stays file V of)));
         group = k.group ∙ ap (λ o. group_after o k.square) h.group ∙ sym (last_more before h.squares k.square);
         draws = subst (λ (l : List ℕ). Draws held s l t) (sym (text_more g before h.squares k.square)) (draws_then h.draws more);
@@ -63,7 +63,7 @@ module _ {O : Type 0} {held : O → OutState} {g : Ground} {known : List (Option
 
 -- ---- rows
 
-rows_are_more : (g : Ground) (row : ℕ) (rs : List (List Square)) (r : List Square) → AreRows g row rs → IsRow g (row + length rs) r → AreRows g row (rs ++ r ∷ [])
+rows_are_more : (g : DrawnFrom) (row : ℕ) (rs : List (List Square)) (r : List Square) → AreRows g row rs → IsRow g (row + length rs) r → AreRows g row (rs ++ r ∷ [])
 rows_are_more g row [] r h k =
     let e : row + 0 ≡ row = omega arith in
     (subst (λ (n : ℕ). IsRow g n r) e k, tt)
@@ -71,7 +71,7 @@ rows_are_more g row (q ∷ rs) r h k =
     let e : row + suc (length rs) ≡ row + 1 + length rs = omega arith in
     (h.0, rows_are_more g (row + 1) rs r h.1 (subst (λ (n : ℕ). IsRow g n r) e k))
 
-rows_text_more : (g : Ground) (row : ℕ) (rs : List (List Square)) (r : List Square) → squares_rows_text g row (rs ++ r ∷ []) ≡ squares_rows_text g row rs ++ squares_row_text g (row + length rs) r
+rows_text_more : (g : DrawnFrom) (row : ℕ) (rs : List (List Square)) (r : List Square) → squares_rows_text g row (rs ++ r ∷ []) ≡ squares_rows_text g row rs ++ squares_row_text g (row + length rs) r
 rows_text_more g row [] r =
     let e : row ≡ row + 0 = omega arith in
     append-nil (squares_row_text g row r) ∙ ap (λ n. squares_row_text g n r) e
@@ -81,13 +81,13 @@ rows_text_more g row (q ∷ rs) r =
     ∙ sym (append_assoc (squares_row_text g row q) (squares_rows_text g (row + 1) rs) (squares_row_text g (row + suc (length rs)) r))
 
 -- the rows before this one have been drawn
-pub record HasRows {O : Type 0} (held : O → OutState) (g : Ground) (known : List (Option (Option ℕ))) (count : ℕ) (s t : Canvas O) : Type 0 where
+pub record HasRows {O : Type 0} (held : O → OutState) (g : DrawnFrom) (known : List (Option (Option ℕ))) (count : ℕ) (s t : Canvas O) : Type 0 where
   pub all : List (List Square)
   pub many : length all ≡ count
   pub are : (file : List ℕ) (V : List Reference) → IsOf g.marks known file V → AreRows (surveyed g V) 0 all
   pub draws : Draws held s (squares_rows_text g 0 all) t
 
-module _ {O : Type 0} {held : O → OutState} {g : Ground} {known : List (Option (Option ℕ))} where
+module _ {O : Type 0} {held : O → OutState} {g : DrawnFrom} {known : List (Option (Option ℕ))} where
   pub no_rows : (s : Canvas O) → HasRows held g known 0 s s
   no_rows s = record { all = []; many = refl; are = λ file V of. tt; draws = draws_nothing s }
 
@@ -106,7 +106,7 @@ module _ {O : Type 0} {held : O → OutState} {g : Ground} {known : List (Option
 
 -- ---- the text is the same whatever the survey
 
-module _ (g : Ground) (V : List Reference) where
+module _ (g : DrawnFrom) (V : List Reference) where
   same_square : (s : Square) → square_text g s ≡ square_text (surveyed g V) s
   same_square (of_page shade s tree) = refl
   same_square (of_one shade r) = refl

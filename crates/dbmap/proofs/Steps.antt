@@ -4,12 +4,12 @@ use Rattle.std.specs.List.{flat_map}
 use Rattle.std.proofs.lemmas.List.{drop_all}
 use Rattle.dbformat.specs.declared.FaultCode.{FaultCode}
 use Rattle.dbformat.specs.declared.Geometry.{Geometry}
-use Rattle.dbmap.specs.Cells.{has_pages}
+use Rattle.dbmap.specs.OwnerShares.{has_pages}
 use Rattle.dbmap.specs.Faults.{code_if}
 use Rattle.dbmap.specs.Legends.{line_text, lines_from}
 use Rattle.dbmap.specs.Runs.{band_text, bands_from, owner_text, owners_from}
 use Rattle.dbmap.specs.declared.bands.Bands.{Bands}
-use Rattle.dbmap.specs.declared.cell.OwnerShares.{OwnerShares}
+use Rattle.dbmap.specs.declared.owner_shares.OwnerShares.{OwnerShares}
 use Rattle.dbmap.specs.declared.legend.LegendLine.{LegendLine}
 use Rattle.dbmap.specs.declared.page_set.Codes.{Codes}
 use Rattle.dbmap.specs.declared.run.RunSquare.{RunSquare}

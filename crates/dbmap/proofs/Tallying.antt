@@ -6,7 +6,7 @@ use Rattle.std.specs.Option.{option_map_or}
 use Rattle.std.proofs.lemmas.Bool.{eqb-true}
 use Rattle.std.proofs.lemmas.Bool.Decides.{nat_tests}
 use Rattle.std.proofs.lemmas.List.FromFn.{length-range_with_len}
-use Rattle.std.proofs.lemmas.List.Sums.{count_by-le-length, sum_by_push}
+use Rattle.std.proofs.lemmas.List.Sums.{count_by-le-length}
 use Rattle.std.proofs.lemmas.Option.{get_or_from_slice_get, slice_get_within}
 use Rattle.dbformat.specs.Address.{freelist_start, start_of}
 use Rattle.dbformat.specs.EndFaults.{visit_of}
@@ -17,11 +17,11 @@ use Rattle.dbformat.specs.Starts.{start_at}
 use Rattle.dbowner.specs.Owners.{place_in, place_of}
 use Rattle.dbowner.specs.declared.place.Place.TheVariants as place
 use Rattle.dbowner.proofs.Slots.{get_set, get_set_other}
-use Rattle.dbmap.specs.Cells.{no_share}
+use Rattle.dbmap.specs.OwnerShares.{no_share}
 use Rattle.dbmap.specs.Owners.{is_overflow}
 use Rattle.dbmap.specs.Shares.{capped_pages, one_page, share_in}
 use Rattle.dbmap.specs.Tallies.{AreLargest, AreLargestOf, IsNone, IsPageTallyOf, IsPageTallyTo, PagesTallied, is_nowhere, is_of_start, page_counted, pages_at, share_at, start_counted, start_share, tree_pages, used_counted}
-use Rattle.dbmap.specs.declared.cell.Share.{Share}
+use Rattle.dbmap.specs.declared.owner_shares.Share.{Share}
 use Rattle.dbmap.proofs.Largest.{largest_by}
 use Rattle.dbsurvey.proofs.Ranges.{count_push, range_push}
 use Rattle.dbmap.proofs.Shares.{share_push}

@@ -1,7 +1,7 @@
 -- The colours of the picture.
 use Rattle.std.specs.Prelude.{ℕ, Bool, true, false, List, codes, ◌==◌, if◌then◌else◌}
-use Rattle.dbmap.specs.declared.cell.Owner.{Owner}
-use Rattle.dbmap.specs.declared.cell.Owner.TheVariants.{Fixed, Freelist, Nobody, Tree}
+use Rattle.dbmap.specs.declared.owner_shares.Owner.{Owner}
+use Rattle.dbmap.specs.declared.owner_shares.Owner.TheVariants.{Fixed, Freelist, Nobody, Tree}
 
 -- the colour of the trees of a rank; that of all other trees after the last
 abbrev pub tree_colour : ℕ → List ℕ

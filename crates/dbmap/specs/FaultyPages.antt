@@ -19,7 +19,7 @@ use Rattle.dbmap.specs.declared.page_set.Codes.{Codes}
 -- ---- what squares are drawn by
 
 -- Of each page whether it has a fault, the codes that are shown of it, and whether it has the strong frame.
-pub record FaultsGround : Type 0 where
+pub record KnownFaults : Type 0 where
   pub has : ℕ → Bool
   pub codes : ℕ → Codes
   pub strong : ℕ → Bool
@@ -31,7 +31,7 @@ frame_of false true = frame.Weak
 frame_of false false = frame.None
 
 -- What is shown of the faults of the pages from the first to the last.
-pub record IsFaulty (g : FaultsGround) (first last : ℕ) (f : Faulty) : Type 0 where
+pub record IsFaulty (g : KnownFaults) (first last : ℕ) (f : Faulty) : Type 0 where
   pub has_fault : f.has_fault ≡ any_page g.has first last
   pub codes : f.codes ≡ codes_of_pages g.codes first last
   pub frame : f.frame ≡ frame_of (any_page g.strong first last) (any_page g.has first last)
@@ -56,7 +56,7 @@ ShowsCodes fs p codes = (codes ≡ codes_at fs p) ⊎ ((codes ≡ no_codes) × H
 
 -- All this is so of each page of the file: it has a fault where one of the file's faults is of it, and the strong frame where it is a
 -- page of a fault that leads.
-pub record AreFaultsOf (file : List ℕ) (V : List Reference) (g : FaultsGround) : Type 0 where
+pub record AreFaultsOf (file : List ℕ) (V : List Reference) (g : KnownFaults) : Type 0 where
   pub has : (p : ℕ) → 1 ≤ p → p ≤ (geometry file).pages → g.has p ≡ is_faulty (coded_faults file V) p
   pub codes : (p : ℕ) → 1 ≤ p → p ≤ (geometry file).pages → ShowsCodes (coded_faults file V) p (g.codes p)
   pub strong : (p : ℕ) → 1 ≤ p → p ≤ (geometry file).pages → g.strong p ≡ is_faulty (framed (leading_faults file V)) p

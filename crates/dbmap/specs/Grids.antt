@@ -4,7 +4,7 @@ use Rattle.std.specs.Int.{IsPowerOfTwo, div_ceil}
 use Rattle.dbformat.specs.Lines.{counted}
 use Rattle.dbmap.specs.declared.grid.Grid.{Grid}
 use Rattle.dbmap.specs.declared.grid.Width.{Width}
-use Rattle.dbmap.specs.declared.grid.Width.TheVariants.{Few, Some, Many}
+use Rattle.dbmap.specs.declared.grid.Width.TheVariants.{Narrow, Medium, Wide}
 
 -- A square covers the smallest power of two of pages with which a file of this number of pages has at most 16384 squares.
 pub record IsLeastRun (pages run : ℕ) : Type 0 where
@@ -14,41 +14,41 @@ pub record IsLeastRun (pages run : ℕ) : Type 0 where
 
 -- the width of the rows, by how many squares there are
 abbrev pub width_of : ℕ → Width
-width_of cells = if nat_le cells 512 then Few else (if nat_le cells 2048 then Some else Many)
+width_of squares = if nat_le squares 512 then Narrow else (if nat_le squares 2048 then Medium else Wide)
 
 -- how many squares are in a row
 abbrev pub columns_of : Width → ℕ
-columns_of Few = 32
-columns_of Some = 64
-columns_of Many = 128
+columns_of Narrow = 32
+columns_of Medium = 64
+columns_of Wide = 128
 
 abbrev pub grid_columns : Grid → ℕ
 grid_columns g = columns_of g.width
 
 -- how many pixels a square takes with the room after it
 abbrev pub side_of : Width → ℕ
-side_of Few = 28
-side_of Some = 14
-side_of Many = 7
+side_of Narrow = 28
+side_of Medium = 14
+side_of Wide = 7
 
 abbrev pub side : Grid → ℕ
 side g = side_of g.width
 
 -- how many squares and outlines there are: no more rows of outlines alone than the file has rows
 abbrev pub places : Grid → ℕ
-places g = max (min (div_ceil g.stated (max g.run 1)) (div_ceil g.cells (grid_columns g) * 2 * grid_columns g)) g.cells
+places g = max (min (div_ceil g.stated (max g.run 1)) (div_ceil g.squares (grid_columns g) * 2 * grid_columns g)) g.squares
 
 -- how many rows there are
 abbrev pub rows : Grid → ℕ
 rows g = div_ceil (places g) (grid_columns g)
 
 -- the squares of a row, the first and the one after the last
-abbrev pub cells_of_row : Grid → ℕ → ℕ × ℕ
-cells_of_row g row = (min (row * grid_columns g) g.cells, min ((row + 1) * grid_columns g) g.cells)
+abbrev pub squares_of_row : Grid → ℕ → ℕ × ℕ
+squares_of_row g row = (min (row * grid_columns g) g.squares, min ((row + 1) * grid_columns g) g.squares)
 
 -- the outlines of a row, the first and the one after the last
 abbrev pub outlines_of_row : Grid → ℕ → ℕ × ℕ
-outlines_of_row g row = (max (min (row * grid_columns g) (places g)) g.cells, min ((row + 1) * grid_columns g) (places g))
+outlines_of_row g row = (max (min (row * grid_columns g) (places g)) g.squares, min ((row + 1) * grid_columns g) (places g))
 
 -- the first and the last page of a place, in a file of `pages` pages
 abbrev pub run_of : Grid → ℕ → ℕ → ℕ × ℕ

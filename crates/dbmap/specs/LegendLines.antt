@@ -1,20 +1,20 @@
 -- Which lines the legend of a file has, and how many pages each is of: one for each of the largest trees, and then one for all other
 -- trees, for the freelist, for pages of fixed use, for pages that are nobody's, and for pages with a fault; each only where it has a page.
-use Rattle.std.specs.Prelude.{ℕ, ◌+◌, ◌-◌, Bool, not, ◌&&◌, nat_lt, nat_eq, List, [], ◌∷◌, ◌++◌, length, take, get_or, slice_get, count_by, Option, Some, None, ◌==◌, if◌then◌else◌}
+use Rattle.std.specs.Prelude.{ℕ, ◌+◌, Bool, not, ◌&&◌, nat_lt, nat_eq, List, [], ◌∷◌, ◌++◌, length, take, get_or, count_by, Option, Some, None, ◌==◌, if◌then◌else◌}
 use Rattle.std.specs.Cmp.Lexicographic.{pointwise}
 use Rattle.std.specs.List.{list_any, range_with_len, sum_by}
-use Rattle.std.specs.Option.{option_map_or}
 use Rattle.dbformat.specs.Address.{freelist_start, last_root_start}
 use Rattle.dbformat.specs.File.{geometry}
 use Rattle.dbformat.specs.Reference.{Reference}
 use Rattle.dbformat.specs.Schema.{schema, rooted_rows}
 use Rattle.dbformat.specs.SchemaRow.{SchemaRow}
-use Rattle.dbxml.specs.Widths.{seen}
+use Rattle.dbscan.specs.Roots.{root_page}
+use Rattle.dbxml.specs.Widths.{fitting_bytes}
 use Rattle.dbmap.specs.Legends.{no_overflow}
 use Rattle.dbmap.specs.Owners.{rank_of}
 use Rattle.dbmap.specs.Shares.{capped_pages}
 use Rattle.dbmap.specs.Tallies.{fixed_count, lost_pages, start_share}
-use Rattle.dbmap.specs.declared.cell.Share.{Share}
+use Rattle.dbmap.specs.declared.owner_shares.Share.{Share}
 use Rattle.dbmap.specs.declared.legend.Label.{Label}
 use Rattle.dbmap.specs.declared.legend.Label.TheVariants.{Faulty, Fixed, Freelist, Nobody, Others, Tree}
 use Rattle.dbmap.specs.declared.legend.LegendLine.{LegendLine}
@@ -23,7 +23,7 @@ use Rattle.dbmap.specs.declared.legend.LegendLine.{LegendLine}
 
 -- whether two names are shown alike in a number of columns
 abbrev pub is_like : ℕ → List ℕ → List ℕ → Bool
-is_like width name other = pointwise nat_eq (seen width name) (seen width other)
+is_like width name other = pointwise nat_eq (fitting_bytes width name) (fitting_bytes width other)
 
 -- whether the name at another rank is shown like the one at a rank
 abbrev pub is_namesake : List (List ℕ) → ℕ → ℕ → ℕ → Bool
@@ -34,10 +34,6 @@ abbrev pub is_twice : List (List ℕ) → ℕ → ℕ → Bool
 is_twice names rank width =
     nat_lt rank (length names)
     && list_any (is_namesake names rank width) (range_with_len 0 (length names))
-
--- the root page of the tree of a start, by the rows of the schema that have one: the schema's is page 1
-abbrev pub root_page : List SchemaRow → ℕ → ℕ
-root_page rows start = if start == 0 then 1 else option_map_or (λ row. row.root) (slice_get rows (start - 1)) 0
 
 -- the same, where another of the largest trees has the same name
 abbrev pub root_if_twice : List (List ℕ) → List SchemaRow → ℕ → ℕ → Option ℕ

@@ -6,9 +6,9 @@ use Rattle.dbxml.specs.Pieces.{tenths_text}
 use Rattle.dbmap.specs.Colours.{fill}
 use Rattle.dbmap.specs.Runs.{name_text}
 use Rattle.dbmap.specs.Sizes.{size_tenths, size_unit, tenths_of_percent}
-use Rattle.dbmap.specs.declared.cell.Owner.{Owner}
-use Rattle.dbmap.specs.declared.cell.Owner.TheVariants as owner
-use Rattle.dbmap.specs.declared.cell.Share.{Share}
+use Rattle.dbmap.specs.declared.owner_shares.Owner.{Owner}
+use Rattle.dbmap.specs.declared.owner_shares.Owner.TheVariants as owner
+use Rattle.dbmap.specs.declared.owner_shares.Share.{Share}
 use Rattle.dbmap.specs.declared.grid.Grid.{Grid}
 use Rattle.dbmap.specs.declared.legend.Label.{Label}
 use Rattle.dbmap.specs.declared.legend.Label.TheVariants.{Faulty, Fixed, Freelist, Nobody, Others, Tree}
@@ -23,20 +23,20 @@ abbrev pub height : List LegendLine → ℕ → ℕ
 height lines missing = (length lines + (if missing == 0 then 0 else 1)) * 20 + 40
 
 -- a text in two parts in a column, which ends at x
-abbrev pub cell_text : ℕ → ℕ → List ℕ → List ℕ → List ℕ
-cell_text x y text end =
+abbrev pub right_text : ℕ → ℕ → List ℕ → List ℕ → List ℕ
+right_text x y text end =
     concat (codes "<text x=\"" ∷ decimal x ∷ codes "\" y=\"" ∷ decimal y ∷ codes "\" text-anchor=\"end\">" ∷ text ∷ end ∷ codes "</text>" ∷ [])
 
 -- a number in a column
 abbrev pub number_text : ℕ → ℕ → ℕ → List ℕ
-number_text x y number = cell_text x y (decimal number) []
+number_text x y number = right_text x y (decimal number) []
 
 -- what begins the legend, and what the columns are
 unfoldable pub columns_text : ℕ → List ℕ
 columns_text bottom =
     concat (codes "<g transform=\"translate(0 " ∷ decimal bottom ∷ codes ")\">\n<g fill=\"#666666\">" ∷ [])
-    ++ (cell_text 580 20 (codes "pages") [] ++ (cell_text 710 20 (codes "of them overflow") [] ++ (cell_text 790 20 (codes "size") []
-    ++ (cell_text 860 20 (codes "%") [] ++ codes "</g>\n"))))
+    ++ (right_text 580 20 (codes "pages") [] ++ (right_text 710 20 (codes "of them overflow") [] ++ (right_text 790 20 (codes "size") []
+    ++ (right_text 860 20 (codes "%") [] ++ codes "</g>\n"))))
 
 -- how many overflow pages a line is of, if any
 abbrev pub overflow_text : ℕ → ℕ → List ℕ
@@ -46,11 +46,11 @@ overflow_text pages y = if pages == 0 then [] else number_text 710 y pages
 unfoldable pub share_text : Share → ℕ → ℕ → List ℕ
 share_text share page_size y =
     number_text 580 y share.pages
-    ++ (overflow_text share.overflow y ++ cell_text 790 y (tenths_text (size_tenths share.pages page_size)) (size_unit share.pages page_size))
+    ++ (overflow_text share.overflow y ++ right_text 790 y (tenths_text (size_tenths share.pages page_size)) (size_unit share.pages page_size))
 
 -- how many of all pages a line is of
 unfoldable pub percent_text : ℕ → ℕ → ℕ → List ℕ
-percent_text pages all y = cell_text 860 y (tenths_text (tenths_of_percent pages all)) [] ++ codes "\n"
+percent_text pages all y = right_text 860 y (tenths_text (tenths_of_percent pages all)) [] ++ codes "\n"
 
 -- a square of the legend
 abbrev pub box_text : ℕ → ℕ → List ℕ → List ℕ
@@ -95,7 +95,7 @@ other_trees_text count = decimal count ++ (if count == 1 then codes " other tree
 
 -- the name of a tree, with its root page where another one has the same name
 abbrev pub named_tree_text : List (List ℕ) → ℕ → Option ℕ → List ℕ
-named_tree_text names rank (Some root) = concat (name_text names rank 56 ∷ codes ", root page " ∷ decimal root ∷ codes "</text>" ∷ [])
+named_tree_text names rank (Some root) = concat (name_text names rank 36 ∷ codes ", root page " ∷ decimal root ∷ codes "</text>" ∷ [])
 named_tree_text names rank None = concat (name_text names rank 56 ∷ codes "</text>" ∷ [])
 
 -- what a line is of

@@ -1,5 +1,4 @@
 pub mod Canvas
-pub mod Cells
 pub mod CodeSets
 pub mod Colours
 pub mod Drawings
@@ -14,6 +13,7 @@ pub mod MapReporter
 pub mod Maps
 pub mod Marks
 pub mod Outlines
+pub mod OwnerShares
 pub mod Owners
 pub mod PageSets
 pub mod Pages
@@ -25,3 +25,4 @@ pub mod Sizes
 pub mod Squares
 pub mod Tallies
 pub mod TreeLists
+pub mod TreeTexts

@@ -1,5 +1,5 @@
 -- The reporter of a map: what a fault makes of it, and what it answers at the end.
-use Rattle.std.specs.Prelude.{◌≡◌, ℕ, ◌+◌, List, [], ◌∷◌, Result, IfOk}
+use Rattle.std.specs.Prelude.{◌≡◌, ℕ, ◌+◌, List, Result, IfOk}
 use Rattle.dbformat.specs.File.{geometry}
 use Rattle.dbformat.specs.Lines.{counted}
 use Rattle.dbformat.specs.Reference.{Reference}
@@ -8,9 +8,9 @@ use Rattle.dbformat.specs.declared.Verdict.{Verdict}
 use Rattle.dbtrace.specs.declared.Reported.{Reported}
 use Rattle.dbsource.specs.Outs.{OutState}
 use Rattle.dbsource.specs.declared.error.RunError.{RunError}
-use Rattle.dbwalk.specs.Telling.{SinkState}
+use Rattle.dbwalk.specs.Telling.{SinkState, one_out}
 use Rattle.dbscan.specs.Notices.{Notice}
-use Rattle.dblisting.specs.Told.{HearsReported}
+use Rattle.dblisting.specs.Reported.{HearsReported}
 use Rattle.dbmap.specs.KeptFaults.{HearsNone, HasNoted}
 use Rattle.dbmap.specs.Maps.{DrawsMap}
 use Rattle.dbmap.specs.declared.map_reporter.MapReporter.{MapReporter}
@@ -27,13 +27,9 @@ module _ {A O : Type 0} where
   abbrev pub Hears : MapReporter A O → Notice → MapReporter A O → Type 0
   Hears = HearsReported Adds
 
-  -- none is ever refused
-  abbrev pub Never : MapReporter A O → Notice → MapReporter A O → Type 0
-  Never s notice t = ⊥
-
 -- it borrows its Out, whose failures are counted
 abbrev pub map_held : {A O : Type 0} → (O → OutState) → MapReporter A O → SinkState
-map_held held s = record { lent = s.out.ghost_name ∷ []; failures = (held s.out.now).failures ∷ [] }
+map_held held s = one_out s.out.ghost_name (held s.out.now).failures
 
 -- What a run leaves that had heard nothing before: the verdict, and a picture.
 abbrev pub LeavesMap : {A O : Type 0} → (O → OutState) → List ℕ → List Reference → Result Verdict RunError → MapReporter A O → MapReporter A O → Type 0

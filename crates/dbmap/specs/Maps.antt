@@ -25,13 +25,13 @@ use Rattle.dbformat.specs.Starts.{start_at}
 use Rattle.dbowner.specs.Owners.{place_of}
 use Rattle.dbowner.specs.Texts.{tree_text}
 use Rattle.dbreport.specs.Runs.{IsAnswerOf}
-use Rattle.dbxml.specs.Names.{file_name, kept_text}
+use Rattle.dbxml.specs.Names.{shown_file, short_text}
 use Rattle.dbmap.specs.Drawings.{stated_of}
 use Rattle.dbmap.specs.FaultyPages.{AreFaultsOf, faulty_pages}
 use Rattle.dbmap.specs.Grids.{IsLeastRun, rows, width_of}
 use Rattle.dbmap.specs.LegendLines.{legend_lines}
 use Rattle.dbmap.specs.Pictures.{picture_text}
-use Rattle.dbmap.specs.Squares.{AreRows, Ground, Square}
+use Rattle.dbmap.specs.Squares.{AreRows, DrawnFrom, Square}
 use Rattle.dbmap.specs.Tallies.{AreLargestOf}
 use Rattle.dbmap.specs.declared.legend.LegendLine.{LegendLine}
 use Rattle.dbmap.specs.declared.picture.Heading.{Heading}
@@ -39,15 +39,15 @@ use Rattle.dbmap.specs.declared.picture.Heading.{Heading}
 -- A picture of a file with survey V and this name: of its size, with the number of its faults; with one square for each page, or for each
 -- run of pages, row by row; what is remembered of a page is what the page is, the faults that are shown of it are its own, it belongs to
 -- the start of its visit, the largest trees are those of the file, and trees have the names that the schema gives them.
-pub record IsPictureOf (name file : List ℕ) (V : List Reference) (h : Heading) (g : Ground) (all : List (List Square)) : Type 0 where
-  pub named : h.file ≡ file_name name
+pub record IsPictureOf (name file : List ℕ) (V : List Reference) (h : Heading) (g : DrawnFrom) (all : List (List Square)) : Type 0 where
+  pub named : h.file ≡ shown_file name
   pub shape : h.geometry ≡ geometry file
   pub found : h.faults ≡ counted (length (faults file V))
   pub pages : g.grid.pages ≡ (geometry file).pages
   pub stated : g.grid.stated ≡ stated_of (take 100 file)
   pub run : IsLeastRun (geometry file).pages g.grid.run
-  pub width : g.grid.width ≡ width_of g.grid.cells
-  pub cells : g.grid.cells ≡ div_ceil (geometry file).pages g.grid.run
+  pub width : g.grid.width ≡ width_of g.grid.squares
+  pub squares : g.grid.squares ≡ div_ceil (geometry file).pages g.grid.run
   pub many : length all ≡ rows g.grid
   pub are : AreRows g 0 all
   pub places : (p : ℕ) → place_by (page_mark g.marks p) ≡ place_of file V p
@@ -55,18 +55,18 @@ pub record IsPictureOf (name file : List ℕ) (V : List Reference) (h : Heading)
   pub starts : (p : ℕ) → g.owners.start p ≡ start_at V p
   pub largest : AreLargestOf file V g.owners.largest
   pub fixed : g.shape ≡ geometry file
-  pub trees : (k : ℕ) → g.tree k ≡ kept_text (tree_text file V k)
+  pub trees : (k : ℕ) → g.tree k ≡ short_text (tree_text file V k)
   pub names : g.names ≡ map g.tree g.owners.largest
 
 -- there is such a picture, whose legend says how many pages each owner has and how many have a fault, and of its bytes P holds
 pub record HasPicture (P : List ℕ → Type 0) (name file : List ℕ) (V : List Reference) : Type 0 where
   pub heading : Heading
-  pub ground : Ground
+  pub drawn : DrawnFrom
   pub all : List (List Square)
   pub lines : List LegendLine
-  pub is : IsPictureOf name file V heading ground all
-  pub legend : lines ≡ legend_lines file V ground.names ground.owners.largest (faulty_pages file V)
-  pub holds : P (picture_text heading ground all lines)
+  pub is : IsPictureOf name file V heading drawn all
+  pub legend : lines ≡ legend_lines file V drawn.names drawn.owners.largest (faulty_pages file V)
+  pub holds : P (picture_text heading drawn all lines)
 
 -- what the bytes of an Out become, where they are known: at Ok a picture was put; at a failed write nothing, or a beginning of one; at
 -- any other error nothing

@@ -9,17 +9,17 @@ use Rattle.dbowner.specs.Climbs.{AreTrees, place_by}
 use Rattle.dbformat.specs.Starts.{start_at}
 use Rattle.dbowner.specs.declared.place.Place.{Place}
 use Rattle.dbowner.specs.declared.place.Place.TheVariants as place
-use Rattle.dbmap.specs.declared.cell.Owner.{Owner}
-use Rattle.dbmap.specs.declared.cell.Owner.TheVariants as owner
+use Rattle.dbmap.specs.declared.owner_shares.Owner.{Owner}
+use Rattle.dbmap.specs.declared.owner_shares.Owner.TheVariants as owner
 use Rattle.dbmap.specs.declared.tally.RankedTree.{RankedTree}
 
 -- What is known of owners: the start that each page belongs to, if it belongs to one, and the starts of the largest trees, by rank.
-pub record OwnersGround : Type 0 where
+pub record KnownOwners : Type 0 where
   pub start : ℕ → Option ℕ
   pub largest : List ℕ
 
 -- what is known of them where V is the survey of a file: each page belongs to the start of its visit
-abbrev pub owners_by : List Reference → List ℕ → OwnersGround
+abbrev pub owners_by : List Reference → List ℕ → KnownOwners
 owners_by V largest = record { start = start_at V; largest = largest }
 
 -- the starts of some trees
@@ -57,11 +57,11 @@ abbrev pub place_at : List Mark → ℕ → Place
 place_at marks p = place_by (page_mark marks p)
 
 -- whose page p is
-abbrev pub marked_owner : List Mark → OwnersGround → ℕ → Owner
+abbrev pub marked_owner : List Mark → KnownOwners → ℕ → Owner
 marked_owner marks o p = owner_by o.largest (place_at marks p) (o.start p)
 
 -- what its square is filled for: its owner, in the shade of overflow pages where it is one
-abbrev pub shade_at : List Mark → OwnersGround → ℕ → Owner × Bool
+abbrev pub shade_at : List Mark → KnownOwners → ℕ → Owner × Bool
 shade_at marks o p = (marked_owner marks o p, is_overflow (place_at marks p))
 
 -- ---- what is remembered of a file

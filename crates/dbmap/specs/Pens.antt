@@ -2,8 +2,8 @@
 use Rattle.std.specs.Prelude.{ℕ, Bool, true, false, ◌&&◌, ◌==◌, List, [], ◌∷◌, Option, Some, None, codes, if◌then◌else◌}
 use Rattle.std.specs.List.{concat}
 use Rattle.dbmap.specs.Colours.{fill}
-use Rattle.dbmap.specs.declared.cell.Owner.{Owner}
-use Rattle.dbmap.specs.declared.cell.Owner.TheVariants.{Fixed, Freelist, Nobody, Tree}
+use Rattle.dbmap.specs.declared.owner_shares.Owner.{Owner}
+use Rattle.dbmap.specs.declared.owner_shares.Owner.TheVariants.{Fixed, Freelist, Nobody, Tree}
 
 -- whether two owners are one
 abbrev pub is_owner : Owner → Owner → Bool

@@ -6,12 +6,12 @@ use Rattle.dbxml.specs.Pieces.{shown_text, tenths_text}
 use Rattle.dbmap.specs.Grids.{page_of_row, rows, side, top_of}
 use Rattle.dbmap.specs.Legends.{height, legend_text}
 use Rattle.dbmap.specs.Sizes.{size_tenths, size_unit}
-use Rattle.dbmap.specs.Squares.{Ground, Square, squares_rows_text}
+use Rattle.dbmap.specs.Squares.{DrawnFrom, Square, squares_rows_text}
 use Rattle.dbmap.specs.declared.grid.Grid.{Grid}
 use Rattle.dbmap.specs.declared.legend.LegendLine.{LegendLine}
 use Rattle.dbmap.specs.declared.picture.Heading.{Heading}
 
--- what begins the picture: its size, its name for who does not see it, the hatching, and a white ground
+-- what begins the picture: its size, its accessible name, the hatching, and a white background
 unfoldable pub head_text : List ℕ → ℕ → List ℕ
 head_text file height =
     concat (codes "<svg xmlns=\"http://www.w3.org/2000/svg\" width=\"" ∷ decimal 988 ∷ codes "\" height=\"" ∷ decimal height
@@ -68,7 +68,7 @@ unfoldable pub row_names : Grid → List ℕ
 row_names g = codes "<g font-size=\"10\" fill=\"#666666\" text-anchor=\"end\">\n" ++ (names_from g 0 (rows g) ++ codes "</g>\n")
 
 -- the picture, by what is said above the squares, the squares row by row, and the lines of the legend
-unfoldable pub picture_text : Heading → Ground → List (List Square) → List LegendLine → List ℕ
+unfoldable pub picture_text : Heading → DrawnFrom → List (List Square) → List LegendLine → List ℕ
 picture_text h g squares lines =
     head_text h.file (top_of g.grid (rows g.grid) + height lines (g.grid.stated - g.grid.pages))
     ++ (heading_text h g.grid.run ++ (row_names g.grid ++ (squares_rows_text g 0 squares

@@ -3,14 +3,14 @@ use Rattle.std.specs.Prelude.{ℕ, zero, suc, ◌+◌, min, Bool, true, false, �
 use Rattle.std.specs.Option.{option_map_or}
 use Rattle.std.specs.List.{concat}
 use Rattle.dbxml.specs.Pieces.{shown_text}
-use Rattle.dbmap.specs.Cells.{has_pages, is_shaded, owner_numbered, share_of}
+use Rattle.dbmap.specs.OwnerShares.{has_pages, is_shaded, owner_numbered, share_of}
 use Rattle.dbmap.specs.Colours.{fill}
 use Rattle.dbmap.specs.Faults.{faults_text}
 use Rattle.dbmap.specs.Marks.{tail}
 use Rattle.dbmap.specs.declared.bands.Bands.{Bands}
-use Rattle.dbmap.specs.declared.cell.OwnerShares.{OwnerShares}
-use Rattle.dbmap.specs.declared.cell.Owner.{Owner}
-use Rattle.dbmap.specs.declared.cell.Owner.TheVariants.{Fixed, Freelist, Nobody, Tree}
+use Rattle.dbmap.specs.declared.owner_shares.OwnerShares.{OwnerShares}
+use Rattle.dbmap.specs.declared.owner_shares.Owner.{Owner}
+use Rattle.dbmap.specs.declared.owner_shares.Owner.TheVariants.{Fixed, Freelist, Nobody, Tree}
 use Rattle.dbmap.specs.declared.frame.Frame.{Frame}
 use Rattle.dbmap.specs.declared.frame.Frame.TheVariants as frame
 use Rattle.dbmap.specs.declared.frame.Frame.TheVariants.{Weak, Strong}
@@ -50,7 +50,7 @@ owners_from c names is_first number (suc count) =
 unfoldable pub title_text : RunSquare → List (List ℕ) → List ℕ
 title_text r names =
     concat (codes "s " ∷ decimal r.first ∷ codes " to " ∷ decimal r.last ∷ [])
-    ++ (owners_from r.cell names true 0 16 ++ faults_text r.faulty)
+    ++ (owners_from r.shares names true 0 16 ++ faults_text r.faulty)
 
 -- the square of pages that all have one owner
 unfoldable pub plain_text : RunSquare → Width → List (List ℕ) → List ℕ
@@ -62,7 +62,7 @@ abbrev pub band_text : RunSquare → ℕ → ℕ → ℕ → List ℕ
 band_text r number top height =
     if height == 0 then []
     else concat (codes "<rect x=\"" ∷ decimal r.x ∷ codes "\" y=\"" ∷ decimal top ∷ codes "\" width=\"6\" height=\"" ∷ decimal height
-    ∷ codes "\" fill=\"" ∷ fill (owner_numbered number) (is_shaded (share_of r.cell number)) ∷ codes "\"/>" ∷ [])
+    ∷ codes "\" fill=\"" ∷ fill (owner_numbered number) (is_shaded (share_of r.shares number)) ∷ codes "\"/>" ∷ [])
 
 -- the bands of `count` owners from a number on, each below those before it
 unfoldable pub bands_from : RunSquare → Bands → ℕ → ℕ → ℕ → List ℕ

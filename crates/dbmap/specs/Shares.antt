@@ -1,12 +1,12 @@
 -- How many of some pages each owner has, and how many of these are overflow pages.
 use Rattle.std.specs.Prelude.{◌≡◌, ℕ, ◌+◌, ◌<◌, ◌≤◌, min, Bool, true, false, ◌&&◌, List, get_or, sum, count_by, ◌==◌, if◌then◌else◌}
 use Rattle.dbmarks.specs.declared.marks.Mark.{Mark}
-use Rattle.dbmap.specs.Cells.{has_pages, is_shaded, owner_number, share_of}
-use Rattle.dbmap.specs.Owners.{OwnersGround, is_overflow, marked_owner, place_at}
+use Rattle.dbmap.specs.OwnerShares.{has_pages, is_shaded, owner_number, share_of}
+use Rattle.dbmap.specs.Owners.{KnownOwners, is_overflow, marked_owner, place_at}
 use Rattle.dbmap.specs.declared.bands.Bands.{Bands}
-use Rattle.dbmap.specs.declared.cell.OwnerShares.{OwnerShares}
-use Rattle.dbmap.specs.declared.cell.Owner.{Owner}
-use Rattle.dbmap.specs.declared.cell.Share.{Share}
+use Rattle.dbmap.specs.declared.owner_shares.OwnerShares.{OwnerShares}
+use Rattle.dbmap.specs.declared.owner_shares.Owner.{Owner}
+use Rattle.dbmap.specs.declared.owner_shares.Share.{Share}
 use Rattle.dbmap.specs.declared.run.RunSquare.{RunSquare}
 
 -- a number of pages as it is counted: it stops at the greatest number of 32 bits, which no file reaches
@@ -25,15 +25,15 @@ abbrev pub one_page : Bool → Share → Share
 one_page over s = record { pages = capped_pages (s.pages + 1); overflow = capped_pages (s.overflow + (if over then 1 else 0)) }
 
 -- those of two together
-abbrev pub joined : Share → Share → Share
-joined s t = record { pages = capped_pages (s.pages + t.pages); overflow = capped_pages (s.overflow + t.overflow) }
+abbrev pub share_sum : Share → Share → Share
+share_sum s t = record { pages = capped_pages (s.pages + t.pages); overflow = capped_pages (s.overflow + t.overflow) }
 
 -- whether the owner of page p has this number
-abbrev pub is_numbered : List Mark → OwnersGround → ℕ → ℕ → Bool
+abbrev pub is_numbered : List Mark → KnownOwners → ℕ → ℕ → Bool
 is_numbered marks o number p = owner_number (marked_owner marks o p) == number
 
--- a cell has what each owner has of these pages
-abbrev pub AreShares : List Mark → OwnersGround → List ℕ → OwnerShares → Type 0
+-- shares are what each owner has of these pages
+abbrev pub AreShares : List Mark → KnownOwners → List ℕ → OwnerShares → Type 0
 AreShares marks o pages c = (number : ℕ) → number < 16
     → share_of c number ≡ share_in (is_numbered marks o number) (λ p. is_overflow (place_at marks p)) pages
 
@@ -64,12 +64,12 @@ pub record AreBands (c : OwnerShares) (b : Bands) : Type 0 where
 -- ---- runs
 
 -- All pages of a run are of one owner, for which it is filled: in the shade of overflow pages where more than half of them are.
-pub record IsOfOne (marks : List Mark) (o : OwnersGround) (r : RunSquare) (shade : Owner × Bool) : Type 0 where
+pub record IsOfOne (marks : List Mark) (o : KnownOwners) (r : RunSquare) (shade : Owner × Bool) : Type 0 where
   pub owner : (p : ℕ) → r.first ≤ p → p ≤ r.last → marked_owner marks o p ≡ shade.0
-  pub overflow : shade.1 ≡ is_shaded (share_of r.cell (owner_number shade.0))
+  pub overflow : shade.1 ≡ is_shaded (share_of r.shares (owner_number shade.0))
 
 -- Two pages of a run are of different owners.
-pub record IsOfSeveral (marks : List Mark) (o : OwnersGround) (r : RunSquare) : Type 0 where
+pub record IsOfSeveral (marks : List Mark) (o : KnownOwners) (r : RunSquare) : Type 0 where
   pub one : ℕ
   pub other : ℕ
   pub one_within : (r.first ≤ one) × (one ≤ r.last)

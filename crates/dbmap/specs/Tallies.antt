@@ -12,10 +12,10 @@ use Rattle.dbformat.specs.Starts.{start_at}
 use Rattle.dbowner.specs.Owners.{place_of}
 use Rattle.dbowner.specs.declared.place.Place.{Place}
 use Rattle.dbowner.specs.declared.place.Place.TheVariants as place
-use Rattle.dbmap.specs.Cells.{no_share}
+use Rattle.dbmap.specs.OwnerShares.{no_share}
 use Rattle.dbmap.specs.Owners.{is_overflow}
 use Rattle.dbmap.specs.Shares.{capped_pages, one_page, share_in}
-use Rattle.dbmap.specs.declared.cell.Share.{Share}
+use Rattle.dbmap.specs.declared.owner_shares.Share.{Share}
 use Rattle.dbmap.specs.declared.tally.PageTally.TheInside.{Inside}
 
 -- ---- the pages of a file
@@ -133,6 +133,6 @@ IsAfter pages None k = Unit {0}
 IsAfter pages (Some j) k = IsBeforeStart pages j k
 
 -- the first start that comes after another one, of those below n that have pages
-pub record IsNextStart (n : ℕ) (pages : ℕ → ℕ) (behind next : Option ℕ) : Type 0 where
-  pub some : (k : ℕ) → next ≡ Some k → (k < n) × (0 < pages k) × IsAfter pages behind k
-  pub rest : (k : ℕ) → k < n → 0 < pages k → IsAfter pages behind k → (j : ℕ) × (next ≡ Some j) × ((j ≡ k) ⊎ IsBeforeStart pages j k)
+pub record IsNextStart (n : ℕ) (pages : ℕ → ℕ) (last next : Option ℕ) : Type 0 where
+  pub some : (k : ℕ) → next ≡ Some k → (k < n) × (0 < pages k) × IsAfter pages last k
+  pub rest : (k : ℕ) → k < n → 0 < pages k → IsAfter pages last k → (j : ℕ) × (next ≡ Some j) × ((j ≡ k) ⊎ IsBeforeStart pages j k)

@@ -1,7 +1,7 @@
 -- Trees with what they have, as a tally has it.
 use Rattle.std.specs.Prelude.{◌≡◌, ◌⊎◌, ℕ, ◌<◌, List, Option, Some, None}
 use Rattle.dbmap.specs.Tallies.{share_at}
-use Rattle.dbmap.specs.declared.cell.Share.{Share}
+use Rattle.dbmap.specs.declared.owner_shares.Share.{Share}
 use Rattle.dbmap.specs.declared.tally.RankedTree.{RankedTree}
 
 -- the tree of start k

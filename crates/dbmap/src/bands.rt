@@ -1,9 +1,9 @@
 // How a square of several owners is divided in bands.
 ghost use Rattle.std.specs.Prelude.{◌≡◌, ◌≤◌, ◌<◌, true, get_or};
-ghost use Rattle.dbmap.specs.Cells.{has_pages};
+ghost use Rattle.dbmap.specs.OwnerShares.{has_pages};
 ghost use Rattle.dbmap.specs.Shares.{AreBands, HasTwo};
 
-use crate::cell::{OWNERS, OwnerShares};
+use crate::owner_shares::{OWNERS, OwnerShares};
 
 /// How many bands a square has, each of which is a pixel high.
 pub(crate) const BANDS: u32 = 6;
@@ -44,21 +44,21 @@ impl Credits {
     }
 
     // Adds what the pages of a square are worth.
-    fn add(&mut self, cell: &OwnerShares) {
+    fn add(&mut self, shares: &OwnerShares) {
         for number in 0..OWNERS {
-            let worth = cell.share(number).pages.saturating_mul(BANDS);
+            let worth = shares.share(number).pages.saturating_mul(BANDS);
             self.of[number] = self.of[number].saturating_add(worth);
         }
     }
 
     // The owner of a page of the square with the most credit; of several the first.
-    fn most(&self, cell: &OwnerShares) -> usize
+    fn most(&self, shares: &OwnerShares) -> usize
         ensures most { result ≤ 15 }
-        ensures own { HasTwo cell.now → has_pages cell.now result ≡ true }
+        ensures own { HasTwo shares.now → has_pages shares.now result ≡ true }
     {
         let mut most = OWNERS;
         for number in 0..OWNERS {
-            if cell.has(number) && (most == OWNERS || self.of[number] > self.of[most]) {
+            if shares.has(number) && (most == OWNERS || self.of[number] > self.of[most]) {
                 most = number;
             }
         }
@@ -66,13 +66,13 @@ impl Credits {
     }
 
     /// Divides the square of a run of pages.
-    pub(crate) fn divide(&mut self, cell: &OwnerShares, run: u32) -> Bands
-        ensures { HasTwo cell.now → AreBands cell.now result }
+    pub(crate) fn divide(&mut self, shares: &OwnerShares, run: u32) -> Bands
+        ensures { HasTwo shares.now → AreBands shares.now result }
     {
         let mut heights = [0u32; OWNERS];
-        self.add(cell);
+        self.add(shares);
         for _ in 0..BANDS {
-            let owner = self.most(cell);
+            let owner = self.most(shares);
             self.of[owner] = self.of[owner].saturating_sub(run);
             heights[owner] = heights[owner].saturating_add(1);
         }

@@ -3,7 +3,7 @@
 ghost use Rattle.std.specs.Prelude.{◌≡◌};
 ghost use Rattle.dbmap.specs.Colours.{fill, overflow_colour, tree_colour};
 
-use crate::cell::Owner;
+use crate::owner_shares::Owner;
 
 // The colour of the trees of a rank; that of all other trees after the last.
 fn tree_colour(rank: usize) -> &'static str

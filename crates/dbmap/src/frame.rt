@@ -21,48 +21,48 @@ pub(crate) fn inset(width: Width, frame: Frame) -> u32
     ensures most { result ≤ 1 }
 {
     match (width, frame) {
-        (Width::Few, Frame::Strong) => 1,
+        (Width::Narrow, Frame::Strong) => 1,
         _ => 0,
     }
 }
 
-/// How a square goes on after its place in the row. With a weak frame the square is painted over the inner half of the stroke.
+/// The markup of a square after its x coordinate. With a weak frame the square is painted over the inner half of the stroke.
 pub(crate) fn tail(width: Width, frame: Frame) -> &'static str
     ensures { result.now ≡ tail width frame }
 {
     match (width, frame) {
-        (Width::Few, Frame::None) => "\" width=\"27\" height=\"27\"><title>page",
-        (Width::Some, Frame::None) => "\" width=\"13\" height=\"13\"><title>page",
-        (Width::Many, Frame::None) => "\" width=\"6\" height=\"6\"><title>page",
-        (Width::Few, Frame::Weak) => {
+        (Width::Narrow, Frame::None) => "\" width=\"27\" height=\"27\"><title>page",
+        (Width::Medium, Frame::None) => "\" width=\"13\" height=\"13\"><title>page",
+        (Width::Wide, Frame::None) => "\" width=\"6\" height=\"6\"><title>page",
+        (Width::Narrow, Frame::Weak) => {
             "\" width=\"27\" height=\"27\" stroke=\"#BE0700\" stroke-width=\"2\" paint-order=\"stroke\"><title>page"
         }
-        (Width::Some, Frame::Weak) => {
+        (Width::Medium, Frame::Weak) => {
             "\" width=\"13\" height=\"13\" stroke=\"#BE0700\" stroke-width=\"2\" paint-order=\"stroke\"><title>page"
         }
-        (Width::Many, Frame::Weak) => {
+        (Width::Wide, Frame::Weak) => {
             "\" width=\"6\" height=\"6\" stroke=\"#BE0700\" stroke-width=\"2\" paint-order=\"stroke\"><title>page"
         }
-        (Width::Few, Frame::Strong) => {
+        (Width::Narrow, Frame::Strong) => {
             "\" y=\"1\" width=\"25\" height=\"25\" stroke=\"#BE0700\" stroke-width=\"4\"><title>page"
         }
-        (Width::Some, Frame::Strong) => {
+        (Width::Medium, Frame::Strong) => {
             "\" width=\"13\" height=\"13\" stroke=\"#BE0700\" stroke-width=\"2\"><title>page"
         }
-        (Width::Many, Frame::Strong) => {
+        (Width::Wide, Frame::Strong) => {
             "\" width=\"6\" height=\"6\" stroke=\"#BE0700\" stroke-width=\"2\"><title>page"
         }
     }
 }
 
-/// How an outline goes on after its place in the row.
+/// The markup of an outline after its x coordinate.
 pub(crate) fn outline_tail(width: Width) -> &'static str
     ensures { result.now ≡ outline_tail width }
 {
     match width {
-        Width::Few => "\" width=\"26\" height=\"26\"><title>page",
-        Width::Some => "\" width=\"12\" height=\"12\"><title>page",
-        Width::Many => "\" width=\"5\" height=\"5\"><title>page",
+        Width::Narrow => "\" width=\"26\" height=\"26\"><title>page",
+        Width::Medium => "\" width=\"12\" height=\"12\"><title>page",
+        Width::Wide => "\" width=\"5\" height=\"5\"><title>page",
     }
 }
 

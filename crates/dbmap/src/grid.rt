@@ -7,14 +7,14 @@ ghost use Rattle.dbmap.specs.Grids as grids;
 const TOP: u64 = 64;
 
 // How many squares there are at most.
-const MOST_CELLS: u32 = 16384;
+const MOST_SQUARES: u32 = 16384;
 
 // How many squares are in a row: the fewer, the larger they are.
 #[derive(Clone, Copy)]
 pub(crate) enum Width {
-    Few,
-    Some,
-    Many,
+    Narrow,
+    Medium,
+    Wide,
 }
 
 /// The squares of a file, and the outlines of the pages that its header states and it does not have.
@@ -23,40 +23,40 @@ pub(crate) struct Grid {
     pages: u32,
     stated: u32,
     pub(crate) run: u32,
-    pub(crate) cells: u32,
+    pub(crate) squares: u32,
     pub(crate) width: Width,
 }
 
 // How many squares are in a row, by how many there are.
-fn width_of(cells: u32) -> Width
-    ensures { result ≡ grids.width_of cells }
+fn width_of(squares: u32) -> Width
+    ensures { result ≡ grids.width_of squares }
 {
-    match cells {
-        0..=512 => Width::Few,
-        513..=2048 => Width::Some,
-        _ => Width::Many,
+    match squares {
+        0..=512 => Width::Narrow,
+        513..=2048 => Width::Medium,
+        _ => Width::Wide,
     }
 }
 
 impl Grid {
-    /// That of a file of this number of pages, whose header states as many or another number. Each square covers the smallest power
-    /// of two of pages that keeps the squares of the file within [`MOST_CELLS`].
+    /// The grid of a file of `pages` pages whose header states `stated`. Each square covers the smallest power
+    /// of two of pages that keeps the squares of the file within [`MOST_SQUARES`].
     pub(crate) fn new(pages: u32, stated: u32) -> Grid
         ensures pages { result.pages ≡ pages }
         ensures stated { result.stated ≡ stated }
         ensures run { 1 ≤ result.run }
         ensures least { grids.IsLeastRun pages result.run }
-        ensures width { result.width ≡ grids.width_of result.cells }
-        ensures cells { result.cells ≡ div_ceil pages result.run }
+        ensures width { result.width ≡ grids.width_of result.squares }
+        ensures squares { result.squares ≡ div_ceil pages result.run }
     {
-        let run = pages.div_ceil(MOST_CELLS).next_power_of_two();
-        let cells = pages.div_ceil(run.max(1));
+        let run = pages.div_ceil(MOST_SQUARES).next_power_of_two();
+        let squares = pages.div_ceil(run.max(1));
         Grid {
             pages,
             stated,
             run,
-            cells,
-            width: width_of(cells),
+            squares,
+            width: width_of(squares),
         }
     }
 
@@ -66,9 +66,9 @@ impl Grid {
         ensures range { (1 ≤ result) × (result ≤ 128) }
     {
         match self.width {
-            Width::Few => 32,
-            Width::Some => 64,
-            Width::Many => 128,
+            Width::Narrow => 32,
+            Width::Medium => 64,
+            Width::Wide => 128,
         }
     }
 
@@ -78,9 +78,9 @@ impl Grid {
         ensures range { (7 ≤ result) × (result ≤ 28) }
     {
         match self.width {
-            Width::Few => 28,
-            Width::Some => 14,
-            Width::Many => 7,
+            Width::Narrow => 28,
+            Width::Medium => 14,
+            Width::Wide => 7,
         }
     }
 
@@ -97,14 +97,14 @@ impl Grid {
     {
         let most = u64::from(self.file_rows()) * 2 * u64::from(self.columns());
         let stated = self.stated.div_ceil(self.run.max(1));
-        (u64::from(stated).min(most) as u32).max(self.cells)
+        (u64::from(stated).min(most) as u32).max(self.squares)
     }
 
     // How many rows the pages of the file take.
     fn file_rows(&self) -> u32
-        ensures { result ≡ div_ceil self.now.cells (grids.grid_columns self.now) }
+        ensures { result ≡ div_ceil self.now.squares (grids.grid_columns self.now) }
     {
-        self.cells.div_ceil(self.columns())
+        self.squares.div_ceil(self.columns())
     }
 
     /// How many rows there are.
@@ -115,11 +115,11 @@ impl Grid {
     }
 
     /// Where a square begins in its row, in pixels.
-    pub(crate) fn x_of(&self, cell: u32) -> u32
-        ensures x { result ≡ grids.x_of self.now cell }
+    pub(crate) fn x_of(&self, index: u32) -> u32
+        ensures x { result ≡ grids.x_of self.now index }
         ensures most { result ≤ 3556 }
     {
-        cell % self.columns() * self.side()
+        index % self.columns() * self.side()
     }
 
     // The first place of a row, and the first of the next, among `places` places.
@@ -136,10 +136,10 @@ impl Grid {
     }
 
     /// The squares of a row, the first and the one after the last.
-    pub(crate) fn cells_of_row(&self, row: u32) -> (u32, u32)
-        ensures { result ≡ grids.cells_of_row self.now row }
+    pub(crate) fn squares_of_row(&self, row: u32) -> (u32, u32)
+        ensures { result ≡ grids.squares_of_row self.now row }
     {
-        self.places_of(row, self.cells)
+        self.places_of(row, self.squares)
     }
 
     /// The outlines of a row, the first and the one after the last.
@@ -147,7 +147,7 @@ impl Grid {
         ensures { result ≡ grids.outlines_of_row self.now row }
     {
         let (first, end) = self.places_of(row, self.places());
-        (first.max(self.cells), end)
+        (first.max(self.squares), end)
     }
 
     // The first and the last page of a place, of this number of pages at most.
@@ -162,10 +162,10 @@ impl Grid {
     }
 
     /// The pages of a square, the first and the last.
-    pub(crate) fn pages_of(&self, cell: u32) -> (u32, u32)
-        ensures { result ≡ grids.run_of self.now cell self.now.pages }
+    pub(crate) fn pages_of(&self, index: u32) -> (u32, u32)
+        ensures { result ≡ grids.run_of self.now index self.now.pages }
     {
-        self.run_of(cell, self.pages)
+        self.run_of(index, self.pages)
     }
 
     /// The pages of an outline, the first and the last.

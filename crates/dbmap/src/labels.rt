@@ -1,15 +1,16 @@
 // The names of the largest trees.
 ghost use Rattle.std.specs.Prelude.{◌≡◌, ◌≤◌, length, map, slice_get, option_map};
-ghost use Rattle.dbxml.specs.Names.{tree_name};
+ghost use Rattle.dbmap.specs.TreeTexts.{shown_tree};
 ghost use Rattle.dbxml.specs.Pieces.{piece_text};
 ghost use Rattle.dbmap.specs.LegendLines.{is_twice};
 ghost use Rattle.dbmap.specs.Owners.{tree_starts};
 ghost use Rattle.dbmap.specs.Runs.{name_text};
 
 use crate::tally::{COLOURED, RankedTree};
+use crate::tree_text::shown_tree;
 use arrayvec::ArrayVec;
 use dbowner::TreeNames;
-use dbxml::{Piece, Shown, shown_tree};
+use dbxml::{Piece, Shown};
 use std::alloc::Allocator;
 
 /// The names of the largest trees, by their ranks.
@@ -19,10 +20,10 @@ pub(crate) struct Labels {
 }
 
 impl Labels {
-    /// Those of some trees.
+    /// The names of these trees.
     pub(crate) fn new<A: Allocator>(names: &TreeNames<'_, A>, largest: &[RankedTree]) -> Labels
         requires { length largest.now ≤ 12 }
-        ensures { result.names.items ≡ map (tree_name names.now.encoding names.now.roots.now.rows) (tree_starts largest.now) }
+        ensures { result.names.items ≡ map (shown_tree names.now.encoding names.now.roots.now.rows) (tree_starts largest.now) }
     {
         let mut labels = Labels {
             names: ArrayVec::new(),

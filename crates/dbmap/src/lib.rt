@@ -1,4 +1,4 @@
-//! A picture of where the pages of a database went: one self-contained SVG, with a square for each page, or for a run of pages, in
+//! A picture of what the pages of a database are used for: one self-contained SVG, with a square for each page, or for a run of pages, in
 //! the colour of the tree that owns it.
 //!
 //! ```
@@ -23,8 +23,8 @@
 
 mod bands;
 mod canvas;
-mod cell;
 mod colours;
+mod draw_state;
 mod faulty;
 mod frame;
 mod grid;
@@ -32,10 +32,12 @@ mod kept;
 mod labels;
 mod layout;
 mod legend;
+mod legend_text;
 mod listed;
 mod map_reporter;
 mod maps;
 mod outlines;
+mod owner_shares;
 mod page;
 mod page_set;
 mod pen;
@@ -44,7 +46,7 @@ mod run;
 mod size;
 mod squares;
 mod tally;
-mod walk;
+mod tree_text;
 
 pub use dbformat::Verdict;
 pub use dbsource::{Out, RunError, Source};

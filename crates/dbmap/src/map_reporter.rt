@@ -7,7 +7,7 @@ use crate::kept::KeptFaults;
 use crate::maps::put_map;
 use dbentries::Reported;
 use dbformat::Verdict;
-use dblisting::{at_start, look_at_lost, of_file};
+use dblisting::{at_start, of_file};
 use dbscan::{Desk, Finish, Notice, Reporter};
 use dbsource::{Geometry, Out, RunError, Source, WriteFailed};
 use dbwalk::Marks;
@@ -62,11 +62,12 @@ impl<'a, A: Allocator, O: Out> MapReporter<'a, A, O> {
 }
 
 impl<A: Allocator, O: Out> Reporter for MapReporter<'_, A, O> {
-    ghost use Rattle.dbmap.specs.MapReporter.{Hears, Never, map_held};
+    ghost use Rattle.dbscan.specs.Notices.{CutsNever};
+    ghost use Rattle.dbmap.specs.MapReporter.{Hears, map_held};
 
     ghost hears = { Hears };
 
-    ghost cuts = { Never };
+    ghost cuts = { CutsNever };
 
     ghost held = { map_held O.held };
 
@@ -98,7 +99,7 @@ impl<A: Allocator, O: Out> Finish<Desk<A>> for MapReporter<'_, A, O> {
         desk: &mut Desk<A>,
         source: &mut S,
     ) -> Result<Verdict, RunError> {
-        look_at_lost(desk, source, &mut self.kept.lost)?;
+        self.kept.listing.look_at_lost(desk, source)?;
         put_map(self.name, desk, self.kept, self.faults, self.out)?;
         Ok(self.verdict())
     }

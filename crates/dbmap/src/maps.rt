@@ -6,7 +6,7 @@ ghost use Rattle.dbformat.specs.Report.{faults, verdict};
 ghost use Rattle.dbformat.specs.Survey.{Survey};
 ghost use Rattle.dbsource.specs.Errors.{is_read_failed, is_write_failed};
 ghost use Rattle.dbsource.specs.Failures.{failures_after};
-ghost use Rattle.dbsource.specs.Snapshots.{HasReadBehind};
+ghost use Rattle.dbsource.specs.Snapshots.{HasReadAfterHeader};
 ghost use Rattle.dbwalk.specs.Telling.{IsReadWriteOrMemory};
 ghost use Rattle.dbscan.specs.DeskSizes.{DeskFitsInMemory};
 ghost use Rattle.dbscan.specs.Desks.{shape_of};
@@ -61,8 +61,8 @@ pub(crate) fn put_map<A: Allocator, O: Out>(
     ensures { PutsPicture result (O.held out.old) (O.held out.new) name.now desk.now kept.old faults }
 {
     kept.note_listed();
-    kept.walk.begin(desk.marks(), desk.roots());
-    kept.tally.count(desk.marks(), &mut kept.walk.trees);
+    kept.state.begin(desk.marks(), desk.roots());
+    kept.tally.count(desk.marks(), &mut kept.state.trees);
     let largest = kept.tally.largest();
     let names = TreeNames {
         encoding: desk.header().encoding(),
@@ -99,7 +99,7 @@ pub(crate) fn put_map<A: Allocator, O: Out>(
         &heading,
         &squares,
         &layout,
-        &mut kept.walk,
+        &mut kept.state,
         &legend,
     );
     canvas.end()
@@ -114,7 +114,7 @@ fn map_on<A: Allocator, S: Source, O: Out>(
     out: &mut O,
 ) -> Result<Verdict, RunError>
     requires { HearsNone (shape_of desk.old).pages kept.old }
-    ensures read { HasReadBehind S.step (IsPageLog (shape_of desk.old)) desk.old.header
+    ensures read { HasReadAfterHeader S.step (IsPageLog (shape_of desk.old)) desk.old.header
         (λ file. (V : List Reference) → Survey file V → IfOk result (λ v. v ≡ verdict (faults file V))
         × DrawsMap result (O.held out.old).bytes (O.held out.new).bytes name.now file V)
         (S.held source.old) (S.held source.new) }
@@ -122,8 +122,8 @@ fn map_on<A: Allocator, S: Source, O: Out>(
     ensures writes { (O.held out.new).failures ≡ failures_after is_write_failed result (O.held out.old).failures }
     ensures only { IfErr result IsReadWriteOrMemory }
 {
-    let mut sink = MapReporter::new(name, kept, out);
-    run_over(desk, source, &mut sink)
+    let mut reporter = MapReporter::new(name, kept, out);
+    run_over(desk, source, &mut reporter)
 }
 
 /// Does what [`map`] does, in memory from any allocator: the clauses are the same.

@@ -15,7 +15,7 @@ const MOST_SETS: usize = 254;
 // What is noted of a page whose set is not known.
 const UNKNOWN: u8 = 255;
 
-/// Some fault codes.
+/// A set of fault codes, a bit each.
 #[derive(Clone, Copy, Default, PartialEq, Eq)]
 pub(crate) struct Codes {
     bits: u64,
@@ -54,7 +54,7 @@ impl Codes {
         }
     }
 
-    /// These and others.
+    /// The union of two sets.
     pub(crate) fn and(self, others: Codes) -> Codes
         ensures { result ≡ both self others }
     {

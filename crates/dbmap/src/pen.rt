@@ -5,8 +5,8 @@ ghost use Rattle.dbmap.specs.Pens.{change_text, group_end_text};
 
 use crate::bands::Credits;
 use crate::canvas::Canvas;
-use crate::cell::Owner;
 use crate::colours::fill;
+use crate::owner_shares::Owner;
 use dbsource::Out;
 use dbxml::Piece;
 

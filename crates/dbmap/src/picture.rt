@@ -3,15 +3,15 @@ ghost use Rattle.std.specs.Prelude.{◌≡◌, ◌≤◌, None};
 ghost use Rattle.dbmap.specs.Canvas.{Draws};
 ghost use Rattle.dbmap.specs.Drawings.{DrawsPicture};
 ghost use Rattle.dbmap.specs.Pictures as pictures;
-ghost use Rattle.dbmap.specs.Squares.{IsNamed, ground_of};
+ghost use Rattle.dbmap.specs.Squares.{HoldsTreeName, drawn_from};
 
 use crate::canvas::Canvas;
+use crate::draw_state::DrawState;
 use crate::grid::Grid;
 use crate::layout::Layout;
 use crate::legend::Legend;
 use crate::size::{size_tenths, size_unit};
 use crate::squares::{NAME_WIDTH, Squares};
-use crate::walk::Walk;
 use dbsource::{Geometry, Out};
 use dbxml::{Piece, Shown};
 use std::alloc::Allocator;
@@ -30,7 +30,7 @@ pub(crate) struct Heading {
     pub(crate) faults: u64,
 }
 
-// Draws what begins the picture: its size, its name for who does not see it, the hatching, and a white ground.
+// Draws what begins the picture: its size, its accessible name, the hatching, and a white background.
 #[tactic(auto, unfolding(crate::specs::Pictures::head_text))]
 fn draw_head<O: Out>(canvas: &mut Canvas<'_, O>, file: &Shown, height: u64)
     ensures { Draws O.held canvas.old (pictures.head_text file.now height) canvas.new }
@@ -169,13 +169,13 @@ pub(crate) fn draw_picture<A: Allocator, O: Out>(
     heading: &Heading,
     squares: &Squares<'_, A>,
     layout: &Layout,
-    walk: &mut Walk<A>,
+    state: &mut DrawState<A>,
     legend: &Legend,
 )
-    requires group { walk.old.pen.group ≡ None }
+    requires group { state.old.pen.group ≡ None }
     requires run { 1 ≤ layout.now.grid.run }
-    requires named { IsNamed (ground_of squares.now layout.now).tree walk.old }
-    ensures { DrawsPicture O.held heading.now (ground_of squares.now layout.now) walk.old.trees.known legend.now.lines.items canvas.old canvas.new }
+    requires named { HoldsTreeName (drawn_from squares.now layout.now).tree state.old }
+    ensures { DrawsPicture O.held heading.now (drawn_from squares.now layout.now) state.old.trees.known legend.now.lines.items canvas.old canvas.new }
 {
     let grid = &layout.grid;
     let bottom = grid.top_of(grid.rows());
@@ -183,7 +183,7 @@ pub(crate) fn draw_picture<A: Allocator, O: Out>(
     draw_head(canvas, &heading.file, bottom + height);
     draw_heading(canvas, heading, grid.run);
     draw_row_names(canvas, grid);
-    squares.draw(canvas, layout, walk);
+    squares.draw(canvas, layout, state);
     legend.draw(canvas, heading.geometry, layout, bottom);
     canvas.draw(&[Piece::Markup("</svg>\n")]);
 }

@@ -6,12 +6,12 @@ ghost use Rattle.dbmap.specs.Runs.{owner_mark, owner_text, owners_from, plain_te
 
 use crate::bands::Bands;
 use crate::canvas::Canvas;
-use crate::cell::{OWNERS, Owner, OwnerShares};
 use crate::colours::fill;
 use crate::faulty::Faulty;
 use crate::frame::{BAND_FRAME, Frame, tail};
 use crate::grid::Width;
 use crate::labels::Labels;
+use crate::owner_shares::{OWNERS, Owner, OwnerShares};
 use crate::squares::NAME_WIDTH;
 use crate::tally::COLOURED;
 use dbsource::Out;
@@ -24,7 +24,7 @@ pub(crate) struct RunSquare {
     pub(crate) x: u32,
     pub(crate) first: u32,
     pub(crate) last: u32,
-    pub(crate) cell: OwnerShares,
+    pub(crate) shares: OwnerShares,
     pub(crate) faulty: Faulty,
 }
 
@@ -116,7 +116,7 @@ impl RunSquare {
         if height == 0 {
             return;
         }
-        let is_overflow = self.cell.share(number).is_overflow();
+        let is_overflow = self.shares.share(number).is_overflow();
         canvas.draw(&[
             Piece::Markup("<rect x=\""),
             Piece::Number(u64::from(self.x)),
@@ -146,12 +146,12 @@ impl RunSquare {
 
     // Draws the number of each owner's pages.
     fn draw_owners<O: Out>(&self, canvas: &mut Canvas<'_, O>, labels: &Labels)
-        ensures { Draws O.held canvas.old (owners_from self.now.cell labels.now.names.items true 0 16) canvas.new }
+        ensures { Draws O.held canvas.old (owners_from self.now.shares labels.now.names.items true 0 16) canvas.new }
     {
         let mut is_first = true;
         for number in 0..OWNERS {
             self.draw_owner(canvas, labels, is_first, number);
-            is_first = is_still_first(is_first, self.cell.has(number));
+            is_first = is_still_first(is_first, self.shares.has(number));
         }
     }
 
@@ -164,14 +164,14 @@ impl RunSquare {
         number: usize,
     )
         requires { number < 16 }
-        ensures { Draws O.held canvas.old (owner_text self.now.cell labels.now.names.items is_first number) canvas.new }
+        ensures { Draws O.held canvas.old (owner_text self.now.shares labels.now.names.items is_first number) canvas.new }
     {
-        if !self.cell.has(number) {
+        if !self.shares.has(number) {
             return;
         }
         canvas.draw(&[
             Piece::Markup(owner_mark(is_first)),
-            Piece::Number(u64::from(self.cell.share(number).pages)),
+            Piece::Number(u64::from(self.shares.share(number).pages)),
             Piece::Markup(words(Owner::numbered(number))),
             labels.piece(number, NAME_WIDTH),
         ]);

@@ -8,21 +8,21 @@ ghost use Rattle.dbmap.specs.FaultyPages.{IsFaulty, frame_of};
 ghost use Rattle.dbmap.specs.Owners.{IsOf, StaysOf, owner_by, owners_by, tree_starts};
 ghost use Rattle.dbmap.specs.PageSets.{any_page, has_page, pages_between};
 ghost use Rattle.dbmap.specs.Shares.{AreShares};
-ghost use Rattle.dbmap.specs.Squares.{IsNamed, faults_ground, fixed_in, row_front_text, ground_of};
+ghost use Rattle.dbmap.specs.Squares.{HoldsTreeName, known_faults, fixed_in, row_front_text, drawn_from};
 
 use crate::canvas::Canvas;
-use crate::cell::{Owner, OwnerShares, is_overflow};
+use crate::draw_state::DrawState;
 use crate::faulty::Faulty;
 use crate::frame::Frame;
 use crate::grid::Grid;
 use crate::layout::Layout;
 use crate::outlines::draw_outlines;
+use crate::owner_shares::{Owner, OwnerShares, is_overflow};
 use crate::page::PageSquare;
 use crate::page_set::PageSet;
 use crate::picture::LEFT;
 use crate::run::RunSquare;
 use crate::tally::{COLOURED, RankedTree, rank_of};
-use crate::walk::Walk;
 use arrayvec::ArrayVec;
 use dbformat::Fixed;
 use dbowner::{Place, TreeNames, place_of, place_tree};
@@ -46,7 +46,7 @@ pub(crate) struct Squares<'a, A: Allocator> {
 }
 
 impl<'a, A: Allocator> Squares<'a, A> {
-    // Whose a page is that is this and belongs to this start.
+    // The owner of a page, by what it is and the start that it belongs to.
     fn owner(&self, place: Place, start: Option<u32>) -> Owner
         ensures { result ≡ owner_by (tree_starts self.now.largest.items) place start }
     {
@@ -60,21 +60,21 @@ impl<'a, A: Allocator> Squares<'a, A> {
         }
     }
 
-    // Whose some pages are.
-    fn cell(&self, walk: &mut Walk<A>, first: u32, last: u32) -> OwnerShares
-        ensures shares { (file : List ℕ) (V : List Reference) → IsOf self.now.marks.now walk.old.trees.known file V
+    // What each owner has of some pages.
+    fn shares(&self, state: &mut DrawState<A>, first: u32, last: u32) -> OwnerShares
+        ensures shares { (file : List ℕ) (V : List Reference) → IsOf self.now.marks.now state.old.trees.known file V
             → AreShares self.now.marks.now (owners_by V (tree_starts self.now.largest.items)) (pages_between first last) result }
-        ensures pen { walk.new.pen ≡ walk.old.pen }
-        ensures named { (walk.new.name ≡ walk.old.name) × (walk.new.named ≡ walk.old.named) }
-        ensures trees { StaysOf self.now.marks.now walk.old.trees.known walk.new.trees.known }
+        ensures pen { state.new.pen ≡ state.old.pen }
+        ensures named { (state.new.name ≡ state.old.name) × (state.new.named ≡ state.old.named) }
+        ensures trees { StaysOf self.now.marks.now state.old.trees.known state.new.trees.known }
     {
-        let mut cell = OwnerShares::new();
+        let mut shares = OwnerShares::new();
         for page in first..=last {
             let place = place_of(self.marks, page);
-            let start = walk.trees.start_of(self.marks, page);
-            cell.add(self.owner(place, start), is_overflow(place));
+            let start = state.trees.start_of(self.marks, page);
+            shares.add(self.owner(place, start), is_overflow(place));
         }
-        cell
+        shares
     }
 
     // The frame of some pages, one of which may have a fault.
@@ -92,7 +92,7 @@ impl<'a, A: Allocator> Squares<'a, A> {
 
     // What is shown of the faults of some pages.
     fn faulty(&self, first: u32, last: u32) -> Faulty
-        ensures { IsFaulty (faults_ground self.now) first last result }
+        ensures { IsFaulty (known_faults self.now) first last result }
     {
         let has_fault = self.faulty.any(first, last);
         Faulty {
@@ -107,15 +107,15 @@ impl<'a, A: Allocator> Squares<'a, A> {
         &self,
         canvas: &mut Canvas<'_, O>,
         layout: &Layout,
-        walk: &mut Walk<A>,
+        state: &mut DrawState<A>,
     )
-        requires group { walk.old.pen.group ≡ None }
+        requires group { state.old.pen.group ≡ None }
         requires run { 1 ≤ layout.now.grid.run }
-        requires named { IsNamed (ground_of self.now layout.now).tree walk.old }
-        ensures { DrawsRows O.held (ground_of self.now layout.now) walk.old.trees.known canvas.old canvas.new }
+        requires named { HoldsTreeName (drawn_from self.now layout.now).tree state.old }
+        ensures { DrawsRows O.held (drawn_from self.now layout.now) state.old.trees.known canvas.old canvas.new }
     {
         for row in 0..layout.grid.rows() {
-            self.draw_row(canvas, layout, walk, row);
+            self.draw_row(canvas, layout, state, row);
         }
     }
 
@@ -124,45 +124,45 @@ impl<'a, A: Allocator> Squares<'a, A> {
         &self,
         canvas: &mut Canvas<'_, O>,
         layout: &Layout,
-        walk: &mut Walk<A>,
+        state: &mut DrawState<A>,
         row: u32,
     )
-        requires group { walk.old.pen.group ≡ None }
+        requires group { state.old.pen.group ≡ None }
         requires run { 1 ≤ layout.now.grid.run }
-        requires named { IsNamed (ground_of self.now layout.now).tree walk.old }
-        ensures draws { DrawsRow O.held (ground_of self.now layout.now) walk.old.trees.known row canvas.old canvas.new }
-        ensures group { walk.new.pen.group ≡ None }
-        ensures named { IsNamed (ground_of self.now layout.now).tree walk.new }
-        ensures trees { StaysOf self.now.marks.now walk.old.trees.known walk.new.trees.known }
+        requires named { HoldsTreeName (drawn_from self.now layout.now).tree state.old }
+        ensures draws { DrawsRow O.held (drawn_from self.now layout.now) state.old.trees.known row canvas.old canvas.new }
+        ensures group { state.new.pen.group ≡ None }
+        ensures named { HoldsTreeName (drawn_from self.now layout.now).tree state.new }
+        ensures trees { StaysOf self.now.marks.now state.old.trees.known state.new.trees.known }
     {
         let grid = &layout.grid;
         draw_row_front(canvas, grid, row);
-        let (first, end) = grid.cells_of_row(row);
-        self.draw_cells(canvas, layout, walk, first, end);
-        walk.pen.end(canvas);
+        let (first, end) = grid.squares_of_row(row);
+        self.draw_squares(canvas, layout, state, first, end);
+        state.pen.end(canvas);
         draw_outlines(canvas, grid, row);
         canvas.draw(&[Piece::Markup("</g>\n")]);
     }
 
     // Draws some squares.
-    fn draw_cells<O: Out>(
+    fn draw_squares<O: Out>(
         &self,
         canvas: &mut Canvas<'_, O>,
         layout: &Layout,
-        walk: &mut Walk<A>,
+        state: &mut DrawState<A>,
         first: u32,
         end: u32,
     )
         requires order { first ≤ end }
         requires run { 1 ≤ layout.now.grid.run }
-        requires named { IsNamed (ground_of self.now layout.now).tree walk.old }
-        ensures draws { DrawsSquares O.held (ground_of self.now layout.now) walk.old.trees.known first (end - first)
-            walk.old.pen.group walk.new.pen.group canvas.old canvas.new }
-        ensures named { IsNamed (ground_of self.now layout.now).tree walk.new }
-        ensures trees { StaysOf self.now.marks.now walk.old.trees.known walk.new.trees.known }
+        requires named { HoldsTreeName (drawn_from self.now layout.now).tree state.old }
+        ensures draws { DrawsSquares O.held (drawn_from self.now layout.now) state.old.trees.known first (end - first)
+            state.old.pen.group state.new.pen.group canvas.old canvas.new }
+        ensures named { HoldsTreeName (drawn_from self.now layout.now).tree state.new }
+        ensures trees { StaysOf self.now.marks.now state.old.trees.known state.new.trees.known }
     {
-        for cell in first..end {
-            self.draw_square(canvas, layout, walk, cell);
+        for index in first..end {
+            self.draw_square(canvas, layout, state, index);
         }
     }
 
@@ -171,20 +171,20 @@ impl<'a, A: Allocator> Squares<'a, A> {
         &self,
         canvas: &mut Canvas<'_, O>,
         layout: &Layout,
-        walk: &mut Walk<A>,
-        cell: u32,
+        state: &mut DrawState<A>,
+        index: u32,
     )
         requires run { 1 ≤ layout.now.grid.run }
-        requires named { IsNamed (ground_of self.now layout.now).tree walk.old }
-        ensures draws { DrawsSquare O.held (ground_of self.now layout.now) walk.old.trees.known cell
-            walk.old.pen.group walk.new.pen.group canvas.old canvas.new }
-        ensures named { IsNamed (ground_of self.now layout.now).tree walk.new }
-        ensures trees { StaysOf self.now.marks.now walk.old.trees.known walk.new.trees.known }
+        requires named { HoldsTreeName (drawn_from self.now layout.now).tree state.old }
+        ensures draws { DrawsSquare O.held (drawn_from self.now layout.now) state.old.trees.known index
+            state.old.pen.group state.new.pen.group canvas.old canvas.new }
+        ensures named { HoldsTreeName (drawn_from self.now layout.now).tree state.new }
+        ensures trees { StaysOf self.now.marks.now state.old.trees.known state.new.trees.known }
     {
         if layout.grid.run == 1 {
-            self.draw_page(canvas, layout, walk, cell);
+            self.draw_page(canvas, layout, state, index);
         } else {
-            self.draw_run(canvas, layout, walk, cell);
+            self.draw_run(canvas, layout, state, index);
         }
     }
 
@@ -193,36 +193,36 @@ impl<'a, A: Allocator> Squares<'a, A> {
         &self,
         canvas: &mut Canvas<'_, O>,
         layout: &Layout,
-        walk: &mut Walk<A>,
-        cell: u32,
+        state: &mut DrawState<A>,
+        index: u32,
     )
         requires run { 2 ≤ layout.now.grid.run }
-        requires named { IsNamed (ground_of self.now layout.now).tree walk.old }
-        ensures draws { DrawsSquare O.held (ground_of self.now layout.now) walk.old.trees.known cell
-            walk.old.pen.group walk.new.pen.group canvas.old canvas.new }
-        ensures named { IsNamed (ground_of self.now layout.now).tree walk.new }
-        ensures trees { StaysOf self.now.marks.now walk.old.trees.known walk.new.trees.known }
+        requires named { HoldsTreeName (drawn_from self.now layout.now).tree state.old }
+        ensures draws { DrawsSquare O.held (drawn_from self.now layout.now) state.old.trees.known index
+            state.old.pen.group state.new.pen.group canvas.old canvas.new }
+        ensures named { HoldsTreeName (drawn_from self.now layout.now).tree state.new }
+        ensures trees { StaysOf self.now.marks.now state.old.trees.known state.new.trees.known }
     {
         let grid = &layout.grid;
-        let (first, last) = grid.pages_of(cell);
+        let (first, last) = grid.pages_of(index);
         let run = RunSquare {
-            x: grid.x_of(cell),
+            x: grid.x_of(index),
             first,
             last,
-            cell: self.cell(walk, first, last),
+            shares: self.shares(state, first, last),
             faulty: self.faulty(first, last),
         };
-        match run.cell.only() {
+        match run.shares.only() {
             Some(number) => {
                 let shade = (
                     Owner::numbered(number),
-                    run.cell.share(number).is_overflow(),
+                    run.shares.share(number).is_overflow(),
                 );
-                walk.pen.change(canvas, shade);
+                state.pen.change(canvas, shade);
                 run.draw_plain(canvas, grid.width, &layout.labels);
             }
             None => {
-                let bands = walk.pen.credits.divide(&run.cell, grid.run);
+                let bands = state.pen.credits.divide(&run.shares, grid.run);
                 run.draw_mixed(canvas, &layout.labels, &bands);
             }
         }
@@ -233,31 +233,32 @@ impl<'a, A: Allocator> Squares<'a, A> {
         &self,
         canvas: &mut Canvas<'_, O>,
         layout: &Layout,
-        walk: &mut Walk<A>,
-        cell: u32,
+        state: &mut DrawState<A>,
+        index: u32,
     )
         requires run { layout.now.grid.run ≡ 1 }
-        requires named { IsNamed (ground_of self.now layout.now).tree walk.old }
-        ensures draws { DrawsSquare O.held (ground_of self.now layout.now) walk.old.trees.known cell
-            walk.old.pen.group walk.new.pen.group canvas.old canvas.new }
-        ensures named { IsNamed (ground_of self.now layout.now).tree walk.new }
-        ensures trees { StaysOf self.now.marks.now walk.old.trees.known walk.new.trees.known }
+        requires named { HoldsTreeName (drawn_from self.now layout.now).tree state.old }
+        ensures draws { DrawsSquare O.held (drawn_from self.now layout.now) state.old.trees.known index
+            state.old.pen.group state.new.pen.group canvas.old canvas.new }
+        ensures named { HoldsTreeName (drawn_from self.now layout.now).tree state.new }
+        ensures trees { StaysOf self.now.marks.now state.old.trees.known state.new.trees.known }
     {
         let grid = &layout.grid;
-        let (page, _) = grid.pages_of(cell);
+        let (page, _) = grid.pages_of(index);
         let place = place_of(self.marks, page);
-        let start = walk.trees.start_of(self.marks, page);
+        let start = state.trees.start_of(self.marks, page);
         let square = PageSquare {
-            x: grid.x_of(cell),
+            x: grid.x_of(index),
             page,
             place,
             fixed: self.fixed(place, page),
             faulty: self.faulty(page, page),
         };
-        walk.name(&self.names, place_tree(place, start));
-        walk.pen
+        state.name(&self.names, place_tree(place, start));
+        state
+            .pen
             .change(canvas, (self.owner(place, start), is_overflow(place)));
-        square.draw(canvas, grid.width, &walk.name);
+        square.draw(canvas, grid.width, &state.name);
     }
 
     // The fixed use of a page, if it has one.

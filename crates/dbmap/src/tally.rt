@@ -1,25 +1,23 @@
 // How many pages each tree has.
 ghost use Rattle.std.specs.Prelude.{◌≡◌, ◌↔◌, ◌≤◌, ℕ, List, IfOk, IfSome, IsTrue, map, option_map, replicate, vec_len};
 ghost use Rattle.dbformat.specs.Reference.{Reference};
-ghost use Rattle.dbmap.specs.Cells.{no_share};
+ghost use Rattle.dbmap.specs.OwnerShares.{no_share};
 ghost use Rattle.dbmap.specs.LegendLines.{other_trees, others_share};
 ghost use Rattle.dbmap.specs.Owners.{IsOf, StaysOf, rank_of, tree_starts};
 ghost use Rattle.dbmap.specs.Tallies.{AreLargest, IsNextStart, IsNone, IsPageTallyOf, page_counted, pages_at, share_at, start_counted, used_counted};
 ghost use Rattle.dbmap.specs.TreeLists.{IsAfterTree, IsBeforeTree, IsFirstTree, IsOfTally, tree_at};
 
-use crate::cell::{Share, is_overflow};
+use crate::owner_shares::{Share, is_overflow};
 use arrayvec::ArrayVec;
 use dbformat::FREELIST_START;
 use dbowner::{PageTrees, Place, place_of};
+use dbscan::STARTS;
 use dbwalk::Marks;
 use std::alloc::{AllocError, Allocator, Global};
 use std::marker::Model;
 
 /// How many trees have a colour of their own.
 pub(crate) const COLOURED: usize = 12;
-
-// How many starts there are.
-const STARTS: usize = FREELIST_START as usize + 1;
 
 /// A tree, by its start.
 #[derive(Clone, Copy, Default)]
@@ -106,7 +104,7 @@ impl<A: Allocator> PageTally<A> {
         })
     }
 
-    // Forgets all.
+    // Sets all counts to 0.
     fn clear(&mut self)
         ensures { IsNone self.new }
     {
@@ -198,16 +196,16 @@ impl<A: Allocator> PageTally<A> {
         }
     }
 
-    // The tree that comes next after another one, or the first.
-    fn next(&self, behind: Option<RankedTree>) -> Option<RankedTree>
-        requires { IsOfTally self.now.starts behind }
-        ensures next { IsNextStart self.now.trees (pages_at self.now.starts) (option_map (λ t. t.start) behind) (option_map (λ t. t.start) result) }
+    // The tree that comes next after this one, or the first.
+    fn next(&self, last: Option<RankedTree>) -> Option<RankedTree>
+        requires { IsOfTally self.now.starts last }
+        ensures next { IsNextStart self.now.trees (pages_at self.now.starts) (option_map (λ t. t.start) last) (option_map (λ t. t.start) result) }
         ensures share { IsOfTally self.now.starts result }
     {
         let mut next: Option<RankedTree> = None;
         for start in 0..self.trees {
             let tree = self.tree(start);
-            if tree.share.pages != 0 && is_after(&tree, behind) && is_first(&tree, next) {
+            if tree.share.pages != 0 && is_after(&tree, last) && is_first(&tree, next) {
                 next = Some(tree);
             }
         }

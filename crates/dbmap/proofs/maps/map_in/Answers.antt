@@ -1,5 +1,5 @@
 use Rattle.std.proofs.lemmas.Result.{err_from_is_err_and}
-use Rattle.dbscan.proofs.BehindHeader.{behind_weaker}
+use Rattle.dbscan.proofs.AfterHeader.{after_weaker}
 use Rattle.dbreport.proofs.Openings.{fails_once, nothing_read, run_failures, run_read, untouched}
 use Rattle.dbreport.proofs.RunAnswers.{read_refused, read_unwritten}
 use Rattle.dbmap.proofs.MapAnswers.{map_of, no_map}
@@ -28,7 +28,7 @@ returns-in_err-desk-clause-refused g c =
 pub returns-clause-read : goal.returns-clause-read
 returns-clause-read g c =
     run_read g.S.Source c.args.source.now c.in_ok-desk.desk.header c.open_with.new.source c.map_on.new.source c.in_ok-desk.ensures.0
-    (behind_weaker _ _ c.map_on.ensures.read (λ file is found. map_of c.args.name.now file c.map_on.result c.map_on.ensures.only is.is_read (g.O.Out.held c.args.out.now).bytes (g.O.Out.held c.map_on.new.out).bytes found))
+    (after_weaker _ _ c.map_on.ensures.read (λ file is found. map_of c.args.name.now file c.map_on.result c.map_on.ensures.only is.is_read (g.O.Out.held c.args.out.now).bytes (g.O.Out.held c.map_on.new.out).bytes found))
 
 pub returns-clause-failed : goal.returns-clause-failed
 returns-clause-failed g c = record {

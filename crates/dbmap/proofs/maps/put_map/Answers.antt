@@ -11,7 +11,7 @@ use Rattle.dbscan.specs.Desks.{shape_of}
 use Rattle.dbscan.specs.Finishes.{IsDeskOf}
 use Rattle.dbformat.specs.FixedPages.{geometry_of}
 use Rattle.dbformat.specs.Header.{encoding}
-use Rattle.dbxml.specs.Names.{tree_name}
+use Rattle.dbmap.specs.TreeTexts.{shown_tree}
 use Rattle.dbmap.specs.Drawings.{stated_of}
 use Rattle.dbmap.specs.KeptFaults.{HasTreeRoom}
 use Rattle.dbmap.specs.Grids.{IsLeastRun}
@@ -20,7 +20,7 @@ use Rattle.dbmap.specs.Owners.{IsOf, tree_starts}
 use Rattle.dbmap.specs.PageSets.{has_page, is_noted, shown_codes}
 use Rattle.dbmap.specs.declared.page_set.PageSet.{PageSet}
 use Rattle.dbmap.specs.declared.tally.RankedTree.{RankedTree}
-use Rattle.dbmap.specs.declared.walk.Walk.{Walk}
+use Rattle.dbmap.specs.declared.draw_state.DrawState.{DrawState}
 use Rattle.dbmap.proofs.LegendLines.{legend_is}
 use Rattle.dbmap.proofs.Tallying.{largest_of}
 use Rattle.dbmap.proofs.Drawing.{put_drawn}
@@ -30,26 +30,26 @@ pub returns : goal.returns
 returns g c =
     let drawn = c.draw_picture.ensures.draws in
     let same = drawn.same_out in
-    let begun = λ (file : List ℕ) (V : List Reference) (d : IsDeskOf c.args.desk.now file V) (room : HasTreeRoom (shape_of c.args.desk.now).pages c.args.kept.now.walk.trees.known). (
+    let begun = λ (file : List ℕ) (V : List Reference) (d : IsDeskOf c.args.desk.now file V) (room : HasTreeRoom (shape_of c.args.desk.now).pages c.args.kept.now.state.trees.known). (
     let marked = c.marks.ensures ∙ d.marks in
     let all : length c.marks.result.now ≡ (geometry file).pages = ap length marked ∙ marks_of-length (geometry file) V in
     let shape = ap (λ (g : Geometry). g.pages) d.header.shape in
-    let same = ap (λ (w : Walk _). length w.trees.known) c.note_listed.ensures.walk in
+    let same = ap (λ (w : DrawState _). length w.trees.known) c.note_listed.ensures.state in
     let is : IsOf c.marks-2.result.now c.begin.new.self.trees.known file V = record {
       survey = d.survey;
       marks = c.marks-2.ensures ∙ d.marks;
       trees = c.begin.ensures.trees file V d.survey marked (ap (λ (l : Listed). l.rows) c.roots.ensures ∙ d.rows) (omega (arith, all, room, shape, same));
     } in is) in
-    let known = λ (file : List ℕ) (V : List Reference) (d : IsDeskOf c.args.desk.now file V) (room : HasTreeRoom (shape_of c.args.desk.now).pages c.args.kept.now.walk.trees.known). (
+    let known = λ (file : List ℕ) (V : List Reference) (d : IsDeskOf c.args.desk.now file V) (room : HasTreeRoom (shape_of c.args.desk.now).pages c.args.kept.now.state.trees.known). (
     let of = c.count.ensures.trees file V (begun file V d room) in
     let is : IsOf c.marks-3.result.now c.count.new.trees.known file V = record { survey = d.survey; marks = c.marks-3.ensures ∙ d.marks; trees = of.trees } in is) in
     let k : c.out-1.given.0 ≡ c.draw_picture.new.canvas.out.now = search (rules, same) in
     record {
       heading = record { file = c.shown_file.result; geometry = c.geometry-geometry.result; faults = c.args.faults };
-      ground = record {
+      drawn = record {
         grid = c.new.result;
         names = c.new-2.result.names.items;
-        tree = tree_name c.encoding.result c.roots-2.result.now.rows;
+        tree = shown_tree c.encoding.result c.roots-2.result.now.rows;
         shape = geometry_of c.header-3.result.now.bytes c.header-3.result.now.file_len;
         marks = c.marks-3.result.now;
         faults = record { has = has_page c.note_listed.new.self.faulty; codes = shown_codes c.note_listed.new.self.faulty; strong = has_page c.note_listed.new.self.strong };
@@ -65,18 +65,18 @@ returns g c =
         stated = c.new.ensures.stated ∙ c.stated_pages.ensures ∙ ap (λ (h : HeaderBytes). stated_of h.bytes) c.header-2.ensures.value;
         run = subst (λ (s : Geometry). IsLeastRun s.pages c.new.result.run) c.geometry-geometry.ensures.shape c.new.ensures.least;
         width = c.new.ensures.width;
-        cells = c.new.ensures.cells ∙ ap (λ (s : Geometry). div_ceil s.pages c.new.result.run) c.geometry-geometry.ensures.shape;
+        squares = c.new.ensures.squares ∙ ap (λ (s : Geometry). div_ceil s.pages c.new.result.run) c.geometry-geometry.ensures.shape;
         marks = c.marks-3.ensures;
         shape = ap (λ (h : HeaderBytes). geometry_of h.bytes h.file_len) c.header-3.ensures.value;
-        tree = ap₂ tree_name (c.encoding.ensures ∙ ap (λ (h : HeaderBytes). encoding h.bytes) c.header.ensures.value) (ap (λ (l : Listed). l.rows) c.roots-2.ensures);
-        names = c.new-2.ensures ∙ ap (λ (ts : List RankedTree). map (tree_name c.encoding.result c.roots-2.result.now.rows) (tree_starts ts)) c.as_slice.ensures.value;
+        tree = ap₂ shown_tree (c.encoding.ensures ∙ ap (λ (h : HeaderBytes). encoding h.bytes) c.header.ensures.value) (ap (λ (l : Listed). l.rows) c.roots-2.ensures);
+        names = c.new-2.ensures ∙ ap (λ (ts : List RankedTree). map (shown_tree c.encoding.result c.roots-2.result.now.rows) (tree_starts ts)) c.as_slice.ensures.value;
         many = c.draw_picture.ensures.many;
         are = λ file V d room. c.draw_picture.ensures.are file V (known file V d room);
         largest = λ file V d room. largest_of file V c.count.new.self (tree_starts c.largest-largest.result.items) (c.count.ensures.tally file V (begun file V d room)) c.largest-largest.ensures.largest;
         faulty = record {
           has = λ p. ap (λ (s : PageSet _). has_page s p) c.note_listed.ensures.faulty;
           codes = λ p. ap (λ (s : PageSet _). shown_codes s p) c.note_listed.ensures.faulty;
-          strong = record { set = c.note_listed.new.self.strong; noted = λ es ls first lost none. c.note_listed.ensures.strong [] es ls first lost none; pages = c.note_listed.ensures.pages; is = λ p. refl };
+          strong = record { set = c.note_listed.new.self.strong; noted = λ file V all none. c.note_listed.ensures.strong [] 100 file V all none; pages = c.note_listed.ensures.pages; is = λ p. refl };
         };
       };
       legend = λ file V d room.

@@ -1,6 +1,6 @@
 use Rattle.std.proofs.Common.{◌≡◌, ◌<◌, ◌≤◌, ℕ, true, get_or, length}
 use Rattle.std.specs.Prelude.{sum}
-use Rattle.dbmap.specs.Cells.{has_pages}
+use Rattle.dbmap.specs.OwnerShares.{has_pages}
 use Rattle.dbmap.specs.Shares.{HasTwo}
 use Rattle.dbmap.proofs.bands.Credits.divide.Given as goal
 
@@ -9,5 +9,5 @@ invariant-loop l = record {
   many : length l.heights ≡ 16;
   sum : sum l.heights ≡ l.counter;
   low : (number : ℕ) → get_or l.heights number 0 ≤ l.counter;
-  own : HasTwo l.cell → (number : ℕ) → number < 16 → 0 < get_or l.heights number 0 → has_pages l.cell number ≡ true;
+  own : HasTwo l.shares → (number : ℕ) → number < 16 → 0 < get_or l.heights number 0 → has_pages l.shares number ≡ true;
 }

@@ -1,8 +1,8 @@
 use Rattle.std.proofs.Common.{◌≡◌, ◌<◌, ◌≤◌, ◌⊎◌, inl, inr, ℕ, true, false, min, ap, ◌∙◌, sym, arith}
 use Rattle.std.proofs.lemmas.Bool.{false≢true}
-use Rattle.dbmap.specs.Cells.{has_pages}
+use Rattle.dbmap.specs.OwnerShares.{has_pages}
 use Rattle.dbmap.specs.Shares.{HasTwo}
-use Rattle.dbmap.specs.declared.cell.OwnerShares.{OwnerShares}
+use Rattle.dbmap.specs.declared.owner_shares.OwnerShares.{OwnerShares}
 use Rattle.dbmap.proofs.bands.Credits.most.Goals as goal
 
 -- where some owner has pages, the one that was found has
@@ -20,5 +20,5 @@ found c most number l end none some two = by_order (order most)
         absurd (false≢true (sym (none (omega arith) two.one (omega (arith, within, order, end))) ∙ two.has_one))
 
 pub returns-clause-own : goal.returns-clause-own
-returns-clause-own c = λ two. ap (has_pages c.args.cell.now) c.min.ensures
-    ∙ found c.args.cell.now c.loop-number.most c.loop-number.number c.loop-number.invariant.most c.loop-number-test.false c.loop-number.invariant.none c.loop-number.invariant.some two
+returns-clause-own c = λ two. ap (has_pages c.args.shares.now) c.min.ensures
+    ∙ found c.args.shares.now c.loop-number.most c.loop-number.number c.loop-number.invariant.most c.loop-number-test.false c.loop-number.invariant.none c.loop-number.invariant.some two

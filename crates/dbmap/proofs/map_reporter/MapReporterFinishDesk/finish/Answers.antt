@@ -1,14 +1,13 @@
-use Rattle.std.proofs.Common.{ℕ, Ok, Err, [], ◌∷◌, ap, inl, inr, refl, subst, ◌∙◌}
+use Rattle.std.proofs.Common.{Ok, Err, ap, inl, inr, refl, subst, ◌∙◌}
 use Rattle.std.proofs.lemmas.Result.{err_from_is_err_and}
 use Rattle.dbformat.specs.declared.Verdict.{Verdict}
 use Rattle.dbsource.specs.declared.error.RunError.TheVariants.{ReadFailed, WriteFailed}
 use Rattle.dbsource.proofs.Logs.{asks_weaker}
-use Rattle.dbwalk.specs.Telling.{SinkState}
-use Rattle.dbscan.specs.Desks.{Things}
+use Rattle.dbwalk.specs.Telling.{one_out}
 use Rattle.dbscan.specs.Notices.{run_notices}
-use Rattle.dblisting.proofs.Desks.{desk_kept}
+use Rattle.dblisting.proofs.Desks.{desk_kept, looked_keeps}
 use Rattle.dbmap.specs.Maps.{DrawsMap}
-use Rattle.dbmap.proofs.Counting.{map_counts, map_finds, map_keeps, map_unput, map_untouched, map_unused}
+use Rattle.dbmap.proofs.Counting.{map_counts, map_finds, map_keeps, map_lists, map_unput, map_untouched}
 use Rattle.dbmap.proofs.Pictured.{named, pictured}
 use Rattle.dbmap.proofs.map_reporter.MapReporterFinishDesk.finish.Goals as goal
 
@@ -17,11 +16,9 @@ returns-in_err-look_at_lost g c =
     let q = err_from_is_err_and c.from_residual.result c.from_residual.ensures.1 in
     let look = c.in_err-look_at_lost.ensures in
     rw q.1 (rw q.2 (record {
-      kept = (ap (λ (d : Things). d.header) look.desk, ap (λ (d : Things). d.roots) look.desk);
       asks = asks_weaker _ _ (Err ReadFailed) (λ n. refl) look.asks (λ log l. l)
           (λ file way V first heard none empty. (tt, map_unput file V heard.desk.survey first c.args.self.now none empty heard.heard g.O.Out.held));
-      writes = refl;
-      only = inl refl;
+      keeps = looked_keeps look.desk refl (inl refl);
     }))
 
 pub returns-in_err-put_map : goal.returns-in_err-put_map
@@ -31,19 +28,17 @@ returns-in_err-put_map g c =
     let put = c.in_err-put_map.ensures in
     let held = g.O.Out.held in
     rw q.1 (rw q.2 (record {
-      kept = (ap (λ (d : Things). d.header) look.desk, ap (λ (d : Things). d.roots) look.desk);
       asks = asks_weaker _ _ (Err WriteFailed) (λ n. refl) look.asks (λ log l. l) (λ file way V first heard none empty.
           let s = heard.desk.survey in
           let here = desk_kept c.args.desk.now c.look_at_lost.new.desk file V look.desk heard.desk in
-          let lost = way V heard.desk (map_unused file V s first c.args.self.now none empty heard.heard) in (
+          let listed = way 100 V heard.desk (map_lists file V s first c.args.self.now none empty heard.heard) in (
             tt,
             subst (λ (o : g.row.O.Denot). DrawsMap {A = Verdict} (Err WriteFailed) (held o).bytes (held c.put_map.new.out).bytes first.name.now file V)
                 (map_untouched file V s first c.args.self.now none empty heard.heard)
                 (inr (named (run_notices file V) first c.args.self.now heard.heard file V
-                (pictured file V put here (map_counts file V s first c.args.self.now none empty heard.heard) (map_keeps file V s first c.args.self.now none empty heard.heard c.look_at_lost.new.lost look.limit lost)))),
+                (pictured file V put here (map_counts file V s first c.args.self.now none empty heard.heard) (map_keeps file V s first c.args.self.now none empty heard.heard c.look_at_lost.new.self listed)))),
           ));
-      writes = record { lent = refl; failures = inl (put.puts.count, refl) };
-      only = inr refl;
+      keeps = looked_keeps look.desk (record { lent = refl; failures = inl (put.puts.count, refl) }) (inr refl);
     }))
 
 pub returns : goal.returns
@@ -51,17 +46,15 @@ returns g c =
     let look = c.in_ok-look_at_lost.ensures in
     let put = c.in_ok-put_map.ensures in
     let held = g.O.Out.held in record {
-      kept = (ap (λ (d : Things). d.header) look.desk, ap (λ (d : Things). d.roots) look.desk);
       asks = asks_weaker _ _ (Ok c.verdict.result) (λ n. refl) look.asks (λ log l. l) (λ file way V first heard none empty.
           let s = heard.desk.survey in
           let here = desk_kept c.args.desk.now c.look_at_lost.new.desk file V look.desk heard.desk in
-          let lost = way V heard.desk (map_unused file V s first c.args.self.now none empty heard.heard) in (
+          let listed = way 100 V heard.desk (map_lists file V s first c.args.self.now none empty heard.heard) in (
             c.verdict.ensures ∙ map_finds file V s first c.args.self.now none empty heard.heard,
             subst (λ (o : g.row.O.Denot). DrawsMap {A = Verdict} (Ok c.verdict.result) (held o).bytes (held c.put_map.new.out).bytes first.name.now file V)
                 (map_untouched file V s first c.args.self.now none empty heard.heard)
                 (named (run_notices file V) first c.args.self.now heard.heard file V
-                (pictured file V put here (map_counts file V s first c.args.self.now none empty heard.heard) (map_keeps file V s first c.args.self.now none empty heard.heard c.look_at_lost.new.lost look.limit lost))),
+                (pictured file V put here (map_counts file V s first c.args.self.now none empty heard.heard) (map_keeps file V s first c.args.self.now none empty heard.heard c.look_at_lost.new.self listed))),
           ));
-      writes = ap (λ (n : ℕ). let x : SinkState = record { lent = c.args.self.now.out.ghost_name ∷ []; failures = n ∷ [] } in x) put.puts.count;
-      only = tt;
+      keeps = looked_keeps look.desk (ap (one_out c.args.self.now.out.ghost_name) put.puts.count) tt;
     }

@@ -1,5 +1,5 @@
 use Rattle.std.proofs.Common.{◌+◌, ◌-◌, ◌&&◌, not}
-use Rattle.dbmap.specs.Cells.{has_pages}
+use Rattle.dbmap.specs.OwnerShares.{has_pages}
 use Rattle.dbmap.specs.Runs.{owner_text, owners_from}
 use Rattle.dbmap.proofs.Drawing.{drawn_all, drawn_more, drawn_none}
 use Rattle.dbmap.proofs.Steps.{next_owner, no_owner}
@@ -10,13 +10,13 @@ loop-number-init g c = drawn_none c.args.canvas.now _
 
 pub loop-number-preserved : goal.loop-number-preserved
 loop-number-preserved g c =
-    let cell = c.args.self.now.cell in
+    let shares = c.args.self.now.shares in
     let names = c.args.labels.now.names.items in
     let number = c.loop-number.number in
     let f = c.loop-number.is_first in
     rw (c.is_still_first-is_first.ensures, c.has.ensures)
-    (drawn_more (owner_text cell names f number) (owners_from cell names (f && not (has_pages cell number)) (number + 1) (16 - (number + 1))) c.loop-number.invariant c.draw_owner.ensures
-    (next_owner cell names f number c.loop-number-test.true))
+    (drawn_more (owner_text shares names f number) (owners_from shares names (f && not (has_pages shares number)) (number + 1) (16 - (number + 1))) c.loop-number.invariant c.draw_owner.ensures
+    (next_owner shares names f number c.loop-number-test.true))
 
 pub returns : goal.returns
-returns g c = drawn_all c.loop-number.invariant (no_owner c.args.self.now.cell c.args.labels.now.names.items c.loop-number.is_first c.loop-number.number c.loop-number-test.false)
+returns g c = drawn_all c.loop-number.invariant (no_owner c.args.self.now.shares c.args.labels.now.names.items c.loop-number.is_first c.loop-number.number c.loop-number-test.false)

@@ -2,7 +2,7 @@ use Rattle.std.proofs.Common.{[], ap, sym, ◌∙◌}
 use Rattle.std.specs.Option.{option_map_or}
 use Rattle.dbowner.specs.Texts.{place_tree}
 use Rattle.dbmap.specs.Owners.{tree_starts}
-use Rattle.dbmap.specs.Squares.{ground_of, of_page}
+use Rattle.dbmap.specs.Squares.{drawn_from, of_page}
 use Rattle.dbmap.specs.declared.page.PageSquare.{PageSquare}
 use Rattle.dbmap.specs.declared.pen.Pen.{Pen}
 use Rattle.dbmap.proofs.Drawing.{draws_then}
@@ -22,7 +22,7 @@ returns-clause-draws g c =
           page = ap (λ p. p.0) c.pages_of-page.ensures;
           place = c.place_of-place.ensures.mark;
           fixed = c.fixed.ensures;
-          tree = c.name.ensures.name ∙ ap (λ o. option_map_or (ground_of c.args.self.now c.args.layout.now).tree o []) (c.place_tree.ensures
+          tree = c.name.ensures.name ∙ ap (λ o. option_map_or (drawn_from c.args.self.now c.args.layout.now).tree o []) (c.place_tree.ensures
               ∙ ap (place_tree c.place_of-place.result) (c.start_of-start.ensures.visit file V of.survey of.marks of.trees));
           faulty = c.faulty.ensures;
           shade = shade_is c.args.self.now.marks.now V (tree_starts c.args.self.now.largest.items) s.page c.place_of-place.ensures.mark
@@ -42,4 +42,4 @@ returns-clause-trees g c = λ file V of. record {
 
 pub returns-clause-named : goal.returns-clause-named
 returns-clause-named g c =
-    c.name.ensures.name ∙ ap (λ o. option_map_or (ground_of c.args.self.now c.args.layout.now).tree o []) (sym c.name.ensures.named)
+    c.name.ensures.name ∙ ap (λ o. option_map_or (drawn_from c.args.self.now c.args.layout.now).tree o []) (sym c.name.ensures.named)

@@ -1,6 +1,6 @@
 use Rattle.std.proofs.Common.{◌+◌, ap, ap₂, ◌∙◌, sym}
 use Rattle.dbmap.specs.Owners.{tree_starts}
-use Rattle.dbmap.specs.Shares.{capped_pages, joined}
+use Rattle.dbmap.specs.Shares.{capped_pages, share_sum}
 use Rattle.dbmap.specs.Tallies.{share_at}
 use Rattle.dbmap.proofs.LegendLines.{other_empty, other_more, other_ranked, other_same, other_yes}
 use Rattle.dbmap.proofs.tally.PageTally.others.Goals as goal
@@ -18,7 +18,7 @@ loop-start-preserved g c =
           let more = other_more share largest k yes in
           record {
             trees = w.count-is ∙ w.saturating_add-count.ensures ∙ ap (λ n. capped_pages (n + 1)) at.trees ∙ sym more.0;
-            share = w.all-is ∙ w.join.ensures ∙ ap₂ joined at.share c.share-share.ensures ∙ sym more.1;
+            share = w.all-is ∙ w.join.ensures ∙ ap₂ share_sum at.share c.share-share.ensures ∙ sym more.1;
           })
       | else-share-ne0 w ↦ elim w.else-share-ne0.branch [
         | else-share-ne0-via-then-share-ne0+else-rank_of-eq-COLOURED v ↦

@@ -1,4 +1,0 @@
-use Rattle.dbmap.proofs.legend.draw_box.Goals as goal
-
-pub returns : goal.returns
-returns g c = rw (c.from.ensures, c.from-2.ensures) at c.draw.ensures

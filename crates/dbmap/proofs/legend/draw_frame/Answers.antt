@@ -1,4 +1,0 @@
-use Rattle.dbmap.proofs.legend.draw_frame.Goals as goal
-
-pub returns : goal.returns
-returns g c = rw (c.from.ensures, c.saturating_sub.ensures) at c.draw.ensures

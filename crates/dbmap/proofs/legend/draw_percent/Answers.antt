@@ -1,9 +1,0 @@
-use Rattle.dbmap.specs.Legends.{percent_text}
-use Rattle.dbmap.proofs.Drawing.{draws_then}
-use Rattle.dbmap.proofs.legend.draw_percent.Goals as goal
-
-pub returns : goal.returns
-unfolding percent_text
-returns g c =
-    let part = rw c.tenths_of_percent.ensures at c.draw_cell.ensures in
-    draws_then part c.draw.ensures

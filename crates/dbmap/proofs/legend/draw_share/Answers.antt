@@ -1,9 +1,0 @@
-use Rattle.dbmap.specs.Legends.{share_text}
-use Rattle.dbmap.proofs.Drawing.{draws_then}
-use Rattle.dbmap.proofs.legend.draw_share.Goals as goal
-
-pub returns : goal.returns
-unfolding share_text
-returns g c =
-    let size = rw (c.size_tenths.ensures, c.size_unit.ensures) at c.draw_cell.ensures in
-    draws_then c.draw_number.ensures (draws_then c.draw_overflow.ensures size)
