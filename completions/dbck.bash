@@ -1,15 +1,15 @@
 # bash completion for dbck
 
 _dbck() {
-    local cur=${COMP_WORDS[COMP_CWORD]} prev=${COMP_WORDS[COMP_CWORD - 1]} command=${COMP_WORDS[1]} words word behind=
+    local cur=${COMP_WORDS[COMP_CWORD]} prev=${COMP_WORDS[COMP_CWORD - 1]} command=${COMP_WORDS[1]} words word after=
     COMPREPLY=()
-    # Behind the word -- there are only files.
+    # After -- only file names follow.
     for word in "${COMP_WORDS[@]:1:COMP_CWORD - 1}"; do
-        [ "$word" = -- ] && behind=yes
+        [ "$word" = -- ] && after=yes
     done
     if [ "$COMP_CWORD" -eq 1 ]; then
         words='check explain map stat help --help --version'
-    elif [ -z "$behind" ] && [ "$prev" = --limit ]; then
+    elif [ -z "$after" ] && [ "$prev" = --limit ]; then
         return
     else
         case $command in
@@ -20,7 +20,7 @@ _dbck() {
             *) return ;;
         esac
     fi
-    if [[ -z $behind && ($cur == -* || $COMP_CWORD -eq 1 || $command == help) ]]; then
+    if [[ -z $after && ($cur == -* || $COMP_CWORD -eq 1 || $command == help) ]]; then
         mapfile -t COMPREPLY < <(compgen -W "$words" -- "$cur")
     else
         compopt -o filenames 2> /dev/null

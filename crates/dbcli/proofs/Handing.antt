@@ -46,12 +46,12 @@ begins_still o m n bytes b k = record { part = b.part; rest = b.rest; whole = b.
 picture_for : {P Q : List ℕ → Type 0} (name file : List ℕ) (V : List Reference) → ((text : List ℕ) → P text → Q text) → HasPicture P name file V → HasPicture Q name file V
 picture_for name file V less h = record {
   heading = h.heading;
-  ground = h.ground;
+  drawn = h.drawn;
   all = h.all;
   lines = h.lines;
   is = h.is;
   legend = h.legend;
-  holds = less (picture_text h.heading h.ground h.all h.lines) h.holds;
+  holds = less (picture_text h.heading h.drawn h.all h.lines) h.holds;
 }
 
 keeps_then : (o m n : Option (List ℕ)) → Keeps o m → Keeps m n → Keeps o n

@@ -8,6 +8,10 @@ ghost use Rattle.dbcli.specs.Status.{line_status};
 ghost use Rattle.dbcli.specs.CommandLine.{AsksFor, HasFlags, HasLimit, IsErrorOf, IsFlag, IsInRow, IsLimit, IsLimitOf, IsNameOf, IsProgressOf};
 ghost use Rattle.dbcli.specs.declared.request.Request.{Request as request_type};
 
+use crate::help::{
+    ABOUT, CHECK_ABOUT, CHECK_EXAMPLES, EXPLAIN_ABOUT, EXPLAIN_EXAMPLES, MAP_ABOUT, MAP_EXAMPLES,
+    STAT_ABOUT, STAT_EXAMPLES, STATUSES,
+};
 use crate::request::Request;
 use crate::shown::shown;
 use clap::{Arg, ArgAction, ArgMatches, Command as Words, value_parser};
@@ -66,65 +70,11 @@ impl From<AllocError> for LineError {
 /// The version of the program, which is stated only here.
 const VERSION: &str = "0.1.0";
 
-/// The most faults that `check` shows, and the most injuries that `explain` shows.
+/// The most faults that `check` shows.
 const MOST_SHOWN: u32 = 1000000;
 
+/// The most injuries that `explain` shows.
 const MOST_EXPLAINED: u32 = 10000;
-
-const ABOUT: &str = "Check the structure of a SQLite 3 database file, which is only read";
-
-const CHECK_ABOUT: &str = "Write a line for each fault of the file, or 'ok'";
-
-const CHECK_EXAMPLES: &str = "Examples:
-  dbck check notes.db            The first 100 faults of notes.db, or 'ok'
-  dbck check --limit 1 notes.db  The first fault, and how many more there are
-  dbck check -- -notes.db        A file whose name begins with '-'
-
-'dbck --help' lists the exit statuses.";
-
-const EXPLAIN_ABOUT: &str =
-    "Write each injury once: where it is, what it goes back to, how far it reaches; and a summary";
-
-const EXPLAIN_EXAMPLES: &str =
-    "Below each fault: where its pages are, what it goes back to, and how many faults belong to it.
-After the last: how many faults there are, by code and by tree, and how many trees have none.
-
-Examples:
-  dbck explain notes.db             The first 100 injuries of notes.db, or 'ok'
-  dbck explain --limit 1 notes.db   The first injury, and the summary of all
-
-'dbck --help' lists the exit statuses.";
-
-const MAP_ABOUT: &str = "Write a picture of the pages, an SVG: each page in the colour of its tree";
-
-const MAP_EXAMPLES: &str =
-    "The picture is written to standard output, and no line of a fault. The status is that of check.
-
-Example:
-  dbck map notes.db > notes.svg  A picture for a browser
-
-'dbck --help' lists the exit statuses.";
-
-const STAT_ABOUT: &str = "Write a row for each page of a tree, and the faults to standard error";
-
-const STAT_EXAMPLES: &str = "Columns, separated by tabs:
-  name path pageno pagetype ncell payload unused mx_payload pgoffset pgsize
-
-Examples:
-  dbck stat notes.db              A row for each page of a tree or an overflow chain
-  dbck stat --aggregate notes.db  A row for each tree
-  dbck stat --all notes.db        Each page of notes.db is in one row
-
-'dbck --help' lists the exit statuses.";
-
-const STATUSES: &str = "Exit status:
-  0  no fault was found, or help or the version was asked for
-  1  the file has faults
-  2  the command line is wrong
-  3  the file is not a database that dbck checks (E1 to E7)
-  4  the file cannot be read (E8)
-  5  out of memory (E9)
-  6  the output cannot be written (E10)";
 
 fn file_arg<'a>(alloc: Global) -> Arg<'a>
     ensures rule { rule_of result ≡ file_rule }
@@ -196,7 +146,7 @@ fn limited_command<'a>(
 fn check_command<'a>(alloc: Global) -> Result<Words<'a>, AllocError>
     ensures { IfOk result (λ c. (app_of c ≡ check_app) × ((fields_of c).has_globals ≡ false)) }
 {
-    let help = "How many fault lines are written at most, from 1 to 1000000";
+    let help = "The most fault lines to print, from 1 to 1000000";
     limited_command(
         alloc,
         "check",
@@ -210,7 +160,7 @@ fn check_command<'a>(alloc: Global) -> Result<Words<'a>, AllocError>
 fn explain_command<'a>(alloc: Global) -> Result<Words<'a>, AllocError>
     ensures { IfOk result (λ c. (app_of c ≡ explain_app) × ((fields_of c).has_globals ≡ false)) }
 {
-    let help = "How many injuries are written at most, from 1 to 10000";
+    let help = "The most injuries to print, from 1 to 10000";
     limited_command(
         alloc,
         "explain",

@@ -47,8 +47,8 @@ pub fn end<E: Out, N: Notes>(err: &mut E, outcome: Result<Verdict, RunError>, no
     status_of(&outcome)
 }
 
-/// Hands on what is pending. If `outcome` is a verdict it does so of both Outs. If it is an error other than a refusal
-/// it tries so of `out`. At a refusal nothing was written.
+/// Hands on what is pending: after a verdict, of both Outs; after an error that is no refusal it tries so of `out` alone. At a
+/// refusal nothing was written.
 ///
 /// # Errors
 ///

@@ -5,6 +5,7 @@
 mod command_line;
 mod error_lines;
 mod finishing;
+mod help;
 mod line_out;
 mod logs;
 mod notes;

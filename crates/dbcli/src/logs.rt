@@ -8,7 +8,7 @@ use std::{fs, io};
 const LOGS: [(&str, &str); 2] = [("-wal", "checkpoint"), ("-journal", "recover")];
 
 // The path of the database itself, if `file` is a link to it: SQLite looks for the logs there.
-fn behind_links<R: Files + AllocGlobal>(rt: &R, file: &str) -> io::Result<String> {
+fn link_target<R: Files + AllocGlobal>(rt: &R, file: &str) -> io::Result<String> {
     if fs::symlink_metadata(rt, file)?.is_symlink() {
         Ok(fs::canonicalize(rt, file)?.into_string())
     } else {
@@ -35,7 +35,7 @@ fn put_note<R: Files + AllocGlobal, N: Out>(
 }
 
 fn put_each<R: Files + AllocGlobal, N: Out>(rt: &R, file: &str, notes: &mut N) -> io::Result<()> {
-    let database = behind_links(rt, file)?;
+    let database = link_target(rt, file)?;
     for (suffix, duty) in LOGS {
         let path = format!(in rt.alloc(); "{database}{suffix}")?;
         let _ = put_note(rt, path.as_str(), duty, notes);

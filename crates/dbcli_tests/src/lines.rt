@@ -11,10 +11,10 @@ const HELP: &str = "Check the structure of a SQLite 3 database file, which is on
 Usage: dbck <COMMAND>
 
 Commands:
-  check    Write a line for each fault of the file, or 'ok'
-  explain  Write each injury once: where it is, what it goes back to, how far it reaches; and a summary
-  map      Write a picture of the pages, an SVG: each page in the colour of its tree
-  stat     Write a row for each page of a tree, and the faults to standard error
+  check    Print a line for each fault of the file, or 'ok'
+  explain  Print each injury once: where it is, what it goes back to, how far it reaches; and a summary
+  map      Print a picture of the pages, an SVG: each page in the colour of its tree
+  stat     Print a row for each page of a tree, and the faults to standard error
   help     Print this message or the help of the given subcommand(s)
 
 Options:
@@ -31,7 +31,7 @@ Exit status:
   6  the output cannot be written (E10)
 ";
 
-const CHECK_HELP: &str = "Write a line for each fault of the file, or 'ok'
+const CHECK_HELP: &str = "Print a line for each fault of the file, or 'ok'
 
 Usage: dbck check [OPTIONS] <FILE>
 
@@ -39,7 +39,7 @@ Arguments:
   <FILE>  The database file
 
 Options:
-      --limit <N>    How many fault lines are written at most, from 1 to 1000000 [default: 100]
+      --limit <N>    The most fault lines to print, from 1 to 1000000 [default: 100]
       --no-progress  Show no progress where standard error is a terminal
   -h, --help         Print help
 
@@ -52,7 +52,7 @@ Examples:
 ";
 
 const EXPLAIN_HELP: &str =
-    "Write each injury once: where it is, what it goes back to, how far it reaches; and a summary
+    "Print each injury once: where it is, what it goes back to, how far it reaches; and a summary
 
 Usage: dbck explain [OPTIONS] <FILE>
 
@@ -60,7 +60,7 @@ Arguments:
   <FILE>  The database file
 
 Options:
-      --limit <N>    How many injuries are written at most, from 1 to 10000 [default: 100]
+      --limit <N>    The most injuries to print, from 1 to 10000 [default: 100]
       --no-progress  Show no progress where standard error is a terminal
   -h, --help         Print help
 
@@ -74,7 +74,7 @@ Examples:
 'dbck --help' lists the exit statuses.
 ";
 
-const MAP_HELP: &str = "Write a picture of the pages, an SVG: each page in the colour of its tree
+const MAP_HELP: &str = "Print a picture of the pages, an SVG: each page in the colour of its tree
 
 Usage: dbck map [OPTIONS] <FILE>
 
@@ -93,7 +93,7 @@ Example:
 'dbck --help' lists the exit statuses.
 ";
 
-const STAT_HELP: &str = "Write a row for each page of a tree, and the faults to standard error
+const STAT_HELP: &str = "Print a row for each page of a tree, and the faults to standard error
 
 Usage: dbck stat [OPTIONS] <FILE>
 

@@ -82,7 +82,7 @@ fn tells_of_logs(rt: HostRuntime) -> Result<(), Fail> {
 
 // A link to a database: the logs lie beside what it leads to.
 #[test]
-fn tells_of_logs_behind_links(rt: HostRuntime) -> Result<(), Fail> {
+fn notes_logs_of_a_linked_database(rt: HostRuntime) -> Result<(), Fail> {
     make_folder(&rt, "links", "far/ far/x.db far/x.db-wal")?;
     symlink(&rt, "far/x.db", "links/near.db")?;
     let far = fs::canonicalize(&rt, "links/far/x.db")?;

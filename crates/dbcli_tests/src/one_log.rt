@@ -145,7 +145,7 @@ fn rows_and_faults_keep_their_order(rt: HostRuntime) -> Result<(), Fail> {
 
 // The row of a tree comes after the faults of its pages: page 1 is an interior page whose one child, page 2, is zeros.
 #[test]
-fn rows_of_trees_stand_behind_their_faults(rt: HostRuntime) -> Result<(), Fail> {
+fn rows_of_trees_come_after_their_faults(rt: HostRuntime) -> Result<(), Fail> {
     let file = TestFile::of(rt.alloc(), "Smallest 2: 1 100 05, 1 108 00000002")?.into_bytes();
     let named = ("trees.db", file.as_slice());
     let line = "dbck stat --aggregate --all trees.db";

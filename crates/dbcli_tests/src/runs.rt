@@ -182,9 +182,9 @@ const RUNS: [(&str, u8, &str, &str, &str); 38] = [
 fn make_files(rt: &HostRuntime, folder: &str) -> Result<(), Fail> {
     let _ = fs::remove_dir_all(rt, folder);
     fs::create_dir(rt, folder)?;
-    for [name, text, behind] in FILES {
+    for [name, text, rest] in FILES {
         let mut file = TestFile::of(rt.alloc(), text)?.into_bytes();
-        file.extend_from_slice(behind.as_bytes())?;
+        file.extend_from_slice(rest.as_bytes())?;
         let path = format!(in rt.alloc(); "{folder}/{name}")?;
         fs::write(rt, path, file.as_slice())?;
     }
