@@ -28,6 +28,7 @@ mod texts;
 mod tree_page;
 
 pub use bytes::patch;
+pub use dbsource::Source;
 pub use drawn::{DrawnSource, draw};
 pub use records::{Record, schema_row, varint};
 pub use samples::Sample;

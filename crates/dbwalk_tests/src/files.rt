@@ -66,7 +66,7 @@ fn spoils_what_has_no_place(rt: HostRuntime) -> Result<(), Fail> {
     }
     let file = overfull(rt.alloc())?;
     check_spoiled(&rt, file.as_slice());
-    holds!(rt; is_emptied(rt.alloc())?, "an overflow page behind the file");
+    holds!(rt; is_emptied(rt.alloc())?, "an overflow page past the end of the file");
     Ok(())
 }
 

@@ -20,7 +20,7 @@ const ROWS: [CheckCase; 11] = [
         "1 2",
     ],
     [
-        "a freelist behind a pointer map",
+        "a freelist after a pointer map",
         "MappedFreelist 4",
         "ok\n",
         "1 3 2",
@@ -56,19 +56,19 @@ const ROWS: [CheckCase; 11] = [
         "1 3 4 2",
     ],
     [
-        "a root behind a trunk",
+        "a root after a trunk",
         "RootLast 4",
         "M02 page 4 item 0 value 3: root page after a page that is no root\n",
         "1 4 3 2",
     ],
     [
-        "a root behind a map page and before a trunk",
+        "a root after a map page and before a trunk",
         "RootFirst 4",
         "ok\n",
         "1 3 4 2",
     ],
     [
-        "a root behind a trunk, and no map",
+        "a root after a trunk, and no map",
         "RootLast 4: 1 52 00000000",
         "N01 page 2 item 0 value 0: page is not in use\n",
         "1 4 3",

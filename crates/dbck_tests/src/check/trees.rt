@@ -86,21 +86,21 @@ const TOO_DEEP: &str = "T04 page 20 item 0 value 21: tree is deeper than 20 page
 const ASKED: &str = "1 2 3 4 5 6 7 8 9 10 11 12 13 14 15 16 17 18 19 20";
 
 // Whether a check of a ladder finds this many faults: those of its empty pages, and these lines.
-fn has_lines(alloc: Global, file: &[u8], faults: u64, behind: &str) -> bool {
+fn has_lines(alloc: Global, file: &[u8], faults: u64, last: &str) -> bool {
     let mut source = LogSource::new(file);
     let found = found_of(alloc, check_of(100), &mut source);
     let text = str::from_utf8(found.out.bytes()).unwrap_or("");
     found.answer == Ok(Verdict::Faulty(faults))
-        && text.strip_prefix(EMPTY_PAGES) == Some(behind)
+        && text.strip_prefix(EMPTY_PAGES) == Some(last)
         && are_asked(source.ranges(), ASKED)
 }
 
 // Interior pages without cells, one below another: a tree is 20 pages deep at most.
 #[test]
 fn goes_20_pages_deep(rt: HostRuntime) -> Result<(), Fail> {
-    for (text, faults, behind) in [("ladder 20", 19u64, ""), ("ladder 21", 21, TOO_DEEP)] {
+    for (text, faults, last) in [("ladder 20", 19u64, ""), ("ladder 21", 21, TOO_DEEP)] {
         let file = file_of(rt.alloc(), text)?;
-        holds!(rt; has_lines(rt.alloc(), file.as_slice(), faults, behind), text);
+        holds!(rt; has_lines(rt.alloc(), file.as_slice(), faults, last), text);
     }
     Ok(())
 }

@@ -93,7 +93,7 @@ fn has_runs(rt: &impl Abort, picture: &str) {
 
 // Of a file that gives zeros after its first pages, these are in no tree.
 #[test]
-fn squares_stand_for_runs(rt: HostRuntime) -> Result<(), Fail> {
+fn squares_cover_runs(rt: HostRuntime) -> Result<(), Fail> {
     let mut file = small(rt.alloc())?;
     patch(&mut file, 28, &40000u32.to_be_bytes());
     let mut source = StatedSource::new(file.as_slice(), 20480000, u64::MAX);

@@ -117,8 +117,8 @@ const ROOTS: [(&str, (&str, &str), (usize, usize)); 2] = [
 #[test]
 fn the_list_of_roots_finds_no_memory(rt: HostRuntime) -> Result<(), Fail> {
     let file = file_of(rt.alloc(), "LongRow 3: 1 18 03")?;
-    for (what, texts, stand) in ROOTS {
-        let refused = Some((Err(RunError::OutOfMemory), stand.0, stand.1));
+    for (what, texts, held) in ROOTS {
+        let refused = Some((Err(RunError::OutOfMemory), held.0, held.1));
         let whole = Some((Ok(Verdict::Faulty(1)), texts.0.len(), texts.1.len()));
         let mut refusals: u32 = 0;
         for more in 0..32usize {

@@ -47,7 +47,12 @@ const READS: [[&str; 4]; 8] = [
 ];
 
 // Whether a run whose call of this number fails, from 0, wrote this many lines; or, where no call fails, all of the text.
-fn stands(alloc: Global, [what, _, text, stand]: &[&str; 4], file: &[u8], fails_at: usize) -> bool {
+fn is_written(
+    alloc: Global,
+    [what, _, text, counts]: &[&str; 4],
+    file: &[u8],
+    fails_at: usize,
+) -> bool {
     let mut source = StatedSource::new(file, file.len() as u64, fails_at as u64);
     let mut out = SmallOut::new(2048);
     let mut err = SmallOut::new(0);
@@ -55,8 +60,8 @@ fn stands(alloc: Global, [what, _, text, stand]: &[&str; 4], file: &[u8], fails_
     let answer = run(alloc, command, &mut source, &mut out, &mut err);
     // The files of the statistics have no fault.
     let report = if *what == "check" { text } else { "" };
-    let wanted = match stand.split(' ').nth(fails_at) {
-        Some(stand) => (Err(RunError::ReadFailed), stand.parse::<usize>()),
+    let wanted = match counts.split(' ').nth(fails_at) {
+        Some(count) => (Err(RunError::ReadFailed), count.parse::<usize>()),
         None => (Ok(verdict_of(report)), Ok(lines(text.as_bytes()))),
     };
     (answer, Ok(lines(out.bytes()))) == wanted
@@ -71,7 +76,7 @@ fn each_read_fails_in_turn(rt: HostRuntime) -> Result<(), Fail> {
         let file = file_of(rt.alloc(), case[1])?;
         let calls = case[3].split(' ').count();
         for fails_at in 0..calls.wrapping_add(2) {
-            holds!(rt; stands(rt.alloc(), case, file.as_slice(), fails_at), (case, fails_at));
+            holds!(rt; is_written(rt.alloc(), case, file.as_slice(), fails_at), (case, fails_at));
         }
     }
     Ok(())

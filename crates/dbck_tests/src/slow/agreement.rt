@@ -41,7 +41,7 @@ const FILES: [(&str, &str, bool); 12] = [
     ("a trunk and its leaf", "Freelist 3", true),
     ("a wrong freelist count", "Freelist 3: 1 36 00000001", false),
     ("a root before a trunk", "RootFirst 4", true),
-    ("a root behind a trunk", "RootLast 4", false),
+    ("a root after a trunk", "RootLast 4", false),
     ("empty pages below a root", "ladder 3", false),
 ];
 

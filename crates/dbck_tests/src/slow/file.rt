@@ -127,15 +127,15 @@ impl<'a> File<'a> {
     }
 
     // How many pages a page is after its map page.
-    fn behind_map(&self, p: u32) -> usize {
+    fn after_map(&self, p: u32) -> usize {
         let period = (self.usable / 5).wrapping_add(1);
-        let behind = (p as usize).wrapping_sub(2);
-        behind.checked_rem(period).unwrap_or(0)
+        let index = (p as usize).wrapping_sub(2);
+        index.checked_rem(period).unwrap_or(0)
     }
 
     /// Whether a page is one of a pointer map.
     pub(crate) fn is_map(&self, p: u32) -> bool {
-        self.number(52) != 0 && p >= 2 && self.behind_map(p) == 0
+        self.number(52) != 0 && p >= 2 && self.after_map(p) == 0
     }
 
     /// Whether the entry of a page in the pointer map, where it has one, is of this type and number.
@@ -143,10 +143,10 @@ impl<'a> File<'a> {
         if self.number(52) == 0 || p <= 2 || self.is_map(p) {
             return true;
         }
-        let behind = self.behind_map(p);
-        let distance = u32::try_from(behind).unwrap_or(0);
+        let after = self.after_map(p);
+        let distance = u32::try_from(after).unwrap_or(0);
         let map = self.page(p.wrapping_sub(distance));
-        let at = behind.wrapping_sub(1).wrapping_mul(5);
+        let at = after.wrapping_sub(1).wrapping_mul(5);
         byte_at(map, at) == kind && four_at(map, at.wrapping_add(1)) == number
     }
 }

@@ -103,22 +103,22 @@ impl<'a> TreePage<'a> {
     pub(crate) fn cell(&self, i: usize) -> Cell {
         let bytes = self.bytes;
         let at = two_at(bytes, self.pointers().wrapping_add(i.wrapping_mul(2)));
-        let behind_left = at.wrapping_add(if self.is_interior { 4 } else { 0 });
+        let after_left = at.wrapping_add(if self.is_interior { 4 } else { 0 });
         let has_payload = !(self.is_interior && self.is_table);
-        let (size, behind_size) = if has_payload {
-            varint_at(bytes, behind_left)
+        let (size, after_size) = if has_payload {
+            varint_at(bytes, after_left)
         } else {
-            (0, behind_left)
+            (0, after_left)
         };
         let (key, from) = if self.is_table {
-            varint_at(bytes, behind_size)
+            varint_at(bytes, after_size)
         } else {
-            (0, behind_size)
+            (0, after_size)
         };
         let size = usize::try_from(size).unwrap_or(usize::MAX);
         let local = self.local_size(size);
-        let behind = from.wrapping_add(local);
-        let end = behind.wrapping_add(if local < size { 4 } else { 0 });
+        let after = from.wrapping_add(local);
+        let end = after.wrapping_add(if local < size { 4 } else { 0 });
         Cell {
             at,
             end: end.max(at.wrapping_add(4)),
@@ -127,7 +127,7 @@ impl<'a> TreePage<'a> {
             size,
             from,
             local,
-            overflow: four_at(bytes, behind),
+            overflow: four_at(bytes, after),
         }
     }
 

@@ -31,7 +31,7 @@ const ROWS: [StatCase; 19] = [
         "",
     ],
     [
-        "a freelist behind a map, all pages",
+        "a freelist after a map, all pages",
         "all pages",
         "MappedFreelist 4",
         "sqlite_schema|/|1|leaf|0|0|404|0|0|512\n\

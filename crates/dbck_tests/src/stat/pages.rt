@@ -201,7 +201,7 @@ const ROWS: [StatCase; 28] = [
         "M01 page 4 item 4 value 3: pointer map entry differs\n",
     ],
     [
-        "a freelist behind a pointer map",
+        "a freelist after a pointer map",
         "pages",
         "MappedFreelist 4",
         "sqlite_schema|/|1|leaf|0|0|404|0|0|512\n",

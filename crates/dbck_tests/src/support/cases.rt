@@ -45,7 +45,7 @@ pub(crate) fn verdict_of(report: &str) -> Verdict {
     }
 }
 
-/// The command that a text tells: a check that shows a hundred faults, or a form of the statistics.
+/// The command that a text names: a check that shows a hundred faults, or a form of the statistics.
 pub(crate) fn command_of(text: &str) -> Command {
     match text {
         "check" => check_of(100),

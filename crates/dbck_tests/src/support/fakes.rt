@@ -1,4 +1,4 @@
-// An out and writers that fail where a test asks for it. They tell nothing.
+// An out and writers that fail where a test asks for it. Their bytes are not known to a proof.
 ghost use Rattle.std.specs.Prelude.{[], None};
 
 use arrayvec::ArrayVec;

@@ -28,7 +28,7 @@ const HEADS: [Case; 19] = [
         "kind ContentStart; head 13 65536",
     ],
     [
-        "content behind the page",
+        "content past the page",
         "2 of 512",
         "0 0d 0000 0000 0201 00",
         "kind ContentStart",
@@ -107,7 +107,7 @@ const HEADS: [Case; 19] = [
         "kind UnknownType",
     ],
     [
-        "page 1 with content behind it",
+        "page 1 with content past it",
         "1 of 512",
         "100 05 0000 0000 ffff 00",
         "head 5 65535",

@@ -16,7 +16,7 @@ const PACKED_PAGES: [Case; 8] = [
         "packed none",
     ],
     [
-        "a second cell behind the first",
+        "a second cell after the first",
         "2 of 512",
         "0 0d 0000 0002 01f0 00 01f7 01fc, 503 03 01 'abc' 02 02 'AB'",
         "packed 5 3 7 1 2",

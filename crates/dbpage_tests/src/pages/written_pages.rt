@@ -9,7 +9,7 @@ const WRITTEN_PAGES: [Case; 27] = [
         "cells [491+12 10/10 key 1] [500+12 10/10 key 2]; freeblocks; unused 476; coverage Overlap(1)",
     ],
     [
-        "an overlap behind a cell that holds nothing",
+        "an overlap after a cell that holds nothing",
         "2 of 512",
         "0 0d 0000 0003 01e8 00 01fd 01eb 01f4, 491 0a01, 500 0a02",
         "cells [Offset] [491+12 10/10 key 1] [500+12 10/10 key 2]; freeblocks; unused 474; coverage Overlap(2)",
@@ -168,13 +168,13 @@ const WRITTEN_PAGES: [Case; 27] = [
 
 const RESERVED_BYTES: [Case; 4] = [
     [
-        "a number that ends behind the usable bytes",
+        "a number that ends past the usable bytes",
         "2 of 480",
         "0 0d 0000 0001 01d6 00 01dc, 476 808080800101",
         "cells [Unreadable]; freeblocks; unused 460; coverage Unheld(10)",
     ],
     [
-        "a cell that ends behind the usable bytes",
+        "a cell that ends past the usable bytes",
         "2 of 480",
         "0 0d 0000 0001 01d6 00 01d6, 470 0a01",
         "cells [Unreadable]; freeblocks; unused 460; coverage Unheld(10)",
@@ -186,7 +186,7 @@ const RESERVED_BYTES: [Case; 4] = [
         "cells [476+4 2/2 key 1]; freeblocks; unused 466; coverage Unheld(0)",
     ],
     [
-        "a freeblock that ends behind the usable bytes",
+        "a freeblock that ends past the usable bytes",
         "2 of 480",
         "0 0d 01dc 0000 01d6 00, 476 00000005",
         "cells; freeblocks bad 0 476; unused 462; coverage Unheld(10)",

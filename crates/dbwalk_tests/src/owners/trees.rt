@@ -30,7 +30,7 @@ const OWNED: [&str; 14] = [
 ];
 
 // A table in a file with a pointer map: its root is page 3, and page 4 an overflow page.
-const BEHIND_A_MAP: [&str; 5] = [
+const AFTER_A_MAP: [&str; 5] = [
     "None Nowhere",
     "Some(0) Root",
     "None Fixed",
@@ -113,7 +113,7 @@ fn a_map_page_belongs_to_no_tree(rt: HostRuntime) -> Result<(), Fail> {
     let desk = walk_all(rt.alloc(), file.as_slice())?;
     let mut trees = PageTrees::new(rt.alloc(), &GEOMETRY)?;
     trees.enter_roots(&desk.marks, &desk.roots);
-    check_pages(&rt, &desk.marks, &mut trees, &BEHIND_A_MAP, false);
+    check_pages(&rt, &desk.marks, &mut trees, &AFTER_A_MAP, false);
     Ok(())
 }
 

@@ -33,7 +33,7 @@ pub(crate) struct Walk<'a> {
 }
 
 // The number after a word where it is what fails, and else one that is never reached.
-fn number_behind(fails: &str, word: &str) -> u64 {
+fn number_after(fails: &str, word: &str) -> u64 {
     let number = fails.strip_prefix(word).unwrap_or("");
     number.parse::<u64>().unwrap_or(u64::MAX)
 }
@@ -47,14 +47,14 @@ impl<'a> Walk<'a> {
         let marks = Marks::new(alloc, &geometry)?;
         let bench = Bench::new(alloc, geometry)?;
         Ok(Walk {
-            source: StatedSource::new(file, file.len() as u64, number_behind(fails, "read ")),
+            source: StatedSource::new(file, file.len() as u64, number_after(fails, "read ")),
             bench,
             marks,
             rows: Rows::new(
-                number_behind(fails, "full "),
-                number_behind(fails, "refused "),
+                number_after(fails, "full "),
+                number_after(fails, "refused "),
             ),
-            told: Told::new(number_behind(fails, "item ")),
+            told: Told::new(number_after(fails, "item ")),
             first_trunk: header.first_trunk(),
         })
     }
