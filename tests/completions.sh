@@ -48,7 +48,7 @@ for file in dbck.bash _dbck dbck.fish; do
     compare "$file: commands"
 done
 
-# Behind the word -- only files are offered: also one whose name begins with a dash.
+# After -- only files are offered: also one whose name begins with a dash.
 mkdir "$work/files"
 : > "$work/files/--limit.db"
 words=$(
@@ -64,5 +64,5 @@ for command in check explain map stat; do
     echo "$command: --limit.db"
 done > "$work/help"
 echo "$words" > "$work/words"
-compare 'dbck.bash: files behind --'
+compare 'dbck.bash: files after --'
 exit $status
