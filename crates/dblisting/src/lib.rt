@@ -14,5 +14,10 @@ mod listing;
 mod lost;
 mod reported;
 
+pub use dbentries::{Entry, Reported};
+pub use dbformat::Fault;
+pub use dbscan::{Desk, Start};
+pub use dbsource::{ReadFailed, Source};
+pub use dbtrace::Cause;
 pub use listing::Listing;
 pub use reported::{at_start, of_file};
