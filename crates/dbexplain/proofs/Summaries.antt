@@ -29,7 +29,7 @@ use Rattle.dbformat.specs.declared.Encoding.{Encoding}
 use Rattle.dbformat.proofs.HeaderPrefix.{encoding_within}
 use Rattle.dbsource.specs.HeaderBytes.{HeaderBytes}
 use Rattle.dbsource.specs.Headers.{IsHeaderOf}
-use Rattle.dbscan.specs.Roots.{AreListed}
+use Rattle.dbscan.specs.Roots.{AreListed, listed_rows}
 use Rattle.dbtrace.proofs.Keys.{same_tests}
 use Rattle.dbtrace.specs.declared.Part.{Part}
 use Rattle.dbtrace.specs.declared.Part.TheVariants as part
@@ -40,7 +40,7 @@ use Rattle.dbformat.proofs.BelowStarts.{length_taken, rows_start}
 use Rattle.dbscan.specs.Placed.{told_faults}
 use Rattle.dbscan.proofs.Reached.{of_starts}
 use Rattle.dbentries.specs.Lines.{indented}
-use Rattle.dbexplain.specs.Summary.{aligned, code_count, code_line, count_text, faulty_pages_at, is_faulty_at, is_reached, is_part_of_start, is_whole, listed_rows, faulty_pages_text, reached_pages, start_count, start_sum_line, start_name, sum_line, summary, tree_count, trees_text, whole_count, whole_line, whole_trees}
+use Rattle.dbexplain.specs.Summary.{aligned, code_count, code_line, count_text, faulty_pages_at, is_faulty_at, is_reached, is_part_of_start, is_whole, faulty_pages_text, reached_pages, start_count, start_sum_line, start_name, sum_line, summary, tree_count, trees_text, whole_count, whole_line, whole_trees}
 use Rattle.dbexplain.specs.Sums.{code_sum, freelist_start_count, numbered_sum, start_sum, summary_by, tree_counts, without_fault}
 use Rattle.dbexplain.specs.Tallies.{Tallied, IsTallyTo, counted_code, counted_start, is_told, no_count}
 use Rattle.dbexplain.specs.declared.tally.StartCount.{StartCount}

@@ -1,16 +1,16 @@
 -- The summary of `explain` (own): how many faults a file has, with each code and reported at each start, on how many of the pages that were
 -- reached from there, and how many of the trees have no fault.
-use Rattle.std.specs.Prelude.{◌≡◌, ℕ, suc, ◌+◌, ◌-◌, Bool, true, false, ◌&&◌, List, [], ◌∷◌, ◌++◌, length, replicate, take, flat_map, count_by, sum_by, codes, decimal, ◌==◌, if◌then◌else◌}
+use Rattle.std.specs.Prelude.{◌≡◌, ℕ, suc, ◌+◌, ◌-◌, Bool, true, false, ◌&&◌, List, [], ◌∷◌, ◌++◌, length, replicate, flat_map, count_by, sum_by, codes, decimal, ◌==◌, if◌then◌else◌}
 use Rattle.std.specs.List.{list_any, range_with_len}
 use Rattle.std.specs.Option.{option_map_or}
-use Rattle.dbformat.specs.Address.{freelist_start, last_root_start}
+use Rattle.dbformat.specs.Address.{freelist_start}
 use Rattle.dbformat.specs.Codes.{all_codes, is_code}
 use Rattle.dbformat.specs.EndFaults.{page_numbers}
 use Rattle.dbformat.specs.File.{geometry}
 use Rattle.dbformat.specs.Header.{encoding}
 use Rattle.dbformat.specs.Lines.{line_feed, code_text, code_words, counted}
 use Rattle.dbformat.specs.Reference.{Reference}
-use Rattle.dbformat.specs.Schema.{schema, rooted_rows, starts}
+use Rattle.dbformat.specs.Schema.{starts}
 use Rattle.dbformat.specs.SchemaRow.{SchemaRow}
 use Rattle.dbformat.specs.declared.Encoding.{Encoding}
 use Rattle.dbformat.specs.declared.FaultCode.{FaultCode}
@@ -21,7 +21,7 @@ use Rattle.dbtrace.specs.declared.Reported.{Reported}
 use Rattle.dbowner.specs.Texts.{tree_of_row}
 use Rattle.dbformat.specs.Starts.{start_at}
 use Rattle.dbscan.specs.Placed.{told_faults}
-use Rattle.dbscan.specs.Roots.{root_page}
+use Rattle.dbscan.specs.Roots.{listed_rows, root_page}
 
 -- Faults.
 
@@ -66,10 +66,6 @@ abbrev pub faulty_pages_at : List ℕ → List Reported → ℕ → ℕ
 faulty_pages_at file ts k = count_by (is_faulty_at ts k) (page_numbers (geometry file))
 
 -- Trees.
-
--- the rows of the schema that have a start
-abbrev pub listed_rows : List ℕ → List Reference → List SchemaRow
-listed_rows file V = take last_root_start (rooted_rows (schema file V))
 
 -- a start by its name: the freelist, or a tree and its root page
 abbrev pub start_name : Encoding → List SchemaRow → ℕ → List ℕ

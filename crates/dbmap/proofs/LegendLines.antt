@@ -1,5 +1,5 @@
 -- The lines of a legend, by what a tally has, and by the file.
-use Rattle.std.proofs.Common.{◌≡◌, ℕ, zero, suc, ◌+◌, ◌-◌, ◌<◌, ◌≤◌, inl, inr, Bool, true, false, cond, not, ◌&&◌, List, [], ◌∷◌, ◌++◌, length, map, get_or, drop, count_by, take, Some, append_assoc, append-nil, drop-cons, refl, sym, ap, ap₂, subst, ◌∙◌, add-one, arith}
+use Rattle.std.proofs.Common.{◌≡◌, ℕ, zero, suc, ◌+◌, ◌-◌, ◌<◌, ◌≤◌, inl, inr, Bool, true, false, cond, not, ◌&&◌, List, [], ◌∷◌, ◌++◌, length, map, get_or, drop, count_by, Some, append_assoc, append-nil, drop-cons, refl, sym, ap, ap₂, subst, ◌∙◌, add-one, arith}
 use Rattle.std.specs.Prelude.{◌==◌}
 use Rattle.std.specs.List.{range_with_len, sum_by}
 use Rattle.std.proofs.lemmas.List.Sums.{sum_by_push}
@@ -8,10 +8,9 @@ use Rattle.std.proofs.lemmas.List.{drop_all}
 use Rattle.std.proofs.lemmas.Option.{get_or_from_slice_get}
 use Rattle.dbsurvey.proofs.Ranges.{range_push}
 use Rattle.dbsurvey.specs.Address.{IsIn}
-use Rattle.dbformat.specs.Address.{freelist_start, last_root_start}
+use Rattle.dbformat.specs.Address.{freelist_start}
 use Rattle.dbformat.specs.File.{geometry}
 use Rattle.dbformat.specs.Reference.{Reference}
-use Rattle.dbformat.specs.Schema.{schema, rooted_rows}
 use Rattle.dbformat.specs.SchemaRow.{SchemaRow}
 use Rattle.dbmap.specs.OwnerShares.{no_share}
 use Rattle.dbmap.specs.LegendLines.{file_share, is_other, legend_lines, line_if, other_trees, others_share, owner_lines, root_if_twice, tree_lines}
@@ -25,6 +24,7 @@ use Rattle.dbmap.specs.declared.legend.Label.TheVariants.{Faulty, Fixed, Freelis
 use Rattle.dbmap.specs.declared.legend.LegendLine.{LegendLine}
 use Rattle.dbmap.specs.declared.tally.RankedTree as tally
 use Rattle.dbmap.proofs.Trees.{tree_here}
+use Rattle.dbscan.specs.Roots.{AreListed}
 
 -- ---- sums over starts
 
@@ -118,7 +118,7 @@ trees_same names rows s t rank (k ∷ ks) h =
     ap₂ (λ x l. line_if (Tree rank (root_if_twice names rows rank k)) x ++ l) (h k (inl refl)) (trees_same names rows s t (rank + 1) ks (λ j i. h j (inr i)))
 
 pub legend_is : (file : List ℕ) (V : List Reference) (t : PagesTallied) (names : List (List ℕ)) (rows : List SchemaRow) (ks : List ℕ) (faulty : ℕ)
-    → IsPageTallyOf file V t → AreLargest t.trees (pages_at t.starts) ks → rows ≡ take last_root_start (rooted_rows (schema file V))
+    → IsPageTallyOf file V t → AreLargest t.trees (pages_at t.starts) ks → AreListed file V rows
     → owner_lines names rows (share_at t.starts) ks t.trees t.fixed t.nobody ++ line_if Faulty (no_overflow faulty) ≡ legend_lines file V names ks faulty
 legend_is file V t names rows ks faulty h largest listed =
     ap (λ (l : List LegendLine). l ++ line_if Faulty (no_overflow faulty)) (

@@ -1,14 +1,13 @@
 -- Which lines the legend of a file has, and how many pages each is of: one for each of the largest trees, and then one for all other
 -- trees, for the freelist, for pages of fixed use, for pages that are nobody's, and for pages with a fault; each only where it has a page.
-use Rattle.std.specs.Prelude.{ℕ, ◌+◌, Bool, not, ◌&&◌, nat_lt, nat_eq, List, [], ◌∷◌, ◌++◌, length, take, get_or, count_by, Option, Some, None, ◌==◌, if◌then◌else◌}
+use Rattle.std.specs.Prelude.{ℕ, ◌+◌, Bool, not, ◌&&◌, nat_lt, nat_eq, List, [], ◌∷◌, ◌++◌, length, get_or, count_by, Option, Some, None, ◌==◌, if◌then◌else◌}
 use Rattle.std.specs.Cmp.Lexicographic.{pointwise}
 use Rattle.std.specs.List.{list_any, range_with_len, sum_by}
-use Rattle.dbformat.specs.Address.{freelist_start, last_root_start}
+use Rattle.dbformat.specs.Address.{freelist_start}
 use Rattle.dbformat.specs.File.{geometry}
 use Rattle.dbformat.specs.Reference.{Reference}
-use Rattle.dbformat.specs.Schema.{schema, rooted_rows}
 use Rattle.dbformat.specs.SchemaRow.{SchemaRow}
-use Rattle.dbscan.specs.Roots.{root_page}
+use Rattle.dbscan.specs.Roots.{listed_rows, root_page}
 use Rattle.dbxml.specs.Widths.{fitting_bytes}
 use Rattle.dbmap.specs.Legends.{no_overflow}
 use Rattle.dbmap.specs.Owners.{rank_of}
@@ -82,6 +81,6 @@ file_share file V start = start_share file V (geometry file).pages start
 -- The legend's lines, by the names and the starts of the largest trees, and by how many pages have a fault.
 abbrev pub legend_lines : List ℕ → List Reference → List (List ℕ) → List ℕ → ℕ → List LegendLine
 legend_lines file V names largest faulty =
-    owner_lines names (take last_root_start (rooted_rows (schema file V))) (file_share file V) largest freelist_start
+    owner_lines names (listed_rows file V) (file_share file V) largest freelist_start
     (capped_pages (fixed_count file (geometry file).pages)) (capped_pages (lost_pages file V (geometry file).pages))
     ++ line_if Faulty (no_overflow faulty)

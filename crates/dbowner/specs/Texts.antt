@@ -1,17 +1,16 @@
 -- The texts of trees and pages of a file with survey V: the name of a tree, and what a page is in it, whole and in pieces.
-use Rattle.std.specs.Prelude.{ℕ, zero, suc, List, [], ◌++◌, take, Option, Some, None, slice_get, codes, decimal}
+use Rattle.std.specs.Prelude.{ℕ, zero, suc, List, [], ◌++◌, Option, Some, None, slice_get, codes, decimal}
 use Rattle.std.specs.Option.{option_map_or}
-use Rattle.dbformat.specs.Address.{last_root_start}
 use Rattle.dbformat.specs.Header.{encoding}
 use Rattle.dbformat.specs.PlainNames.{plain_name}
 use Rattle.dbformat.specs.Reference.{Reference}
-use Rattle.dbformat.specs.Schema.{schema, rooted_rows}
 use Rattle.dbformat.specs.SchemaRow.{SchemaRow}
 use Rattle.dbformat.specs.declared.Encoding.{Encoding}
 use Rattle.dbformat.specs.declared.Fixed.{Fixed}
 use Rattle.dbformat.specs.declared.Fixed.TheVariants.{Lock}
 use Rattle.dbformat.specs.declared.RowKind.{RowKind}
 use Rattle.dbformat.specs.declared.RowKind.TheVariants as row
+use Rattle.dbscan.specs.Roots.{listed_rows}
 use Rattle.dbowner.specs.declared.place.Place.{Place}
 use Rattle.dbowner.specs.declared.place.Place.TheVariants as place
 
@@ -31,7 +30,7 @@ tree_of_row e rows (suc k) = option_map_or (row_text e) (slice_get rows k) []
 
 -- the same of a file: 65536 rows have a start
 abbrev pub tree_text : List ℕ → List Reference → ℕ → List ℕ
-tree_text file V k = tree_of_row (encoding file) (take last_root_start (rooted_rows (schema file V))) k
+tree_text file V k = tree_of_row (encoding file) (listed_rows file V) k
 
 -- the fixed use of a page
 abbrev pub use_text : Option Fixed → List ℕ

@@ -15,7 +15,7 @@ use Rattle.dbtrace.specs.Finding.{told_row, told_fault}
 use Rattle.dbwalk.specs.Telling.{Tells}
 use Rattle.dbscan.specs.Notices.{Notice, whole, found, ended, walked, faults_heard}
 use Rattle.dbscan.specs.Starts.{At}
-use Rattle.dbreport.specs.StatReporter.{tree_end_text, other_lines, pages_text, CutsStatFault, CutsStat, HasBegun, HasWritten, HearsStat, IsSameReporter, TakesFault, WritesBoth}
+use Rattle.dbreport.specs.StatReporter.{tree_end_text, other_lines, pages_text, CutsStatFault, CutsStat, HasBegun, HasWritten, HearsStat, IsFlushedIf, IsSameReporter, TakesFault, WritesBoth}
 use Rattle.dbreport.specs.Sums.{sums_of}
 use Rattle.dbreport.specs.TreeNames.{name_at}
 use Rattle.dbreport.specs.declared.statistics.Form.{Form}
@@ -120,6 +120,19 @@ module _ {O E : Type 0} (held : O → OutState) (held' : E → OutState) where
     err = begins_more (held' s.err.now).bytes (held' t.err.now).bytes (fault_line f) [] (fault_line f ++ []) refl a.err;
   }
 
+  -- ---- rows alone: no fault is counted, and the other Out has the bytes that it had
+
+  rows_written : (flushed : Bool) (s m : StatReporter O E) (text : List ℕ) → IsSameReporter s m → m.found ≡ s.found → IsFlushedIf flushed (held' s.err.now) (held' m.err.now)
+      → Appends (held s.out.now).bytes (held m.out.now).bytes text → HasWritten held held' s m text []
+  rows_written flushed s m text same as_many err out = record {
+    form = same.form;
+    encoding = same.encoding;
+    page_size = same.page_size;
+    found = λ n e. as_many ∙ e ∙ ap counted (nothing_more n);
+    out = out;
+    err = kept_appends (held' s.err.now).bytes (held' m.err.now).bytes (held' m.err.now).bytes [] (kept_if flushed (held' s.err.now) (held' m.err.now) err) (appends_nothing (held' m.err.now).bytes);
+  }
+
   -- ---- one notice
 
   module _ (p : Sheet) (s : StatReporter O E) (on : IsOn p s) where
@@ -134,37 +147,19 @@ module _ {O E : Type 0} (held : O → OutState) (held' : E → OutState) where
     one_written : (n : Notice) (m : StatReporter O E) → all s n m → HasWritten held held' s m (lines p n) (faults_of (n ∷ [])) × IsOn (next p n) m
     one_written (whole f) m a = (fault_written s m f a, on_same m a.same p.rows (a.sums ∙ on.summed))
     one_written (found at (told_row r)) m a = (
-      record {
-        form = a.same.form;
-        encoding = a.same.encoding;
-        page_size = a.same.page_size;
-        found = λ n e. a.found ∙ e ∙ ap counted (nothing_more n);
-        out = by_sheet (Appends (held s.out.now).bytes (held m.out.now).bytes) (λ form name size. pages_text form name size (r ∷ [])) at a.puts.held;
-        err = kept_appends (held' s.err.now).bytes (held' m.err.now).bytes (held' m.err.now).bytes [] (kept_if (not s.form.aggregate) (held' s.err.now) (held' m.err.now) a.err) (appends_nothing (held' m.err.now).bytes);
-      },
+      rows_written (not s.form.aggregate) s m (lines p (found at (told_row r))) a.same a.found a.err
+          (by_sheet (Appends (held s.out.now).bytes (held m.out.now).bytes) (λ form name size. pages_text form name size (r ∷ [])) at a.puts.held),
       on_same m a.same (p.rows ++ r ∷ []) (a.sums p.rows on.summed),
     )
     one_written (found at (told_fault f why)) m a = (fault_written s m f a, on_same m a.same p.rows (a.sums ∙ on.summed))
     one_written (ended at) m a = (
-      record {
-        form = a.form;
-        encoding = a.encoding;
-        page_size = a.page_size;
-        found = λ n e. a.found ∙ e ∙ ap counted (nothing_more n);
-        out = by_sheet (Appends (held s.out.now).bytes (held m.out.now).bytes) (λ form name size. tree_end_text form name size p.rows) at (a.writes p.rows on.summed);
-        err = kept_appends (held' s.err.now).bytes (held' m.err.now).bytes (held' m.err.now).bytes [] (kept_if s.form.aggregate (held' s.err.now) (held' m.err.now) a.err) (appends_nothing (held' m.err.now).bytes);
-      },
-      record { form = a.form ∙ on.form; encoding = a.encoding ∙ on.encoding; size = a.page_size ∙ on.size; summed = a.sums },
+      rows_written s.form.aggregate s m (lines p (ended at)) a.same a.found a.err
+          (by_sheet (Appends (held s.out.now).bytes (held m.out.now).bytes) (λ form name size. tree_end_text form name size p.rows) at (a.writes p.rows on.summed)),
+      on_same m a.same [] a.sums,
     )
     one_written (walked g marks) m a = (
-      record {
-        form = a.same.form;
-        encoding = a.same.encoding;
-        page_size = a.same.page_size;
-        found = λ n e. a.found ∙ e ∙ ap counted (nothing_more n);
-        out = subst (λ (form : Form). Appends (held s.out.now).bytes (held m.out.now).bytes (other_lines form.all g marks)) on.form a.writes;
-        err = kept_appends (held' s.err.now).bytes (held' m.err.now).bytes (held' m.err.now).bytes [] (kept_if s.form.all (held' s.err.now) (held' m.err.now) a.err) (appends_nothing (held' m.err.now).bytes);
-      },
+      rows_written s.form.all s m (lines p (walked g marks)) a.same a.found a.err
+          (subst (λ (form : Form). Appends (held s.out.now).bytes (held m.out.now).bytes (other_lines form.all g marks)) on.form a.writes),
       on_same m a.same p.rows (a.sums ∙ on.summed),
     )
 

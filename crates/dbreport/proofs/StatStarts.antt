@@ -1,9 +1,9 @@
 -- What the statistics write of the starts of a file, by what is reported of them.
-use Rattle.std.proofs.Common.{◌≡◌, ℕ, suc, ◌+◌, Bool, true, false, cond, List, [], ◌∷◌, ◌++◌, length, map, take, Some, Result, refl, sym, ap, ap₂, ◌∙◌, subst, arith, append_assoc, append-nil}
+use Rattle.std.proofs.Common.{◌≡◌, ℕ, suc, ◌+◌, Bool, true, false, cond, List, [], ◌∷◌, ◌++◌, length, map, Some, Result, refl, sym, ap, ap₂, ◌∙◌, subst, arith, append_assoc, append-nil}
 use Rattle.std.specs.Prelude.{flat_map, slice_get, codes, ◌==◌, if◌then◌else◌}
 use Rattle.std.specs.List.{enumerate_from}
 use Rattle.dbsurvey.specs.Story.{Errand, Go, Follow, errands_at}
-use Rattle.dbformat.specs.Address.{freelist_start, last_root_start}
+use Rattle.dbformat.specs.Address.{freelist_start}
 use Rattle.dbformat.specs.EndFaults.{end_faults}
 use Rattle.dbformat.specs.File.{geometry}
 use Rattle.dbformat.specs.HeaderFaults.{header_faults}
@@ -14,7 +14,7 @@ use Rattle.dbformat.specs.Header.{encoding as encoding_of, first_trunk, page_siz
 use Rattle.dbformat.specs.Lines.{form_line, page_line, tree_name}
 use Rattle.dbformat.specs.Reference.{trunk, Way, Reference}
 use Rattle.dbformat.specs.Rows.{StatRow, other_rows}
-use Rattle.dbformat.specs.Schema.{schema, rooted_rows, start}
+use Rattle.dbformat.specs.Schema.{start}
 use Rattle.dbformat.specs.SchemaRow.{SchemaRow}
 use Rattle.dbformat.specs.Story.{Event, start_errands}
 use Rattle.dbformat.specs.Survey.{Survey}
@@ -27,6 +27,7 @@ use Rattle.dbwalk.specs.Trunks.{freelist_reference}
 use Rattle.dbwalk.specs.Telling.{Tells}
 use Rattle.dbwalk.proofs.Telling.Belows.{told_none}
 use Rattle.dbscan.specs.Notices.{Notice, whole, found, ended, walked, errands_left, root_reference, tree_notices, later_notices, start_notices, end_notices, run_notices}
+use Rattle.dbscan.specs.Roots.{listed_rows}
 use Rattle.dbscan.specs.Starts.{At, at_freelist, at_row, at_schema, schema_reference}
 use Rattle.dbscan.specs.Findings.{found_rows}
 use Rattle.dbreport.specs.StatLines.{tree_rows_text, starts_text}
@@ -146,7 +147,7 @@ module _ (file : List ℕ) (V : List Reference) (form all : Bool) where
   start_lines survey =
       let c = schema_reference in
       let U = [] ++ visited_below file [] (Go c ∷ []) in
-      let rows = take last_root_start (rooted_rows (schema file V)) in
+      let rows = listed_rows file V in
       let text : List ℕ → List ℕ = λ name. tree_rows_text form name (page_size file) (found_rows (told_below file [] (Go c ∷ []))) in
       tree_lines at_schema [] c (later_notices file U (enumerate_from 1 rows))
       ∙ ap₂ (λ name rest. text name ++ rest) (schema_name file V) (of_later file Writes (λ k W named. freelist_lines W) next_lines 1 rows U (λ j r e.

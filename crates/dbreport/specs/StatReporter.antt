@@ -114,9 +114,7 @@ WritesBoth held held' r s t text faults = MatchResult r (λ _. HasWritten held h
 
 -- A tree has ended: its own row was written, where its rows are added up, after the faults that came before it.
 pub record EndsTree {O E : Type 0} (held : O → OutState) (held' : E → OutState) (s : StatReporter O E) (at : At) (t : StatReporter O E) : Type 0 where
-  pub form : t.form ≡ s.form
-  pub encoding : t.encoding ≡ s.encoding
-  pub page_size : t.page_size ≡ s.page_size
+  pub same : IsSameReporter s t
   pub found : t.found ≡ s.found
   pub sums : t.sums ≡ sums_of []
   pub err : IsFlushedIf s.form.aggregate (held' s.err.now) (held' t.err.now)

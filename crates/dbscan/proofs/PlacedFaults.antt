@@ -1,16 +1,16 @@
 -- A reporter hears each fault of the walk at the start of its address, and with its cause.
-use Rattle.std.proofs.Common.{◌≡◌, ℕ, Bool, true, false, cond, inl, inr, List, [], ◌∷◌, ◌++◌, map, take, Option, None, Some, refl, sym, ap, ap₂, subst, ◌∙◌, append-nil}
+use Rattle.std.proofs.Common.{◌≡◌, ℕ, Bool, true, false, cond, inl, inr, List, [], ◌∷◌, ◌++◌, map, Option, None, Some, refl, sym, ap, ap₂, subst, ◌∙◌, append-nil}
 use Rattle.std.specs.Prelude.{filter_map, flat_map, ◌==◌}
 use Rattle.std.specs.List.{cons_option, enumerate_from}
 use Rattle.std.proofs.lemmas.List.Elements.{filter_map-append}
 use Rattle.dbsurvey.specs.Address.{IsIn}
 use Rattle.dbsurvey.specs.Story.{Errand, Go, Follow, errand_key, errands_at}
-use Rattle.dbformat.specs.Address.{start_of, freelist_start, last_root_start}
+use Rattle.dbformat.specs.Address.{start_of, freelist_start}
 use Rattle.dbformat.specs.Header.{first_trunk}
 use Rattle.dbformat.specs.Reference.{Way, Reference, trunk}
 use Rattle.dbformat.specs.Report.{event_faults}
 use Rattle.dbformat.specs.Rows.{StatRow}
-use Rattle.dbformat.specs.Schema.{schema, rooted_rows, start}
+use Rattle.dbformat.specs.Schema.{start}
 use Rattle.dbformat.specs.SchemaRow.{SchemaRow}
 use Rattle.dbformat.specs.Story.{Event, telling}
 use Rattle.dbformat.specs.Survey.{Survey}
@@ -21,6 +21,7 @@ use Rattle.dbtrace.specs.declared.Cause.{Cause}
 use Rattle.dbtrace.proofs.ByStarts.{BeginsWith, made_at, made_below, below_start, root_then, all_made}
 use Rattle.dbscan.specs.Notices.{Notice, found, ended, errands_left, root_reference, tree_notices, later_notices, start_notices}
 use Rattle.dbscan.specs.Placed.{at_start, walk_told, start_fault_of, start_faults_in}
+use Rattle.dbscan.specs.Roots.{listed_rows}
 use Rattle.dbscan.specs.Starts.{At, at_freelist, at_row, at_schema, schema_reference}
 use Rattle.dbscan.proofs.StartByStart.{of_later}
 use Rattle.dbscan.proofs.ToldStarts.{start_errands_listed}
@@ -72,7 +73,7 @@ module _ {X : Type 0} (make : ℕ → Fault → Cause → X) (read : Notice → 
   starts_read V s =
       let c = schema_reference in
       let U = [] ++ visited_below file [] (Go c ∷ []) in
-      let rows = take last_root_start (rooted_rows (schema file V)) in
+      let rows = listed_rows file V in
       let left = enumerate_from 1 rows in
       tree_then at_schema [] c (errands_left file left) (later_notices file U left) refl (later_read rows U)
       ∙ ap (made_below make file []) (sym (start_errands_listed file V s))

@@ -13,7 +13,7 @@ use Rattle.dbformat.specs.Sound.{with_root}
 use Rattle.dbformat.specs.declared.RowFault.{RowFault}
 use Rattle.dbwalk.specs.Taking.{HasRootRoom, StartsEmpty, roots_after, first_roots, gives, readable_rows}
 use Rattle.dbwalk.proofs.RootTakings.{list_has_room, first_more}
-use Rattle.dbscan.specs.Roots.{Listed, kept_row, TakesRow}
+use Rattle.dbscan.specs.Roots.{Listed, kept_row, TakesRow, AreListed, listed_rows}
 use Rattle.dbscan.proofs.ShortNames.{roots_are_kept}
 
 roots_have_room : HasRootRoom TakesRow (λ l. length l.rows)
@@ -58,7 +58,7 @@ rooted_are (c ∷ cells) = by_row c.row (rooted_are cells)
 
 -- of the schema it holds each row as it is read
 pub schema_roots : (file : List ℕ) (V : List Reference) (s t : Listed) → s.rows ≡ [] → Moves (gives TakesRow) s (readable_rows file V) t
-    → t.rows ≡ take last_root_start (rooted_rows (schema file V))
+    → t.rows ≡ listed_rows file V
 schema_roots file V s t e m =
     roots_taken (readable_rows file V) s t e m
     ∙ ap (first_roots kept_row) (rooted_are (schema file V))
@@ -66,7 +66,7 @@ schema_roots file V s t e m =
     ∙ ap (take last_root_start) (roots_are_kept file V)
 
 -- The starts after the first are those of the rows that it holds, and the freelist's.
-pub starts_listed : (file : List ℕ) (V : List Reference) (rows : List SchemaRow) → rows ≡ take last_root_start (rooted_rows (schema file V))
+pub starts_listed : (file : List ℕ) (V : List Reference) (rows : List SchemaRow) → AreListed file V rows
     → later_starts file V ≡ map (root_start file) (enumerate_from 1 rows) ++ freelist_starts file
 unfolding later_starts
 starts_listed file V rows e = ap (λ l. map (root_start file) (enumerate_from 1 l) ++ freelist_starts file) (sym e)

@@ -14,6 +14,7 @@ use Rattle.dbformat.specs.SchemaRow.{SchemaRow}
 use Rattle.dbtrace.specs.Finding.{Finding, told_below, visited_below}
 use Rattle.dbscan.specs.Notices.{Notice, found, ended, errands_left, root_reference, tree_notices, later_notices, start_notices}
 use Rattle.dbscan.specs.Placed.{number_of, AreStarts, StartsRise}
+use Rattle.dbscan.specs.Roots.{listed_rows}
 use Rattle.dbscan.specs.Starts.{At, at_freelist, at_row, at_schema, schema_reference}
 
 abbrev numbers : List Notice → List ℕ
@@ -69,7 +70,7 @@ later_rises file (row ∷ rows) k W few =
 
 pub starts_rise : (file : List ℕ) (V : List Reference) → StartsRise (start_notices file V)
 starts_rise file V =
-    let rows = take last_root_start (rooted_rows (schema file V)) in
+    let rows = listed_rows file V in
     let U = [] ++ visited_below file [] (Go schema_reference ∷ []) in
     let rest = later_rises file rows 1 U (few (rooted_rows (schema file V))) in
     tree_rises at_schema file [] schema_reference (later_notices file U (enumerate_from 1 rows)) rest.0 (λ k i. omega arith)
@@ -95,7 +96,7 @@ later_starts file (row ∷ rows) k W few =
 
 pub are_starts : (file : List ℕ) (V : List Reference) → AreStarts (start_notices file V)
 are_starts file V =
-    let rows = take last_root_start (rooted_rows (schema file V)) in
+    let rows = listed_rows file V in
     let U = [] ++ visited_below file [] (Go schema_reference ∷ []) in
     let l = length-take last_root_start (rooted_rows (schema file V)) in
     tree_starts at_schema file [] schema_reference (later_notices file U (enumerate_from 1 rows)) (omega arith) (later_starts file rows 1 U (omega (arith, l)))

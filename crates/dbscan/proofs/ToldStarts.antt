@@ -1,15 +1,14 @@
 -- Only the findings of what is reported of a file.
-use Rattle.std.proofs.Common.{◌≡◌, ℕ, List, [], ◌∷◌, ◌++◌, length, map, take, Option, Some, None, refl, sym, ap, ap₂, ◌∙◌, append-nil}
+use Rattle.std.proofs.Common.{◌≡◌, ℕ, List, [], ◌∷◌, ◌++◌, length, map, Option, Some, None, refl, sym, ap, ap₂, ◌∙◌, append-nil}
 use Rattle.std.specs.Prelude.{filter_map}
 use Rattle.std.specs.List.{enumerate_from}
 use Rattle.std.proofs.lemmas.List.Elements.{filter_map-append}
 use Rattle.dbsurvey.specs.Story.{Go, Follow, errands_at}
-use Rattle.dbformat.specs.Address.{last_root_start}
 use Rattle.dbformat.specs.EndFaults.{end_faults}
 use Rattle.dbformat.specs.HeaderFaults.{header_faults}
 use Rattle.dbformat.specs.Reference.{Reference}
 use Rattle.dbformat.specs.Report.{faults}
-use Rattle.dbformat.specs.Schema.{schema, rooted_rows}
+use Rattle.dbformat.specs.Schema.{schema}
 use Rattle.dbformat.specs.SchemaRow.{SchemaRow}
 use Rattle.dbformat.specs.Story.{start_errands}
 use Rattle.dbformat.specs.Survey.{Survey}
@@ -19,6 +18,7 @@ use Rattle.dbwalk.specs.Telling.{findings}
 use Rattle.dbwalk.proofs.Telling.Belows.{told_join}
 use Rattle.dbscan.specs.Notices.{Notice, whole, found, ended, walked, faults_heard, errands_left, root_reference, tree_notices, later_notices, start_notices, end_notices, run_notices}
 use Rattle.dbscan.specs.Findings.{faults_in}
+use Rattle.dbscan.specs.Roots.{listed_rows}
 use Rattle.dbscan.specs.RunItems.{run_items}
 use Rattle.dbscan.specs.Starts.{At, at_freelist, at_row, at_schema, schema_reference}
 use Rattle.dbscan.proofs.RootsTaken.{starts_listed}
@@ -64,14 +64,14 @@ of_rows file rows W = of_later file (λ k rows W ns es. findings_in ns ≡ told_
 
 -- what there is to do at the starts, by the rows that a list has of the schema
 pub start_errands_listed : (file : List ℕ) (V : List Reference) → Survey file V
-    → start_errands file V ≡ Go schema_reference ∷ errands_left file (enumerate_from 1 (take last_root_start (rooted_rows (schema file V))))
-start_errands_listed file V s = starts_are file V s ∙ ap (λ ls. Go schema_reference ∷ errands_at [] (map Follow ls)) (starts_listed file V (take last_root_start (rooted_rows (schema file V))) refl)
+    → start_errands file V ≡ Go schema_reference ∷ errands_left file (enumerate_from 1 (listed_rows file V))
+start_errands_listed file V s = starts_are file V s ∙ ap (λ ls. Go schema_reference ∷ errands_at [] (map Follow ls)) (starts_listed file V (listed_rows file V) refl)
 
 pub of_starts : (file : List ℕ) (V : List Reference) → Survey file V → findings_in (start_notices file V) ≡ told_below file [] (start_errands file V)
 of_starts file V s =
     let c = schema_reference in
     let U = [] ++ visited_below file [] (Go c ∷ []) in
-    let rows = take last_root_start (rooted_rows (schema file V)) in
+    let rows = listed_rows file V in
     let es = errands_left file (enumerate_from 1 rows) in
     filter_map-append finding_in (tree_notices at_schema file [] c) (later_notices file U (enumerate_from 1 rows))
     ∙ ap₂ (λ a b. a ++ b) (of_tree at_schema file [] c) (of_rows file rows U)

@@ -1,13 +1,12 @@
 -- What a reporter hears of a file, as one list: what is found of the whole file and at each start, and where a tree ends.
-use Rattle.std.specs.Prelude.{◌≡◌, ℕ, List, [], ◌∷◌, ◌++◌, length, map, take, filter_map, Option, Some, None}
+use Rattle.std.specs.Prelude.{◌≡◌, ℕ, List, [], ◌∷◌, ◌++◌, length, map, filter_map, Option, Some, None}
 use Rattle.std.specs.List.{enumerate_from}
 use Rattle.dbsurvey.specs.Story.{Errand, Go, Follow, errands_at}
-use Rattle.dbformat.specs.Address.{last_root_start}
 use Rattle.dbformat.specs.EndFaults.{end_faults}
 use Rattle.dbformat.specs.File.{geometry}
 use Rattle.dbformat.specs.HeaderFaults.{header_faults}
 use Rattle.dbformat.specs.Reference.{root, Way, Reference}
-use Rattle.dbformat.specs.Schema.{schema, root_kind, root_start, rooted_rows, freelist_starts}
+use Rattle.dbformat.specs.Schema.{root_kind, root_start, freelist_starts}
 use Rattle.dbformat.specs.SchemaRow.{SchemaRow}
 use Rattle.dbformat.specs.Story.{Event}
 use Rattle.dbformat.specs.declared.Fault.{Fault}
@@ -17,6 +16,7 @@ use Rattle.dbmarks.specs.declared.marks.Mark.{Mark}
 use Rattle.dbtrace.specs.Finding.{Finding, told_fault, told_row, told_below, visited_below}
 use Rattle.dbwalk.specs.Rows.{row_of}
 use Rattle.dbscan.specs.Findings.{fault_in}
+use Rattle.dbscan.specs.Roots.{listed_rows}
 use Rattle.dbscan.specs.Starts.{At, at_schema, at_row, at_freelist, schema_reference}
 use Rattle.dbscan.specs.declared.notice.Notice.{Notice as Lent}
 use Rattle.dbscan.specs.declared.notice.Notice.TheVariants as lent
@@ -89,7 +89,7 @@ later_notices file W ((k, row) ∷ left) =
 abbrev pub start_notices : List ℕ → List Reference → List Notice
 start_notices file V =
     tree_notices at_schema file [] schema_reference
-    ++ later_notices file ([] ++ visited_below file [] (Go schema_reference ∷ [])) (enumerate_from 1 (take last_root_start (rooted_rows (schema file V))))
+    ++ later_notices file ([] ++ visited_below file [] (Go schema_reference ∷ [])) (enumerate_from 1 (listed_rows file V))
 
 -- all that is reported after the walks: the marks of the pages, and the faults at the end
 abbrev pub end_notices : List ℕ → List Reference → List Notice

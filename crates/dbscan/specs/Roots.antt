@@ -17,9 +17,13 @@ pub record Listed : Type 0 where
   pub rows : List SchemaRow
   pub refusals : ℕ
 
--- these rows are those of the schema that have a root page, the first 65536
+-- the rows of the schema that have a root page, the first 65536
+abbrev pub listed_rows : List ℕ → List Reference → List SchemaRow
+listed_rows file V = take last_root_start (rooted_rows (schema file V))
+
+-- these are they
 abbrev pub AreListed : List ℕ → List Reference → List SchemaRow → Type 0
-AreListed file V rows = rows ≡ take last_root_start (rooted_rows (schema file V))
+AreListed file V rows = rows ≡ listed_rows file V
 
 -- the root page of start k: page 1 of the schema, and 0 where there is no such start
 abbrev pub root_page : List SchemaRow → ℕ → ℕ

@@ -1,7 +1,6 @@
-use Rattle.std.proofs.Common.{ap, subst, ◌∙◌}
+use Rattle.std.proofs.Common.{ap, ◌∙◌}
 use Rattle.dbscan.specs.Roots.{Listed}
-use Rattle.dblisting.specs.Lists.{Shows}
-use Rattle.dblisting.proofs.Woven.{all_faults, all_woven}
+use Rattle.dblisting.proofs.Woven.{all_shown}
 use Rattle.dbexplain.proofs.Reports.{marks_fit}
 use Rattle.dbexplain.proofs.report.make_ready.Goals as goal
 
@@ -12,4 +11,4 @@ returns-clause-trees g c = λ limit file V d all.
 
 pub returns-clause-listed : goal.returns-clause-listed
 returns-clause-listed g c = λ limit file V all.
-    subst (λ es. Shows limit es c.weave.new.self) (all_woven file V) (c.weave.ensures limit file V (all_faults file V) all.listing)
+    all_shown limit file V c.args.kept.now.listing c.weave.new.self (c.weave.ensures limit file V) all.listing

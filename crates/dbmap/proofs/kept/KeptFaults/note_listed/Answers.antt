@@ -4,8 +4,7 @@ use Rattle.dbentries.specs.Kept.{lone_entry, kept_of}
 use Rattle.dbentries.specs.Listing as listing
 use Rattle.dbentries.proofs.Noting.{first_kept}
 use Rattle.dblisting.specs.Listed.{listed_entries}
-use Rattle.dblisting.specs.Lists.{Shows}
-use Rattle.dblisting.proofs.Woven.{all_faults, all_woven}
+use Rattle.dblisting.proofs.Woven.{all_shown}
 use Rattle.dbmap.specs.FramedPages.{first_faults, framed, leading}
 use Rattle.dbmap.specs.PageSets.{AreNoted}
 use Rattle.dbmap.proofs.kept.KeptFaults.note_listed.Goals as goal
@@ -16,6 +15,6 @@ leading_kept (e ∷ es) = ap₂ (λ (x : Reported) xs. x ∷ xs) (first_kept e.o
 
 pub returns-clause-strong : goal.returns-clause-strong
 returns-clause-strong g c = λ fs limit file V all noted.
-    let shown = subst (λ es. Shows limit es c.weave.new.self) (all_woven file V) (c.weave.ensures limit file V (all_faults file V) all) in
+    let shown = all_shown limit file V c.args.self.now.listing c.weave.new.self (c.weave.ensures limit file V) all in
     let same = ap leading (c.listed.ensures ∙ shown.listed) ∙ leading_kept (take limit (listed_entries file V)) in
     subst (λ (xs : List Reported). AreNoted (fs ++ framed xs) c.note_listed.new.pages) same (c.note_listed.ensures.noted fs noted)
