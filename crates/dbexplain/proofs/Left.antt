@@ -1,7 +1,7 @@
 -- What a run leaves of a reporter of which nothing had been heard.
 use Rattle.std.proofs.Common.{◌≡◌, ◌≢◌, ℕ, ◌*◌, ◌<◌, ◌≤◌, List, [], ◌∷◌, length, Err, Result, inl, inr, refl, sym, ap, subst, ◌∙◌, arith}
 use Rattle.std.proofs.lemmas.List.{length-map}
-use Rattle.dbsurvey.specs.Moves.{Moves, MovesBySome}
+use Rattle.dbsurvey.specs.Moves.{MovesBySome}
 use Rattle.dbformat.specs.File.{geometry}
 use Rattle.dbformat.specs.Lines.{counted, ok_line}
 use Rattle.dbformat.specs.Reference.{Reference}
@@ -15,7 +15,8 @@ use Rattle.dbsource.specs.declared.error.RunError.TheVariants.{Refused, ReadFail
 use Rattle.dbsource.proofs.Beginnings.{begins_nothing}
 use Rattle.dbwalk.specs.Telling.{StopsBy}
 use Rattle.dbowner.specs.Climbs.{Trees}
-use Rattle.dbscan.specs.Finishes.{Leaves}
+use Rattle.dbscan.specs.Desks.{Things}
+use Rattle.dbscan.specs.Finishes.{HasHeard, Leaves}
 use Rattle.dbscan.specs.Notices.{CutsNever, run_notices}
 use Rattle.dbscan.specs.Placed.{told_faults}
 use Rattle.dbscan.proofs.AllTold.{all_told}
@@ -35,13 +36,19 @@ none_counted : (ts : List Reported) → counted (length ts) ≡ 0 → ts ≡ []
 none_counted [] h = refl
 none_counted (t ∷ ts) h = absurd (let e : ⊥ = omega arith in e)
 
-module _ {A O : Type 0} (held : O → OutState) (file : List ℕ) (V : List Reference) (survey : Survey file V) (first now : ExplainReporter A O)
-    (limit : ℕ) (empty : IsEmpty limit (geometry file) first.kept.now) (heard : Moves Hears first (run_notices file V) now) where
+-- it has heard all of a file with survey V, where it had heard nothing before
+pub record HasHeardFile {A O : Type 0} (limit : ℕ) (file : List ℕ) (V : List Reference) (first now : ExplainReporter A O) : Type 0 where
+  pub empty : IsEmpty limit (geometry file) first.kept.now
   pub all : HasHeardFaults limit (told_faults file V) first now
-  all = all_heard file V survey first now limit (geometry file) empty heard
 
+pub file_heard : {A O : Type 0} {limit : ℕ} {file : List ℕ} {V : List Reference} {d : Things} {first now : ExplainReporter A O}
+    → HasHeard Hears d file V first now → IsEmpty limit (geometry file) first.kept.now → HasHeardFile limit file V first now
+file_heard {limit = limit} {file = file} {V = V} {first = first} {now = now} h empty =
+    record { empty = empty; all = all_heard file V h.desk.survey first now limit (geometry file) empty h.heard }
+
+module _ {A O : Type 0} (held : O → OutState) {limit : ℕ} {file : List ℕ} {V : List Reference} {first now : ExplainReporter A O} (heard : HasHeardFile limit file V first now) where
   pub all_counted : now.kept.now.tally.all ≡ counted (length (faults file V))
-  all_counted = all.tally.all ∙ ap counted (sym (length-map (told_faults file V) (λ (t : Reported). t.fault)) ∙ ap length (all_told file V))
+  all_counted = heard.all.tally.all ∙ ap counted (sym (length-map (told_faults file V) (λ (t : Reported). t.fault)) ∙ ap length (all_told file V))
 
   abbrev text : List ℕ
   text = explain_text limit file V (listed_entries file V)
@@ -49,23 +56,23 @@ module _ {A O : Type 0} (held : O → OutState) (file : List ℕ) (V : List Refe
   -- what was put after it was heard
   pub written : {X E : Type 0} (r : Result X E) (after : O) (t : List ℕ) → t ≡ text → Writes r (held now.out.now).bytes (held after).bytes t → Writes r (held first.out.now).bytes (held after).bytes text
   written r after t e w =
-      subst (Writes r (held first.out.now).bytes (held after).bytes) e (subst (λ o. Writes r (held o).bytes (held after).bytes t) all.out w)
+      subst (Writes r (held first.out.now).bytes (held after).bytes) e (subst (λ o. Writes r (held o).bytes (held after).bytes t) heard.all.out w)
 
   -- no fault was found
   pub clean_put : now.kept.now.tally.all ≡ 0 → {X E : Type 0} (r : Result X E) (after : O) → Writes r (held now.out.now).bytes (held after).bytes ok_line → Writes r (held first.out.now).bytes (held after).bytes text
-  clean_put none r after w = written r after ok_line (sym (ok_text limit file V (none_counted (told_faults file V) (sym all.tally.all ∙ none)))) w
+  clean_put none r after w = written r after ok_line (sym (ok_text limit file V (none_counted (told_faults file V) (sym heard.all.tally.all ∙ none)))) w
 
   -- some were found
   pub told_some : now.kept.now.tally.all ≢ 0 → told_faults file V ≡ [] → ⊥
-  told_some some e = some (all.tally.all ∙ ap (λ (ts : List Reported). counted (length ts)) e)
+  told_some some e = some (heard.all.tally.all ∙ ap (λ (ts : List Reported). counted (length ts)) e)
 
   -- with the lost pages
   pub all_kept : (l : Lists) → ListsAll limit file V l → HasAll limit file V (record now.kept.now { listing = l })
   all_kept l listed = record {
     listing = listed;
-    tally = all.tally;
-    bits = subst (λ n. (geometry file).pages < 64 * n) (sym all.bits) empty.bits;
-    room = subst (λ (t : Trees). (geometry file).pages ≤ length t.known) (sym all.trees) empty.room;
+    tally = heard.all.tally;
+    bits = subst (λ n. (geometry file).pages < 64 * n) (sym heard.all.bits) heard.empty.bits;
+    room = subst (λ (t : Trees). (geometry file).pages ≤ length t.known) (sym heard.all.trees) heard.empty.room;
   }
 
 -- ---- a run that was cut off before its end

@@ -9,7 +9,7 @@ use Rattle.dbwalk.specs.Telling.{one_out}
 use Rattle.dbscan.proofs.Finished.{finished}
 use Rattle.dbexplain.specs.Reporting.{Hears, LeavesExplained, explain_held}
 use Rattle.dblisting.proofs.Desks.{desk_kept, looked_keeps}
-use Rattle.dbexplain.proofs.Left.{all, all_counted, all_kept, clean_put, told_some, written}
+use Rattle.dbexplain.proofs.Left.{all_counted, all_kept, clean_put, file_heard, told_some, written}
 use Rattle.dbexplain.proofs.reporter.ExplainReporterFinishDesk.finish.Goals as goal
 
 -- the answer of a put
@@ -26,7 +26,7 @@ returns-in_err-put_ok g c =
     let none = sym c.all-faults.ensures ∙ c.if-faults-eq0.true in
     rw q.1 (rw q.2 (finished g.S.Source Hears (explain_held held) (LeavesExplained held) (Err error.WriteFailed) c.args.desk.now c.args.source.now c.args.self.now _ refl
     (record { lent = refl; failures = inl (c.in_err-put_ok.ensures.count, refl) })
-    (λ file V first heard limit empty. clean_put held file V heard.desk.survey first c.args.self.now limit empty heard.heard none (cut c.in_err-put_ok.field-0.0) c.put_ok.new.out c.in_err-put_ok.ensures.held)))
+    (λ file V first heard limit empty. clean_put held (file_heard heard empty) none (cut c.in_err-put_ok.field-0.0) c.put_ok.new.out c.in_err-put_ok.ensures.held)))
 
 pub returns-then-faults-eq0 : goal.returns-then-faults-eq0
 returns-then-faults-eq0 g c =
@@ -34,9 +34,10 @@ returns-then-faults-eq0 g c =
     let none = sym c.all-faults.ensures ∙ c.if-faults-eq0.true in
     finished g.S.Source Hears (explain_held held) (LeavesExplained held) (Ok _) c.args.desk.now c.args.source.now c.args.self.now _ tt
     (ap (one_out c.args.self.now.out.ghost_name) c.in_ok-put_ok.ensures.count)
-    (λ file V first heard limit empty. (
-      clean_put held file V heard.desk.survey first c.args.self.now limit empty heard.heard none done c.put_ok.new.out c.in_ok-put_ok.ensures.held,
-      c.of-verdict.ensures.faults (faults file V) (c.all-faults.ensures ∙ all_counted held file V heard.desk.survey first c.args.self.now limit empty heard.heard),
+    (λ file V first heard limit empty.
+    let k = file_heard heard empty in (
+      clean_put held k none done c.put_ok.new.out c.in_ok-put_ok.ensures.held,
+      c.of-verdict.ensures.faults (faults file V) (c.all-faults.ensures ∙ all_counted held k),
     ))
 
 pub returns-in_err-look_at_lost : goal.returns-in_err-look_at_lost
@@ -46,8 +47,8 @@ returns-in_err-look_at_lost g c =
     let look = c.in_err-look_at_lost.ensures in
     rw q.1 (rw q.2 (record {
       asks = asks_weaker _ _ (Err ReadFailed) (λ n. refl) look.asks (λ log l. l) (λ file way V first heard limit empty.
-          let k = all held file V heard.desk.survey first c.args.self.now limit empty heard.heard in
-          (k.out, way limit V heard.desk k.listing));
+          let k = file_heard heard empty in
+          (k.all.out, way limit V heard.desk k.all.listing));
       keeps = looked_keeps look.desk refl (inl refl);
     }))
 
@@ -60,11 +61,11 @@ returns-in_err-put_report g c =
     let put = c.in_err-put_report.ensures in
     rw q.1 (rw q.2 (record {
       asks = asks_weaker _ _ (Err error.WriteFailed) (λ n. refl) look.asks (λ log l. l) (λ file way V first heard limit empty.
-          let k = way limit V heard.desk (all held file V heard.desk.survey first c.args.self.now limit empty heard.heard).listing in
-          let kept = all_kept held file V heard.desk.survey first c.args.self.now limit empty heard.heard c.look_at_lost.new.self k in
+          let k = file_heard heard empty in
+          let kept = all_kept held k c.look_at_lost.new.self (way limit V heard.desk k.all.listing) in
           let here = desk_kept c.args.desk.now c.look_at_lost.new.desk file V look.desk heard.desk in
-          written held file V heard.desk.survey first c.args.self.now limit empty heard.heard (cut c.in_err-put_report.field-0.0) c.put_report.new.out _ refl
-          (put.report limit file V here kept (told_some held file V heard.desk.survey first c.args.self.now limit empty heard.heard some)));
+          written held k (cut c.in_err-put_report.field-0.0) c.put_report.new.out _ refl
+          (put.report limit file V here kept (told_some held k some)));
       keeps = looked_keeps look.desk (record { lent = refl; failures = inl (put.count, refl) }) (inr refl);
     }))
 
@@ -75,12 +76,12 @@ returns g c =
     let look = c.in_ok-look_at_lost.ensures in
     let put = c.in_ok-put_report.ensures in record {
       asks = asks_weaker _ _ (Ok _) (λ n. refl) look.asks (λ log l. l) (λ file way V first heard limit empty.
-          let k = way limit V heard.desk (all held file V heard.desk.survey first c.args.self.now limit empty heard.heard).listing in
-          let kept = all_kept held file V heard.desk.survey first c.args.self.now limit empty heard.heard c.look_at_lost.new.self k in
+          let k = file_heard heard empty in
+          let kept = all_kept held k c.look_at_lost.new.self (way limit V heard.desk k.all.listing) in
           let here = desk_kept c.args.desk.now c.look_at_lost.new.desk file V look.desk heard.desk in (
-            written held file V heard.desk.survey first c.args.self.now limit empty heard.heard done c.put_report.new.out _ refl
-                (put.report limit file V here kept (told_some held file V heard.desk.survey first c.args.self.now limit empty heard.heard some)),
-            c.of-verdict.ensures.faults (faults file V) (c.all-faults.ensures ∙ all_counted held file V heard.desk.survey first c.args.self.now limit empty heard.heard),
+            written held k done c.put_report.new.out _ refl
+                (put.report limit file V here kept (told_some held k some)),
+            c.of-verdict.ensures.faults (faults file V) (c.all-faults.ensures ∙ all_counted held k),
           ));
       keeps = looked_keeps look.desk (ap (one_out c.args.self.now.out.ghost_name) put.count) tt;
     }
