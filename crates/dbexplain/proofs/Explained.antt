@@ -1,5 +1,5 @@
 -- What a run of `explain` leaves of a file that is read.
-use Rattle.std.proofs.Common.{◌≡◌, ◌⊎◌, ℕ, zero, suc, List, [], Ok, Err, None, Result, inl, inr, refl, sym, ap, subst, ◌∙◌}
+use Rattle.std.proofs.Common.{◌≡◌, ◌⊎◌, ℕ, zero, suc, false, List, [], Ok, Err, None, Result, inl, inr, refl, sym, ap, subst, ◌∙◌}
 use Rattle.std.specs.Prelude.{◌↔◌, IfErr, IfOk}
 use Rattle.dbformat.specs.File.{geometry, refusal}
 use Rattle.dbformat.specs.Reference.{Reference}
@@ -16,14 +16,13 @@ use Rattle.dbsource.specs.Failures.{failures_after, is_any, one_more}
 use Rattle.dbsource.specs.Outs.{OutState, Writes}
 use Rattle.dbsource.specs.declared.error.RunError.{RunError}
 use Rattle.dbsource.specs.declared.error.RunError.TheVariants.{Refused, ReadFailed, OutOfMemory, WriteFailed}
-use Rattle.dbsource.specs.declared.out.Out.{Ghosts as OutWords}
-use Rattle.dbsource.specs.declared.source.Source.{Ghosts as SourceWords}
 use Rattle.dbsource.proofs.Beginnings.{begins_nothing}
 use Rattle.dbsource.proofs.Puts.{appends_nothing}
 use Rattle.dbwalk.specs.Telling.{IsReadWriteOrMemory}
 use Rattle.dbscan.specs.Finishes.{Leaves}
 use Rattle.dbscan.specs.Notices.{CutsNever}
-use Rattle.dbreport.specs.Runs.{FailsOnce, IsAnswerOf}
+use Rattle.dbreport.specs.Runs.{IsAnswerOf}
+use Rattle.dbreport.proofs.NotBegun.{no_failure}
 use Rattle.dbreport.proofs.RunAnswers.{if_ok, read_answer}
 use Rattle.dbreport.proofs.RunReports.{check_answer}
 use Rattle.dblisting.specs.Listed.{first_entries, listed_entries, lost_faults, other_faults}
@@ -31,7 +30,7 @@ use Rattle.dblisting.specs.Lists.{ListsFirst}
 use Rattle.dbexplain.specs.Explained.{explain_report, explain_text, found_text}
 use Rattle.dbexplain.specs.Keeping.{IsEmpty}
 use Rattle.dbexplain.specs.Reporting.{Ends, Hears, IsReportLeft, LeavesExplained, PutsLines}
-use Rattle.dbexplain.specs.Runs.{ExplainFails, IsExplained, OutFailures, PutsFound, WritesReport}
+use Rattle.dbexplain.specs.Runs.{IsExplained, OutFailures, PutsFound, WritesReport}
 use Rattle.dbexplain.specs.declared.reporter.ExplainReporter.{ExplainReporter}
 use Rattle.dbexplain.proofs.Left.{is_left}
 
@@ -92,14 +91,11 @@ module _ {A O : Type 0} (held : O → OutState) (limit : ℕ) (file : List ℕ) 
   found (Ok v) k = answer_is limit file V read v k.1
   found (Err e) k = tt
 
-  pub explained : (r : Result Verdict RunError) (old new : O) → Survey file V → IsEmpty limit (geometry file) first.kept.now → first.out.now ≡ old → new ≡ after.out.now
+  pub explained : (r : Result Verdict RunError) (old : O) → Survey file V → IsEmpty limit (geometry file) first.kept.now → first.out.now ≡ old
       → Leaves Hears CutsNever (LeavesExplained held) file V r first now → Ends held r now after
-      → WritesReport limit file V r (held old) (held new) × IfOk r (λ v. (explain_report limit file V).answer ≡ Ok v)
-  explained r old new survey empty begun ended left ends =
-      let k = is_left held file V survey first now limit empty r left in (
-        subst (λ o. WritesReport limit file V r (held old) (held o)) (sym ended) (subst (λ o. WritesReport limit file V r (held o) (held after.out.now)) begun (written r k ends)),
-        found r k,
-      )
+      → WritesReport limit file V r (held old) (held after.out.now) × IfOk r (λ v. (explain_report limit file V).answer ≡ Ok v)
+  explained r old survey empty begun left ends =
+      let k = is_left held file V survey first now limit empty r left in (subst (λ o. WritesReport limit file V r (held o) (held after.out.now)) begun (written r k ends), found r k)
 
 -- ---- how often the Out failed
 
@@ -158,9 +154,9 @@ not_explained limit file e out answer = record {
     unwritten V OutOfMemory = begins_nothing out.bytes (explain_report limit file V).out
     unwritten V (Refused x) = begins_nothing out.bytes (explain_report limit file V).out
 
--- before a run the Out does not fail once more than is answered
-pub failed_before : {S O : Type 0} (source : SourceWords S) (out : OutWords O) (e : RunError) {old new : S × O} → FailsOnce source out (Err e) old new → ExplainFails source out (Err e) old new
-failed_before source out ReadFailed k = record { reads = k.reads; writes = inl k.writes }
-failed_before source out WriteFailed k = record { reads = k.reads; writes = k.writes }
-failed_before source out OutOfMemory k = record { reads = k.reads; writes = k.writes }
-failed_before source out (Refused x) k = record { reads = k.reads; writes = k.writes }
+-- the Out failed as is answered
+pub unfailed : (e : RunError) (n : ℕ) → is_write_failed e ≡ false → OutFailures (Err e) n n
+unfailed ReadFailed n h = inl refl
+unfailed WriteFailed n h = no_failure WriteFailed n h
+unfailed OutOfMemory n h = refl
+unfailed (Refused x) n h = refl

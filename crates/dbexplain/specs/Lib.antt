@@ -1,5 +1,6 @@
 pub mod Below
 pub mod Explained
+pub mod ExplainJobs
 pub mod Keeping
 pub mod Notes
 pub mod Reporting

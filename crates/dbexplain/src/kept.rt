@@ -1,10 +1,11 @@
 // What `explain` keeps of a file beside what a check keeps.
 ghost use Rattle.std.specs.Prelude.{◌≡◌, [], None, IfOk, replicate};
+ghost use Rattle.dbformat.specs.FixedPages.{IsInRange};
+ghost use Rattle.dbexplain.specs.Keeping.{IsEmpty};
 
 use crate::tally::Tally;
 use dblisting::Listing;
 use dbowner::PageTrees;
-use dbreport::Extra;
 use dbsource::Geometry;
 use std::alloc::{AllocError, Allocator, Global};
 
@@ -16,13 +17,12 @@ pub(crate) struct Kept<A: Allocator = Global> {
     pub(crate) trees: PageTrees<A>,
 }
 
-// It takes no memory after it is made.
-impl<A: Allocator + Copy> Extra<A> for Kept<A> {
-    ghost use Rattle.dbexplain.specs.Keeping.{IsEmpty};
-
-    ghost begins = { IsEmpty };
-
-    fn new_in(alloc: A, limit: u32, geometry: &Geometry) -> Result<Kept<A>, AllocError> {
+impl<A: Allocator + Copy> Kept<A> {
+    // That of a file of this shape, of which nothing else is known yet, with room for `limit` entries. It takes no memory after this.
+    pub(crate) fn new_in(alloc: A, limit: u32, geometry: &Geometry) -> Result<Kept<A>, AllocError>
+        requires { IsInRange geometry.now }
+        ensures { IfOk result (IsEmpty limit geometry.now) }
+    {
         Ok(Kept {
             listing: Listing::new_in(alloc, limit)?,
             tally: Tally::new_in(alloc, geometry)?,

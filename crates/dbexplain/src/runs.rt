@@ -1,47 +1,51 @@
 // A run of `explain`: from the bytes of a database to what is written of them.
-ghost use Rattle.std.specs.Prelude.{◌≡◌, ℕ, List, IfErr, IfOk, Ok};
-ghost use Rattle.dbformat.specs.Log.{IsPageLog};
-ghost use Rattle.dbformat.specs.Reference.{Reference};
-ghost use Rattle.dbformat.specs.Survey.{Survey};
-ghost use Rattle.dbsource.specs.Errors.{is_read_failed};
-ghost use Rattle.dbsource.specs.Failures.{failures_after};
-ghost use Rattle.dbsource.specs.Snapshots.{HasReadAfterHeader};
-ghost use Rattle.dbwalk.specs.Telling.{IsReadWriteOrMemory};
 ghost use Rattle.dbscan.specs.DeskSizes.{DeskFitsInMemory};
-ghost use Rattle.dbscan.specs.Desks.{shape_of};
 ghost use Rattle.dbreport.specs.Runs.{IsUntouched};
-ghost use Rattle.dbexplain.specs.Explained.{explain_report};
-ghost use Rattle.dbexplain.specs.Keeping.{IsEmpty};
-ghost use Rattle.dbexplain.specs.Runs.{ExplainFails, HasExplained, OutFailures, WritesReport};
+ghost use Rattle.dbexplain.specs.Runs.{ExplainFails, HasExplained};
 
 use crate::kept::Kept;
-use crate::report::put_found;
 use crate::reporter::ExplainReporter;
 use dbformat::Verdict;
-use dbreport::open_with;
+use dbreport::{Job, run_job};
 use dbscan::{Desk, run_over};
-use dbsource::{Out, RunError, Source};
-use std::alloc::{Allocator, Global};
+use dbsource::{Geometry, Out, RunError, Source};
+use std::alloc::{AllocError, Allocator, Global};
 
-// The report on the file whose header is on the desk, by what is kept of a file of which nothing is known yet.
-fn explain_on<A: Allocator, S: Source, O: Out>(
-    desk: &mut Desk<A>,
-    kept: &mut Kept<A>,
-    source: &mut S,
-    out: &mut O,
-) -> Result<Verdict, RunError>
-    ensures read { (limit : ℕ) → IsEmpty limit (shape_of desk.old) kept.old
-        → HasReadAfterHeader S.step (IsPageLog (shape_of desk.old)) desk.old.header (λ file. (V : List Reference) → Survey file V
-        → WritesReport limit file V result (O.held out.old) (O.held out.new) × IfOk result (λ v. (explain_report limit file V).answer ≡ Ok v))
-        (S.held source.old) (S.held source.new) }
-    ensures reads { (S.held source.new).failures ≡ failures_after is_read_failed result (S.held source.old).failures }
-    ensures writes { OutFailures result (O.held out.old).failures (O.held out.new).failures }
-    ensures only { IfErr result IsReadWriteOrMemory }
-{
-    let mut reporter = ExplainReporter::new(kept, out);
-    let answer = run_over(desk, source, &mut reporter);
-    reporter.end(&answer);
-    answer
+// The job of `explain`: how many entries it lists at most, and the Out that its report goes to.
+#[derive(Drop)]
+struct ExplainJob<'a, O> {
+    limit: u32,
+    out: &'a mut O,
+}
+
+impl<A: Allocator + Copy, O: Out> Job<A, Desk<A>> for ExplainJob<'_, O> {
+    ghost use Rattle.dbreport.specs.OneOut.{EndsOne, LeavesOne};
+    ghost use Rattle.dbexplain.specs.ExplainJobs.{HasRoom, Says, out_of};
+    ghost use Rattle.dbexplain.specs.Runs.{OutFailures};
+
+    type Kept = Kept<A>;
+
+    ghost begins = { HasRoom };
+
+    ghost leaves = { LeavesOne O.held out_of Says };
+
+    ghost ends = { EndsOne O.held out_of OutFailures };
+
+    fn keep(&self, alloc: A, geometry: &Geometry) -> Result<Kept<A>, AllocError> {
+        Kept::new_in(alloc, self.limit, geometry)
+    }
+
+    fn run_on<S: Source>(
+        &mut self,
+        desk: &mut Desk<A>,
+        kept: &mut Kept<A>,
+        source: &mut S,
+    ) -> Result<Verdict, RunError> {
+        let mut reporter = ExplainReporter::new(kept, self.out);
+        let answer = run_over(desk, source, &mut reporter);
+        reporter.end(&answer);
+        answer
+    }
 }
 
 /// Does what [`explain`] does, in memory from any allocator: the clauses are the same.
@@ -61,8 +65,8 @@ pub fn explain_in<A: Allocator + Copy, S: Source, O: Out>(
     ensures failed { ExplainFails S.Source O.Out result (source.old, out.old) (source.new, out.new) }
     ensures refused { IsUntouched S.Source O.Out result (source.old, out.old) (source.new, out.new) }
 {
-    let (mut desk, mut kept) = open_with(alloc, limit, source)?;
-    explain_on(&mut desk, &mut kept, source, out)
+    let mut job = ExplainJob { limit, out };
+    run_job(alloc, &mut job, source)
 }
 
 /// Reads the database that `source` gives, and writes to `out` the faults that lead, `limit` at most: of each its line, where it is,

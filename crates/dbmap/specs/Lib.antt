@@ -10,6 +10,7 @@ pub mod KeptFaults
 pub mod LegendLines
 pub mod Legends
 pub mod MapReporter
+pub mod MapJobs
 pub mod Maps
 pub mod Marks
 pub mod Outlines

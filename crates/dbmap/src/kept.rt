@@ -1,11 +1,12 @@
 // What a map keeps of a file beside what a check keeps.
-ghost use Rattle.std.specs.Prelude.{◌≡◌, ℕ, ◌++◌, List, take, vec_len};
+ghost use Rattle.std.specs.Prelude.{◌≡◌, ℕ, ◌++◌, List, IfOk, take, vec_len};
+ghost use Rattle.dbformat.specs.FixedPages.{IsInRange};
 ghost use Rattle.dbformat.specs.Reference.{Reference};
 ghost use Rattle.dbformat.specs.declared.FaultCode.{FaultCode};
 ghost use Rattle.dblisting.specs.Listed.{listed_entries};
 ghost use Rattle.dblisting.specs.Lists.{ListsAll};
 ghost use Rattle.dbmap.specs.FramedPages.{first_faults, framed};
-ghost use Rattle.dbmap.specs.KeptFaults.{HasNoted};
+ghost use Rattle.dbmap.specs.KeptFaults.{HasNoted, HearsNone};
 ghost use Rattle.dbmap.specs.PageSets.{AreNoted};
 
 use crate::draw_state::DrawState;
@@ -15,9 +16,11 @@ use crate::tally::PageTally;
 use dbentries::Reported;
 use dblisting::Listing;
 use dbowner::PageTrees;
-use dbreport::Extra;
 use dbsource::Geometry;
 use std::alloc::{AllocError, Allocator, Global};
+
+// How many entries are kept: as many as `explain` lists where no other number is given.
+const ENTRIES: u32 = 100;
 
 /// What a map keeps of a file beside what a check keeps.
 #[derive(Drop)]
@@ -34,19 +37,17 @@ pub(crate) struct KeptFaults<A: Allocator = Global> {
     pub(crate) listing: Listing<A>,
 }
 
-impl<A: Allocator + Copy> Extra<A> for KeptFaults<A> {
-    ghost use Rattle.std.specs.Prelude.{◌≡◌};
-    ghost use Rattle.dbmap.specs.KeptFaults.{HearsNone};
-
-    ghost begins = { λ limit g k. limit ≡ 100 → HearsNone g.pages k };
-
-    // Each part is one growth, and the listing two.
-    fn new_in(alloc: A, limit: u32, geometry: &Geometry) -> Result<KeptFaults<A>, AllocError> {
+impl<A: Allocator + Copy> KeptFaults<A> {
+    // That of a file of this shape, of which nothing else is known yet. Each part is one growth, and the listing two.
+    pub(crate) fn new_in(alloc: A, geometry: &Geometry) -> Result<KeptFaults<A>, AllocError>
+        requires { IsInRange geometry.now }
+        ensures { IfOk result (HearsNone geometry.now.pages) }
+    {
         let trees = PageTrees::new_in(alloc, geometry)?;
         let tally = PageTally::new_in(alloc)?;
         let faulty = PageSet::new_in(alloc, geometry.pages)?;
         let strong = PageSet::new_in(alloc, geometry.pages)?;
-        let listing = Listing::new_in(alloc, limit)?;
+        let listing = Listing::new_in(alloc, ENTRIES)?;
         Ok(KeptFaults {
             state: DrawState::new(trees),
             tally,

@@ -1,19 +1,9 @@
 // A map: from the bytes of a database to its picture.
-ghost use Rattle.std.specs.Prelude.{◌≡◌, List, IfErr, IfOk};
-ghost use Rattle.dbformat.specs.Log.{IsPageLog};
-ghost use Rattle.dbformat.specs.Reference.{Reference};
-ghost use Rattle.dbformat.specs.Report.{faults, verdict};
-ghost use Rattle.dbformat.specs.Survey.{Survey};
-ghost use Rattle.dbsource.specs.Errors.{is_read_failed, is_write_failed};
-ghost use Rattle.dbsource.specs.Failures.{failures_after};
-ghost use Rattle.dbsource.specs.Snapshots.{HasReadAfterHeader};
-ghost use Rattle.dbwalk.specs.Telling.{IsReadWriteOrMemory};
+ghost use Rattle.std.specs.Prelude.{◌≡◌};
 ghost use Rattle.dbscan.specs.DeskSizes.{DeskFitsInMemory};
-ghost use Rattle.dbscan.specs.Desks.{shape_of};
 ghost use Rattle.dbreport.specs.Runs.{FailsOnce, IsUntouched};
-ghost use Rattle.dbmap.specs.KeptFaults.{HearsNone};
-ghost use Rattle.dbmap.specs.Maps.{DrawsMap, HasMap, ToldFilesAreDrawn};
 ghost use Rattle.dbmap.specs.Drawings.{PutsPicture, stated_of};
+ghost use Rattle.dbmap.specs.Maps.{HasMap, ToldFilesAreDrawn};
 
 use crate::canvas::Canvas;
 use crate::grid::Grid;
@@ -26,14 +16,11 @@ use crate::picture::{Heading, draw_picture};
 use crate::squares::Squares;
 use dbformat::Verdict;
 use dbowner::TreeNames;
-use dbreport::open_with;
+use dbreport::{Job, run_job};
 use dbscan::{Desk, run_over};
-use dbsource::{Header, Out, RunError, Source, WriteFailed};
+use dbsource::{Geometry, Header, Out, RunError, Source, WriteFailed};
 use dbxml::shown_file;
-use std::alloc::{Allocator, Global};
-
-// How many entries are kept: as many as `explain` lists where no other number is given.
-const ENTRIES: u32 = 100;
+use std::alloc::{AllocError, Allocator, Global};
 
 // The number of pages that the header states, where it counts.
 fn stated_pages(header: &Header) -> u32
@@ -105,25 +92,38 @@ pub(crate) fn put_map<A: Allocator, O: Out>(
     canvas.end()
 }
 
-// A map of the file whose header is on the desk.
-fn map_on<A: Allocator, S: Source, O: Out>(
-    name: &str,
-    desk: &mut Desk<A>,
-    kept: &mut KeptFaults<A>,
-    source: &mut S,
-    out: &mut O,
-) -> Result<Verdict, RunError>
-    requires { HearsNone (shape_of desk.old).pages kept.old }
-    ensures read { HasReadAfterHeader S.step (IsPageLog (shape_of desk.old)) desk.old.header
-        (λ file. (V : List Reference) → Survey file V → IfOk result (λ v. v ≡ verdict (faults file V))
-        × DrawsMap result (O.held out.old).bytes (O.held out.new).bytes name.now file V)
-        (S.held source.old) (S.held source.new) }
-    ensures reads { (S.held source.new).failures ≡ failures_after is_read_failed result (S.held source.old).failures }
-    ensures writes { (O.held out.new).failures ≡ failures_after is_write_failed result (O.held out.old).failures }
-    ensures only { IfErr result IsReadWriteOrMemory }
-{
-    let mut reporter = MapReporter::new(name, kept, out);
-    run_over(desk, source, &mut reporter)
+// The job of `map`: the name of the file, and the Out that its picture goes to.
+#[derive(Drop)]
+struct MapJob<'a, O> {
+    name: &'a str,
+    out: &'a mut O,
+}
+
+impl<A: Allocator + Copy, O: Out> Job<A, Desk<A>> for MapJob<'_, O> {
+    ghost use Rattle.dbreport.specs.OneOut.{EndsOne, FailsAtWrite, LeavesOne};
+    ghost use Rattle.dbmap.specs.MapJobs.{HasRoom, Says, out_of};
+
+    type Kept = KeptFaults<A>;
+
+    ghost begins = { HasRoom };
+
+    ghost leaves = { LeavesOne O.held out_of Says };
+
+    ghost ends = { EndsOne O.held out_of FailsAtWrite };
+
+    fn keep(&self, alloc: A, geometry: &Geometry) -> Result<KeptFaults<A>, AllocError> {
+        KeptFaults::new_in(alloc, geometry)
+    }
+
+    fn run_on<S: Source>(
+        &mut self,
+        desk: &mut Desk<A>,
+        kept: &mut KeptFaults<A>,
+        source: &mut S,
+    ) -> Result<Verdict, RunError> {
+        let mut reporter = MapReporter::new(self.name, kept, self.out);
+        run_over(desk, source, &mut reporter)
+    }
 }
 
 /// Does what [`map`] does, in memory from any allocator: the clauses are the same.
@@ -143,8 +143,8 @@ pub fn map_in<A: Allocator + Copy, S: Source, O: Out>(
     ensures failed { FailsOnce S.Source O.Out result (source.old, out.old) (source.new, out.new) }
     ensures refused { IsUntouched S.Source O.Out result (source.old, out.old) (source.new, out.new) }
 {
-    let (mut desk, mut kept) = open_with(alloc, ENTRIES, source)?;
-    map_on(name, &mut desk, &mut kept, source, out)
+    let mut job = MapJob { name, out };
+    run_job(alloc, &mut job, source)
 }
 
 /// Reads the database that `source` gives, and puts a picture of its pages to `out`, an SVG with `name` as the file's name. It

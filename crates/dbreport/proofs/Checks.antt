@@ -20,10 +20,10 @@ use Rattle.dbreport.specs.CheckReporter.{CutsFault, PutsAll, ShowsFault, end_tex
 use Rattle.dbreport.specs.declared.checking.CheckReporter.{CheckReporter}
 use Rattle.dbsource.proofs.Beginnings.{begins_nothing, begins_more, begins_after}
 
-counted_is : (n : ℕ) → n ≤ 2 ^ 64 - 1 → n ≡ counted (n + 0)
+pub counted_is : (n : ℕ) → n ≤ 2 ^ 64 - 1 → n ≡ counted (n + 0)
 counted_is n h = omega arith
 
-counted_twice : (m k : ℕ) → counted (counted (m + 1) + k) ≡ counted (m + suc k)
+pub counted_twice : (m k : ℕ) → counted (counted (m + 1) + k) ≡ counted (m + suc k)
 counted_twice m k = omega arith
 
 -- the lines of the first faults

@@ -1,38 +1,29 @@
 -- What is said of a run, by how its file was opened.
-use Rattle.std.proofs.Common.{◌≡◌, ℕ, false, List, Err, Result, refl, sym, ap, subst, ◌∙◌}
-use Rattle.std.specs.Prelude.{if◌then◌else◌}
-use Rattle.dbformat.specs.File.{geometry}
-use Rattle.dbformat.specs.FixedPages.{geometry_of}
-use Rattle.dbformat.specs.Log.{IsPageLog, IsRunLog, IsSomeRunLog}
+use Rattle.std.proofs.Common.{◌≡◌, ◌⊎◌, ℕ, false, inl, inr, List, Err, Result, refl, ap, ◌∙◌}
+use Rattle.dbformat.specs.Log.{IsSomeRunLog}
 use Rattle.dbformat.specs.declared.Verdict.{Verdict}
 use Rattle.dbsource.specs.Errors.{is_read_failed, is_write_failed, run_error}
-use Rattle.dbsource.specs.Failures.{CountsAfter, HasOneMore, MovesIf, failures_after, one_more}
+use Rattle.dbsource.specs.Failures.{failures_after}
 use Rattle.dbsource.specs.HeaderBytes.{HeaderBytes}
 use Rattle.dbsource.specs.Headers.{Opens}
-use Rattle.dbsource.specs.Snapshots.{HasRead, HasReadAfterHeader}
 use Rattle.dbsource.specs.declared.error.OpenError.{OpenError}
 use Rattle.dbsource.specs.declared.error.OpenError.TheVariants as opening
 use Rattle.dbsource.specs.declared.error.RunError.{RunError}
 use Rattle.dbsource.specs.declared.error.RunError.TheVariants.{OutOfMemory}
-use Rattle.dbsource.specs.declared.out.Out.{Ghosts as OutWords}
 use Rattle.dbsource.specs.declared.source.Source.{Ghosts as SourceWords}
 use Rattle.dbsource.proofs.Logs.{has_ranges, open_failures}
 use Rattle.dbsource.proofs.Runs.{read_weaker}
+use Rattle.dbscan.specs.Desks.{Things}
+use Rattle.dbscan.proofs.AfterHeader.{after_weaker}
 use Rattle.dbreport.specs.Opening.{IsNotOpened, IsOpened}
-use Rattle.dbreport.specs.Runs.{FailsOnce, IsAnswerOf, IsUntouched}
-use Rattle.dbreport.proofs.RunAnswers.{refused_answer, refused_log, refused_unwritten}
+use Rattle.dbreport.specs.Jobs.{HasRunJob, HasRunOver, IsNotBegun}
+use Rattle.dbreport.specs.Runs.{IsAnswerOf}
+use Rattle.dbreport.proofs.RunAnswers.{read_answer, read_refused, read_unwritten, refused_answer, refused_log, refused_unwritten}
 use Rattle.dbreport.proofs.RunLogs.{header_run, opened_run, whole_run}
 
 never_written : (e : OpenError) → is_write_failed (run_error e) ≡ false
 never_written (opening.Refused r) = refl
 never_written opening.ReadFailed = refl
-
--- where no Out failed, each has failed as often as before
-pub no_failure : (e : RunError) (n : ℕ) → is_write_failed e ≡ false → n ≡ failures_after {A = Verdict} is_write_failed (Err e) n
-no_failure e n h = ap (λ b. if b then one_more n else n) (sym h)
-
-pub no_failures : (e : RunError) (counts : List ℕ) → is_write_failed e ≡ false → CountsAfter {A = Verdict} is_write_failed (Err e) counts counts
-no_failures e counts h = subst (λ b. MovesIf b HasOneMore counts counts) (sym h) refl
 
 module _ {S : Type 0} (source : SourceWords S) (old : S) where
   -- the header was not read, or is refused
@@ -41,7 +32,7 @@ module _ {S : Type 0} (source : SourceWords S) (old : S) where
     read = opened_run e opens (λ file h. refused_answer file e h);
     reads = opens.asks.count ∙ open_failures e (source.held old).failures;
     asked = refused_log e (source.held old).trail (source.held new).trail (has_ranges opens.asks.log);
-    unwritten = never_written e;
+    no_failed_write = never_written e;
   }
 
   -- memory was refused, before anything was read after the header
@@ -50,30 +41,28 @@ module _ {S : Type 0} (source : SourceWords S) (old : S) where
     read = header_run h k.opens k.read k.accepted k.range (λ file is. is.is_read);
     reads = k.opens.asks.count;
     asked = tt;
-    unwritten = refl;
+    no_failed_write = refl;
   }
 
-  -- ---- there was no run
+  -- ---- a run of a job, by how the file was opened
 
-  module _ (e : RunError) (new : S) (k : IsNotOpened source e old new) where
-    pub nothing_read : {T : List ℕ → Type 0} → ((file : List ℕ) → IsAnswerOf {A = Verdict} (Err e) file → T file)
-        → HasRead source.step source.lengths IsSomeRunLog (λ file ranges. IsRunLog (geometry file) ranges × T file) (source.held old) (source.held new)
-    nothing_read q = read_weaker IsSomeRunLog _ k.read (λ ranges p. p) (λ file ranges p t. (t.0, q file t.1))
+  module _ {J : Type 0} (leaves : List ℕ → Result Verdict RunError → J → J → Type 0) (ends : Result Verdict RunError → J → J → Type 0) where
+    pub not_begun : (e : RunError) (new : S) → IsNotOpened source e old new → (j : J) → HasRunJob source leaves ends (Err e) (old, j) (new, j)
+    not_begun e new k j =
+        let none : IsNotBegun (Err e) j j = record { error = e; is = refl; no_failed_write = k.no_failed_write; same = refl } in record {
+          read = read_weaker IsSomeRunLog _ k.read (λ ranges p. p) (λ file ranges p t. (t.0, (t.1, inl none)));
+          reads = k.reads;
+          ended = inl none;
+          asked = k.asked;
+          untouched = refused_unwritten (Err e) j;
+        }
 
-    module _ {O : Type 0} (out : OutWords O) (o : O) where
-      pub fails_once : FailsOnce source out (Err e) (old, o) (new, o)
-      fails_once = record { reads = k.reads; writes = no_failure e (out.held o).failures k.unwritten }
-
-      pub untouched : IsUntouched source out (Err e) (old, o) (new, o)
-      untouched = record { asked = k.asked; unwritten = refused_unwritten (Err e) o }
-
-  -- ---- or one after the header
-
-  pub run_read : {T : List ℕ → Type 0} (h : HeaderBytes) (mid new : S) → IsOpened source h old mid
-      → HasReadAfterHeader source.step (IsPageLog (geometry_of h.bytes h.file_len)) h T (source.held mid) (source.held new)
-      → HasRead source.step source.lengths IsSomeRunLog (λ file ranges. IsRunLog (geometry file) ranges × T file) (source.held old) (source.held new)
-  run_read h mid new k behind = whole_run h k.opens k.read k.accepted k.range behind
-
-  pub run_failures : (h : HeaderBytes) (mid : S) → IsOpened source h old mid → (r : Result Verdict RunError) (n : ℕ) → n ≡ failures_after is_read_failed r (source.held mid).failures
-      → n ≡ failures_after is_read_failed r (source.held old).failures
-  run_failures h mid k r n e = e ∙ ap (failures_after is_read_failed r) k.opens.asks.count
+    pub has_run : (d : Things) (mid new : S) → IsOpened source d.header old mid → (r : Result Verdict RunError) (j j' : J) → HasRunOver source leaves ends r d (mid, j) (new, j')
+        → HasRunJob source leaves ends r (old, j) (new, j')
+    has_run d mid new k r j j' over = record {
+      read = whole_run {T = λ file. IsAnswerOf r file × (IsNotBegun r j j' ⊎ leaves file r j j')} d.header k.opens k.read k.accepted k.range (after_weaker _ _ over.read (λ file is left. (read_answer file r over.only is.is_read, inr left)));
+      reads = over.reads ∙ ap (failures_after is_read_failed r) k.opens.asks.count;
+      ended = inr over.ended;
+      asked = read_refused source.step r _ _ over.only;
+      untouched = read_unwritten r j j' over.only;
+    }

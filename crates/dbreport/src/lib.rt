@@ -8,12 +8,14 @@
 #![tactic(auto)]
 
 mod checking;
+mod jobs;
 mod opening;
 mod runs;
 mod statistics;
 
 pub use dbformat::{Command, Verdict};
-pub use dbscan::Desk;
+pub use dbscan::{Desk, Viewed};
 pub use dbsource::{Geometry, Header, Out, RunError, Source};
-pub use opening::{Extra, open_in, open_with};
+pub use jobs::{Job, run_job};
+pub use opening::open_in;
 pub use runs::{run, run_in, run_on, told_files_are_run};

@@ -18,12 +18,12 @@ ghost use Rattle.dbsource.specs.Outs.{Writes};
 ghost use Rattle.dbsource.specs.Snapshots.{HasRead, HasReadAfterHeader};
 
 use crate::checking::CheckReporter;
-use crate::opening::open_in;
+use crate::jobs::{Job, run_job};
 use crate::statistics::{Form, StatReporter};
 use dbformat::{Command, Verdict};
 use dbscan::{Desk, run_over};
-use dbsource::{Out, RunError, Source};
-use std::alloc::{Allocator, Global};
+use dbsource::{Geometry, Out, RunError, Source};
+use std::alloc::{AllocError, Allocator, Global};
 
 // A check of the file whose header is on the desk.
 fn check_on<A: Allocator, S: Source, O: Out>(
@@ -103,6 +103,41 @@ pub fn run_on<A: Allocator, S: Source, O: Out, E: Out>(
     }
 }
 
+// The job of a check, and of the statistics: a command, and the Outs that it writes to.
+#[derive(Drop)]
+struct ReportJob<'a, O, E> {
+    command: Command,
+    out: &'a mut O,
+    err: &'a mut E,
+}
+
+// It keeps nothing of a file but the desk.
+impl<A: Allocator, O: Out, E: Out> Job<A, Desk<A>> for ReportJob<'_, O, E> {
+    ghost use Rattle.std.specs.Prelude.{⊤};
+    ghost use Rattle.dbreport.specs.ReportJobs.{EndsJob, LeavesJob};
+
+    type Kept = ();
+
+    ghost begins = { λ _ _ _. ⊤ };
+
+    ghost leaves = { LeavesJob O.held E.held };
+
+    ghost ends = { EndsJob O.held E.held };
+
+    fn keep(&self, _alloc: A, _geometry: &Geometry) -> Result<(), AllocError> {
+        Ok(())
+    }
+
+    fn run_on<S: Source>(
+        &mut self,
+        desk: &mut Desk<A>,
+        _kept: &mut (),
+        source: &mut S,
+    ) -> Result<Verdict, RunError> {
+        run_on(self.command, desk, source, self.out, self.err)
+    }
+}
+
 /// Does what [`run`] does, in memory from any allocator: the clauses are the same.
 ///
 /// # Errors
@@ -126,8 +161,8 @@ pub fn run_in<A: Allocator + Copy, S: Source, O: Out, E: Out>(
     ensures refused { IsLeftAlone S.Source O.Out E.Out result (source.old, out.old, err.old) (source.new, out.new, err.new) }
     ensures second { IsCheck command → err.new ≡ err.old }
 {
-    let mut desk = open_in(alloc, source)?;
-    run_on(command, &mut desk, source, out, err)
+    let mut job = ReportJob { command, out, err };
+    run_job(alloc, &mut job, source)
 }
 
 /// Reads the database that `source` gives, and writes what `command` asks of it: for a check the fault lines to `out`,

@@ -1,52 +1,30 @@
-use Rattle.std.proofs.lemmas.Result.{err_from_is_err_and}
-use Rattle.dbscan.proofs.AfterHeader.{after_weaker}
-use Rattle.dbreport.proofs.Openings.{fails_once, nothing_read, run_failures, run_read, untouched}
-use Rattle.dbreport.proofs.RunAnswers.{read_refused, read_unwritten}
-use Rattle.dbexplain.proofs.Explained.{failed_before, is_explained, not_explained}
+use Rattle.std.proofs.Common.{rules, ◌≡◌}
+use Rattle.dbreport.proofs.OneOut.{one_ended, one_read, one_untouched}
+use Rattle.dbexplain.specs.ExplainJobs.{Says, out_of}
+use Rattle.dbexplain.specs.Runs.{OutFailures}
+use Rattle.dbexplain.proofs.Explained.{not_explained, unfailed}
 use Rattle.dbexplain.proofs.runs.explain_in.Goals as goal
-
--- ---- there was no run
-
-pub returns-in_err-desk-clause-read : goal.returns-in_err-desk-clause-read
-returns-in_err-desk-clause-read g c =
-    let q = err_from_is_err_and c.from_residual.result c.from_residual.ensures.1 in
-    let e = c.in_err-desk.field-0.0 in
-    rw q.1 (rw q.2 (nothing_read g.S.Source c.args.source.now e c.open_with.new.source c.in_err-desk.ensures
-    (λ file answer. not_explained c.args.limit file e (g.O.Out.held c.args.out.now) answer)))
-
-pub returns-in_err-desk-clause-failed : goal.returns-in_err-desk-clause-failed
-returns-in_err-desk-clause-failed g c =
-    let q = err_from_is_err_and c.from_residual.result c.from_residual.ensures.1 in
-    let e = c.in_err-desk.field-0.0 in
-    rw q.1 (rw q.2 (failed_before g.S.Source g.O.Out e (fails_once g.S.Source c.args.source.now e c.open_with.new.source c.in_err-desk.ensures g.O.Out c.args.out.now)))
-
-pub returns-in_err-desk-clause-refused : goal.returns-in_err-desk-clause-refused
-returns-in_err-desk-clause-refused g c =
-    let q = err_from_is_err_and c.from_residual.result c.from_residual.ensures.1 in
-    rw q.1 (rw q.2 (untouched g.S.Source c.args.source.now c.in_err-desk.field-0.0 c.open_with.new.source c.in_err-desk.ensures g.O.Out c.args.out.now))
-
--- ---- the file was read
 
 pub returns-clause-read : goal.returns-clause-read
 returns-clause-read g c =
-    let held = g.O.Out.held in
-    run_read g.S.Source c.args.source.now c.in_ok-desk.desk.header c.open_with.new.source c.explain_on.new.source c.in_ok-desk.ensures.0
-    (after_weaker _ _ (c.explain_on.ensures.read c.args.limit c.in_ok-desk.ensures.1) (λ file is told.
-    is_explained c.args.limit file c.explain_on.result (held c.args.out.now) (held c.explain_on.new.out) c.explain_on.ensures.only is.is_read told))
+    let same = (one_ended g.S.Source g.O.Out out_of Says OutFailures c.run_job.ensures unfailed).same_out in
+    let k : c.out-1.given.0 ≡ c.run_job.new.job.out.now = search (rules, same) in
+    rw k (one_read g.S.Source g.O.Out out_of Says OutFailures c.run_job.ensures (not_explained c.args.limit))
 
 pub returns-clause-failed : goal.returns-clause-failed
-returns-clause-failed g c = record {
-  reads = run_failures g.S.Source c.args.source.now c.in_ok-desk.desk.header c.open_with.new.source c.in_ok-desk.ensures.0 c.explain_on.result _ c.explain_on.ensures.reads;
-  writes = c.explain_on.ensures.writes;
-}
+returns-clause-failed g c =
+    let ended = one_ended g.S.Source g.O.Out out_of Says OutFailures c.run_job.ensures unfailed in
+    let same = ended.same_out in
+    let k : c.out-1.given.0 ≡ c.run_job.new.job.out.now = search (rules, same) in
+    rw k (record { reads = c.run_job.ensures.reads; writes = ended.writes })
 
 pub returns-clause-refused : goal.returns-clause-refused
-returns-clause-refused g c = record {
-  asked = read_refused g.S.Source.step c.explain_on.result _ _ c.explain_on.ensures.only;
-  unwritten = read_unwritten c.explain_on.result c.args.out.now c.explain_on.new.out c.explain_on.ensures.only;
-}
+returns-clause-refused g c =
+    let same = (one_ended g.S.Source g.O.Out out_of Says OutFailures c.run_job.ensures unfailed).same_out in
+    let k : c.out-1.given.0 ≡ c.run_job.new.job.out.now = search (rules, same) in
+    rw k (one_untouched g.S.Source g.O.Out out_of Says OutFailures c.run_job.ensures)
 
 -- ---- the room that a desk takes
 
-pub open_with-requires : goal.open_with-requires
-open_with-requires g c = (c.requires.fits, c.requires.fits)
+pub run_job-requires : goal.run_job-requires
+run_job-requires g c = c.requires.fits
