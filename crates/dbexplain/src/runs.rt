@@ -59,7 +59,7 @@ pub fn explain_in<A: Allocator + Copy, S: Source, O: Out>(
     source: &mut S,
     out: &mut O,
 ) -> Result<Verdict, RunError>
-    // What is kept of the file is no larger than memory, as is so unless the allocator itself is about that large.
+    // The desk fits in memory, as it does unless the allocator itself is nearly that large.
     requires fits { DeskFitsInMemory A.row A.Allocator }
     ensures read { HasExplained S.Source O.Out limit result (source.old, out.old) (source.new, out.new) }
     ensures failed { ExplainFails S.Source O.Out result (source.old, out.old) (source.new, out.new) }

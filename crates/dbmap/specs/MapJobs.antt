@@ -10,13 +10,13 @@ use Rattle.dbmap.specs.Maps.{IsMapOf}
 use Rattle.dbmap.specs.declared.kept.KeptFaults.{KeptFaults}
 use Rattle.dbmap.specs.declared.maps.MapJob.{MapJob}
 
--- there is room for the pages of the file
+-- no fault is known of the file yet, and there is room for its pages
 abbrev pub HasRoom : {A O : Type 0} → Geometry → MapJob O → KeptFaults A → Type 0
 HasRoom g job kept = HearsNone g.pages kept
 
 abbrev pub out_of : {O : Type 0} → MapJob O → MutBor O
 out_of job = job.out
 
--- a picture of the file was put, with the name that is given
+-- what a run leaves of a file, under the job's name
 abbrev pub Says : {O : Type 0} → MapJob O → List ℕ → Result Verdict RunError → OutState → OutState → Type 0
 Says job file r old new = IsMapOf job.name.now file r old.bytes new.bytes

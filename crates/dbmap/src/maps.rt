@@ -137,7 +137,7 @@ pub fn map_in<A: Allocator + Copy, S: Source, O: Out>(
     source: &mut S,
     out: &mut O,
 ) -> Result<Verdict, RunError>
-    // What is kept of the file is no larger than memory, as is so unless the allocator itself is about that large.
+    // The desk fits in memory, as it does unless the allocator itself is nearly that large.
     requires fits { DeskFitsInMemory A.row A.Allocator }
     ensures read { HasMap S.Source O.Out name.now result (source.old, out.old) (source.new, out.new) }
     ensures failed { FailsOnce S.Source O.Out result (source.old, out.old) (source.new, out.new) }

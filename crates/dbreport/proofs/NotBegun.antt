@@ -9,7 +9,7 @@ use Rattle.dbsource.specs.declared.error.RunError.TheVariants.{Refused, ReadFail
 use Rattle.dbreport.specs.Jobs.{IsNotBegun}
 use Rattle.dbreport.specs.Runs.{IsUnwritten}
 
--- where no Out failed, each has failed as often as before
+-- an error other than a failed write leaves it at as many failures
 pub no_failure : (e : RunError) (n : ℕ) → is_write_failed e ≡ false → n ≡ failures_after {A = Verdict} is_write_failed (Err e) n
 no_failure e n h = ap (λ b. if b then one_more n else n) (sym h)
 

@@ -29,8 +29,8 @@ module _ {S J : Type 0} (source : SourceWords S) (leaves : List ℕ → Result V
     pub only : IfErr r IsReadWriteOrMemory
 
   -- A run from the header on, whatever the source answered. There is a file, of the length that it answered, that agrees with every
-  -- byte that the run used, and what was asked for is what a run over that file asks for; of each such file this is an answer, and if
-  -- the job was begun, this is what the run leaves (`read`, `ended`). The source failed, once, exactly at a failed read (`reads`). At a
+  -- byte that the run used, and what was asked for is a log of its geometry; of each such file this is an answer, and either the job was
+  -- not begun, or this is what the run leaves (`read`, `ended`). The source failed, once, exactly at a failed read (`reads`). At a
   -- refusal the header alone was asked for (`asked`), and the job is as it was (`untouched`).
   pub record HasRunJob (r : Result Verdict RunError) (old new : S × J) : Type 0 where
     pub read : HasRead source.step source.lengths IsSomeRunLog

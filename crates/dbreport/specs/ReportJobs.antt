@@ -14,7 +14,7 @@ module _ {O E : Type 0} (out : O → OutState) (err : E → OutState) where
   abbrev pub LeavesJob : List ℕ → Result Verdict RunError → ReportJob O E → ReportJob O E → Type 0
   LeavesJob file r s t = IsRunOf s.command file r (out s.out.now).bytes (out t.out.now).bytes (err s.err.now).bytes (err t.err.now).bytes
 
-  -- Whatever the file is: it borrows the same, and one of the Outs failed, once, exactly at a failed write. Of a check that is the first,
+  -- Whatever the file is: it borrows the same Outs, and one of them failed, once, exactly at a failed write. Of a check that is the first,
   -- and nothing is done to the second.
   pub record EndsJob (r : Result Verdict RunError) (s t : ReportJob O E) : Type 0 where
     pub same_out : t.out.ghost_name ≡ s.out.ghost_name

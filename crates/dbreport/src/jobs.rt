@@ -10,7 +10,7 @@ use dbsource::{Geometry, RunError, Source};
 use std::alloc::{AllocError, Allocator};
 
 /// What a command does with a file whose header has been read: it makes what it keeps of the file beside the desk, and then it runs
-/// over the desk. `A` is the allocator, and `D` is a [`Desk`], as contracts see it.
+/// over the desk. `A` is the allocator, and `D` a [`Desk`], of which contracts see what is on it.
 pub trait Job<A, D: Viewed> {
     ghost use Rattle.std.specs.Prelude.{ℕ, List, Result, IfOk};
     ghost use Rattle.dbformat.specs.FixedPages.{IsInRange};
@@ -27,7 +27,7 @@ pub trait Job<A, D: Viewed> {
     ghost begins: { Geometry → Self → Self.Kept → Type 0 };
     // What a run over a file makes of the job, by the answer, from the state before to the one after.
     ghost leaves: { List ℕ → Result Verdict RunError → Self → Self → Type 0 };
-    // What a run makes of it whatever the file is: it borrows the same Outs, and this says which of them failed.
+    // What a run makes of it whatever the file is. A job says here that it borrows the same Outs, and which of them failed.
     ghost ends: { Result Verdict RunError → Self → Self → Type 0 };
 
     /// Makes what it keeps of a file of which only the shape is known. All memory that the job itself needs is taken here.
@@ -43,7 +43,7 @@ pub trait Job<A, D: Viewed> {
     ///
     /// # Errors
     ///
-    /// [`RunError::ReadFailed`] exactly where the source failed, [`RunError::WriteFailed`] where an Out failed, and
+    /// [`RunError::ReadFailed`] exactly where the source failed, [`RunError::WriteFailed`] only where an Out failed, and
     /// [`RunError::OutOfMemory`] where the list of roots was refused memory.
     fn run_on<S: Source>(
         &mut self,
@@ -62,7 +62,7 @@ pub trait Job<A, D: Viewed> {
 ///
 /// [`RunError::Refused`] where the file is not read at all: then nothing but its header was asked for, and the job is as it was.
 /// [`RunError::ReadFailed`] exactly where the source failed, [`RunError::OutOfMemory`] where a growth was refused, and
-/// [`RunError::WriteFailed`] where an Out failed.
+/// [`RunError::WriteFailed`] only where an Out failed.
 pub fn run_job<A: Allocator + Copy, S: Source, J: Job<A, Desk<A>>>(
     alloc: A,
     job: &mut J,

@@ -17,7 +17,7 @@ pub fn open_in<A: Allocator + Copy, S: Source>(
     alloc: A,
     source: &mut S,
 ) -> Result<Desk<A>, RunError>
-    // The desk is no larger than memory, as is so unless the allocator itself is about that large.
+    // The desk fits in memory, as it does unless the allocator itself is nearly that large.
     requires { DeskFitsInMemory A.row A.Allocator }
     ensures { MatchResult result (λ desk. IsOpened S.Source desk.header source.old source.new) (λ e. IsNotOpened S.Source e source.old source.new) }
 {

@@ -150,7 +150,7 @@ pub fn run_in<A: Allocator + Copy, S: Source, O: Out, E: Out>(
     out: &mut O,
     err: &mut E,
 ) -> Result<Verdict, RunError>
-    // What is kept of the file is no larger than memory, as is so unless the allocator itself is about that large.
+    // The desk fits in memory, as it does unless the allocator itself is nearly that large.
     requires fits { DeskFitsInMemory A.row A.Allocator }
     ensures read { HasRun S.Source O.Out E.Out command result (source.old, out.old, err.old) (source.new, out.new, err.new) }
     // The verdict is `Clean` exactly where the file is sound: each file that agrees with what was read, and so told bytes.
