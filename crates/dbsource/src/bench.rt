@@ -4,7 +4,7 @@ ghost use Rattle.std.specs.Prelude.{◌≡◌, ◌-◌, ◌*◌, ◌<◌, ◌≤
 ghost use Rattle.dbformat.specs.FixedPages.{IsInRange};
 ghost use Rattle.dbsource.specs.Bench.{Changes, bytes_at};
 ghost use Rattle.dbsource.specs.Failures.{failures_after, is_any};
-ghost use Rattle.dbsource.specs.Lending.{LendsUses};
+ghost use Rattle.dbsource.specs.Lending.{LendsChain, LendsUses};
 ghost use Rattle.dbsource.specs.Answers.{IsRangeOf, answer};
 
 use crate::{Geometry, ReadFailed, Source};
@@ -54,6 +54,18 @@ impl<A: Allocator> Bench<A> {
             Some(buffer) => buffer.as_slice(),
             None => self.chain.as_slice(),
         }
+    }
+
+    /// The bytes at a level, and beside them the chain buffer: a view of the level stays lent while the page of a chain is
+    /// written.
+    pub fn chain(&mut self, level: usize) -> (&[u8], &mut [u8])
+        requires { level < 20 }
+        ensures* writes_back { sem 𝓛 (LendsChain A.row A.Allocator self.entry result.1) }
+        ensures page { slice_get self.old.levels level ≡ Some result.0.now }
+        ensures bytes { result.1.now ≡ self.old.chain }
+        ensures len { (length result.0.now ≡ self.old.geometry.page_size) × (length result.1.now ≡ self.old.geometry.page_size) }
+    {
+        (self.levels[level].as_slice(), self.chain.as_mut_slice())
     }
 
     /// The bytes at a level, and beside them the table of their uses.
