@@ -8,13 +8,14 @@ use Rattle.dbformat.specs.File.{refusal}
 use Rattle.dbformat.specs.Reference.{Reference}
 use Rattle.dbformat.specs.Report.{Report, faults, report, verdict}
 use Rattle.dbformat.specs.Sound.{Sound}
-use Rattle.dbformat.specs.Survey.{Survey}
+use Rattle.dbformat.specs.Survey.{Survey, survey}
 use Rattle.dbformat.specs.declared.Command.{Command}
 use Rattle.dbformat.specs.declared.Refusal.{Refusal}
 use Rattle.dbexplain.specs.Explained.{explain_report}
 use Rattle.dbformat.specs.declared.Verdict.{Verdict}
 use Rattle.dbformat.specs.declared.Verdict.TheVariants.{Clean, Faulty}
 use Rattle.dbreport.specs.Runs.{AsksHeaderAlone, IsAnswerOf, IsRunBy, IsUnwritten}
+use Rattle.dbreport.proofs.RunAnswers.{says_ok}
 use Rattle.dbsource.proofs.Beginnings.{all_begun}
 use Rattle.dbsource.proofs.Puts.{appends_kept, appends_nothing}
 use Rattle.dbsource.specs.Answers.{Step, Trail}
@@ -28,7 +29,7 @@ use Rattle.dbcli.proofs.Explaining.{IsEndFor, IsExplainedTo, begun_not_at_4, exp
 use Rattle.dbcli.proofs.Failures.{FewFailed, none_failed, more_failures}
 use Rattle.dbcli.specs.ErrorLines.{error_line, exit_line, refused_line}
 use Rattle.dbmap.specs.Maps.{DrawsMap, HasPicture}
-use Rattle.dbcli.specs.Exit.{BeginsThenLine, EndsWithLine, IsExit, IsExitOf, IsExplainExit, IsFinishOf, IsKnown, IsMapExit, IsStatusOf, second_most}
+use Rattle.dbcli.specs.Exit.{BeginsThenLine, EndsWithLine, IsExit, IsExitOf, IsExplainExit, IsFinishOf, IsKnown, IsMapExit, IsStatusOf, SaysOkFor, second_most}
 use Rattle.dbcli.specs.Requests.{WritesToFirst}
 use Rattle.dbcli.specs.Status.{exit_status}
 use Rattle.dbcli.specs.declared.request.Request.{Request}
@@ -293,6 +294,17 @@ answer_of (request.Report command) file outcome out out' err mid run = (run.answ
 answer_of (request.Explain limit) file outcome out out' err mid run = (run.1, run.2)
 answer_of (request.Map name) file outcome out out' err mid run = (run.answer, run.sound)
 
+-- at a verdict a check says whether the file is sound
+ok_for : (asked : Request) (file : List ℕ) (outcome : Result Verdict RunError) (out out' err mid : OutState)
+    → IsEndFor asked file outcome out out' err mid → exit_status outcome ≤ 1 → SaysOkFor asked file out out'
+ok_for (request.Report command) file (Ok v) out out' err mid run m = says_ok command file (survey file) out.bytes out'.bytes run.survey (run.reported (survey file) run.survey).out
+ok_for (request.Report command) file (Err (Refused e)) out out' err mid run m = absurd (omega arith)
+ok_for (request.Report command) file (Err ReadFailed) out out' err mid run m = absurd (omega arith)
+ok_for (request.Report command) file (Err OutOfMemory) out out' err mid run m = absurd (omega arith)
+ok_for (request.Report command) file (Err WriteFailed) out out' err mid run m = absurd (omega arith)
+ok_for (request.Explain limit) file outcome out out' err mid run m = tt
+ok_for (request.Map name) file outcome out out' err mid run m = tt
+
 -- what finishing left of a file, by what its run left of it
 pub finish_of : (asked : Request) (file : List ℕ) (outcome : Result Verdict RunError) (out out' err mid err' : OutState)
     → IsEndFor asked file outcome out out' err mid
@@ -304,6 +316,7 @@ finish_of asked file outcome out out' err mid err' run unwritten kept quiet few 
     let k = answer_of asked file outcome out out' err mid run in record {
       exit = exit_of asked file outcome out out' err mid err' run unwritten kept quiet few line;
       sound = sound_by outcome file k.1;
+      ok = ok_for asked file outcome out out' err mid run;
       memory = memory_by outcome file k.0;
       unwritable = unwritable_by outcome file k.0;
     }

@@ -11,6 +11,7 @@ use Rattle.dbformat.specs.declared.Verdict.TheVariants.{Clean, Faulty}
 use Rattle.dbsource.specs.Failures.{one_more}
 use Rattle.dbsource.specs.Outs.{Begins, OutState}
 use Rattle.dbmap.specs.Maps.{HasPicture}
+use Rattle.dbreport.specs.Runs.{SaysOkWhereSound}
 use Rattle.dbexplain.specs.Explained.{IsFoundText, explain_report}
 use Rattle.dbcli.specs.ErrorLines.{exit_line}
 use Rattle.dbcli.specs.declared.request.Request.{Request}
@@ -136,12 +137,20 @@ IsExitOf status (request.Explain limit) file out out' err err' =
 IsExitOf status (request.Map name) file out out' err err' =
     (V : List Reference) → Survey file V → IsMapExit status name.now file V out out' err err'
 
+-- Of a check: what the first Out got is the line `ok` exactly where the file is sound.
+abbrev pub SaysOkFor : Request → List ℕ → OutState → OutState → Type 0
+SaysOkFor (request.Report command) file out out' = SaysOkWhereSound command file out.bytes out'.bytes
+SaysOkFor (request.Explain limit) file out out' = Unit {0}
+SaysOkFor (request.Map name) file out out' = Unit {0}
+
 -- What an exit status says of a file.
 pub record IsFinishOf (status : ℕ) (asked : Request) (file : List ℕ) (out out' err err' : OutState) : Type 0 where
   -- what was asked, and what was written of it
   pub exit : IsExitOf status asked file out out' err err'
   -- of the two statuses of a verdict 0 is that of a sound file
   pub sound : status ≤ 1 → status ≡ 0 ↔ Sound file
+  -- at these two a check says so
+  pub ok : status ≤ 1 → SaysOkFor asked file out out'
   -- want of memory ends the run of a file that is read alone
   pub memory : status ≡ 5 → refusal file ≡ None
   -- and so does a failed write

@@ -1,10 +1,12 @@
--- The verdict of a list of faults is that of their count.
-use Rattle.std.proofs.Common.{◌≡◌, ℕ, suc, false, cond, List, [], ◌∷◌, length, refl, ap, arith}
-use Rattle.std.specs.Prelude.{◌==◌}
+-- The verdict of a list of faults is that of their count; and the text of a check with a fault is not the line `ok`.
+use Rattle.std.proofs.Common.{◌≡◌, ℕ, zero, suc, false, cond, List, [], ◌∷◌, ◌++◌, length, take, drop, refl, ap, arith}
+use Rattle.std.specs.Prelude.{flat_map, ◌==◌}
 use Rattle.std.proofs.lemmas.Bool.Decides.{nat_tests}
-use Rattle.dbformat.specs.Lines.{counted}
-use Rattle.dbformat.specs.Report.{verdict, verdict_of}
+use Rattle.dbformat.specs.Lines.{code_text, counted, fault_line, more_line, ok_line}
+use Rattle.dbformat.specs.Report.{check_text, more_text, verdict, verdict_of}
 use Rattle.dbformat.specs.declared.Fault.{Fault}
+use Rattle.dbformat.specs.declared.FaultCode.{FaultCode}
+use Rattle.dbformat.specs.declared.FaultCode.TheVariants.{H01}
 use Rattle.dbformat.specs.declared.Verdict.TheVariants.{Clean, Faulty}
 
 not_none : (n : ℕ) → (counted (suc n) == 0) ≡ false
@@ -13,3 +15,17 @@ not_none n = grind (arith, nat_tests)
 pub verdict_counted : (fs : List Fault) → verdict_of (counted (length fs)) ≡ verdict fs
 verdict_counted [] = refl
 verdict_counted (f ∷ fs) = ap (λ b. cond b Clean (Faulty (counted (suc (length fs))))) (not_none (length fs))
+
+-- no line of a fault begins with the letter that the line `ok` begins with
+line_not_ok : (f : Fault) (lines more : List ℕ) → (fault_line f ++ lines) ++ more ≡ ok_line → ⊥
+unfolding fault_line
+line_not_ok f lines more e = by_code f.code refl
+  where
+    by_code : (code : FaultCode) → f.code ≡ code → ⊥
+    by_code H01 h = let k = rw h at e in cc
+    by_code _ h = let k = rw h at e in cc
+
+pub faults_not_ok : (limit : ℕ) (f : Fault) (fs : List Fault) → check_text limit (f ∷ fs) ≡ ok_line → ⊥
+unfolding more_line
+faults_not_ok zero f fs e = cc
+faults_not_ok (suc limit) f fs e = line_not_ok f (flat_map fault_line (take limit fs)) (more_text (length (drop limit fs))) e

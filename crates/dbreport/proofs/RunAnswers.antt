@@ -1,16 +1,20 @@
 -- What the answer of a run says.
-use Rattle.std.proofs.Common.{◌≡◌, ℕ, List, [], ◌∷◌, None, Option, Ok, Err, Result, inl, inr, refl, sym, ap, subst}
-use Rattle.std.specs.Prelude.{◌↔◌, IfErr, IfOk}
+use Rattle.std.proofs.Common.{◌≡◌, ◌∙◌, ℕ, List, [], ◌∷◌, ◌++◌, None, Some, Option, Ok, Err, Result, inl, inr, refl, sym, ap, subst}
+use Rattle.std.specs.Io.KnownBytes.{Appends}
+use Rattle.std.specs.Prelude.{◌↔◌, IfErr, IfOk, OnOk}
+use Rattle.std.proofs.lemmas.List.{append_cancel_left}
 use Rattle.dbformat.specs.File.{refusal}
+use Rattle.dbformat.specs.Lines.{ok_line}
 use Rattle.dbformat.specs.Reference.{Reference}
 use Rattle.dbformat.specs.Report.{Report, report}
 use Rattle.dbformat.specs.Sound.{Sound}
 use Rattle.dbformat.specs.Survey.{Survey, survey}
 use Rattle.dbformat.specs.declared.Command.{Command}
+use Rattle.dbformat.specs.declared.Command.TheVariants.{Check, Stat}
 use Rattle.dbformat.specs.declared.Verdict.{Verdict}
 use Rattle.dbformat.specs.declared.Verdict.TheVariants.{Clean}
 use Rattle.dbformat.proofs.Theory.{one_survey}
-use Rattle.dbsound.proofs.Soundness.{sound_by_verdict}
+use Rattle.dbsound.proofs.Soundness.{sound_by_ok, sound_by_verdict}
 use Rattle.dbsource.specs.Answers.{Step, Trail}
 use Rattle.dbsource.specs.Errors.{run_error, is_write_failed}
 use Rattle.dbsource.specs.Failures.{CountsAfter, failures_after}
@@ -22,7 +26,7 @@ use Rattle.dbsource.specs.declared.error.RunError.{RunError}
 use Rattle.dbsource.specs.declared.error.RunError.TheVariants.{Refused, ReadFailed, OutOfMemory, WriteFailed}
 use Rattle.dbwalk.specs.Telling.{IsReadWriteOrMemory}
 use Rattle.dbsource.proofs.Beginnings.{begins_nothing}
-use Rattle.dbreport.specs.Runs.{AsksHeaderAlone, IsAnswerOf, IsReported, IsReportedBy, IsRunBy, IsRunOf, IsUnwritten}
+use Rattle.dbreport.specs.Runs.{AsksHeaderAlone, IsAnswerOf, IsReported, IsReportedBy, IsRunBy, IsRunOf, IsUnwritten, SaysOkWhereSound}
 use Rattle.dbreport.proofs.RunReports.{counts_pages}
 
 -- the header was not read
@@ -105,18 +109,37 @@ none_by rep file e out err answer = record {
   sound = tt;
 }
 
+-- what a check wrote says whether the file is sound
+pub says_ok : (command : Command) (file : List ℕ) (V : List Reference) (old new : Option (List ℕ)) → Survey file V → Appends old new (report command file V).out
+    → SaysOkWhereSound command file old new
+says_ok (Check limit) file V None new s k = tt
+says_ok (Check limit) file V (Some had) None s k = absurd k
+says_ok (Check limit) file V (Some had) (Some has) s k =
+    let by = sound_by_ok file limit V s in (
+      (λ e. let h : has ≡ had ++ ok_line = cc in by.0 (append_cancel_left had (report (Check limit) file V).out ok_line (sym k ∙ h))),
+      (λ sound. ap Some (k ∙ ap (λ l. had ++ l) (by.1 sound))),
+    )
+says_ok (Stat aggregate all) file V old new s k = tt
+
+ok_by : (command : Command) (file : List ℕ) (r : Result Verdict RunError) (out_old out_new err_old err_new : Option (List ℕ))
+    → IsReported command file (survey file) r out_old out_new err_old err_new → OnOk r (SaysOkWhereSound command file out_old out_new)
+ok_by command file (Ok v) out_old out_new err_old err_new k = says_ok command file (survey file) out_old out_new (one_survey file).0 k.out
+ok_by command file (Err e) out_old out_new err_old err_new k = tt
+
 -- the same of a run of a command
 pub run_of : (command : Command) (file : List ℕ) (r : Result Verdict RunError) (out_old out_new err_old err_new : Option (List ℕ)) → IfErr r IsReadWriteOrMemory → refusal file ≡ None
     → ((V : List Reference) → Survey file V → IsReported command file V r out_old out_new err_old err_new) → IsRunOf command file r out_old out_new err_old err_new
 run_of command file r out_old out_new err_old err_new only read told = record {
   run = run_by (report command) file r out_old out_new err_old err_new only read (λ v e. sound_by_verdict file command (survey file) (one_survey file).0 v e) told;
   counts = λ V s. counts_pages command file V s;
+  ok = ok_by command file r out_old out_new err_old err_new (told (survey file) (one_survey file).0);
 }
 
 pub none_of : (command : Command) (file : List ℕ) (e : RunError) (out err : Option (List ℕ)) → IsAnswerOf {A = Verdict} (Err e) file → IsRunOf command file (Err e) out out err err
 none_of command file e out err answer = record {
   run = none_by (report command) file e out err answer;
   counts = λ V s. counts_pages command file V s;
+  ok = tt;
 }
 
 -- the verdict of a run of a command is clean exactly where the file is sound

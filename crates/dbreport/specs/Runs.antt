@@ -1,9 +1,9 @@
 -- What an answer of a run says of the file, and of what was written.
-use Rattle.std.specs.Prelude.{◌≡◌, ◌↔◌, ℕ, true, false, List, Option, None, Some, Result, Ok, Err, IfOk, ⊤}
+use Rattle.std.specs.Prelude.{◌≡◌, ◌↔◌, ◌++◌, ℕ, true, false, List, Option, None, Some, Result, Ok, Err, IfOk, IfSome, OnOk, ⊤}
 use Rattle.dbformat.specs.File.{geometry, refusal}
 use Rattle.dbformat.specs.FixedPages.{geometry_of}
 use Rattle.dbformat.specs.Reference.{Reference}
-use Rattle.dbformat.specs.Lines.{AddsUpToAllPages}
+use Rattle.dbformat.specs.Lines.{AddsUpToAllPages, ok_line}
 use Rattle.dbformat.specs.Log.{IsPageLog, IsRunLog, IsSomeRunLog}
 use Rattle.dbformat.specs.Report.{Report, report}
 use Rattle.dbformat.specs.Rows.{CountsEachPageOnce, CountsNoPageTwice}
@@ -19,7 +19,7 @@ use Rattle.dbsource.specs.Failures.{CountsAfter, failures_after}
 use Rattle.dbsource.specs.HeaderBytes.{HeaderBytes}
 use Rattle.dbsource.specs.Headers.{IsOpenLog}
 use Rattle.dbsource.specs.Outs.{Writes}
-use Rattle.dbsource.specs.Snapshots.{HasRead, HasReadAfterHeader, ToldFileIsRead}
+use Rattle.dbsource.specs.Snapshots.{HasRead, HasReadAfterHeader, ToldFileIsRead, ToldFileIsReadAfter}
 use Rattle.dbsource.specs.Sources.{HasRanges, SourceState}
 use Rattle.dbsource.specs.declared.error.OpenError.TheVariants as opening
 use Rattle.dbsource.specs.declared.error.RunError.{RunError}
@@ -58,6 +58,11 @@ CountsPages (Stat aggregate true) file V =
 CountsPages (Stat aggregate false) file V = CountsNoPageTwice (record { aggregate = aggregate; all = false }) file V
 CountsPages (Check limit) file V = Unit {0}
 
+-- Of a check: what its Out got, where it tells its bytes, is the line `ok` exactly where the file is sound.
+abbrev pub SaysOkWhereSound : Command → List ℕ → Option (List ℕ) → Option (List ℕ) → Type 0
+SaysOkWhereSound (Check limit) file old new = IfSome old (λ had. new ≡ Some (had ++ ok_line) ↔ Sound file)
+SaysOkWhereSound (Stat aggregate all) file old new = Unit {0}
+
 -- What a run left, by a survey of a file whose report this is: on each Out its part of the report, at an error a beginning of it;
 -- and the verdict.
 pub record IsReportedBy (told : Report) (r : Result Verdict RunError) (out_old out_new err_old err_new : Option (List ℕ)) : Type 0 where
@@ -77,10 +82,11 @@ pub record IsRunBy (rep : List ℕ → List Reference → Report) (file : List �
   pub answer : IsAnswerOf r file
   pub sound : IfOk r (λ v. v ≡ Clean ↔ Sound file)
 
--- The same of a run of a command; and its rows count the pages of the file.
+-- The same of a run of a command; its rows count the pages of the file, and a check at Ok says whether the file is sound.
 pub record IsRunOf (command : Command) (file : List ℕ) (r : Result Verdict RunError) (out_old out_new err_old err_new : Option (List ℕ)) : Type 0 where
   pub run : IsRunBy (report command) file r out_old out_new err_old err_new
   pub counts : (V : List Reference) → Survey file V → CountsPages command file V
+  pub ok : OnOk r (SaysOkWhereSound command file out_old out_new)
 
 -- ---- from a source and an Out to their states after the run, by what their traits say of them
 
@@ -138,6 +144,11 @@ module _ {S O E : Type 0} (source : SourceWords S) (out : OutWords O) (err : Out
 abbrev pub ToldRunsAreRead : Step → Lengths → Type 0
 ToldRunsAreRead step lengths = (command : Command) (r : Result Verdict RunError) (out_old out_new err_old err_new : Option (List ℕ)) (old new : SourceState)
     → ToldFileIsRead step lengths IsSomeRunLog (λ file ranges. IsRunLog (geometry file) ranges × IsRunOf command file r out_old out_new err_old err_new) old new
+
+-- what `run_on` says
+abbrev pub ToldRunsOnAreRead : Step → Type 0
+ToldRunsOnAreRead step = (h : HeaderBytes) (command : Command) (r : Result Verdict RunError) (out_old out_new err_old err_new : Option (List ℕ)) (old new : SourceState)
+    → ToldFileIsReadAfter step (IsPageLog (geometry_of h.bytes h.file_len)) h (λ file. IsRunOf command file r out_old out_new err_old err_new) old new
 
 -- what a run says that writes another report, as `HasRunBy` does
 abbrev pub ToldReportsAreRead : Step → Lengths → Type 0

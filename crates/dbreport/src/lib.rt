@@ -14,7 +14,7 @@ mod runs;
 mod statistics;
 
 pub use dbformat::{Command, Verdict};
-pub use dbscan::{Desk, Viewed};
+pub use dbscan::{Desk, RootList, Viewed};
 pub use dbsource::{Geometry, Header, Out, RunError, Source};
 pub use jobs::{Job, run_job};
 pub use opening::open_in;

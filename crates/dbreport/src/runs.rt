@@ -1,5 +1,5 @@
 // A run: from the bytes of a database to what is written of them.
-ghost use Rattle.std.specs.Prelude.{◌≡◌, ◌↔◌, List, IfOk, IfSome, Ok};
+ghost use Rattle.std.specs.Prelude.{◌≡◌, ◌↔◌, List, IfOk, IfSome, Ok, OnOk};
 ghost use Rattle.dbformat.specs.FixedPages.{geometry_of};
 ghost use Rattle.dbformat.specs.Log.{IsPageLog, IsSomeRunLog};
 ghost use Rattle.dbformat.specs.Reference.{Reference};
@@ -9,7 +9,7 @@ ghost use Rattle.dbformat.specs.Survey.{Survey};
 ghost use Rattle.dbformat.specs.declared.Command.TheVariants.{Check, Stat};
 ghost use Rattle.dbscan.specs.DeskSizes.{DeskFitsInMemory};
 ghost use Rattle.dbscan.specs.Kept.{HasUsed};
-ghost use Rattle.dbreport.specs.Runs.{FailsAsAnswered, HasRun, HasRunAfterHeader, IsCheck, IsLeftAlone, IsReported, ToldReportsAreRead, ToldRunsAreRead};
+ghost use Rattle.dbreport.specs.Runs.{FailsAsAnswered, HasRun, HasRunAfterHeader, IsCheck, IsLeftAlone, IsReported, SaysOkWhereSound, ToldReportsAreRead, ToldRunsAreRead, ToldRunsOnAreRead};
 ghost use Rattle.dbreport.specs.StatReporter.{failures_of_each};
 ghost use Rattle.dbsource.specs.Errors.{is_read_failed, is_write_failed};
 ghost use Rattle.dbsource.specs.Failures.{CountsAfter, failures_after};
@@ -91,6 +91,9 @@ pub fn run_on<A: Allocator, S: Source, O: Out, E: Out>(
     ensures sound { HasReadAfterHeader S.step (IsPageLog (geometry_of desk.old.header.bytes desk.old.header.file_len)) desk.old.header
         (λ file. IfOk result (λ v. v ≡ Verdict.Clean ↔ Sound file)) (S.held source.old) (S.held source.new) }
     ensures told { IfSome (S.held source.old).bytes (λ file. IsHeaderOf desk.old.header file → IfOk result (λ v. v ≡ Verdict.Clean ↔ Sound file)) }
+    // A check wrote the line `ok` exactly where such a file is sound.
+    ensures ok { HasReadAfterHeader S.step (IsPageLog (geometry_of desk.old.header.bytes desk.old.header.file_len)) desk.old.header
+        (λ file. OnOk result (SaysOkWhereSound command file (O.held out.old).bytes (O.held out.new).bytes)) (S.held source.old) (S.held source.new) }
     ensures failed { FailsAsAnswered S.Source O.Out E.Out command result (source.old, out.old, err.old) (source.new, out.new, err.new) }
     ensures second { IsCheck command → err.new ≡ err.old }
     ensures desk { HasUsed result desk.old desk.new }
@@ -157,6 +160,9 @@ pub fn run_in<A: Allocator + Copy, S: Source, O: Out, E: Out>(
     ensures sound { HasRead S.step S.lengths IsSomeRunLog (λ file ranges. IfOk result (λ v. v ≡ Verdict.Clean ↔ Sound file))
         (S.held source.old) (S.held source.new) }
     ensures told { IfSome (S.held source.old).bytes (λ file. IfOk result (λ v. v ≡ Verdict.Clean ↔ Sound file)) }
+    // A check wrote the line `ok` exactly where the file is sound.
+    ensures ok { HasRead S.step S.lengths IsSomeRunLog
+        (λ file ranges. OnOk result (SaysOkWhereSound command file (O.held out.old).bytes (O.held out.new).bytes)) (S.held source.old) (S.held source.new) }
     ensures failed { FailsAsAnswered S.Source O.Out E.Out command result (source.old, out.old, err.old) (source.new, out.new, err.new) }
     ensures refused { IsLeftAlone S.Source O.Out E.Out result (source.old, out.old, err.old) (source.new, out.new, err.new) }
     ensures second { IsCheck command → err.new ≡ err.old }
@@ -191,6 +197,9 @@ pub fn run<S: Source, O: Out, E: Out>(
     ensures sound { HasRead S.step S.lengths IsSomeRunLog (λ file ranges. IfOk result (λ v. v ≡ Verdict.Clean ↔ Sound file))
         (S.held source.old) (S.held source.new) }
     ensures told { IfSome (S.held source.old).bytes (λ file. IfOk result (λ v. v ≡ Verdict.Clean ↔ Sound file)) }
+    // A check wrote the line `ok` exactly where the file is sound.
+    ensures ok { HasRead S.step S.lengths IsSomeRunLog
+        (λ file ranges. OnOk result (SaysOkWhereSound command file (O.held out.old).bytes (O.held out.new).bytes)) (S.held source.old) (S.held source.new) }
     ensures failed { FailsAsAnswered S.Source O.Out E.Out command result (source.old, out.old, err.old) (source.new, out.new, err.new) }
     ensures refused { IsLeftAlone S.Source O.Out E.Out result (source.old, out.old, err.old) (source.new, out.new, err.new) }
     ensures second { IsCheck command → err.new ≡ err.old }
@@ -200,8 +209,9 @@ pub fn run<S: Source, O: Out, E: Out>(
 
 /// What [`run`] says of each file that agrees with what was read is so of the bytes that a source tells, as memory does: by any
 /// survey of them each Out got its part of the report, `Clean` is the answer exactly where they are sound, and so on. The same
-/// holds of a run that writes another report.
+/// holds of [`run_on`], where the desk's header is theirs, and of a run that writes another report.
 pub fn told_files_are_run<S: Source>()
     ensures runs { ToldRunsAreRead S.step S.lengths }
+    ensures runs_on { ToldRunsOnAreRead S.step }
     ensures reports { ToldReportsAreRead S.step S.lengths }
 {}

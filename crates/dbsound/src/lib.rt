@@ -34,18 +34,20 @@ ghost use Rattle.dbsound.specs.Broken.{IsRefusedBeside, FailsBeside, wrong_magic
 ghost use Rattle.dbsound.specs.Broken.{unused_page, false_free_page, no_encoding, one_row, two_leaves};
 ghost use Rattle.dbsound.specs.Broken.{one_trunk, no_table, mapped_trunk, early_root, late_root};
 ghost use Rattle.dbsound.specs.Samples.{index_file, mapped_file};
-ghost use Rattle.dbsound.specs.Soundness.{HasItsUses, IsSoundByFaults, IsSoundByAnswer, IsSoundByVerdict};
+ghost use Rattle.dbsound.specs.Soundness.{HasItsUses, IsSoundByFaults, IsSoundByAnswer, IsSoundByOk, IsSoundByVerdict};
 ghost use Rattle.dbsound.specs.Surveys.{IsByItsStarts, IsByItsLinks, HasChainsBelow, HasTreesBelow, HasWholeTrees};
 
 pub mod statistics;
 
 /// Clean is sound: a file is sound exactly where it is read and no fault of it is reported. So it is where a command
-/// answers that the file is clean, and where the verdict on a file that is read is clean. The survey of a sound file
-/// has exactly the pages of its terms, each once, in the order of the terms and with their uses.
+/// answers that the file is clean, where the verdict on a file that is read is clean, and where what a check writes is
+/// the line `ok`. The survey of a sound file has exactly the pages of its terms, each once, in the order of the terms and
+/// with their uses.
 pub fn clean_is_sound()
     ensures faults { (file : List ℕ) → IsSoundByFaults file }
     ensures answer { (file : List ℕ) → IsSoundByAnswer file }
     ensures verdict { (file : List ℕ) → IsSoundByVerdict file }
+    ensures ok { (file : List ℕ) → IsSoundByOk file }
     ensures uses { (file : List ℕ) → HasItsUses file }
 {}
 

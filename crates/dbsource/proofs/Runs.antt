@@ -18,7 +18,7 @@ use Rattle.dbsource.specs.Failures.{failures_after, one_more}
 use Rattle.dbsource.specs.Headed.{over, over_answer, begun, headed, headed_trail, HeadedStep}
 use Rattle.dbsource.specs.HeaderBytes.{HeaderBytes}
 use Rattle.dbsource.specs.Headers.{IsHeaderOf, IsOpenLog, IsRefusalOf, Opens}
-use Rattle.dbsource.specs.Snapshots.{FitsAfterHeader, FitsRun, HasRead, HasReadAfterHeader, HasReadTold, ToldFileIsRead}
+use Rattle.dbsource.specs.Snapshots.{FitsAfterHeader, FitsRun, HasRead, HasReadAfterHeader, HasReadAfterTold, HasReadTold, ToldFileIsRead, ToldFileIsReadAfter}
 use Rattle.dbsource.specs.Sources.{HasLog, SourceState}
 use Rattle.dbsource.specs.declared.error.OpenError.{OpenError}
 use Rattle.dbsource.specs.declared.error.OpenError.TheVariants.{Refused, ReadFailed}
@@ -270,6 +270,22 @@ told_file step lengths P Q old new h = by_told old.bytes h.tells refl
       claimed = h.files file k.0 k.1;
       stay = h.told ∙ sym e;
       unread = λ l. let leads : Leads step old.trail [] new.trail = subst (λ log. Leads step old.trail log new.trail) (h.short (subst (λ n. n < 100) k.0 l)) h.leads in leads;
+    }
+
+-- the same after a header
+pub told_file_after : (step : Step) (P : List ByteRange → Type 0) (h : HeaderBytes) (Q : List ℕ → Type 0) (old new : SourceState) → ToldFileIsReadAfter step P h Q old new
+told_file_after step P h Q old new k = by_told old.bytes k.tells refl
+  where
+    by_told : (o : Option (List ℕ)) → IfSome o (λ file. IsHeaderOf h file → FitsAfterHeader file k.log) → o ≡ old.bytes
+        → IfSome o (λ file. IsHeaderOf h file → HasReadAfterTold step P Q old new file)
+    by_told None fits e = tt
+    by_told (Some file) fits e = λ is. record {
+      log = k.log;
+      leads = k.leads;
+      holds = k.holds;
+      fits = fits is;
+      claimed = k.files file is (fits is);
+      stay = k.told ∙ sym e;
     }
 
 -- what holds of each file that agrees holds of told bytes

@@ -83,3 +83,23 @@ pub record HasReadTold (step : Step) (P : List ByteRange → Type 0) (Q : List �
 -- So Q holds of told bytes wherever it holds of each file that agrees with what was read.
 abbrev pub ToldFileIsRead : Step → Lengths → (List ByteRange → Type 0) → (List ℕ → List ByteRange → Type 0) → SourceState → SourceState → Type 0
 ToldFileIsRead step lengths P Q old new = HasRead step lengths P Q old new → IfSome old.bytes (HasReadTold step P Q old new)
+
+-- What a run after a header made of a source with told bytes that have this header.
+pub record HasReadAfterTold (step : Step) (P : List ByteRange → Type 0) (Q : List ℕ → Type 0) (old new : SourceState) (file : List ℕ) : Type 0 where
+  -- the answers to the reads after the header, in their order
+  pub log : List Answer
+  -- they lead the source from the trail that it had to the one that it has
+  pub leads : Leads step old.trail log new.trail
+  -- P holds of the requested ranges
+  pub holds : P (map asked log)
+  -- the bytes agree with all that was read, from byte 100 on
+  pub fits : FitsAfterHeader file log
+  -- Q holds of them
+  pub claimed : Q file
+  -- they do not change
+  pub stay : new.bytes ≡ Some file
+
+-- So Q holds of told bytes of a header wherever it holds of each file of it that agrees with what was read.
+abbrev pub ToldFileIsReadAfter : Step → (List ByteRange → Type 0) → HeaderBytes → (List ℕ → Type 0) → SourceState → SourceState → Type 0
+ToldFileIsReadAfter step P h Q old new = HasReadAfterHeader step P h Q old new
+    → IfSome old.bytes (λ file. IsHeaderOf h file → HasReadAfterTold step P Q old new file)

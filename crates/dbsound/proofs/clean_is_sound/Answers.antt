@@ -7,5 +7,6 @@ returns c = record {
   faults = λ file. Soundness.sound_by_faults file;
   answer = λ file. Soundness.sound_by_answer file;
   verdict = λ file. Soundness.sound_by_verdict file;
+  ok = λ file. Soundness.sound_by_ok file;
   uses = λ file s V survey. NoFault.has_its_uses file s V survey;
 }

@@ -23,6 +23,9 @@ returns-clause-sound g c = read_weaker IsSomeRunLog _ (returns-clause-read g c) 
 pub returns-clause-told : goal.returns-clause-told
 returns-clause-told g c = of_told (IsSoundAnswer c.run_job.result) (returns-clause-sound g c)
 
+pub returns-clause-ok : goal.returns-clause-ok
+returns-clause-ok g c = read_weaker IsSomeRunLog _ (returns-clause-read g c) (λ ranges p. p) (λ file ranges p t. t.1.ok)
+
 pub returns-clause-failed : goal.returns-clause-failed
 returns-clause-failed g c =
     let job = c.run_job.new.job in

@@ -17,6 +17,9 @@ returns-in-Check-clause-sound g c = after_weaker _ _ (returns-in-Check-clause-re
 pub returns-in-Check-clause-told : goal.returns-in-Check-clause-told
 returns-in-Check-clause-told g c = of_told_after _ (IsSoundAnswer c.check_on.result) (returns-in-Check-clause-sound g c)
 
+pub returns-in-Check-clause-ok : goal.returns-in-Check-clause-ok
+returns-in-Check-clause-ok g c = rw c.in-Check.is (after_weaker _ _ (returns-in-Check-clause-read g c) (λ file is t. t.ok))
+
 pub returns-in-Check-clause-failed : goal.returns-in-Check-clause-failed
 returns-in-Check-clause-failed g c = record {
   reads = c.check_on.ensures.count;
@@ -34,6 +37,9 @@ returns-in-Stat-clause-sound g c = after_weaker _ _ (returns-in-Stat-clause-read
 
 pub returns-in-Stat-clause-told : goal.returns-in-Stat-clause-told
 returns-in-Stat-clause-told g c = of_told_after _ (IsSoundAnswer c.stat_on.result) (returns-in-Stat-clause-sound g c)
+
+pub returns-in-Stat-clause-ok : goal.returns-in-Stat-clause-ok
+returns-in-Stat-clause-ok g c = after_weaker _ _ (returns-in-Stat-clause-read g c) (λ file is t. t.ok)
 
 pub returns-in-Stat-clause-failed : goal.returns-in-Stat-clause-failed
 returns-in-Stat-clause-failed g c = rw c.in-Stat.is (record { reads = c.stat_on.ensures.count; writes = c.stat_on.ensures.writes; first = λ i. absurd i })
