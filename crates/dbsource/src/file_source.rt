@@ -15,14 +15,15 @@ use std::{fs, io};
 
 /// A file, opened for reading only. It has no told bytes: no contract knows what the file holds.
 ///
-/// It may ask the system for more than its caller asks for. Where reads follow one another it makes longer ones, of at
-/// most 256 KiB, and answers from these. Of a file that is not in memory it reads each MiB once as a whole when the
-/// first read falls into it, so that the system has it in memory. It does both only if there is memory for the buffers.
+/// It may ask the system for more than its caller asks for. Where reads of at most 4096 bytes follow one another it makes
+/// longer ones, of at most 256 KiB, and answers from these. Of a file that is not in memory it reads each MiB once as a
+/// whole when the first read falls into it, so that the system has it in memory. It takes the buffer for either when it
+/// first needs it, so that what a run needs comes first, and reads page by page where there is no memory for it.
 #[derive(Drop)]
 pub struct FileSource<'r, C> {
     file: File,
     ahead: Option<ReadAhead<'r, C>>,
-    along: Option<ReadAlong>,
+    along: ReadAlong,
     failures: Failures,
 }
 
@@ -78,7 +79,7 @@ impl<'r, R: Files<File = File> + Clock + AllocGlobal> FileSource<'r, R> {
                 Ok(FileSource {
                     file,
                     ahead: bound.and_then(|bound| ReadAhead::new(rt.alloc(), rt, len, bound).ok()),
-                    along: ReadAlong::new(rt.alloc()).ok(),
+                    along: ReadAlong::new(rt.alloc()),
                     failures: Failures::new(),
                 })
             }
@@ -93,9 +94,7 @@ impl<C: Clock> FileSource<'_, C> {
     fn read(&mut self, offset: u64, buf: &mut [u8]) -> io::Result<()>
         ensures { self.new ≡ self.old }
     {
-        if let Some(along) = &mut self.along
-            && along.read(&self.file, offset, buf)
-        {
+        if self.along.read(&self.file, offset, buf) {
             return Ok(());
         }
         match &mut self.ahead {

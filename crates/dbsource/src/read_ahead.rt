@@ -33,8 +33,8 @@ pub(crate) struct ReadAhead<'r, C> {
 }
 
 impl<'r, C: Clock> ReadAhead<'r, C> {
-    /// The windows of a file of `len` bytes, where a page that takes `bound` or longer comes from a device. All memory
-    /// is taken here.
+    /// The windows of a file of `len` bytes, where a page that takes `bound` or longer comes from a device. The memory of the
+    /// windows' bits is taken here, that of a window when the first is read; where it is refused none is.
     ///
     /// # Errors
     ///
@@ -50,7 +50,7 @@ impl<'r, C: Clock> ReadAhead<'r, C> {
             clock,
             bound,
             seen: vec![in alloc; 0; windows.div_ceil(64) as usize]?,
-            buffer: Vec::with_capacity(alloc, WINDOW)?,
+            buffer: Vec::new(alloc),
         })
     }
 

@@ -1,6 +1,6 @@
 // Reading along: reads that follow one another are answered from one longer read.
 use crate::memory_source::copy_range;
-use std::alloc::{AllocError, Global};
+use std::alloc::Global;
 use std::fs::File;
 use std::os::unix::fs::FileExt;
 
@@ -12,6 +12,9 @@ const ROW: u32 = 4;
 const LEAST: usize = 32_768;
 
 const GREATEST: usize = 262_144;
+
+// The longest page that is read so. A longer one costs more to copy than a call of the system takes.
+const LONGEST: usize = 4096;
 
 /// The bytes of the last longer read, which answer later reads that they cover.
 #[derive(Drop)]
@@ -28,25 +31,24 @@ pub(crate) struct ReadAlong {
 }
 
 impl ReadAlong {
-    /// No bytes yet. All memory is taken here.
-    ///
-    /// # Errors
-    ///
-    /// [`AllocError`] where it was refused.
-    pub fn new(alloc: Global) -> Result<ReadAlong, AllocError> {
-        Ok(ReadAlong {
-            buffer: Vec::with_capacity(alloc, GREATEST)?,
+    /// No bytes yet. Memory is taken by the first longer read, and where it is refused there is none.
+    pub fn new(alloc: Global) -> ReadAlong {
+        ReadAlong {
+            buffer: Vec::new(alloc),
             start: 0,
             held: 0,
             end: 0,
             row: 0,
             size: LEAST,
-        })
+        }
     }
 
     /// Reads from `offset` on, from the bytes that are held or by a longer read. Answers `false` where no longer read
     /// is due or it does not return all of them; the contents of `buf` are then unspecified.
     pub fn read(&mut self, file: &File, offset: u64, buf: &mut [u8]) -> bool {
+        if buf.len() > LONGEST {
+            return false;
+        }
         let follows = offset == self.end;
         self.end = offset.saturating_add(buf.len() as u64);
         if self.gives(offset, buf) {
@@ -78,7 +80,12 @@ impl ReadAlong {
     // Makes the longer read that is due from `offset` on, which may return fewer bytes. Where it fails none are held.
     fn fill(&mut self, file: &File, offset: u64) {
         self.held = 0;
-        if self.buffer.len() < self.size && self.buffer.resize(self.size, 0).is_err() {
+        if self
+            .buffer
+            .try_reserve_exact(GREATEST.saturating_sub(self.buffer.len()))
+            .is_err()
+            || self.buffer.len() < self.size && self.buffer.resize(self.size, 0).is_err()
+        {
             return;
         }
         if let Some(room) = self.buffer.as_mut_slice().get_mut(..self.size)
