@@ -18,7 +18,7 @@ pub returns-in-Check-clause-told : goal.returns-in-Check-clause-told
 returns-in-Check-clause-told g c = of_told_after _ (IsSoundAnswer c.check_on.result) (returns-in-Check-clause-sound g c)
 
 pub returns-in-Check-clause-ok : goal.returns-in-Check-clause-ok
-returns-in-Check-clause-ok g c = rw c.in-Check.is (after_weaker _ _ (returns-in-Check-clause-read g c) (λ file is t. t.ok))
+returns-in-Check-clause-ok g c = after_weaker _ _ (returns-in-Check-clause-read g c) (λ file is t. t.ok)
 
 pub returns-in-Check-clause-failed : goal.returns-in-Check-clause-failed
 returns-in-Check-clause-failed g c = record {
