@@ -8,7 +8,6 @@ use Rattle.dbformat.specs.EndFaults.{end_faults}
 use Rattle.dbformat.specs.HeaderFaults.{header_faults}
 use Rattle.dbformat.specs.Reference.{Reference}
 use Rattle.dbformat.specs.Report.{faults}
-use Rattle.dbformat.specs.Schema.{schema}
 use Rattle.dbformat.specs.SchemaRow.{SchemaRow}
 use Rattle.dbformat.specs.Story.{start_errands}
 use Rattle.dbformat.specs.Survey.{Survey}

@@ -1,11 +1,11 @@
 -- The walks from the starts, one after another: what a walk over the next tree leaves to be reported.
-use Rattle.std.proofs.Common.{◌≡◌, ℕ, suc, ◌+◌, ◌-◌, ◌<◌, Bool, false, cond, inl, List, [], ◌∷◌, ◌++◌, drop, length, map, Some, Result, Ok, Err, refl, sym, ap, subst, ◌∙◌, arith, append_assoc, append-nil}
-use Rattle.std.specs.Prelude.{slice_get, ◌==◌}
+use Rattle.std.proofs.Common.{◌≡◌, ◌↔◌, ℕ, suc, ◌+◌, ◌-◌, ◌<◌, Bool, false, cond, inl, List, [], ◌∷◌, ◌++◌, drop, length, map, Some, Result, Ok, Err, refl, sym, ap, subst, ◌∙◌, arith, append_assoc, append-nil}
+use Rattle.std.specs.Prelude.{OnOk, slice_get, ◌==◌}
 use Rattle.std.specs.List.{enumerate_from}
 use Rattle.dbsurvey.specs.Moves.{Moves}
 use Rattle.dbsurvey.specs.Story.{Errand, Go, Follow, errands_at}
 use Rattle.dbsurvey.proofs.Moving.{Moves-append}
-use Rattle.dbformat.specs.Address.{freelist_start}
+use Rattle.dbformat.specs.Address.{freelist_start, schema_start, start_of}
 use Rattle.dbformat.specs.Header.{encoding, first_trunk}
 use Rattle.dbformat.specs.Reference.{trunk, Way, Reference}
 use Rattle.dbformat.specs.Schema.{start as start_at}
@@ -18,13 +18,18 @@ use Rattle.dbtrace.specs.Finding.{Finding, told_below, visited_below}
 use Rattle.dbwalk.specs.Done.{IsDone, IsTreeDone}
 use Rattle.dbwalk.specs.Entered.{IsNext}
 use Rattle.dbmarks.specs.Marking.{AreMarksOf}
+use Rattle.dbwalk.specs.Taking.{StartsEmpty, gives, readable_rows}
 use Rattle.dbwalk.specs.Telling.{StopsBy}
 use Rattle.dbwalk.specs.Roots.{IsRootAfter}
 use Rattle.dbwalk.specs.Trunks.{IsFirstTrunk, freelist_reference}
 use Rattle.dbmarks.specs.declared.marks.Mark.{Mark}
+use Rattle.dbwalk.specs.declared.root.Root.{Root}
+use Rattle.dbwalk.specs.declared.root.RootKind.TheVariants.{Schema}
 use Rattle.dbwalk.specs.declared.taker.Taken.{Taken}
+use Rattle.dbwalk.proofs.RootTakings.{tree_given, tree_told}
 use Rattle.dbwalk.proofs.Telling.Belows.{told_none, stops_by_first, stops_by_after}
 use Rattle.dbwalk.proofs.Telling.Lefts.{left_call, left_none}
+use Rattle.dbwalk.proofs.Underway.WalkedTrees.{root_address}
 use Rattle.dbscan.specs.Notices.{Notice, found, ended, errands_left, root_reference, tree_notices, later_notices, start_notices}
 use Rattle.dbscan.specs.Starts.{IsSchemaOf, at_freelist, at_row, at_schema, later_errands, root_of, schema_reference}
 use Rattle.dbscan.specs.Tellers.{HandsOn}
@@ -65,38 +70,50 @@ module _ {S : Type 0} (hears cuts : S → Notice → S → Type 0) where
     abbrev items : List Finding
     items = told_below file W (Go c ∷ [])
 
+    -- what is below its root is marked and was reported, and the taker was given the rows of the schema
     abbrev IsDoneBy : Result (Unit {0}) RunError → Type 0
-    IsDoneBy r = IsTreeDone (HandsOn hears) (HandsOn cuts) keeps refuses file W c r marks w m first u
+    IsDoneBy r = IsDone (HandsOn hears) (HandsOn cuts) file W (Go c ∷ []) r marks w m
+        × (start_of c.address ≡ schema_start → OnOk r (Moves (gives keeps) first (readable_rows file (W ++ visited_below file W (Go c ∷ []))) u))
+
+    -- with a taker that starts empty, if the tree is the schema's
+    pub root_done : (r : Result (Unit {0}) RunError) (root : Root) (old : List Mark) → IsRootAfter file root W c old → ((root.kind ≡ Schema) ↔ (root.start ≡ schema_start)) → (held : T → ℕ) → (root.kind ≡ Schema → StartsEmpty keeps held first)
+        → IsTreeDone (HandsOn hears) (HandsOn cuts) keeps refuses file W c r marks (w, first) (m, u) → IsDoneBy r
+    root_done r root old after schema held empty done =
+        let at = root_address c.address root.start after.candidate.depth after.candidate.start in
+        let first_empty : start_of c.address ≡ schema_start → StartsEmpty keeps held first = λ z. empty (schema.1 (sym after.candidate.start ∙ z)) in (
+          tree_told (HandsOn hears) (HandsOn cuts) keeps refuses file root.start W c at after.early r marks (w, first) (m, u) done held first_empty,
+          tree_given (HandsOn hears) (HandsOn cuts) keeps refuses file root.start W c at after.early r marks (w, first) (m, u) done held first_empty,
+        )
 
     -- an error stopped the walk
     pub tree_stopped : (e : RunError) → IsDoneBy (Err e) → IsWalkedOver {A = Unit {0}} hears cuts keeps file W c (Err e) marks w m first u
     tree_stopped e d = record {
-      tree = record { marked = tt; told = stops_by_first hears cuts e w.reporter.now m.reporter.now (map (found w.start.now) items) (ended w.start.now ∷ []) (stopped items w m e d.done.told) };
+      tree = record { marked = tt; told = stops_by_first hears cuts e w.reporter.now m.reporter.now (map (found w.start.now) items) (ended w.start.now ∷ []) (stopped items w m e d.0.told) };
       has_rows = tt;
       given = λ k. tt;
     }
 
     module _ (t : Teller S) (d : IsDoneBy (Ok tt)) where
       start_kept : m.start.now ≡ w.start.now
-      start_kept = (teller_moves hears cuts items w m d.done.told).1
+      start_kept = (teller_moves hears cuts items w m d.0.told).1
 
       -- all was reported, and then the tree ended
       pub tree_ended : hears m.reporter.now (ended m.start.now) t.reporter.now → t.has_rows ≡ m.has_rows → IsWalkedOver {A = Unit {0}} hears cuts keeps file W c (Ok tt) marks w t first u
       tree_ended e rows = record {
         tree = record {
-          marked = d.done.marked;
-          told = Moves-append hears w.reporter.now m.reporter.now t.reporter.now (map (found w.start.now) items) (ended w.start.now ∷ []) (moved items w m d.done.told)
+          marked = d.0.marked;
+          told = Moves-append hears w.reporter.now m.reporter.now t.reporter.now (map (found w.start.now) items) (ended w.start.now ∷ []) (moved items w m d.0.told)
               (t.reporter.now, subst (λ at. hears m.reporter.now (ended at) t.reporter.now) start_kept e, refl);
         };
-        has_rows = rows ∙ (teller_moves hears cuts items w m d.done.told).2;
-        given = d.given;
+        has_rows = rows ∙ (teller_moves hears cuts items w m d.0.told).2;
+        given = d.1;
       }
 
       pub tree_cut : cuts m.reporter.now (ended m.start.now) t.reporter.now → IsWalkedOver {A = Unit {0}} hears cuts keeps file W c (Err WriteFailed) marks w t first u
       tree_cut e = record {
         tree = record {
           marked = tt;
-          told = stops_by_after hears cuts WriteFailed w.reporter.now m.reporter.now t.reporter.now (map (found w.start.now) items) (ended w.start.now ∷ []) (moved items w m d.done.told)
+          told = stops_by_after hears cuts WriteFailed w.reporter.now m.reporter.now t.reporter.now (map (found w.start.now) items) (ended w.start.now ∷ []) (moved items w m d.0.told)
               (inl (subst (λ at. cuts m.reporter.now (ended at) t.reporter.now) start_kept e));
         };
         has_rows = tt;

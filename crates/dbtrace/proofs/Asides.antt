@@ -1,14 +1,13 @@
 -- Below a page that is in no tree there is no page of a tree; so what is reported there leaves the progress as it is.
-use Rattle.std.proofs.Common.{◌≡◌, ℕ, zero, suc, ◌<◌, inl, inr, cond, not, ◌&&◌, List, [], ◌∷◌, ◌++◌, map, length, Option, Some, None, refl, sym, ap, subst, arith, ◌∙◌}
+use Rattle.std.proofs.Common.{◌≡◌, ℕ, zero, suc, ◌<◌, inl, inr, cond, not, ◌&&◌, List, [], ◌∷◌, ◌++◌, map, length, Option, Some, None, refl, sym, ap, arith, ◌∙◌, append_assoc}
 use Rattle.std.specs.Prelude.{option_to_list, pos, ◌==◌}
-use Rattle.std.proofs.lemmas.List.{append-nil, length-append}
+use Rattle.std.proofs.lemmas.List.{append-nil, length-append, map-append}
 use Rattle.dbsurvey.specs.Address.{IsIn, Address}
 use Rattle.dbsurvey.specs.Run.{run, up_to}
 use Rattle.dbsurvey.specs.Story.{Told}
 use Rattle.dbsurvey.specs.Survey.{children}
-use Rattle.dbsurvey.proofs.Advancing.{run_reads}
+use Rattle.dbsurvey.specs.InOrder.{read_back}
 use Rattle.dbsurvey.proofs.Composing.{named_at-step}
-use Rattle.dbsurvey.proofs.Order.{IsIn-right}
 use Rattle.dbformat.proofs.Visited.{kind_of_view}
 use Rattle.dbformat.specs.Tests.{told_if}
 use Rattle.dbformat.specs.Faults.{fault}
@@ -24,14 +23,13 @@ use Rattle.dbformat.specs.declared.TreeKind.{TreeKind}
 use Rattle.dbtrace.specs.Causes.{leaf_at, cause_of}
 use Rattle.dbtrace.specs.Finding.{told_row, told_by, told_at}
 use Rattle.dbtrace.specs.declared.TreeLeaf.{TreeLeaf}
-use Rattle.dbtrace.specs.Item.{finding_in, given_rows, readable, rows_at_event, faults_at}
+use Rattle.dbtrace.specs.Item.{found, given, rows_at_event, faults_at, items_at}
 use Rattle.dbtrace.specs.Progress.{Progress, cause_by, leaf_after, depth_of, depth_faults, step}
 use Rattle.dbtrace.specs.Steps.{AreAside}
 use Rattle.dbtrace.specs.Walk.{Walk, machine, advance}
 use Rattle.dbtrace.proofs.Depths.{page_parts, not_leaf, no_leaf}
 use Rattle.dbtrace.proofs.Causing.{page_same}
-use Rattle.dbtrace.proofs.Folding.{page_of_progress, page_of_visits, findings_at, given_are}
-use Rattle.dbtrace.proofs.RowsTold.{rows_told}
+use Rattle.dbtrace.proofs.Folding.{page_of_progress, page_of_visits}
 use Rattle.dbtrace.proofs.SchemaOrder.{parent_inside}
 use Rattle.dbtrace.proofs.Told.{visited, trace, part, tells, IsOf, told_as}
 
@@ -47,7 +45,7 @@ module _ (file : List ℕ) where
   IsOff (at_refused r) = Unit {0}
 
   step_off : (U : List Reference) (p : Progress) (e : Event) → IsOff e → step file U p e ≡ p
-  step_off U p (at_page r) h = ap (λ leaf. record { greatest = p.greatest; leaf = leaf; roots = p.roots }) (kept p.leaf)
+  step_off U p (at_page r) h = ap (λ leaf. record { greatest = p.greatest; leaf = leaf }) (kept p.leaf)
     where
       kept : (leaf : Option TreeLeaf) → leaf_after file leaf r ≡ leaf
       kept None = ap (λ b. cond b (Some (leaf_at r)) None) (not_leaf file (start_of r.address) r h)
@@ -75,9 +73,18 @@ module _ (file : List ℕ) where
   state_off now [] h = refl
   state_off now (t ∷ L) h = state_off (advance file now t.event) L (λ u i. h u (inr i)) ∙ step_off (advance file now t.event).visits now.state t.event (h t (inl refl))
 
-  rows_told_off : (W : List Reference) (L : List (Told Event)) → ((t : Told Event) → IsIn t L → IsOff t.event) → rows_told file W L ≡ []
-  rows_told_off W [] h = refl
-  rows_told_off W (t ∷ L) h = let U = W ++ option_to_list (own_visit t.event) in ap (λ l. l ++ rows_told file U L) (rows_off U t.event (h t (inl refl))) ∙ rows_told_off U L (λ u i. h u (inr i))
+  item_off : (U : List Reference) (p : Progress) (e : Event) → IsOff e → items_at file U p e ≡ map found (told_at file U e)
+  item_off U p e h = ap (λ rows. map given rows ++ map found (map told_row (option_to_list (event_row file e)) ++ told_by (cause_by file U p e) (faults_at file U p e))) (rows_off U e h)
+      ∙ ap (λ fs. map found (map told_row (option_to_list (event_row file e)) ++ fs)) (faults_off U p e h)
+
+  items_off : (now : Walk) (L : List (Told Event)) → ((t : Told Event) → IsIn t L → IsOff t.event) → (run (machine file) now L).items ≡ now.items ++ map found (read_back own_visit (told_at file) now.visits L)
+  items_off now [] h = sym (append-nil now.items)
+  items_off now (t ∷ L) h =
+      let U = up_to (machine file) now t.event in
+      items_off (advance file now t.event) L (λ u i. h u (inr i))
+      ∙ ap (λ l. now.items ++ l ++ map found (read_back own_visit (told_at file) U L)) (item_off U now.state t.event (h t (inl refl)))
+      ∙ append_assoc now.items (map found (told_at file U t.event)) (map found (read_back own_visit (told_at file) U L))
+      ∙ ap (λ l. now.items ++ l) (sym (map-append found (told_at file U t.event) (read_back own_visit (told_at file) U L)))
 
 module _ (file : List ℕ) (W : List Reference) (c : Reference) (none : tree_kind (role_of c) ≡ None) where
   no_tree_below : (r : Reference) → IsIn r (visited file W c) → tree_kind (role_of r) ≡ None
@@ -107,9 +114,5 @@ module _ (file : List ℕ) (W : List Reference) (c : Reference) (none : tree_kin
 pub are_aside : (file : List ℕ) → AreAside file
 are_aside file now c none = record {
   state = state_off file now (trace file now.visits c) (off file now.visits c none);
-  findings_are = run_reads (machine file) finding_in (told_at file) now (trace file now.visits c) (λ A B t split.
-      let m = run (machine file) now A in
-      findings_at file (up_to (machine file) m t.event) m.state t.event
-      ∙ ap (λ fs. map told_row (option_to_list (event_row file t.event)) ++ fs) (faults_off file (up_to (machine file) m t.event) m.state t.event (off file now.visits c none t (subst (IsIn t) (sym split) (IsIn-right t A (t ∷ B) (inl refl))))));
-  rows = given_are file now (trace file now.visits c) ∙ ap (λ rows. given_rows now.items ++ readable rows) (rows_told_off file now.visits (trace file now.visits c) (off file now.visits c none)) ∙ append-nil (given_rows now.items);
+  items = items_off file now (trace file now.visits c) (off file now.visits c none);
 }

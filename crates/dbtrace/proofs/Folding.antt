@@ -1,16 +1,15 @@
 -- What is reported of a start follows from the progress of its walk.
-use Rattle.std.proofs.Common.{◌≡◌, ℕ, inl, inr, Bool, true, false, cond, not, ◌&&◌, List, [], ◌∷◌, ◌++◌, map, length, ℤ, Option, Some, None, refl, sym, ap, subst, arith, ◌∙◌, append_assoc}
+use Rattle.std.proofs.Common.{◌≡◌, ℕ, ◌+◌, inl, inr, Bool, true, false, cond, not, ◌&&◌, List, [], ◌∷◌, ◌++◌, map, length, ℤ, Option, Some, None, refl, sym, ap, subst, arith, ◌∙◌, append_assoc}
 use Rattle.std.specs.Prelude.{flat_map, option_map, option_to_list, nat_le, ◌==◌}
 use Rattle.std.specs.Option.{option_map_or}
 use Rattle.std.proofs.lemmas.Bool.{and_parts, eqb-true}
-use Rattle.std.proofs.lemmas.List.{append-nil}
+use Rattle.std.proofs.lemmas.List.{append-nil, length-append}
 use Rattle.std.proofs.lemmas.List.Elements.{filter_map-append}
-use Rattle.std.specs.Result.{result_ok}
 use Rattle.dbsurvey.specs.Address.{IsIn, Address}
 use Rattle.dbsurvey.specs.Run.{run, up_to}
 use Rattle.dbsurvey.specs.Story.{Told, Go}
-use Rattle.dbsurvey.specs.InOrder.{visits_in}
-use Rattle.dbsurvey.proofs.Advancing.{run_visits, run_reads, run_below_visits}
+use Rattle.dbsurvey.specs.InOrder.{visits_in, read_back}
+use Rattle.dbsurvey.proofs.Advancing.{run_visits, run_below_visits}
 use Rattle.dbsurvey.proofs.Lists.{flat_map-same, flat_map-none}
 use Rattle.dbsurvey.proofs.Order.{IsIn-right}
 use Rattle.dbsurvey.proofs.ReadBack.{read_as}
@@ -19,8 +18,7 @@ use Rattle.dbformat.specs.Address.{start_of, then_step, key_step, schema_start, 
 use Rattle.dbformat.specs.Head.{View, is_interior}
 use Rattle.dbformat.specs.Cell.{Cell}
 use Rattle.dbformat.specs.Reference.{Reference}
-use Rattle.dbformat.specs.Schema.{SchemaCell, schema_cell, schema, rooted_rows}
-use Rattle.dbformat.specs.SchemaRow.{SchemaRow}
+use Rattle.dbformat.specs.Schema.{SchemaCell, schema_cell, schema, rooted, rooted_rows}
 use Rattle.dbformat.specs.Survey.{rules_of}
 use Rattle.dbformat.specs.PageFaults.{page_faults, depth_fault}
 use Rattle.dbformat.specs.KeyFaults.{Key, earlier_roots, key_of, key_faults, row_faults_if, row_faults, row_faults_at, cell_place_faults}
@@ -33,18 +31,18 @@ use Rattle.dbformat.specs.declared.Fault.{Fault}
 use Rattle.dbformat.specs.declared.FaultCode.{FaultCode}
 use Rattle.dbformat.specs.declared.FaultCode.TheVariants.{T06}
 use Rattle.dbtrace.specs.Causes.{cell_key, first_leaf, top_before, cause_of}
-use Rattle.dbtrace.specs.Finding.{Finding, told_row, told_by, told_at, visited_below}
+use Rattle.dbtrace.specs.Finding.{Finding, told_row, told_alone, told_by, told_at, visited_below}
 use Rattle.dbtrace.specs.declared.Cause.{Cause}
 use Rattle.dbtrace.specs.declared.Cause.TheVariants as cause
 use Rattle.dbtrace.specs.Fold.{IsFold}
-use Rattle.dbtrace.specs.Item.{found, given, finding_in, given_row, findings_in, given_rows, readable, faults_at, rows_at_event, items_at}
+use Rattle.dbtrace.specs.Item.{Item, found, given, given_cell, given_cells, roots_in, counted_findings, faults_at, rows_at_event, items_at}
 use Rattle.dbtrace.specs.Progress.{Progress, cause_by, rows_of, late_faults, depth_faults}
 use Rattle.dbtrace.specs.Starts.{IsOfEarlierStart, AreOfEarlierStarts}
 use Rattle.dbtrace.specs.Walk.{Walk, machine, begin, advance, run_below}
 use Rattle.dbtrace.proofs.Causing.{IsOfPage, IsOfRow, told_by-append, page_same, rows_alone}
 use Rattle.dbtrace.proofs.Depths.{leaf_from, told_same, depth_told, page_parts}
 use Rattle.dbtrace.proofs.Keys.{greatest_is, started, top_is, late_is}
-use Rattle.dbtrace.proofs.RowsTold.{rows_told, roots_are, schema_told, rows_before}
+use Rattle.dbtrace.proofs.RowsTold.{rows_told, schema_told, rows_before}
 use Rattle.dbtrace.proofs.Told.{visited, trace, tells, IsOf, told_as, below_start, visited_before}
 
 -- which codes have a cause at an event
@@ -63,37 +61,85 @@ row_of_visits file U r v x = refl
 
 -- items, by what they are for
 
-found_only : (fs : List Finding) → (findings_in (map found fs) ≡ fs) × (given_rows (map found fs) ≡ [])
-found_only [] = (refl, refl)
-found_only (f ∷ fs) = let h = found_only fs in (ap (λ l. f ∷ l) h.0, h.1)
+counted_found : (roots : ℕ) (fs : List Finding) → counted_findings roots (map found fs) ≡ fs
+counted_found roots [] = refl
+counted_found roots (f ∷ fs) = ap (λ l. f ∷ l) (counted_found roots fs)
 
-given_only : (rows : List SchemaRow) → (given_rows (map given rows) ≡ rows) × (findings_in (map given rows) ≡ [])
-given_only [] = (refl, refl)
-given_only (r ∷ rows) = let h = given_only rows in (ap (λ l. r ∷ l) h.0, h.1)
+cells_found : (fs : List Finding) → given_cells (map found fs) ≡ []
+cells_found [] = refl
+cells_found (f ∷ fs) = cells_found fs
+
+cells_given : (rows : List SchemaCell) → given_cells (map given rows) ≡ rows
+cells_given [] = refl
+cells_given (d ∷ rows) = ap (λ l. d ∷ l) (cells_given rows)
+
+-- one list of items, and then another
+pub counted-append : (roots : ℕ) (L M : List Item) → counted_findings roots (L ++ M) ≡ counted_findings roots L ++ counted_findings (roots + roots_in L) M
+counted-append roots [] M = let z : roots ≡ roots + 0 = omega arith in ap (λ n. counted_findings n M) z
+counted-append roots (found f ∷ L) M = ap (λ l. f ∷ l) (counted-append roots L M)
+counted-append roots (given d ∷ L) M =
+    let here = map told_alone (row_faults_if (nat_le last_root_start roots) d) in
+    let one = length (rooted_rows (d ∷ [])) in
+    let both : length (rooted_rows (d ∷ given_cells L)) ≡ one + roots_in L = ap length (filter_map-append (λ c. rooted c.row) (d ∷ []) (given_cells L)) ∙ length-append (rooted_rows (d ∷ [])) (rooted_rows (given_cells L)) in
+    let sum : roots + one + roots_in L ≡ roots + length (rooted_rows (d ∷ given_cells L)) = omega (arith, both) in
+    ap (λ l. here ++ l) (counted-append (roots + one) L M ∙ ap (λ n. counted_findings (roots + one) L ++ counted_findings n M) sum)
+    ∙ sym (append_assoc here (counted_findings (roots + one) L) (counted_findings (roots + roots_in (given d ∷ L)) M))
 
 module _ (file : List ℕ) where
-  pub findings_at : (U : List Reference) (p : Progress) (e : Event) → findings_in (items_at file U p e) ≡ map told_row (option_to_list (event_row file e)) ++ told_by (cause_by file U p e) (faults_at file U p e)
-  findings_at U p e =
-      let rows = readable (rows_at_event file U e) in
-      let fs = map told_row (option_to_list (event_row file e)) ++ told_by (cause_by file U p e) (faults_at file U p e) in
-      filter_map-append finding_in (map given rows) (map found fs) ∙ ap (λ l. l ++ findings_in (map found fs)) (given_only rows).1 ∙ (found_only fs).0
+  -- the faults of an event, where this many rows with a root page came before
+  abbrev counted_faults : ℕ → List Reference → Progress → Event → List Fault
+  counted_faults roots U p (at_page r) = faults_at file U p (at_page r)
+  counted_faults roots U p (at_key r v x) = flat_map (row_faults_if (nat_le last_root_start roots)) (rows_of file U r v x) ++ flat_map (late_faults p.greatest) (key_of r v x)
+  counted_faults roots U p (at_refused r) = faults_at file U p (at_refused r)
 
-  pub rows_at_item : (U : List Reference) (p : Progress) (e : Event) → given_rows (items_at file U p e) ≡ readable (rows_at_event file U e)
+  findings_at : (roots : ℕ) (U : List Reference) (p : Progress) (e : Event)
+      → counted_findings roots (items_at file U p e) ≡ map told_row (option_to_list (event_row file e)) ++ told_by (cause_by file U p e) (counted_faults roots U p e)
+  findings_at roots U p (at_page r) = counted_found roots _
+  findings_at roots U p (at_refused r) = counted_found roots _
+  findings_at roots U p (at_key r v x) =
+      let why = cause_by file U p (at_key r v x) in
+      let R = rows_of file U r v x in
+      let K = flat_map (late_faults p.greatest) (key_of r v x) in
+      counted-append roots (map given R) (map found (told_by why K))
+      ∙ ap (λ l. counted_findings roots (map given R) ++ l) (counted_found (roots + roots_in (map given R)) (told_by why K))
+      ∙ ap (λ l. l ++ told_by why K) (one_row ((start_of r.address == schema_start) && not (is_interior v.kind)) (schema_cell file U r x) ∙ sym (rows_alone why (row_of_progress file U p r v x) (nat_le last_root_start roots) R))
+      ∙ sym (told_by-append why (flat_map (row_faults_if (nat_le last_root_start roots)) R) K)
+    where
+      one_row : (b : Bool) (d : SchemaCell) → counted_findings roots (map given (cond b (d ∷ []) [])) ≡ map told_alone (flat_map (row_faults_if (nat_le last_root_start roots)) (cond b (d ∷ []) []))
+      one_row true d = append-nil (map told_alone (row_faults_if (nat_le last_root_start roots) d)) ∙ ap (map told_alone) (sym (append-nil (row_faults_if (nat_le last_root_start roots) d)))
+      one_row false d = refl
+
+  rows_at_item : (U : List Reference) (p : Progress) (e : Event) → given_cells (items_at file U p e) ≡ rows_at_event file U e
   rows_at_item U p e =
-      let rows = readable (rows_at_event file U e) in
+      let rows = rows_at_event file U e in
       let fs = map told_row (option_to_list (event_row file e)) ++ told_by (cause_by file U p e) (faults_at file U p e) in
-      filter_map-append given_row (map given rows) (map found fs) ∙ ap (λ l. given_rows (map given rows) ++ l) (found_only fs).1 ∙ append-nil (given_rows (map given rows)) ∙ (given_only rows).0
+      filter_map-append given_cell (map given rows) (map found fs) ∙ ap (λ l. given_cells (map given rows) ++ l) (cells_found fs) ∙ append-nil (given_cells (map given rows)) ∙ cells_given rows
 
   -- the rows that were given
-  pub given_are : (now : Walk) (A : List (Told Event)) → given_rows (run (machine file) now A).items ≡ given_rows now.items ++ readable (rows_told file now.visits A)
-  given_are now [] = sym (append-nil (given_rows now.items))
+  given_are : (now : Walk) (A : List (Told Event)) → given_cells (run (machine file) now A).items ≡ given_cells now.items ++ rows_told file now.visits A
+  given_are now [] = sym (append-nil (given_cells now.items))
   given_are now (t ∷ A) =
       let U = up_to (machine file) now t.event in
       let R = rows_at_event file U t.event in
       given_are (advance file now t.event) A
-      ∙ ap (λ l. l ++ readable (rows_told file U A)) (filter_map-append given_row now.items (items_at file U now.state t.event) ∙ ap (λ l. given_rows now.items ++ l) (rows_at_item U now.state t.event))
-      ∙ append_assoc (given_rows now.items) (readable R) (readable (rows_told file U A))
-      ∙ ap (λ l. given_rows now.items ++ l) (sym (filter_map-append (λ c. result_ok c.row) R (rows_told file U A)))
+      ∙ ap (λ l. l ++ rows_told file U A) (filter_map-append given_cell now.items (items_at file U now.state t.event) ∙ ap (λ l. given_cells now.items ++ l) (rows_at_item U now.state t.event))
+      ∙ append_assoc (given_cells now.items) R (rows_told file U A)
+
+  -- what is reported of the items, event after event
+  abbrev IsReadAt : Walk → Event → Type 0
+  IsReadAt now e = counted_findings (roots_in now.items) (items_at file (up_to (machine file) now e) now.state e) ≡ told_at file (up_to (machine file) now e) e
+
+  reads : (now : Walk) (L : List (Told Event)) → ((A B : List (Told Event)) (t : Told Event) → L ≡ A ++ (t ∷ B) → IsReadAt (run (machine file) now A) t.event)
+      → counted_findings 0 (run (machine file) now L).items ≡ counted_findings 0 now.items ++ read_back own_visit (told_at file) now.visits L
+  reads now [] h = sym (append-nil (counted_findings 0 now.items))
+  reads now (t ∷ L) h =
+      let U = up_to (machine file) now t.event in
+      let items = items_at file U now.state t.event in
+      let z : 0 + roots_in now.items ≡ roots_in now.items = omega arith in
+      reads (advance file now t.event) L (λ A B u e. h (t ∷ A) B u (ap (λ l. t ∷ l) e))
+      ∙ ap (λ l. l ++ read_back own_visit (told_at file) U L)
+      (counted-append 0 now.items items ∙ ap (λ n. counted_findings 0 now.items ++ counted_findings n items) z ∙ ap (λ l. counted_findings 0 now.items ++ l) (h [] L t refl))
+      ∙ append_assoc (counted_findings 0 now.items) (told_at file U t.event) (read_back own_visit (told_at file) U L)
 
   -- the depth of the first leaf
   leaf_is : (now : Walk) (A : List (Told Event)) → (run (machine file) now A).state.leaf ≡ leaf_from file now.state.leaf (visits_in own_visit A)
@@ -191,33 +237,33 @@ module _ (file : List ℕ) (k : ℕ) (W : List Reference) (c : Reference) (at : 
         ∙ sym (greatest_is file (begin W) A)
 
     -- a row of the schema: by how many have a root
-    full : k ≡ schema_start → own_visit t.event ≡ None → earlier_roots file (W ++ X) t.key ≡ (after A).state.roots
+    full : k ≡ schema_start → own_visit t.event ≡ None → earlier_roots file (W ++ X) t.key ≡ roots_in (after A).items
     full e quiet =
         let none : W ≡ [] = none_earlier W (subst (λ k. AreOfEarlierStarts k W) e early) in
         ap (λ W. earlier_roots file (W ++ X) t.key) none
         ∙ ap (λ l. length (rooted_rows l)) (rows_before file c (at ∙ ap (λ k. k ∷ []) e) A B t (subst (λ W. trace file W c ≡ A ++ (t ∷ B)) none split) quiet)
-        ∙ (let f = roots_are file (begin W) A in let g = ap (λ W. length (rooted_rows (rows_told file W A))) none in omega arith)
+        ∙ ap (λ l. length (rooted_rows l)) (ap (λ W. rows_told file W A) (sym none) ∙ sym (given_are file (begin W) A))
 
     rows : (r : Reference) (v : View) (x : ℕ × Cell) → t.event ≡ at_key r v x → IsIn r (visited file W c) → t.key ≡ then_step r.address (key_step x.0)
-        → flat_map (row_faults_if (nat_le last_root_start (after A).state.roots)) (rows_of file (W ++ X) r v x) ≡ row_faults_at file (W ++ X) r v x
+        → flat_map (row_faults_if (nat_le last_root_start (roots_in (after A).items))) (rows_of file (W ++ X) r v x) ≡ row_faults_at file (W ++ X) r v x
     unfolding row_faults
     rows r v x e i place = by_test ((start_of r.address == schema_start) && not (is_interior v.kind)) refl
       where
         d : SchemaCell
         d = schema_cell file (W ++ X) r x
 
-        roots : (start_of r.address == schema_start) ≡ true → earlier_roots file (W ++ X) d.place ≡ (after A).state.roots
+        roots : (start_of r.address == schema_start) ≡ true → earlier_roots file (W ++ X) d.place ≡ roots_in (after A).items
         roots f = ap (earlier_roots file (W ++ X)) (sym place) ∙ full (sym (at_start r i) ∙ eqb-true (start_of r.address) schema_start f) (ap own_visit e)
 
         by_test : (b : Bool) → ((start_of r.address == schema_start) && not (is_interior v.kind)) ≡ b
-            → flat_map (row_faults_if (nat_le last_root_start (after A).state.roots)) (cond b (d ∷ []) []) ≡ cond b (row_faults file (W ++ X) d) []
+            → flat_map (row_faults_if (nat_le last_root_start (roots_in (after A).items))) (cond b (d ∷ []) []) ≡ cond b (row_faults file (W ++ X) d) []
         by_test false f = refl
-        by_test true f = append-nil (row_faults_if (nat_le last_root_start (after A).state.roots) d)
+        by_test true f = append-nil (row_faults_if (nat_le last_root_start (roots_in (after A).items)) d)
             ∙ ap (λ n. row_faults_if (nat_le last_root_start n) d) (sym (roots (and_parts (start_of r.address == schema_start) (not (is_interior v.kind)) f).0))
 
     -- rows and keys, with their causes
     cell_told : (r : Reference) (v : View) (x : ℕ × Cell) → t.event ≡ at_key r v x → IsIn r (visited file W c) → t.key ≡ then_step r.address (key_step x.0)
-        → told_by (cause_by file (W ++ X) (after A).state (at_key r v x)) (flat_map (row_faults_if (nat_le last_root_start (after A).state.roots)) (rows_of file (W ++ X) r v x) ++ flat_map (late_faults (after A).state.greatest) (key_of r v x))
+        → told_by (cause_by file (W ++ X) (after A).state (at_key r v x)) (flat_map (row_faults_if (nat_le last_root_start (roots_in (after A).items))) (rows_of file (W ++ X) r v x) ++ flat_map (late_faults (after A).state.greatest) (key_of r v x))
         ≡ told_by (cause_of file (W ++ X) (at_key r v x)) (cell_place_faults file (W ++ X) r v x)
     unfolding key_faults
     cell_told r v x f i place =
@@ -231,7 +277,7 @@ module _ (file : List ℕ) (k : ℕ) (W : List Reference) (c : Reference) (at : 
         why' = cause_by file (W ++ X) (after A).state (at_key r v x)
 
         R : List Fault
-        R = flat_map (row_faults_if (nat_le last_root_start (after A).state.roots)) (rows_of file (W ++ X) r v x)
+        R = flat_map (row_faults_if (nat_le last_root_start (roots_in (after A).items))) (rows_of file (W ++ X) r v x)
 
         K : List Fault
         K = flat_map (late_faults (after A).state.greatest) (key_of r v x)
@@ -240,8 +286,8 @@ module _ (file : List ℕ) (k : ℕ) (W : List Reference) (c : Reference) (at : 
         K' = flat_map (key_faults file (W ++ X)) (key_of r v x)
 
         row_told : told_by why' R ≡ told_by why R
-        row_told = rows_alone why' (row_of_progress file (W ++ X) (after A).state r v x) (nat_le last_root_start (after A).state.roots) (rows_of file (W ++ X) r v x)
-            ∙ sym (rows_alone why (row_of_visits file (W ++ X) r v x) (nat_le last_root_start (after A).state.roots) (rows_of file (W ++ X) r v x))
+        row_told = rows_alone why' (row_of_progress file (W ++ X) (after A).state r v x) (nat_le last_root_start (roots_in (after A).items)) (rows_of file (W ++ X) r v x)
+            ∙ sym (rows_alone why (row_of_visits file (W ++ X) r v x) (nat_le last_root_start (roots_in (after A).items)) (rows_of file (W ++ X) r v x))
 
         causes : (key : Key) → key_of r v x ≡ key ∷ [] → why' T06 ≡ why T06
         causes key e = ap (λ top. option_map_or cause.Key top cause.Itself) (sym (key_cause r v x i place key e)) ∙ mapped (top_before file (W ++ X) (key_of r v x))
@@ -257,16 +303,16 @@ module _ (file : List ℕ) (k : ℕ) (W : List Reference) (c : Reference) (at : 
         by_keys (key ∷ other ∷ ks) e = absurd (one_key r v x key other ks e)
 
     faults : (e : Event) → t.event ≡ e → IsOf file (visited file W c) t.key e
-        → by_progress e (faults_at file (at_event e) (after A).state e) ≡ by_visits e (event_faults file (at_event e) e)
+        → by_progress e (counted_faults file (roots_in (after A).items) (at_event e) (after A).state e) ≡ by_visits e (event_faults file (at_event e) e)
     faults (at_page r) f h = page r h.0
     faults (at_refused r) f h = refl
-    faults (at_key r v x) f h = subst (λ U. told_by (cause_by file U (after A).state (at_key r v x)) (flat_map (row_faults_if (nat_le last_root_start (after A).state.roots)) (rows_of file U r v x) ++ flat_map (late_faults (after A).state.greatest) (key_of r v x))
+    faults (at_key r v x) f h = subst (λ U. told_by (cause_by file U (after A).state (at_key r v x)) (flat_map (row_faults_if (nat_le last_root_start (roots_in (after A).items))) (rows_of file U r v x) ++ flat_map (late_faults (after A).state.greatest) (key_of r v x))
         ≡ told_by (cause_of file U (at_key r v x)) (cell_place_faults file U r v x))
         (sym (append-nil (after A).visits ∙ visits_so_far))
         (cell_told r v x f h.0 h.3)
 
-    told : findings_in (items_at file (at_event t.event) (after A).state t.event) ≡ told_at file (at_event t.event) t.event
-    told = findings_at file (at_event t.event) (after A).state t.event
+    told : IsReadAt file (after A) t.event
+    told = findings_at file (roots_in (after A).items) (at_event t.event) (after A).state t.event
         ∙ ap (λ fs. map told_row (option_to_list (event_row file t.event)) ++ fs) (faults t.event refl here)
 
   -- the rows of the schema are given at the schema's start alone
@@ -280,21 +326,21 @@ module _ (file : List ℕ) (k : ℕ) (W : List Reference) (c : Reference) (at : 
       by_event A place (at_key r v x) h = ap (λ b. cond (b && not (is_interior v.kind)) (schema_cell file ((W ++ visits_in own_visit A) ++ []) r x ∷ []) [])
           (ap (λ s. s == schema_start) (ap start_of (below_start file W c k at r h.0).1) ∙ other)
 
-  all_rows : given_rows (run_below file (begin W) (Go c ∷ [])).items ≡ cond (k == schema_start) (readable (schema file (W ++ visited_below file W (Go c ∷ [])))) []
+  all_rows : given_cells (run_below file (begin W) (Go c ∷ [])).items ≡ cond (k == schema_start) (schema file (W ++ visited_below file W (Go c ∷ []))) []
   all_rows = given_are file (begin W) (trace file W c) ∙ by_start (k == schema_start) refl
     where
-      by_start : (b : Bool) → (k == schema_start) ≡ b → readable (rows_told file W (trace file W c)) ≡ cond b (readable (schema file (W ++ visited file W c))) []
-      by_start false e = ap readable (no_rows e)
+      by_start : (b : Bool) → (k == schema_start) ≡ b → rows_told file W (trace file W c) ≡ cond b (schema file (W ++ visited file W c)) []
+      by_start false e = no_rows e
       by_start true e =
           let f : k ≡ schema_start = eqb-true k schema_start e in
           let none : W ≡ [] = none_earlier W (subst (λ k. AreOfEarlierStarts k W) f early) in
-          ap (λ W. readable (rows_told file W (trace file W c))) none
-          ∙ ap readable (sym (schema_told file c (at ∙ ap (λ k. k ∷ []) f)))
-          ∙ ap (λ W. readable (schema file (W ++ visited file W c))) (sym none)
+          ap (λ W. rows_told file W (trace file W c)) none
+          ∙ sym (schema_told file c (at ∙ ap (λ k. k ∷ []) f))
+          ∙ ap (λ W. schema file (W ++ visited file W c)) (sym none)
 
 pub is_fold : (file : List ℕ) → IsFold file
 is_fold file = record {
-  findings_are = λ k W c at early. run_reads (machine file) finding_in (told_at file) (begin W) (trace file W c) (told file k W c at early);
+  findings_are = λ k W c at early. reads file (begin W) (trace file W c) (told file k W c at early);
   rows_are = λ k W c at early. all_rows file k W c at early;
   visits_are = λ k W c at early. run_below_visits (rules_of file) (story_of file) (geometry file).pages (are_rules file) (machine file) (is_story file) (shows_visits file) (begin W) (Go c ∷ [])
       (λ e i. elim i [ inl f ↦ cc | inr n ↦ absurd n ]);

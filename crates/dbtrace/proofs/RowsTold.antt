@@ -1,12 +1,11 @@
 -- The rows of the schema are those of the events, in their order; and those at smaller places are those of the events before.
-use Rattle.std.proofs.Common.{◌≡◌, ℕ, ◌+◌, inl, inr, Bool, true, false, cond, not, ◌&&◌, List, [], ◌∷◌, ◌++◌, map, length, Some, None, refl, sym, ap, subst, arith, ◌∙◌, append_assoc}
+use Rattle.std.proofs.Common.{◌≡◌, ℕ, inl, inr, Bool, true, false, cond, not, ◌&&◌, List, [], ◌∷◌, ◌++◌, map, Some, None, refl, sym, ap, subst, ◌∙◌, append_assoc}
 use Rattle.std.specs.Prelude.{flat_map, filter, option_to_list, ◌==◌}
 use Rattle.std.specs.List.{cons_option}
-use Rattle.std.proofs.lemmas.List.{append-nil, length-append}
+use Rattle.std.proofs.lemmas.List.{append-nil}
 use Rattle.std.proofs.lemmas.List.Elements.{filter-append, filter_map-append}
 use Rattle.std.proofs.lemmas.Grind.{flat_map-append}
 use Rattle.dbsurvey.specs.Address.{IsIn, EachPair, Address, IsBefore, IsAscending}
-use Rattle.dbsurvey.specs.Run.{run}
 use Rattle.dbsurvey.specs.Story.{Told, Go}
 use Rattle.dbsurvey.specs.InOrder.{is_before, visits_in, read_back}
 use Rattle.dbsurvey.proofs.Determined.{same_elements}
@@ -21,36 +20,19 @@ use Rattle.dbformat.specs.Address.{start_of, then_step, key_step, schema_start}
 use Rattle.dbformat.specs.Head.{View, is_interior}
 use Rattle.dbformat.specs.Cell.{Cell, cells}
 use Rattle.dbformat.specs.Reference.{Reference, tree_view}
-use Rattle.dbformat.specs.Schema.{SchemaCell, schema_cell, leaf_rows, rows_at, schema, rooted, rooted_rows}
+use Rattle.dbformat.specs.Schema.{SchemaCell, schema_cell, leaf_rows, rows_at, schema}
 use Rattle.dbformat.specs.Survey.{rules_of}
 use Rattle.dbformat.specs.Story.{Event, at_page, at_key, at_refused, own_visit, story_of}
 use Rattle.dbformat.proofs.Theory.{are_rules, is_story, shows_visits}
 use Rattle.dbformat.proofs.LookBack.{not_before, cell_front, schema_front}
 use Rattle.dbtrace.specs.Item.{rows_at_event}
 use Rattle.dbtrace.specs.Progress.{rows_of}
-use Rattle.dbtrace.specs.Walk.{Walk, machine, advance}
 use Rattle.dbtrace.proofs.SchemaOrder.{IsRowOf, row_from, schema_ascends}
 use Rattle.dbtrace.proofs.Told.{visited, trace, tells, IsToldBelow, IsOf, told_as, key_told, before, visited_after}
 
 -- the rows of what was reported, after the visits of W
 abbrev pub rows_told : List ℕ → List Reference → List (Told Event) → List SchemaCell
 rows_told file W A = read_back own_visit (rows_at_event file) W A
-
--- how many have a root is a fold over the events
-pub roots_are : (file : List ℕ) (now : Walk) (A : List (Told Event)) → (run (machine file) now A).state.roots ≡ now.state.roots + length (rooted_rows (rows_told file now.visits A))
-roots_are file now [] = omega arith
-roots_are file now (t ∷ A) = by_event t.event (λ m. roots_are file m A)
-  where
-    by_event : (e : Event) → ((m : Walk) → (run (machine file) m A).state.roots ≡ m.state.roots + length (rooted_rows (rows_told file m.visits A)))
-        → (run (machine file) (advance file now e) A).state.roots ≡ now.state.roots + length (rooted_rows (rows_at_event file (advance file now e).visits e ++ rows_told file (advance file now e).visits A))
-    by_event (at_page r) h = h (advance file now (at_page r))
-    by_event (at_refused r) h = h (advance file now (at_refused r))
-    by_event (at_key r v x) h =
-        let m = advance file now (at_key r v x) in
-        let R = rows_of file m.visits r v x in
-        let e = h m in
-        let f = ap length (filter_map-append (λ c. rooted c.row) R (rows_told file m.visits A)) ∙ length-append (rooted_rows R) (rooted_rows (rows_told file m.visits A)) in
-        omega arith
 
 -- a row is at the place of its event
 row_place : (file : List ℕ) (V X : List Reference) (place : Address) (e : Event) → IsOf file V place e → (d : SchemaCell) → IsIn d (rows_at_event file X e) → d.place ≡ place

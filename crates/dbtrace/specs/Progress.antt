@@ -1,5 +1,5 @@
 -- What a walk over one tree keeps of the events so far, beside the visits: a fold over them.
-use Rattle.std.specs.Prelude.{ℕ, ◌+◌, not, ◌&&◌, List, [], ◌∷◌, length, Option, Some, None, option_map, ℤ, int_lt, pos, ◌==◌, if◌then◌else◌}
+use Rattle.std.specs.Prelude.{ℕ, not, ◌&&◌, List, [], ◌∷◌, Option, Some, None, option_map, ℤ, int_lt, pos, ◌==◌, if◌then◌else◌}
 use Rattle.std.specs.Option.{option_map_or}
 use Rattle.dbsurvey.specs.Greatest.{OrderedKey, is_out}
 use Rattle.dbformat.specs.Tests.{told_if}
@@ -8,7 +8,7 @@ use Rattle.dbformat.specs.Address.{start_of, depth, schema_start}
 use Rattle.dbformat.specs.Head.{View, is_interior}
 use Rattle.dbformat.specs.Cell.{Cell}
 use Rattle.dbformat.specs.Reference.{Reference}
-use Rattle.dbformat.specs.Schema.{SchemaCell, schema_cell, rooted_rows}
+use Rattle.dbformat.specs.Schema.{SchemaCell, schema_cell}
 use Rattle.dbformat.specs.PageFaults.{is_leaf_of}
 use Rattle.dbformat.specs.KeyFaults.{Key, key_of}
 use Rattle.dbformat.specs.Story.{Event, at_page, at_key, at_refused}
@@ -21,15 +21,14 @@ use Rattle.dbtrace.specs.declared.TreeLeaf.{TreeLeaf}
 use Rattle.dbtrace.specs.declared.Cause.{Cause}
 use Rattle.dbtrace.specs.declared.Cause.TheVariants as cause
 
--- the greatest key, at the first cell that has it, the first undamaged leaf, and how many rows of the schema had a root page
+-- the greatest key, at the first cell that has it, and the first undamaged leaf
 pub record Progress : Type 0 where
   pub greatest : Option CellKey
   pub leaf : Option TreeLeaf
-  pub roots : ℕ
 
 -- before the first event of a tree
 abbrev pub no_progress : Progress
-no_progress = record { greatest = None; leaf = None; roots = 0 }
+no_progress = record { greatest = None; leaf = None }
 
 -- a rowid has to be greater than every earlier key, and the key of an interior page not smaller than one
 abbrev pub key_entry : Key → OrderedKey ℤ
@@ -81,10 +80,6 @@ rows_of file U r v cell = if (start_of r.address == schema_start) && not (is_int
 
 -- one event on, where U has the visits up to it
 abbrev pub step : List ℕ → List Reference → Progress → Event → Progress
-step file U p (at_page r) = record { greatest = p.greatest; leaf = leaf_after file p.leaf r; roots = p.roots }
-step file U p (at_key r v cell) = record {
-  greatest = greatest_after p.greatest (key_of r v cell);
-  leaf = p.leaf;
-  roots = p.roots + length (rooted_rows (rows_of file U r v cell));
-}
+step file U p (at_page r) = record { greatest = p.greatest; leaf = leaf_after file p.leaf r }
+step file U p (at_key r v cell) = record { greatest = greatest_after p.greatest (key_of r v cell); leaf = p.leaf }
 step file U p (at_refused r) = p

@@ -1,23 +1,14 @@
 -- A walk step by step, for a program with a list of errands that are still to be done.
-use Rattle.std.specs.Prelude.{◌≡◌, ℕ, ◌+◌, Bool, true, false, not, List, [], ◌∷◌, ◌++◌, length, filter, None, ◌==◌}
+use Rattle.std.specs.Prelude.{◌≡◌, ℕ, true, false, List, [], ◌∷◌, ◌++◌, map, None}
 use Rattle.dbsurvey.specs.InOrder.{AreQuiet}
 use Rattle.dbsurvey.specs.Story.{Told, Errand, Go, Tell, errands_of}
 use Rattle.dbsurvey.specs.Traverse.{is_followed}
 use Rattle.dbformat.specs.Reference.{Way, Reference, role_of, tree_kind}
-use Rattle.dbformat.specs.SchemaRow.{SchemaRow}
 use Rattle.dbformat.specs.Story.{Event, at_page, at_refused, own_visit, story_of}
 use Rattle.dbformat.specs.Survey.{rules_of}
 use Rattle.dbtrace.specs.Finding.{told_below, visited_below}
-use Rattle.dbtrace.specs.Item.{Item, findings_in, given_rows}
+use Rattle.dbtrace.specs.Item.{found}
 use Rattle.dbtrace.specs.Walk.{Walk, bare, advance, run_below}
-
--- whether a row has a root page
-abbrev pub has_root : SchemaRow → Bool
-has_root row = not (row.root == 0)
-
--- how many rows with a root page are among the items
-abbrev pub roots_in : List Item → ℕ
-roots_in items = length (filter has_root (given_rows items))
 
 -- Nothing left; an event; a reference that is refused; one that is followed, where what its page leads to is to be done next;
 -- and errands that are done in one go.
@@ -36,14 +27,12 @@ pub record HasSteps (file : List ℕ) : Type 0 where
   pub items : (now : Walk) (es : List (Errand Way Event))
       → (run_below file now es).items ≡ now.items ++ (run_below file (bare now) es).items
   pub state : (now : Walk) (es : List (Errand Way Event)) → (run_below file now es).state ≡ (run_below file (bare now) es).state
-  pub roots : (now : Walk) (es : List (Errand Way Event)) → (run_below file now es).state.roots ≡ now.state.roots + roots_in (run_below file (bare now) es).items
 
 -- What is below a reference to a page that is in no tree, as an overflow chain or the freelist, leaves the progress as
 -- it is, gives no row, and reports what the definitions give by the visits.
 pub record IsAside (file : List ℕ) (now : Walk) (c : Reference) : Type 0 where
   pub state : (run_below file now (Go c ∷ [])).state ≡ now.state
-  pub findings_are : findings_in (run_below file now (Go c ∷ [])).items ≡ findings_in now.items ++ told_below file now.visits (Go c ∷ [])
-  pub rows : given_rows (run_below file now (Go c ∷ [])).items ≡ given_rows now.items
+  pub items : (run_below file now (Go c ∷ [])).items ≡ now.items ++ map found (told_below file now.visits (Go c ∷ []))
 
 -- so it is below each
 abbrev pub AreAside : List ℕ → Type 0

@@ -75,8 +75,9 @@ pub struct Reported {
     pub cause: Cause,
 }
 
-/// What a walk keeps beside the visits is a fold over the events so far: the greatest key, the depth of the first leaf
-/// and the number of rows with a root. All that is reported of a start follows from it, exactly as it is defined.
+/// What a walk keeps beside the visits is a fold over the events so far: the greatest key and the first leaf. All that is
+/// reported of a start follows from it, and for the rows of the schema from how many with a root page came before, exactly as it
+/// is defined.
 pub fn progress_is_enough()
     ensures { (file : List ℕ) → IsFold file }
 {}

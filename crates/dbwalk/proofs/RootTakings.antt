@@ -1,32 +1,43 @@
 -- What a taker with room for 65536 roots answers, row after row of the schema.
-use Rattle.std.proofs.Common.{zero, suc, map, take, ◌≡◌, ℕ, ◌+◌, ◌≤◌, Bool, true, false, cond, not, ◌&&◌, inl, inr, List, [], ◌∷◌, ◌++◌, length, refl, sym, ap, ◌∙◌, arith, Result, Ok, Err, subst}
-use Rattle.std.specs.Prelude.{nat_lt, nat_le, ◌==◌, filter, is_none, pos}
-use Rattle.std.proofs.lemmas.Bool.{cases_Bool}
+use Rattle.std.proofs.Common.{zero, suc, map, take, ◌≡◌, ℕ, ◌+◌, ◌≤◌, Bool, true, false, cond, not, ◌&&◌, inl, inr, List, [], ◌∷◌, ◌++◌, length, refl, sym, ap, ◌∙◌, arith, Some, None, Result, Ok, Err, subst}
+use Rattle.std.specs.Prelude.{nat_lt, nat_le, ◌==◌, is_none, pos, if◌then◌else◌, OnOk}
+use Rattle.std.specs.List.{cons_option}
+use Rattle.std.specs.Result.{result_ok}
+use Rattle.std.proofs.lemmas.Bool.{cases_Bool, eq-eqb, eqb-true}
 use Rattle.std.proofs.lemmas.Bool.Decides.{nat_tests}
 use Rattle.std.proofs.lemmas.List.{append-nil, length-append, length-map, length-take-le, map-append, take-append-le}
-use Rattle.dbformat.specs.Address.{last_root_start}
-use Rattle.dbformat.specs.SchemaRow.{SchemaRow}
-use Rattle.dbwalk.specs.declared.taker.Taken.{Taken}
-use Rattle.dbwalk.specs.Taking.{answer_to, held_after, held_of, is_full, HasRootRoom, roots_after, ListTakes, first_roots, StartsEmpty, HasRoom, gives, fault_of, taken_faults, TellsOrStops, TellsRow}
-use Rattle.dbsurvey.specs.Moves.{Moves}
-use Rattle.dbtrace.specs.Finding.{Finding, told_alone}
-use Rattle.dbtrace.specs.Item.{Item, given_rows, found, given}
-use Rattle.dbtrace.specs.Steps.{has_root, roots_in}
-use Rattle.dbwalk.specs.Watching.{watches, fails, Handed}
-use Rattle.dbwalk.proofs.Underway.Handing.{moves_both, found_moves, found_stops, handed_after}
+use Rattle.std.proofs.lemmas.List.Elements.{filter_map-append}
+use Rattle.dbsurvey.specs.Moves.{Moves, Stops, MovesBySome}
+use Rattle.dbsurvey.specs.Story.{Go}
+use Rattle.dbsurvey.proofs.Moving.{Moves-append, some_none, some_after, stops_first, stops_after}
+use Rattle.dbformat.specs.Address.{last_root_start, schema_start, start_of}
 use Rattle.dbformat.specs.Faults.{fault}
 use Rattle.dbformat.specs.KeyFaults.{row_faults_if}
-use Rattle.dbformat.specs.Schema.{SchemaCell}
+use Rattle.dbformat.specs.Reference.{Reference}
+use Rattle.dbformat.specs.Schema.{SchemaCell, schema, rooted_rows}
+use Rattle.dbformat.specs.SchemaRow.{SchemaRow}
 use Rattle.dbformat.specs.Tests.{told_if}
-use Rattle.dbformat.specs.declared.Fault.{Fault}
 use Rattle.dbformat.specs.declared.FaultCode.TheVariants.{S02, S04}
 use Rattle.dbformat.specs.declared.RowFault.{RowFault}
 use Rattle.dbformat.specs.declared.RowFault.TheVariants.{Malformed, Root}
 use Rattle.dbsource.specs.declared.error.RunError.{RunError}
-use Rattle.dbsource.specs.declared.error.RunError.TheVariants.{OutOfMemory}
-use Rattle.dbwalk.specs.declared.schema_row.RowPlace.{RowPlace}
-use Rattle.dbwalk.proofs.Underway.CellSteps.{row_items}
+use Rattle.dbsource.specs.declared.error.RunError.TheVariants.{Refused, ReadFailed, WriteFailed, OutOfMemory}
+use Rattle.dbtrace.specs.Finding.{Finding, told_alone, visited_below}
+use Rattle.dbtrace.specs.Item.{Item, found, given, given_cells, readable, counted_findings}
+use Rattle.dbtrace.specs.Starts.{AreOfEarlierStarts}
+use Rattle.dbtrace.proofs.Folding.{is_fold}
+use Rattle.dbmarks.specs.declared.marks.Mark.{Mark}
+use Rattle.dbwalk.specs.Done.{IsDone, IsTreeDone}
+use Rattle.dbwalk.specs.Taking.{answer_to, held_after, is_full, HasRootRoom, StartsEmpty, roots_after, ListTakes, first_roots, gives, readable_rows, fault_of, HandsRow, FailsRow}
+use Rattle.dbwalk.specs.Telling.{Tells, findings}
+use Rattle.dbwalk.specs.Underway.{tree_walk}
+use Rattle.dbwalk.specs.Watching.{watches, fails, row_at, Handed}
+use Rattle.dbwalk.specs.declared.taker.Taken.{Taken}
 use Rattle.dbwalk.specs.declared.taker.Taken.TheVariants as answer
+
+-- how many roots it holds after this many rows with a root
+abbrev pub held_of : ℕ → ℕ
+held_of roots = if nat_le last_root_start roots then last_root_start else roots
 
 -- it has room exactly if fewer than 65536 came
 has_room : (roots : ℕ) → nat_lt (held_of roots) last_root_start ≡ not (nat_le last_root_start roots)
@@ -127,78 +138,121 @@ module _ {E : Type 0} (entry : SchemaRow → E) (rows : List SchemaRow) where
           ∙ ap (λ c. cond c (first_roots entry rows ++ entry row ∷ []) (first_roots entry rows)) (has_room (length rows))
           ∙ by_room (nat_le last_root_start (length rows)) refl
 
--- A taker with room for roots, at this point of the walk over the schema's tree: it holds as many as the walk counts, at most
--- 65536.
+-- A taker that has this room, and that holds as many as came, 65536 at most: what is reported of a row is by the count.
 
-module _ {T : Type 0} (keeps : T → SchemaRow → Taken → T → Type 0) (held : T → ℕ) (room : HasRootRoom keeps held) where
-  held_behind : (n : ℕ) (rows : List SchemaRow) (s t : T) → held s ≡ held_of n → Moves (gives keeps) s rows t → held t ≡ held_of (n + length (filter has_root rows))
-  held_behind n [] s t at m = ap held (sym m) ∙ at ∙ (let z : n ≡ n + 0 = omega arith in ap held_of z)
-  held_behind n (row ∷ rows) s t at m =
-      let next = held_next keeps held room s m.0 row m.1.0 m.1.1 n at in
-      held_behind (n + cond (row.root == 0) 0 1) rows m.0 t next m.2 ∙ by_root (row.root == 0)
+module _ {S T : Type 0} (keeps : T → SchemaRow → Taken → T → Type 0) (held : T → ℕ) (room : HasRootRoom keeps held) (tells : S → List Finding → S → Type 0) (roots : ℕ) (c : SchemaCell) (w x : S × T) (holds : held w.1 ≡ held_of roots) where
+  -- reported, taken, and held
+  abbrev IsCounted : SchemaCell → Type 0
+  IsCounted c = tells w.0 (map told_alone (row_faults_if (nat_le last_root_start roots) c)) x.0 × Moves (gives keeps) w.1 (readable (c ∷ [])) x.1 × (held x.1 ≡ held_of (roots + length (rooted_rows (c ∷ []))))
+
+  abbrev with_row : Result SchemaRow RowFault → SchemaCell
+  with_row row = record { place = c.place; page = c.page; item = c.item; rowid = c.rowid; row = row }
+
+  row_counted : HandsRow tells keeps (row_at c) w x → IsCounted c
+  row_counted h = by_row c.row h
     where
-      by_root : (b : Bool) → held_of (n + cond b 0 1 + length (filter has_root rows)) ≡ held_of (n + length (cond (not b) (row ∷ filter has_root rows) (filter has_root rows)))
-      by_root true = let z : n + 0 + length (filter has_root rows) ≡ n + length (filter has_root rows) = omega arith in ap held_of z
-      by_root false = let z : n + 1 + length (filter has_root rows) ≡ n + length (row ∷ filter has_root rows) = omega arith in ap held_of z
+      bad_row : (f : RowFault) → fault_of (row_at c).0 f ∷ [] ≡ row_faults_if (nat_le last_root_start roots) (with_row (Err f))
+      bad_row Malformed = refl
+      bad_row (Root value) = refl
 
--- one that holds none yet
-pub empty_room : {T : Type 0} (keeps : T → SchemaRow → Taken → T → Type 0) (held : T → ℕ) (t : T) → StartsEmpty keeps held t → HasRoom keeps held 0 t
-empty_room keeps held t empty = record { room = empty.room; holds = empty.none }
+      by_root : (row : SchemaRow) (b : Bool) → cond b 0 1 ≡ length (cons_option (cond b None (Some row)) [])
+      by_root row true = refl
+      by_root row false = refl
 
--- and once it was handed some items
-pub room_on : {S T : Type 0} (takes : S → Finding → S → Type 0) (keeps : T → SchemaRow → Taken → T → Type 0) (held : T → ℕ) (items : List Item) (w x : S × T) (roots after : ℕ)
-    → after ≡ roots + roots_in items → HasRoom keeps held roots w.1 → Moves (watches takes keeps) w items x → HasRoom keeps held after x.1
-room_on takes keeps held items w x roots after are room m = record {
-  room = room.room;
-  holds = held_behind keeps held room.room roots (given_rows items) w.1 x.1 room.holds (moves_both takes keeps items w x m).1 ∙ ap held_of (sym are);
-}
+      by_row : (row : Result SchemaRow RowFault) → HandsRow tells keeps ((row_at c).0, row) w x → IsCounted (with_row row)
+      by_row (Err f) h = let z : roots ≡ roots + 0 = omega arith in (subst (λ fs. tells w.0 (map told_alone fs) x.0) (bad_row f) h.0, h.1, ap held (sym h.1) ∙ holds ∙ ap held_of z)
+      by_row (Ok row) h = (
+        subst (λ b. tells w.0 (findings (told_if (is_none row.name) (fault S02 c.page c.item c.rowid) ++ told_if b (fault S04 c.page c.item (pos row.root)))) x.0) (answer_full keeps held room w.1 x.1 row h.0 h.1 roots holds) h.2,
+        (x.1, (h.0, h.1), refl),
+        held_next keeps held room w.1 x.1 row h.0 h.1 roots holds ∙ ap (λ n. held_of (roots + n)) (by_root row (row.root == 0)),
+      )
 
--- all items so far
-pub room_after : {S T : Type 0} (takes : S → Finding → S → Type 0) (keeps : T → SchemaRow → Taken → T → Type 0) (held : T → ℕ) (items : List Item) (w x : S × T) (roots : ℕ)
-    → roots ≡ roots_in items → StartsEmpty keeps held w.1 → Moves (watches takes keeps) w items x → HasRoom keeps held roots x.1
-room_after takes keeps held items w x roots are empty m = room_on takes keeps held items w x 0 roots (are ∙ (let z : roots_in items ≡ 0 + roots_in items = omega arith in z)) (empty_room keeps held w.1 empty) m
+-- and so what is reported of items
 
--- What reporting a row of the schema leaves is what its walk hands out: the row goes to the taker, if it can be read, and then
--- its faults are reported, with S04 if the roots before it are too many.
+module _ {S T : Type 0} (takes drops : S → Finding → S → Type 0) (keeps : T → SchemaRow → Taken → T → Type 0) (refuses : T → SchemaRow → T → Type 0) (held : T → ℕ) (room : HasRootRoom keeps held) where
+  abbrev faults_of : ℕ → SchemaCell → List Finding
+  faults_of roots c = map told_alone (row_faults_if (nat_le last_root_start roots) c)
 
-module _ {S T : Type 0} (takes drops : S → Finding → S → Type 0) (keeps : T → SchemaRow → Taken → T → Type 0) (refuses : T → SchemaRow → T → Type 0) where
-  abbrev Hands : Result (Unit {0}) RunError → (S × T) → List Item → (S × T) → Type 0
-  Hands r w items x = Handed (watches takes keeps) (fails drops refuses) r w items x
+  abbrev more : ℕ → SchemaCell → ℕ
+  more roots c = roots + length (rooted_rows (c ∷ []))
 
-  -- findings that were all reported, or not all
-  tells_handed : (r : Result (Unit {0}) RunError) (fs : List Finding) (s s' : S) (t : T) → TellsOrStops takes drops r s fs s' → Hands r (s, t) (map found fs) (s', t)
-  tells_handed (Ok a) fs s s' t h = found_moves takes drops keeps refuses fs s s' t h
-  tells_handed (Err e) fs s s' t h = subst (λ e. Hands (Err e) (s, t) (map found fs) (s', t)) (sym h.0) (found_stops takes drops keeps refuses fs s s' t h.1)
+  pub counted_moves : (roots : ℕ) (items : List Item) (w x : S × T) → held w.1 ≡ held_of roots → Moves (watches takes keeps) w items x
+      → Moves takes w.0 (counted_findings roots items) x.0 × Moves (gives keeps) w.1 (readable (given_cells items)) x.1
+  counted_moves roots [] w x holds e = (ap (λ p. p.0) e, ap (λ p. p.1) e)
+  counted_moves roots (found f ∷ items) w x holds h =
+      let k = counted_moves roots items h.0 x (ap held (sym h.1.1) ∙ holds) h.2 in
+      ((h.0.0, h.1.0, k.0), subst (λ t. Moves (gives keeps) t (readable (given_cells items)) x.1) (sym h.1.1) k.1)
+  counted_moves roots (given c ∷ items) w x holds h =
+      let o = row_counted keeps held room (Moves takes) roots c w h.0 holds h.1 in
+      let k = counted_moves (more roots c) items h.0 x o.2 h.2 in (
+        Moves-append takes w.0 h.0.0 x.0 (faults_of roots c) (counted_findings (more roots c) items) o.0 k.0,
+        subst (λ rows. Moves (gives keeps) w.1 rows x.1) (sym (filter_map-append (λ c. result_ok c.row) (c ∷ []) (given_cells items)))
+            (Moves-append (gives keeps) w.1 h.0.1 x.1 (readable (c ∷ [])) (readable (given_cells items)) o.1 k.1),
+      )
 
-  module _ (held : T → ℕ) (roots : ℕ) (d : SchemaCell) (s s' : S) (t t' : T) (room : HasRoom keeps held roots t) where
-    abbrev at : RowPlace
-    at = record { page = d.page; item = d.item; rowid = d.rowid }
+  counted_some : (roots : ℕ) (items : List Item) (w x : S × T) → held w.1 ≡ held_of roots → MovesBySome (watches takes keeps) w items x → MovesBySome takes w.0 (counted_findings roots items) x.0
+  counted_some roots [] w x holds e = ap (λ p. p.0) e
+  counted_some roots (found f ∷ items) w x holds (inl e) = inl (ap (λ p. p.0) e)
+  counted_some roots (found f ∷ items) w x holds (inr h) = inr (h.0.0, h.1.0, counted_some roots items h.0 x (ap held (sym h.1.1) ∙ holds) h.2)
+  counted_some roots (given c ∷ items) w x holds (inl e) = subst (λ s. MovesBySome takes w.0 (counted_findings roots (given c ∷ items)) s) (ap (λ p. p.0) e) (some_none takes w.0 (counted_findings roots (given c ∷ items)))
+  counted_some roots (given c ∷ items) w x holds (inr h) =
+      let o = row_counted keeps held room (Moves takes) roots c w h.0 holds h.1 in
+      some_after takes w.0 h.0.0 x.0 (faults_of roots c) (counted_findings (more roots c) items) o.0 (counted_some (more roots c) items h.0 x o.2 h.2)
 
-    abbrev with_row : Result SchemaRow RowFault → SchemaCell
-    with_row row = record { place = d.place; page = d.page; item = d.item; rowid = d.rowid; row = row }
+  counted_stops : (roots : ℕ) (items : List Item) (w x : S × T) → held w.1 ≡ held_of roots → Stops (watches takes keeps) (fails takes drops keeps refuses WriteFailed) w items x → Stops takes drops w.0 (counted_findings roots items) x.0
+  counted_stops roots [] w x holds h = absurd h
+  counted_stops roots (found f ∷ items) w x holds (inl h) = inl h.0
+  counted_stops roots (found f ∷ items) w x holds (inr h) = inr (h.0.0, h.1.0, counted_stops roots items h.0 x (ap held (sym h.1.1) ∙ holds) h.2)
+  counted_stops roots (given c ∷ items) w x holds (inl h) = stops_first takes drops w.0 x.0 (faults_of roots c) (counted_findings (more roots c) items) (row_counted keeps held room (Stops takes drops) roots c w x holds h).0
+  counted_stops roots (given c ∷ items) w x holds (inr h) =
+      let o = row_counted keeps held room (Moves takes) roots c w h.0 holds h.1 in
+      stops_after takes drops w.0 h.0.0 x.0 (faults_of roots c) (counted_findings (more roots c) items) o.0 (counted_stops (more roots c) items h.0 x o.2 h.2)
 
-    abbrev faults : Result SchemaRow RowFault → List Fault
-    faults row = row_faults_if (nat_le last_root_start roots) (with_row row)
+  counted_refused : (roots : ℕ) (items : List Item) (w x : S × T) → held w.1 ≡ held_of roots → Stops (watches takes keeps) (fails takes drops keeps refuses OutOfMemory) w items x → MovesBySome takes w.0 (counted_findings roots items) x.0
+  counted_refused roots [] w x holds h = absurd h
+  counted_refused roots (found f ∷ items) w x holds (inl h) = absurd h
+  counted_refused roots (found f ∷ items) w x holds (inr h) = inr (h.0.0, h.1.0, counted_refused roots items h.0 x (ap held (sym h.1.1) ∙ holds) h.2)
+  counted_refused roots (given c ∷ items) w x holds (inl h) = subst (λ s. MovesBySome takes w.0 (counted_findings roots (given c ∷ items)) s) (same c.row h) (some_none takes w.0 (counted_findings roots (given c ∷ items)))
+    where
+      same : (row : Result SchemaRow RowFault) → FailsRow takes drops keeps refuses OutOfMemory ((row_at c).0, row) w x → w.0 ≡ x.0
+      same (Ok row) h = h.1
+      same (Err f) h = absurd h
+  counted_refused roots (given c ∷ items) w x holds (inr h) =
+      let o = row_counted keeps held room (Moves takes) roots c w h.0 holds h.1 in
+      some_after takes w.0 h.0.0 x.0 (faults_of roots c) (counted_findings (more roots c) items) o.0 (counted_refused (more roots c) items h.0 x o.2 h.2)
 
-    -- a row that can't be read has its fault, and one that can those by the taker's answer
-    bad_row : (f : RowFault) → fault_of at f ∷ [] ≡ faults (Err f)
-    bad_row Malformed = refl
-    bad_row (Root value) = refl
+  -- from a taker that holds none
+  pub counted_told : {A : Type 0} (r : Result A RunError) (items : List Item) (w x : S × T) → held w.1 ≡ 0 → Handed (watches takes keeps) (fails takes drops keeps refuses) r w items x → Tells takes drops r w.0 (counted_findings 0 items) x.0
+  counted_told (Ok a) items w x none h = (counted_moves 0 items w x none h).0
+  counted_told (Err (Refused e)) items w x none h = counted_some 0 items w x none h
+  counted_told (Err ReadFailed) items w x none h = counted_some 0 items w x none h
+  counted_told (Err WriteFailed) items w x none h = counted_stops 0 items w x none h
+  counted_told (Err OutOfMemory) items w x none h = counted_refused 0 items w x none h
 
-    good_row : (row : SchemaRow) (a : Taken) → keeps t row a t' → taken_faults at row a ≡ faults (Ok row)
-    good_row row a taken = ap (λ b. told_if (is_none row.name) (fault S02 d.page d.item d.rowid) ++ told_if b (fault S04 d.page d.item (pos row.root))) (answer_full keeps held room.room t t' row a taken roots room.holds)
+-- The walk over a tree with such a taker reports what the definitions report; and if the tree is the schema's, the taker was
+-- given the rows that can be read.
+module _ {S T : Type 0} (takes drops : S → Finding → S → Type 0) (keeps : T → SchemaRow → Taken → T → Type 0) (refuses : T → SchemaRow → T → Type 0) (file : List ℕ) (k : ℕ) (W : List Reference) (c : Reference)
+    (at : c.address ≡ k ∷ []) (early : AreOfEarlierStarts k W) (r : Result (Unit {0}) RunError) (marks : List Mark) (before after : S × T) (done : IsTreeDone takes drops keeps refuses file W c r marks before after)
+    (held : T → ℕ) (empty : start_of c.address ≡ schema_start → StartsEmpty keeps held before.1) where
+  pub tree_told : IsDone takes drops file W (Go c ∷ []) r marks before.0 after.0
+  tree_told = record {
+    marked = done.marked;
+    told = elim (cases_Bool (start_of c.address == schema_start)) [
+      | inl e ↦ (let first = empty (eqb-true (start_of c.address) schema_start e) in subst (λ L. Tells takes drops r before.0 L after.0) ((is_fold file).findings_are k W c at early)
+          (counted_told takes drops keeps refuses held first.room r (tree_walk file W c).items before after first.none done.handed))
+      | inr e ↦ done.others (later (start_of c.address) e)
+    ];
+  }
+    where
+      later : (n : ℕ) → (n == schema_start) ≡ false → 1 ≤ n
+      later n e = grind (arith, nat_tests)
 
-    pub row_handed : (r : Result (Unit {0}) RunError) → TellsRow takes drops keeps refuses (at, d.row) r (s, t) (s', t') → Hands r (s, t) (row_items roots (d ∷ [])) (s', t')
-    row_handed r = by_row d.row
-      where
-        refused : (row : SchemaRow) (e : RunError) → Err e ≡ r → e ≡ OutOfMemory → refuses t row t' → s' ≡ s → Hands r (s, t) (row_items roots (with_row (Ok row) ∷ [])) (s', t')
-        refused row e is out h same = subst (λ r. Hands r (s, t) (row_items roots (with_row (Ok row) ∷ [])) (s', t')) (ap Err (sym out) ∙ is) (inl (h, sym same))
-
-        by_row : (row : Result SchemaRow RowFault) → TellsRow takes drops keeps refuses (at, row) r (s, t) (s', t') → Hands r (s, t) (row_items roots (with_row row ∷ [])) (s', t')
-        by_row (Err f) h =
-            subst (λ fs. Hands r (s, t) (map found (map told_alone fs)) (s', t')) (bad_row f ∙ sym (append-nil (faults (Err f))))
-            (subst (λ t'. Hands r (s, t) (map found (map told_alone (fault_of at f ∷ []))) (s', t')) (sym h.0) (tells_handed r (map told_alone (fault_of at f ∷ [])) s s' t h.1))
-        by_row (Ok row) (inl h) =
-            let told = subst (λ fs. Hands r (s, t') (map found (map told_alone fs)) (s', t')) (good_row row h.0 h.1 ∙ sym (append-nil (faults (Ok row)))) (tells_handed r (map told_alone (taken_faults at row h.0)) s s' t' h.2) in
-            handed_after (watches takes keeps) (fails drops refuses) r (s, t) (s, t') (s', t') (given row ∷ []) (map found (map told_alone (faults (Ok row) ++ []))) ((s, t'), ((h.0, h.1), refl), refl) told
-        by_row (Ok row) (inr h) = refused row OutOfMemory (sym h.0) refl h.1 h.2
+  pub tree_given : start_of c.address ≡ schema_start → OnOk r (Moves (gives keeps) before.1 (readable_rows file (W ++ visited_below file W (Go c ∷ []))) after.1)
+  tree_given e = by_result r done.handed
+    where
+      by_result : (r : Result (Unit {0}) RunError) → Handed (watches takes keeps) (fails takes drops keeps refuses) r before (tree_walk file W c).items after
+          → OnOk r (Moves (gives keeps) before.1 (readable_rows file (W ++ visited_below file W (Go c ∷ []))) after.1)
+      by_result (Ok u) h = subst (λ cells. Moves (gives keeps) before.1 (readable cells) after.1)
+          ((is_fold file).rows_are k W c at early ∙ ap (λ b. cond b (schema file (W ++ visited_below file W (Go c ∷ []))) []) (eq-eqb k schema_start (sym (ap start_of at) ∙ e)))
+          (counted_moves takes drops keeps refuses held (empty e).room 0 (tree_walk file W c).items before after (empty e).none h).1
+      by_result (Err x) h = tt

@@ -1,7 +1,7 @@
 -- What a call has done below some errands, and what is left during a walk, for the invariant of a loop.
-use Rattle.std.specs.Prelude.{◌≡◌, ℕ, List, [], ◌∷◌, ◌++◌, Result, OnOk}
+use Rattle.std.specs.Prelude.{◌≡◌, ◌≤◌, ℕ, List, [], ◌∷◌, ◌++◌, Result, OnOk}
 use Rattle.dbsurvey.specs.Story.{Errand, Go, AreErrandsApart}
-use Rattle.dbformat.specs.Address.{start_of, schema_start}
+use Rattle.dbformat.specs.Address.{start_of}
 use Rattle.dbformat.specs.Reference.{Way, Reference}
 use Rattle.dbformat.specs.SchemaRow.{SchemaRow}
 use Rattle.dbformat.specs.Story.{Event}
@@ -10,7 +10,8 @@ use Rattle.dbmarks.specs.declared.marks.Mark.{Mark}
 use Rattle.dbmarks.specs.Marking.{AreMarksOf}
 use Rattle.dbtrace.specs.Finding.{Finding, told_below, visited_below}
 use Rattle.dbwalk.specs.Telling.{Tells}
-use Rattle.dbwalk.specs.Taking.{Gives, readable_rows}
+use Rattle.dbwalk.specs.Underway.{tree_walk}
+use Rattle.dbwalk.specs.Watching.{Handed, fails, watches}
 use Rattle.dbwalk.specs.declared.taker.Taken.{Taken}
 use Rattle.dbsurvey.specs.Moves.{Moves}
 use Rattle.dbsurvey.specs.InOrder.{IsPast}
@@ -21,11 +22,14 @@ pub record IsDone {S A : Type 0} (takes drops : S → Finding → S → Type 0) 
   pub marked : OnOk r (AreMarksOf file (W ++ visited_below file W errands) marks)
   pub told : Tells takes drops r before (told_below file W errands) after
 
--- What the walk over a whole tree leaves. If the tree is the schema's, the taker was given the rows that can be read.
+-- What the walk over a whole tree leaves. At Ok the marks are those of W and of all that is visited below the root. The items of
+-- the walk (`IsFold` says what they are) were handed to sink and taker: all of them at Ok, after an error a beginning. So in a
+-- tree that is not the schema's, which has no rows, all that is told below the root was reported.
 pub record IsTreeDone {S T : Type 0} (takes drops : S → Finding → S → Type 0) (keeps : T → SchemaRow → Taken → T → Type 0) (refuses : T → SchemaRow → T → Type 0) (file : List ℕ) (W : List Reference) (c : Reference) (r : Result (Unit {0}) RunError)
-    (marks : List Mark) (before after : S) (first t : T) : Type 0 where
-  pub done : IsDone takes drops file W (Go c ∷ []) r marks before after
-  pub given : start_of c.address ≡ schema_start → Gives keeps refuses r first (readable_rows file (W ++ visited_below file W (Go c ∷ []))) t
+    (marks : List Mark) (before after : S × T) : Type 0 where
+  pub marked : OnOk r (AreMarksOf file (W ++ visited_below file W (Go c ∷ [])) marks)
+  pub handed : Handed (watches takes keeps) (fails takes drops keeps refuses) r before (tree_walk file W c).items after
+  pub others : 1 ≤ start_of c.address → Tells takes drops r before.0 (told_below file W (Go c ∷ [])) after.0
 
 -- Of all that is below the errands, after the visits of W, what is below the errands `left`, after those of U, is still to be
 -- done. The rest was reported, and the marks are those of U.

@@ -3,12 +3,11 @@
 use Rattle.std.specs.Prelude.{◌≡◌, ℕ, ◌<◌, true, false, List, [], ◌∷◌, ◌++◌, length, Option, Some}
 use Rattle.dbsurvey.specs.InOrder.{IsPast}
 use Rattle.dbsurvey.specs.Traverse.{is_followed}
-use Rattle.dbformat.specs.Address.{then_step, overflow_step, schema_start}
+use Rattle.dbformat.specs.Address.{then_step, overflow_step}
 use Rattle.dbformat.specs.Cell.{count}
 use Rattle.dbformat.specs.File.{geometry, page_bytes}
 use Rattle.dbformat.specs.Head.{View, is_interior}
 use Rattle.dbformat.specs.Reference.{Reference, tree_view}
-use Rattle.dbformat.specs.SchemaRow.{SchemaRow}
 use Rattle.dbformat.specs.Survey.{rules_of}
 use Rattle.dbformat.specs.declared.Geometry.{Geometry}
 use Rattle.dbwalk.specs.Entered.{IsNext}
@@ -17,18 +16,12 @@ use Rattle.dbtrace.specs.Walk.{Walk}
 use Rattle.dbwalk.specs.Found.{HasPageAt}
 use Rattle.dbwalk.specs.LeafCells.{overflow_errands, AreBefore}
 use Rattle.dbmarks.specs.Marking.{AreMarksOf}
-use Rattle.dbwalk.specs.Taking.{HasRoom, StartsEmpty}
 use Rattle.dbwalk.specs.Underway.{IsAt, IsWalkingOn}
 use Rattle.dbwalk.specs.Walking.{IsCandidate, IsLeafAt}
 use Rattle.dbwalk.specs.declared.steps.StackFrame.{StackFrame}
 use Rattle.dbmarks.specs.declared.marks.Mark.{Mark}
 use Rattle.dbwalk.specs.declared.state.Tree.{Tree}
-use Rattle.dbwalk.specs.declared.taker.Taken.{Taken}
 use Rattle.dbwalk.specs.declared.tree_walk.TreeWalk.{TreeWalk}
-
--- in the tree of the schema, with a taker that holds what it should after the rows so far
-abbrev pub WithRoom : {A S K T : Type 0} → (T → SchemaRow → Taken → T → Type 0) → Walk → TreeWalk A S K T → Type 0 → Type 0
-WithRoom {T = T} takes from walk leaves = (held : T → ℕ) → (walk.tree.start ≡ schema_start → HasRoom takes held from.state.roots walk.taker.now) → leaves
 
 -- at the overflow chain of cell i of a leaf
 abbrev pub AtOverflow : List ℕ → Tree → List (List ℕ) → ℕ → ℕ → Option (ℕ × ℕ) → List Mark → (List Reference → Reference → Type 0) → Type 0
@@ -36,16 +29,16 @@ AtOverflow file tree levels page i overflow marks leaves = (U : List Reference) 
     → IsPast U (overflow_errands c i overflow) → AreMarksOf file U marks → leaves U c
 
 -- at cell i of an undamaged leaf
-abbrev pub AtCell : {A S K T : Type 0} → (T → SchemaRow → Taken → T → Type 0) → List ℕ → List (List ℕ) → ℕ → ℕ → TreeWalk A S K T → (Walk → Reference → View → Type 0) → Type 0
-AtCell takes file levels page i walk leaves = (from : Walk) (c : Reference) (v : View) → IsLeafAt file walk.tree.kind walk.tree.start walk.tree.path.items c levels page
+abbrev pub AtCell : {A S K T : Type 0} → List ℕ → List (List ℕ) → ℕ → ℕ → TreeWalk A S K T → (Walk → Reference → View → Type 0) → Type 0
+AtCell file levels page i walk leaves = (from : Walk) (c : Reference) (v : View) → IsLeafAt file walk.tree.kind walk.tree.start walk.tree.path.items c levels page
     → tree_view file c ≡ Some v → is_interior v.kind ≡ false → i < count v → AreBefore from.visits (then_step c.address (overflow_step i))
-    → IsAt file from walk.marks.now walk.tree → WithRoom takes from walk (leaves from c v)
+    → IsAt file from walk.marks.now walk.tree → leaves from c v
 
 -- at the first cell of an undamaged leaf
-abbrev pub AtLeaf : {A S K T : Type 0} → (T → SchemaRow → Taken → T → Type 0) → List ℕ → List (List ℕ) → ℕ → TreeWalk A S K T → (Walk → Reference → Type 0) → Type 0
-AtLeaf takes file levels page walk leaves = (from : Walk) (c : Reference) (v : View) → IsLeafAt file walk.tree.kind walk.tree.start walk.tree.path.items c levels page
+abbrev pub AtLeaf : {A S K T : Type 0} → List ℕ → List (List ℕ) → ℕ → TreeWalk A S K T → (Walk → Reference → Type 0) → Type 0
+AtLeaf file levels page walk leaves = (from : Walk) (c : Reference) (v : View) → IsLeafAt file walk.tree.kind walk.tree.start walk.tree.path.items c levels page
     → tree_view file c ≡ Some v → is_interior v.kind ≡ false → AreBefore from.visits (then_step c.address 0)
-    → IsAt file from walk.marks.now walk.tree → WithRoom takes from walk (leaves from c)
+    → IsAt file from walk.marks.now walk.tree → leaves from c
 
 -- at a page of a tree that was read, as far as what is reported of it requires
 abbrev pub AtRead : Geometry → Tree → List (List ℕ) → ℕ → (List ℕ → Reference → Type 0) → Type 0
@@ -53,27 +46,25 @@ AtRead g tree levels page leaves = (file : List ℕ) (c : Reference) (from item 
     → HasPageAt levels (length tree.path.items) (page_bytes file page) → leaves file c
 
 -- at a page of a tree that was marked, and then read
-abbrev pub AtPage : {A S K T : Type 0} → (T → SchemaRow → Taken → T → Type 0) → List ℕ → List (List ℕ) → ℕ → TreeWalk A S K T → (Walk → Reference → Type 0) → Type 0
-AtPage takes file levels page walk leaves = (from : Walk) (c : Reference) (above item : ℕ) → IsCandidate walk.tree.kind walk.tree.start walk.tree.path.items page above item c
+abbrev pub AtPage : {A S K T : Type 0} → List ℕ → List (List ℕ) → ℕ → TreeWalk A S K T → (Walk → Reference → Type 0) → Type 0
+AtPage file levels page walk leaves = (from : Walk) (c : Reference) (above item : ℕ) → IsCandidate walk.tree.kind walk.tree.start walk.tree.path.items page above item c
     → HasPageAt levels (length walk.tree.path.items) (page_bytes file page) → IsNext from.visits c → is_followed (rules_of file) from.visits c ≡ true
-    → AreMarksOf file (from.visits ++ (c ∷ [])) walk.marks.now → walk.tree.greatest ≡ from.state.greatest → walk.tree.leaf ≡ from.state.leaf → WithRoom takes from walk (leaves from c)
+    → AreMarksOf file (from.visits ++ (c ∷ [])) walk.marks.now → walk.tree.greatest ≡ from.state.greatest → walk.tree.leaf ≡ from.state.leaf → leaves from c
 
 -- at a reference to a page of a tree
-abbrev pub AtReference : {A S K T : Type 0} → (T → SchemaRow → Taken → T → Type 0) → List ℕ → ℕ → ℕ → ℕ → TreeWalk A S K T → (Walk → Reference → Type 0) → Type 0
-AtReference takes file page above item walk leaves = (from : Walk) (c : Reference) → IsCandidate walk.tree.kind walk.tree.start walk.tree.path.items page above item c
-    → IsNext from.visits c → IsAt file from walk.marks.now walk.tree → WithRoom takes from walk (leaves from c)
+abbrev pub AtReference : {A S K T : Type 0} → List ℕ → ℕ → ℕ → ℕ → TreeWalk A S K T → (Walk → Reference → Type 0) → Type 0
+AtReference file page above item walk leaves = (from : Walk) (c : Reference) → IsCandidate walk.tree.kind walk.tree.start walk.tree.path.items page above item c
+    → IsNext from.visits c → IsAt file from walk.marks.now walk.tree → leaves from c
 
 -- at the next step of the last of some frames, where the sink and the taker were `before` at first
-abbrev pub AtStep : {A S K T : Type 0} → ((K × T) → Item → (K × T) → Type 0) → (T → SchemaRow → Taken → T → Type 0) → List ℕ → List (List ℕ) → List StackFrame → TreeWalk A S K T → (List Reference → Reference → (K × T) → Type 0) → Type 0
-AtStep {K = K} {T = T} moves takes file levels frames walk leaves = (W : List Reference) (c : Reference) (before : K × T) → IsCandidate walk.tree.kind walk.tree.start [] c.page 0 walk.tree.start c
-    → IsWalkingOn moves file W c before (frames, levels) (walk.marks.now, walk.tree) (walk.sink.now, walk.taker.now)
-    → (held : T → ℕ) → (walk.tree.start ≡ schema_start → StartsEmpty takes held before.1) → leaves W c before
+abbrev pub AtStep : {A S K T : Type 0} → ((K × T) → Item → (K × T) → Type 0) → List ℕ → List (List ℕ) → List StackFrame → TreeWalk A S K T → (List Reference → Reference → (K × T) → Type 0) → Type 0
+AtStep {K = K} {T = T} moves file levels frames walk leaves = (W : List Reference) (c : Reference) (before : K × T) → IsCandidate walk.tree.kind walk.tree.start [] c.page 0 walk.tree.start c
+    → IsWalkingOn moves file W c before (frames, levels) (walk.marks.now, walk.tree) (walk.sink.now, walk.taker.now) → leaves W c before
 
 -- at the root of a tree that was marked, and read; no page of the tree was visited before
-abbrev pub AtRoot : {A S K T : Type 0} → (T → SchemaRow → Taken → T → Type 0) → List ℕ → List (List ℕ) → ℕ → TreeWalk A S K T → (List Reference → Reference → Type 0) → Type 0
-AtRoot {T = T} takes file levels page walk leaves = (W : List Reference) (c : Reference) → IsCandidate walk.tree.kind walk.tree.start [] page 0 walk.tree.start c
-    → HasPageAt levels 0 (page_bytes file page) → is_followed (rules_of file) W c ≡ true → IsNext W c → AreMarksOf file (W ++ (c ∷ [])) walk.marks.now
-    → (held : T → ℕ) → (walk.tree.start ≡ schema_start → StartsEmpty takes held walk.taker.now) → leaves W c
+abbrev pub AtRoot : {A S K T : Type 0} → List ℕ → List (List ℕ) → ℕ → TreeWalk A S K T → (List Reference → Reference → Type 0) → Type 0
+AtRoot file levels page walk leaves = (W : List Reference) (c : Reference) → IsCandidate walk.tree.kind walk.tree.start [] page 0 walk.tree.start c
+    → HasPageAt levels 0 (page_bytes file page) → is_followed (rules_of file) W c ≡ true → IsNext W c → AreMarksOf file (W ++ (c ∷ [])) walk.marks.now → leaves W c
 
 -- only the greatest key of a tree's state may have changed
 abbrev pub IsSameButGreatest : Tree → Tree → Type 0

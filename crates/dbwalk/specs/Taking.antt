@@ -1,5 +1,5 @@
 -- Rows of the schema: what a sieve has taken of a payload, what is reported of a row, and what the taker answers.
-use Rattle.std.specs.Prelude.{◌≡◌, ℕ, ◌+◌, Bool, true, false, List, [], ◌∷◌, ◌++◌, length, map, take, nat_lt, nat_le, ◌==◌, if◌then◌else◌, ◌<◌, Option, Some, None, slice_get, Result, Ok, Err, filter_map, ◌⊎◌, MatchResult, is_none, unwrap_or, ℤ, pos}
+use Rattle.std.specs.Prelude.{◌≡◌, ℕ, ◌+◌, Bool, true, false, List, [], ◌∷◌, ◌++◌, length, map, take, nat_lt, ◌==◌, if◌then◌else◌, ◌<◌, Option, Some, None, slice_get, Result, Ok, Err, filter_map, MatchResult, is_none, unwrap_or, ℤ, pos}
 use Rattle.dbformat.specs.Address.{last_root_start, then_step, overflow_step}
 use Rattle.dbformat.specs.SchemaRow.{SchemaRow}
 use Rattle.dbwalk.specs.declared.taker.Taken.{Taken}
@@ -15,7 +15,7 @@ use Rattle.dbbytes.specs.Sieve.{HasTaken}
 use Rattle.dbbytes.specs.declared.sieve.RowSieve.{RowSieve}
 use Rattle.dbwalk.specs.LeafCells.{AreBefore, overflow_errands}
 use Rattle.dbtrace.specs.Finding.{visited_below, Finding}
-use Rattle.dbsurvey.specs.Moves.{Moves, Stops, MovesBySome}
+use Rattle.dbsurvey.specs.Moves.{Moves, Stops}
 use Rattle.dbsource.specs.declared.error.RunError.{RunError}
 use Rattle.dbsource.specs.declared.error.RunError.TheVariants.{OutOfMemory, WriteFailed}
 use Rattle.dbformat.specs.Faults.{fault}
@@ -44,15 +44,6 @@ pub record HasRootRoom {T : Type 0} (takes : T → SchemaRow → Taken → T →
 pub record StartsEmpty {T : Type 0} (takes : T → SchemaRow → Taken → T → Type 0) (held : T → ℕ) (first : T) : Type 0 where
   pub room : HasRootRoom takes held
   pub none : held first ≡ 0
-
--- how many it holds after this many rows with a root
-abbrev pub held_of : ℕ → ℕ
-held_of roots = if nat_le last_root_start roots then last_root_start else roots
-
--- It has this room, and holds what it should after `roots` rows with a root.
-pub record HasRoom {T : Type 0} (takes : T → SchemaRow → Taken → T → Type 0) (held : T → ℕ) (roots : ℕ) (t : T) : Type 0 where
-  pub room : HasRootRoom takes held
-  pub holds : held t ≡ held_of roots
 
 -- whether there was no room
 abbrev pub is_full : Taken → Bool
@@ -99,17 +90,6 @@ gives takes s row t = (a : Taken) × takes s row a t
 abbrev pub readable_rows : List ℕ → List Reference → List SchemaRow
 readable_rows file V = filter_map (λ c. result_ok c.row) (schema file V)
 
--- After an error, like StopsBy of a sink: the taker took the rows up to one for which memory was refused, if it was; at another
--- error, up to some point.
-abbrev pub StopsGiving : {T : Type 0} → (T → SchemaRow → Taken → T → Type 0) → (T → SchemaRow → T → Type 0) → RunError → T → List SchemaRow → T → Type 0
-StopsGiving takes refuses OutOfMemory s rows t = Stops (gives takes) refuses s rows t
-StopsGiving takes refuses e s rows t = MovesBySome (gives takes) s rows t
-
--- like Tells: at Ok it was given all rows, after an error a beginning of them
-abbrev pub Gives : {A T : Type 0} → (T → SchemaRow → Taken → T → Type 0) → (T → SchemaRow → T → Type 0) → Result A RunError → T → List SchemaRow → T → Type 0
-Gives takes refuses (Ok a) s rows t = Moves (gives takes) s rows t
-Gives takes refuses (Err e) s rows t = StopsGiving takes refuses e s rows t
-
 -- What is reported of a row of the schema, and who takes it.
 
 -- the place of the row of a cell with this key
@@ -125,13 +105,18 @@ fault_of at (Root value) = fault S03 at.page at.item value
 abbrev pub taken_faults : RowPlace → SchemaRow → Taken → List Fault
 taken_faults at row a = told_if (is_none row.name) (fault S02 at.page at.item at.rowid) ++ told_if (is_full a) (fault S04 at.page at.item (pos row.root))
 
--- at Ok all items were reported, and the only error is that of a write
-abbrev pub TellsOrStops : {S I A : Type 0} → (S → I → S → Type 0) → (S → I → S → Type 0) → Result A RunError → S → List I → S → Type 0
-TellsOrStops takes drops r s items t = MatchResult r (λ _. Moves takes s items t) (λ e. (e ≡ WriteFailed) × Stops takes drops s items t)
+-- The taker gets a row that can be read, and then its faults are reported, S04 exactly if it answered Full. Of another row only
+-- the fault is reported. `tells` says what reporting findings leaves.
+abbrev pub HandsRow : {S T : Type 0} → (S → List Finding → S → Type 0) → (T → SchemaRow → Taken → T → Type 0) → RowPlace × Result SchemaRow RowFault → S × T → S × T → Type 0
+HandsRow tells keeps (at, Err f) before after = tells before.0 (findings (fault_of at f ∷ [])) after.0 × (before.1 ≡ after.1)
+HandsRow tells keeps (at, Ok row) before after = (a : Taken) × keeps before.1 row a after.1 × tells before.0 (findings (taken_faults at row a)) after.0
 
--- What became of a row: its fault was reported, and the taker did not get it; or it was taken, and then its faults were
--- reported; or memory was refused for it, and nothing was reported.
+-- The sink dropped one of its faults; or the taker was refused memory for it, and nothing was reported.
+abbrev pub FailsRow : {S T : Type 0} → (S → Finding → S → Type 0) → (S → Finding → S → Type 0) → (T → SchemaRow → Taken → T → Type 0) → (T → SchemaRow → T → Type 0) → RunError → RowPlace × Result SchemaRow RowFault → S × T → S × T → Type 0
+FailsRow takes drops keeps refuses WriteFailed row before after = HandsRow (Stops takes drops) keeps row before after
+FailsRow takes drops keeps refuses OutOfMemory (at, Ok row) before after = refuses before.1 row after.1 × (before.0 ≡ after.0)
+FailsRow takes drops keeps refuses _ row before after = ⊥
+
+-- what became of a row
 abbrev pub TellsRow : {S T A : Type 0} → (S → Finding → S → Type 0) → (S → Finding → S → Type 0) → (T → SchemaRow → Taken → T → Type 0) → (T → SchemaRow → T → Type 0) → RowPlace × Result SchemaRow RowFault → Result A RunError → S × T → S × T → Type 0
-TellsRow takes drops keeps refuses (at, Err f) r before after = (after.1 ≡ before.1) × TellsOrStops takes drops r before.0 (findings (fault_of at f ∷ [])) after.0
-TellsRow {A = A} takes drops keeps refuses (at, Ok row) r before after = ((a : Taken) × keeps before.1 row a after.1 × TellsOrStops takes drops r before.0 (findings (taken_faults at row a)) after.0)
-    ⊎ ((r ≡ Err OutOfMemory) × refuses before.1 row after.1 × (after.0 ≡ before.0))
+TellsRow takes drops keeps refuses row r before after = MatchResult r (λ _. HandsRow (Moves takes) keeps row before after) (λ e. FailsRow takes drops keeps refuses e row before after)

@@ -16,7 +16,6 @@ use Rattle.dbwalk.specs.Walking.{IsOpenFrame, left_over, AreCalls, AreOpenFrames
 use Rattle.dbwalk.specs.Watching.{Handed, StopsAt}
 use Rattle.dbmarks.specs.declared.marks.Mark.{Mark}
 use Rattle.dbwalk.specs.declared.state.Tree.{Tree}
-use Rattle.dbtrace.specs.Steps.{roots_in}
 use Rattle.dbwalk.specs.declared.steps.StackFrame.{StackFrame}
 
 -- marks and a tree's state are those of a walk up to this point
@@ -66,7 +65,6 @@ tree_walk file W c = run_below file (begin W) (Go c ∷ [])
 pub record IsWalkingOn {P : Type 0} (moves : P → Item → P → Type 0) (file : List ℕ) (W : List Reference) (c : Reference) (before : P) (stack : List StackFrame × List (List ℕ)) (state : List Mark × Tree) (w : P) : Type 0 where
   pub now : Walk
   pub under : IsUnderway moves file (tree_walk file W c) before now (left_over file state.1.kind c stack.0) state w
-  pub roots : now.state.roots ≡ roots_in now.items
   pub frames_are : AreOpenFrames file state.1.kind c stack.0
   pub calls : AreCalls stack.0
   pub read : AreRead file stack.1 0 stack.0

@@ -1,24 +1,31 @@
--- A sink and a taker as one state that is handed the items of a walk: findings go to the sink, rows of the schema to the taker.
+-- A sink and a taker as one state that is handed the items of a walk: findings, and rows of the schema.
 use Rattle.std.specs.Prelude.{◌≡◌, List, Result, Ok, Err}
+use Rattle.dbformat.specs.Schema.{SchemaCell}
 use Rattle.dbformat.specs.SchemaRow.{SchemaRow}
+use Rattle.dbformat.specs.declared.RowFault.{RowFault}
 use Rattle.dbsource.specs.declared.error.RunError.{RunError}
 use Rattle.dbsource.specs.declared.error.RunError.TheVariants.{WriteFailed, OutOfMemory}
 use Rattle.dbsurvey.specs.Moves.{Moves, Stops, MovesBySome}
 use Rattle.dbtrace.specs.Finding.{Finding}
 use Rattle.dbtrace.specs.Item.{Item, found, given}
-use Rattle.dbwalk.specs.Taking.{gives}
+use Rattle.dbwalk.specs.Taking.{HandsRow, FailsRow}
+use Rattle.dbwalk.specs.declared.schema_row.RowPlace.{RowPlace}
 use Rattle.dbwalk.specs.declared.taker.Taken.{Taken}
 
--- an item changes the one that it is for
+-- the row of a cell of the schema, with its place
+abbrev pub row_at : SchemaCell → RowPlace × Result SchemaRow RowFault
+row_at c = (record { page = c.page; item = c.item; rowid = c.rowid }, c.row)
+
+-- a finding changes the sink; a row goes to the taker, and its faults to the sink
 abbrev pub watches : {S T : Type 0} → (S → Finding → S → Type 0) → (T → SchemaRow → Taken → T → Type 0) → (S × T) → Item → (S × T) → Type 0
 watches takes keeps w (found f) x = takes w.0 f x.0 × (w.1 ≡ x.1)
-watches takes keeps w (given row) x = gives keeps w.1 row x.1 × (w.0 ≡ x.0)
+watches takes keeps w (given c) x = HandsRow (Moves takes) keeps (row_at c) w x
 
--- an item that the sink dropped, or for which the taker was refused memory
-abbrev pub fails : {S T : Type 0} → (S → Finding → S → Type 0) → (T → SchemaRow → T → Type 0) → RunError → (S × T) → Item → (S × T) → Type 0
-fails drops refuses WriteFailed w (found f) x = drops w.0 f x.0 × (w.1 ≡ x.1)
-fails drops refuses OutOfMemory w (given row) x = refuses w.1 row x.1 × (w.0 ≡ x.0)
-fails drops refuses _ w item x = ⊥
+-- a finding that the sink dropped, or a row that was not handed on whole
+abbrev pub fails : {S T : Type 0} → (S → Finding → S → Type 0) → (S → Finding → S → Type 0) → (T → SchemaRow → Taken → T → Type 0) → (T → SchemaRow → T → Type 0) → RunError → (S × T) → Item → (S × T) → Type 0
+fails takes drops keeps refuses e w (given c) x = FailsRow takes drops keeps refuses e (row_at c) w x
+fails takes drops keeps refuses WriteFailed w (found f) x = drops w.0 f x.0 × (w.1 ≡ x.1)
+fails takes drops keeps refuses _ w (found f) x = ⊥
 
 -- The items changed the state up to one that failed, at an error of writing or of memory; at another error, up to some point.
 abbrev pub StopsAt : {P : Type 0} → (P → Item → P → Type 0) → (RunError → P → Item → P → Type 0) → RunError → P → List Item → P → Type 0

@@ -43,8 +43,8 @@ impl<A: Allocator, S: Source, K: Sink, T: Taker> TreeWalk<'_, '_, '_, '_, A, S, 
         ensures walked { Walked S.held K.held T.refusals result bench.old.geometry bench.new.geometry self.old self.new }
         ensures levels { bench.new.levels ≡ bench.old.levels }
         ensures tree { IsSameButGreatest self.old.tree self.new.tree }
-        ensures log { SaysOfFiles S.step S.held bench.old.geometry self.old self.new (λ file. AtLeaf T.takes file bench.old.levels page self.old (λ from c.
-            Does (watches K.takes T.takes) (fails K.drops T.refuses) file (done_below file from (errands_of (story_of file) c)) result self.old self.new)) }
+        ensures log { SaysOfFiles S.step S.held bench.old.geometry self.old self.new (λ file. AtLeaf file bench.old.levels page self.old (λ from c.
+            Does (watches K.takes T.takes) (fails K.takes K.drops T.takes T.refuses) file (done_below file from (errands_of (story_of file) c)) result self.old self.new)) }
     {
         let level = self.tree.path.len();
         let cells = leaf_cells(bench, self.tree.kind, level, page);
@@ -79,7 +79,7 @@ impl<A: Allocator, S: Source, K: Sink, T: Taker> TreeWalk<'_, '_, '_, '_, A, S, 
         ensures tree { IsSameButGreatest self.old.tree self.new.tree }
         ensures empty { OnOk result (1 ≤ self.old.tree.start → sieve.new ≡ None) }
         ensures log { SaysOfFiles S.step S.held bench.old.geometry self.old self.new (λ file.
-            AtCell T.takes file bench.old.levels page i self.old (λ from c v. Does (watches K.takes T.takes) (fails K.drops T.refuses) file
+            AtCell file bench.old.levels page i self.old (λ from c v. Does (watches K.takes T.takes) (fails K.takes K.drops T.takes T.refuses) file
             (done_below file from (cell_errands c self.old.tree.kind v i)) result self.old self.new)) }
     {
         let cell = leaf_cell(bench, self.tree.kind, self.tree.path.len(), page, i);

@@ -56,8 +56,8 @@ impl<A: Allocator, S: Source, K: Sink, T: Taker> TreeWalk<'_, '_, '_, '_, A, S, 
         ensures walked { Walked S.held K.held T.refusals result bench.old.geometry bench.new.geometry self.old self.new }
         ensures levels { bench.new.levels ≡ bench.old.levels }
         ensures path { self.new.tree.path ≡ self.old.tree.path }
-        ensures log { SaysOfFiles S.step S.held bench.old.geometry self.old self.new (λ file. AtPage T.takes file bench.old.levels page self.old (λ from c.
-            Does (watches K.takes T.takes) (fails K.drops T.refuses) file (entered file from c result) result self.old self.new
+        ensures log { SaysOfFiles S.step S.held bench.old.geometry self.old self.new (λ file. AtPage file bench.old.levels page self.old (λ from c.
+            Does (watches K.takes T.takes) (fails K.takes K.drops T.takes T.refuses) file (entered file from c result) result self.old self.new
             × IsEntered file from c result bench.new.levels)) }
         ensures open { IfOk result (λ yes. IsTrue yes
             → IsOpen bench.new.geometry.usable self.new.tree.kind bench.new.levels (length self.old.tree.path.items) (record { page = page; next = 0 })) }
@@ -94,8 +94,8 @@ impl<A: Allocator, S: Source, K: Sink, T: Taker> TreeWalk<'_, '_, '_, '_, A, S, 
         ensures walked { Walked S.held K.held T.refusals result bench.old.geometry bench.new.geometry self.old self.new }
         ensures levels { (level : ℕ) → level < length self.old.tree.path.items → slice_get bench.new.levels level ≡ slice_get bench.old.levels level }
         ensures path { self.new.tree.path ≡ self.old.tree.path }
-        ensures log { SaysOfFiles S.step S.held bench.old.geometry self.old self.new (λ file. AtReference T.takes file page from item self.old (λ at c.
-            Does (watches K.takes T.takes) (fails K.drops T.refuses) file (entered file at c result) result self.old self.new
+        ensures log { SaysOfFiles S.step S.held bench.old.geometry self.old self.new (λ file. AtReference file page from item self.old (λ at c.
+            Does (watches K.takes T.takes) (fails K.takes K.drops T.takes T.refuses) file (entered file at c result) result self.old self.new
             × IsEntered file at c result bench.new.levels)) }
         ensures open { IfOk result (λ yes. IsTrue yes → (length self.old.tree.path.items < 20)
             × IsOpen bench.new.geometry.usable self.new.tree.kind bench.new.levels (length self.old.tree.path.items) (record { page = page; next = 0 })) }

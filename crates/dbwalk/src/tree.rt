@@ -10,7 +10,6 @@ ghost use Rattle.dbsource.specs.Failures.{failures_after};
 ghost use Rattle.dbsource.specs.Sources.{Asks};
 ghost use Rattle.dbwalk.specs.Telling.{IsReadOrWrite, IsReadWriteOrMemory, SinkAfter};
 ghost use Rattle.dbmarks.specs.Reads.{Reads};
-ghost use Rattle.dbwalk.specs.Taking.{StartsEmpty};
 ghost use Rattle.dbwalk.specs.Roots.{IsRootAfter};
 ghost use Rattle.dbwalk.specs.Points.{AtRoot};
 ghost use Rattle.dbwalk.specs.Walked.{Does, SaysOfFiles, Walked};
@@ -36,8 +35,8 @@ impl<A: Allocator, S: Source, K: Sink, T: Taker> TreeWalk<'_, '_, '_, '_, A, S, 
         requires page { IsPageNumber page }
         requires fresh { (self.old.tree.greatest ≡ None) × (self.old.tree.leaf ≡ None) × (self.old.tree.path.items ≡ []) }
         ensures walked { Walked S.held K.held T.refusals result bench.old.geometry bench.new.geometry self.old self.new }
-        ensures log { SaysOfFiles S.step S.held bench.old.geometry self.old self.new (λ file. AtRoot T.takes file bench.old.levels page self.old (λ W c.
-            Does (watches K.takes T.takes) (fails K.drops T.refuses) file (tree_walk file W c) result self.old self.new)) }
+        ensures log { SaysOfFiles S.step S.held bench.old.geometry self.old self.new (λ file. AtRoot file bench.old.levels page self.old (λ W c.
+            Does (watches K.takes T.takes) (fails K.takes K.drops T.takes T.refuses) file (tree_walk file W c) result self.old self.new)) }
     {
         if !self.visit_page(bench, page)? {
             return Ok(());
@@ -53,14 +52,15 @@ impl<A: Allocator, S: Source, K: Sink, T: Taker> TreeWalk<'_, '_, '_, '_, A, S, 
 }
 
 /// Walks over the tree of a root, and marks and reports all that is below it. Each page is marked and then read, once. A root
-/// that may not be followed is reported. The rows of the schema that can be read go to the taker, in their order; no other tree
-/// calls it.
+/// that may not be followed is reported. The rows of the schema that can be read go to the taker, in their order, each before its
+/// faults are reported: S04 exactly where the taker answered [`Taken::Full`]. No other tree calls it.
 ///
 /// # Errors
 ///
 /// [`RunError::ReadFailed`] exactly where the source failed, [`RunError::WriteFailed`] exactly where the sink failed,
-/// [`RunError::OutOfMemory`] exactly where the taker was refused memory. The sink and the taker were each given a beginning
-/// then; which pages are marked is not specified.
+/// [`RunError::OutOfMemory`] exactly where the taker was refused memory. The sink and the taker were given a beginning then: the
+/// sink dropped the last finding of it where it failed, and nothing was reported of a row that the taker was refused memory for.
+/// Which pages are marked is not specified.
 pub fn walk_tree<A: Allocator, S: Source, K: Sink, T: Taker>(
     source: &mut S,
     bench: &mut Bench<A>,
@@ -73,8 +73,7 @@ pub fn walk_tree<A: Allocator, S: Source, K: Sink, T: Taker>(
     ensures shape { bench.new.geometry ≡ bench.old.geometry }
     ensures asks { Asks S.step (Reads bench.old.geometry.page_size marks.old marks.new) (λ file. bench.old.geometry ≡ shape_of file
         → root.encoding ≡ encoding_of file → (W : List Reference) (c : Reference) → IsRootAfter file root W c marks.old
-        → (held : T → ℕ) → (root.kind ≡ root_kind.Schema → StartsEmpty T.takes held taker.old)
-        → IsTreeDone K.takes K.drops T.takes T.refuses file W c result marks.new sink.old sink.new taker.old taker.new)
+        → IsTreeDone K.takes K.drops T.takes T.refuses file W c result marks.new (sink.old, taker.old) (sink.new, taker.new))
         is_read_failed result (S.held source.old) (S.held source.new) }
     ensures writes { SinkAfter is_write_failed result (K.held sink.old) (K.held sink.new) }
     ensures refusals { T.refusals taker.new ≡ failures_after is_out_of_memory result (T.refusals taker.old) }

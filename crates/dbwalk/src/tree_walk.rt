@@ -51,8 +51,8 @@ impl<A: Allocator, S: Source, K: Sink, T: Taker> TreeWalk<'_, '_, '_, '_, A, S, 
         ensures path { OnOk result ((fs : List StackFrame) (f : StackFrame) → frames.new.items ≡ fs ++ (f ∷ []) → self.new.tree.path.items ≡ path_of fs) }
         ensures ends { OnOk result (cost self.new.marks.now frames.new.items < cost self.old.marks.now (frames.old.items ++ (frame ∷ []))) }
         ensures log { SaysOfFiles S.step S.held bench.old.geometry self.old self.new (λ file.
-            AtStep (watches K.takes T.takes) T.takes file bench.old.levels (frames.old.items ++ (frame ∷ [])) self.old (λ W c before.
-            HasTurned (watches K.takes T.takes) (fails K.drops T.refuses) file (W, c, before) result (frames.new.items, bench.new.levels)
+            AtStep (watches K.takes T.takes) file bench.old.levels (frames.old.items ++ (frame ∷ [])) self.old (λ W c before.
+            HasTurned (watches K.takes T.takes) (fails K.takes K.drops T.takes T.refuses) file (W, c, before) result (frames.new.items, bench.new.levels)
             (self.new.marks.now, self.new.tree) (self.new.sink.now, self.new.taker.now))) }
     {
         let cell = frame.next / 3;
@@ -89,8 +89,8 @@ impl<A: Allocator, S: Source, K: Sink, T: Taker> TreeWalk<'_, '_, '_, '_, A, S, 
         ensures path { OnOk result ((fs : List StackFrame) (f : StackFrame) → frames.new.items ≡ fs ++ (f ∷ []) → self.new.tree.path.items ≡ path_of fs) }
         ensures ends { OnOk result (cost self.new.marks.now frames.new.items < cost self.old.marks.now (frames.old.items ++ (frame ∷ []))) }
         ensures log { SaysOfFiles S.step S.held bench.old.geometry self.old self.new (λ file.
-            AtStep (watches K.takes T.takes) T.takes file bench.old.levels (frames.old.items ++ (frame ∷ [])) self.old (λ W c before.
-            HasTurned (watches K.takes T.takes) (fails K.drops T.refuses) file (W, c, before) result (frames.new.items, bench.new.levels)
+            AtStep (watches K.takes T.takes) file bench.old.levels (frames.old.items ++ (frame ∷ [])) self.old (λ W c before.
+            HasTurned (watches K.takes T.takes) (fails K.takes K.drops T.takes T.refuses) file (W, c, before) result (frames.new.items, bench.new.levels)
             (self.new.marks.now, self.new.tree) (self.new.sink.now, self.new.taker.now))) }
     {
         match next {

@@ -1,13 +1,13 @@
 -- The step at the place of a cell's key: of an interior page or a leaf, with a key or without, and of the schema's rows. And
 -- cells of a leaf that have nothing but their keys to look at, while the keys rise: they hand out nothing, and change only the
 -- greatest key.
-use Rattle.std.proofs.Common.{◌≡◌, ℕ, ℤ, int_lt, Bool, true, false, cond, not, ◌&&◌, List, [], ◌∷◌, ◌++◌, map, Option, Some, None, refl, sym, ap, ◌∙◌, append_assoc, zero, suc, ◌+◌, ◌<◌, ◌≤◌, ◌<ℤ◌, arith, Ok, Err, Result, subst}
-use Rattle.std.specs.Prelude.{flat_map, nat_le, int_le, ◌==◌, option_and_then}
-use Rattle.std.proofs.lemmas.List.{append-nil, map-append}
-use Rattle.dbformat.specs.Address.{start_of, schema_start, last_root_start}
+use Rattle.std.proofs.Common.{◌≡◌, ℕ, ℤ, int_lt, Bool, true, false, cond, not, ◌&&◌, List, [], ◌∷◌, ◌++◌, map, Option, Some, None, refl, sym, ap, ◌∙◌, zero, suc, ◌+◌, ◌<◌, ◌≤◌, ◌<ℤ◌, arith, Ok, Err, Result, subst}
+use Rattle.std.specs.Prelude.{flat_map, int_le, ◌==◌, option_and_then}
+use Rattle.std.proofs.lemmas.List.{append-nil}
+use Rattle.dbformat.specs.Address.{start_of, schema_start}
 use Rattle.dbformat.specs.Cell.{Cell, cell, count}
 use Rattle.dbformat.specs.Head.{View, is_interior}
-use Rattle.dbformat.specs.KeyFaults.{key_of, row_faults_if}
+use Rattle.dbformat.specs.KeyFaults.{key_of}
 use Rattle.dbformat.specs.Reference.{Reference, role_of, tree_kind, tree_view}
 use Rattle.dbformat.specs.Schema.{SchemaCell, schema_cell}
 use Rattle.dbformat.specs.Story.{at_key, own_visit, story_of}
@@ -19,14 +19,11 @@ use Rattle.dbformat.specs.declared.FaultCode.{FaultCode}
 use Rattle.dbtrace.specs.Finding.{Finding, told_fault, told_by}
 use Rattle.dbtrace.specs.declared.Cause.{Cause}
 use Rattle.dbtrace.specs.declared.CellKey.{CellKey}
-use Rattle.dbtrace.specs.Item.{Item, found, given, readable, items_at}
+use Rattle.dbtrace.specs.Item.{Item, found, given, items_at}
 use Rattle.dbtrace.specs.Progress.{Progress, cause_by, rows_of, late_faults, greatest_after, key_value}
 use Rattle.dbtrace.specs.Walk.{Walk, advance, run_below, bare}
-use Rattle.dbtrace.proofs.Causing.{told_by-append, rows_alone}
-use Rattle.dbtrace.proofs.Folding.{row_of_progress}
 use Rattle.dbtrace.proofs.Keys.{le_is}
 use Rattle.dbwalk.specs.LeafCells.{is_late, key_cause, order_told, placed, top_after, AreRisingFrom}
-use Rattle.dbwalk.specs.Telling.{findings}
 use Rattle.std.specs.List.{range_with_len}
 use Rattle.std.specs.Option.{option_map_or, option_or}
 use Rattle.std.specs.Result.{result_ok}
@@ -51,11 +48,6 @@ use Rattle.dbwalk.specs.Underway.{IsAt, HasDone, done_below}
 use Rattle.dbmarks.specs.declared.marks.Mark.{Mark}
 use Rattle.dbwalk.specs.declared.state.Tree.{Tree}
 use Rattle.dbwalk.proofs.Leaves.LeafErrands.{leaf_errands_are}
-
--- what rows of the schema hand out, after this many rows with a root: those that can be read go to the taker, and then their
--- faults are reported
-abbrev pub row_items : ℕ → List SchemaCell → List Item
-row_items roots rows = map given (readable rows) ++ map found (findings (flat_map (row_faults_if (nat_le last_root_start roots)) rows))
 
 -- the fault of a cell's key, if it has one, as the program reports it
 abbrev pub order_told_of : Bool → Option CellKey → ℕ → ℕ → Option ℤ → List Finding
@@ -84,21 +76,11 @@ module _ (file : List ℕ) (r : Reference) (v : View) (n : ℕ) (x : Cell) where
       by_key None top = refl
       by_key (Some value) top = refl
 
-  -- what the cell hands out, where these are its rows of the schema: they go to the taker, and then their faults and that of
-  -- the key are reported
+  -- what the cell hands out, where these are its rows of the schema: the rows, and then the key's fault
   pub cell_items : (U : List Reference) (p : Progress) (rows : List SchemaCell) → rows_of file U r v (n, x) ≡ rows
-      → items_at file U p (at_key r v (n, x)) ≡ row_items p.roots rows ++ map found (order_told_of (not (is_interior v.kind)) p.greatest r.page n x.key)
-  cell_items U p rows are =
-      let L = flat_map (row_faults_if (nat_le last_root_start p.roots)) rows in
-      let K = flat_map (late_faults p.greatest) (key_of r v (n, x)) in
-      let told = order_told_of (not (is_interior v.kind)) p.greatest r.page n x.key in
-      let why : FaultCode → Cause = cause_by file U p (at_key r v (n, x)) in
-      ap (λ l. map given (readable l) ++ map found (told_by why (flat_map (row_faults_if (nat_le last_root_start p.roots)) l ++ K))) are
-      ∙ ap (λ l. map given (readable rows) ++ map found l) (told_by-append why L K)
-      ∙ ap (λ l. map given (readable rows) ++ map found (l ++ told_by why K)) (rows_alone why (row_of_progress file U p r v (n, x)) (nat_le last_root_start p.roots) rows)
-      ∙ ap (λ l. map given (readable rows) ++ map found (findings L ++ l)) (key_faults_are why p.greatest refl)
-      ∙ ap (λ l. map given (readable rows) ++ l) (map-append found (findings L) told)
-      ∙ sym (append_assoc (map given (readable rows)) (map found (findings L)) (map found told))
+      → items_at file U p (at_key r v (n, x)) ≡ map given rows ++ map found (order_told_of (not (is_interior v.kind)) p.greatest r.page n x.key)
+  cell_items U p rows are = ap (λ l. map given l ++ map found (told_by (cause_by file U p (at_key r v (n, x))) (flat_map (late_faults p.greatest) (key_of r v (n, x))))) are
+      ∙ ap (λ l. map given rows ++ map found l) (key_faults_are (cause_by file U p (at_key r v (n, x))) p.greatest refl)
 
   -- the greatest key after it
   pub greatest_behind : (now : Walk) → (advance file now (at_key r v (n, x))).state.greatest ≡ top_after now.state.greatest r.page n x.key
@@ -117,7 +99,7 @@ no_row_elsewhere file U r v x other = rw other refl
 
 -- the same walk with another greatest key
 abbrev pub with_greatest : Walk → Option CellKey → Walk
-with_greatest now top = record { visits = now.visits; state = record { greatest = top; leaf = now.state.leaf; roots = now.state.roots }; items = now.items }
+with_greatest now top = record { visits = now.visits; state = record { greatest = top; leaf = now.state.leaf }; items = now.items }
 
 module _ (file : List ℕ) (r : Reference) (kind : TreeKind) (v : View) (leaf : is_interior v.kind ≡ false) (other : (start_of r.address == schema_start) ≡ false) where
   pub quiet : (is : List ℕ) → AreQuiet own_visit (flat_map (cell_errands r kind v) is)
@@ -154,7 +136,7 @@ module _ (file : List ℕ) (r : Reference) (kind : TreeKind) (v : View) (leaf : 
 
       walk_is : now.visits ++ [] ≡ now.visits → greatest_after now.state.greatest (key_of r v (i, w.whole)) ≡ option_or (placed r.page i (key_at v i)) now.state.greatest → rows_of file (now.visits ++ []) r v (i, w.whole) ≡ []
           → flat_map (late_faults now.state.greatest) (key_of r v (i, w.whole)) ≡ [] → advance file now (at_key r v (i, w.whole)) ≡ with_greatest now (option_or (placed r.page i (key_at v i)) now.state.greatest)
-      walk_is a b c d = let z : now.state.roots + 0 ≡ now.state.roots = omega arith in rw (b, c, d, a, append-nil now.items, z) refl
+      walk_is a b c d = rw (b, c, d, a, append-nil now.items) refl
 
   -- and several cells
   pub passed : (n from : ℕ) (now : Walk) (after : Option CellKey) → from + n ≤ count v → AreRisingFrom r.page v from n now.state.greatest after

@@ -2,15 +2,16 @@
 use Rattle.std.proofs.Common.{◌≡◌, inl, inr, List, [], ◌∷◌, ◌++◌, map, Result, Ok, Err, refl, sym, ap, subst, ℕ, ◌∙◌}
 use Rattle.std.specs.Prelude.{IfErr, OnOk}
 use Rattle.dbsurvey.specs.Moves.{Moves, Stops, MovesBySome}
-use Rattle.dbsurvey.proofs.Moving.{Moves-append, some_none, some_first, some_after, stops_first, stops_after}
+use Rattle.dbsurvey.proofs.Moving.{Moves-append, some_first, some_after, stops_first, stops_after}
+use Rattle.dbformat.specs.Schema.{SchemaCell}
 use Rattle.dbformat.specs.SchemaRow.{SchemaRow}
 use Rattle.dbsource.specs.declared.error.RunError.{RunError}
 use Rattle.dbsource.specs.declared.error.RunError.TheVariants.{Refused, ReadFailed, WriteFailed, OutOfMemory}
 use Rattle.dbtrace.specs.Finding.{Finding}
-use Rattle.dbtrace.specs.Item.{Item, found, given, findings_in, given_rows}
+use Rattle.dbtrace.specs.Item.{Item, found, given, given_cells, counted_findings}
 use Rattle.dbwalk.specs.Telling.{IsReadOrWrite, Tells}
-use Rattle.dbwalk.specs.Taking.{gives, Gives}
-use Rattle.dbwalk.specs.Watching.{watches, fails, StopsAt, Handed}
+use Rattle.dbwalk.specs.Taking.{TellsRow}
+use Rattle.dbwalk.specs.Watching.{watches, fails, row_at, StopsAt, Handed}
 use Rattle.dbwalk.specs.declared.taker.Taken.{Taken}
 use Rattle.dbsurvey.specs.InOrder.{AreQuiet}
 use Rattle.dbsurvey.specs.Story.{Errand, telling_of}
@@ -27,10 +28,10 @@ use Rattle.dbmarks.specs.declared.marks.Mark.{Mark}
 use Rattle.dbwalk.specs.declared.state.Tree.{Tree}
 
 -- items that give no row
-pub only_found : (items : List Item) → given_rows items ≡ [] → items ≡ map found (findings_in items)
+pub only_found : (items : List Item) → given_cells items ≡ [] → items ≡ map found (counted_findings 0 items)
 only_found [] e = refl
 only_found (found f ∷ items) e = ap (λ l. found f ∷ l) (only_found items e)
-only_found (given row ∷ items) e = cc
+only_found (given c ∷ items) e = cc
 
 -- what a call that answers nothing has done
 abbrev pub HasEnded : {P : Type 0} → (P → Item → P → Type 0) → (RunError → P → Item → P → Type 0) → List ℕ → Walk → Result (Unit {0}) RunError → List Mark × Tree → P → P → Type 0
@@ -67,17 +68,6 @@ module _ {P : Type 0} (moves : P → Item → P → Type 0) (stops : RunError �
   handed_after (Ok a) w m x L M h k = Moves-append moves w m x L M h k
   handed_after (Err e) w m x L M h k = stop_after e w m x L M h k
 
--- One list of items is both stories: of a sink and of a taker.
-module _ {S T : Type 0} (takes : S → Finding → S → Type 0) (keeps : T → SchemaRow → Taken → T → Type 0) where
-  pub moves_both : (items : List Item) (w x : S × T) → Moves (watches takes keeps) w items x → Moves takes w.0 (findings_in items) x.0 × Moves (gives keeps) w.1 (given_rows items) x.1
-  moves_both [] w x e = (ap (λ p. p.0) e, ap (λ p. p.1) e)
-  moves_both (found f ∷ items) w x h =
-      let k = moves_both items h.0 x h.2 in
-      ((h.0.0, h.1.0, k.0), subst (λ t. Moves (gives keeps) t (given_rows items) x.1) (sym h.1.1) k.1)
-  moves_both (given row ∷ items) w x h =
-      let k = moves_both items h.0 x h.2 in
-      (subst (λ t. Moves takes t (findings_in items) x.0) (sym h.1.1) k.0, (h.0.1, h.1.0, k.1))
-
 module _ {S T : Type 0} (takes drops : S → Finding → S → Type 0) (keeps : T → SchemaRow → Taken → T → Type 0) (refuses : T → SchemaRow → T → Type 0) where
   -- findings alone, to the sink
   pub found_moves : (fs : List Finding) (s s' : S) (t : T) → Moves takes s fs s' → Moves (watches takes keeps) (s, t) (map found fs) (s', t)
@@ -89,59 +79,54 @@ module _ {S T : Type 0} (takes drops : S → Finding → S → Type 0) (keeps : 
   found_some (f ∷ fs) s s' t (inl e) = inl (ap (λ m. (m, t)) e)
   found_some (f ∷ fs) s s' t (inr h) = inr ((h.0, t), (h.1, refl), found_some fs h.0 s' t h.2)
 
-  pub found_stops : (fs : List Finding) (s s' : S) (t : T) → Stops takes drops s fs s' → Stops (watches takes keeps) (fails drops refuses WriteFailed) (s, t) (map found fs) (s', t)
+  pub found_stops : (fs : List Finding) (s s' : S) (t : T) → Stops takes drops s fs s' → Stops (watches takes keeps) (fails takes drops keeps refuses WriteFailed) (s, t) (map found fs) (s', t)
   found_stops [] s s' t h = absurd h
   found_stops (f ∷ fs) s s' t (inl h) = inl (h, refl)
   found_stops (f ∷ fs) s s' t (inr h) = inr ((h.0, t), (h.1, refl), found_stops fs h.0 s' t h.2)
 
   -- at Ok and after an error of reading or writing
-  pub found_handed : {A : Type 0} (r : Result A RunError) (fs : List Finding) (s s' : S) (t : T) → (r ≡ Err OutOfMemory → ⊥) → Tells takes drops r s fs s' → Handed (watches takes keeps) (fails drops refuses) r (s, t) (map found fs) (s', t)
+  pub found_handed : {A : Type 0} (r : Result A RunError) (fs : List Finding) (s s' : S) (t : T) → (r ≡ Err OutOfMemory → ⊥) → Tells takes drops r s fs s' → Handed (watches takes keeps) (fails takes drops keeps refuses) r (s, t) (map found fs) (s', t)
   found_handed (Ok a) fs s s' t quiet h = found_moves fs s s' t h
   found_handed (Err (Refused e)) fs s s' t quiet h = found_some fs s s' t h
   found_handed (Err ReadFailed) fs s s' t quiet h = found_some fs s s' t h
   found_handed (Err OutOfMemory) fs s s' t quiet h = absurd (quiet refl)
   found_handed (Err WriteFailed) fs s s' t quiet h = found_stops fs s s' t h
 
-  some_both : (items : List Item) (w x : S × T) → MovesBySome (watches takes keeps) w items x → MovesBySome takes w.0 (findings_in items) x.0 × MovesBySome (gives keeps) w.1 (given_rows items) x.1
-  some_both [] w x e = (ap (λ p. p.0) e, ap (λ p. p.1) e)
-  some_both (found f ∷ items) w x (inl e) = (inl (ap (λ p. p.0) e), subst (λ t. MovesBySome (gives keeps) w.1 (given_rows items) t) (ap (λ p. p.1) e) (some_none (gives keeps) w.1 (given_rows items)))
-  some_both (found f ∷ items) w x (inr h) =
-      let k = some_both items h.0 x h.2 in
-      (inr (h.0.0, h.1.0, k.0), subst (λ t. MovesBySome (gives keeps) t (given_rows items) x.1) (sym h.1.1) k.1)
-  some_both (given row ∷ items) w x (inl e) = (subst (λ t. MovesBySome takes w.0 (findings_in items) t) (ap (λ p. p.0) e) (some_none takes w.0 (findings_in items)), inl (ap (λ p. p.1) e))
-  some_both (given row ∷ items) w x (inr h) =
-      let k = some_both items h.0 x h.2 in
-      (subst (λ t. MovesBySome takes t (findings_in items) x.0) (sym h.1.1) k.0, inr (h.0.1, h.1.0, k.1))
+  -- and what findings alone left of the sink
+  moves_found : (fs : List Finding) (w x : S × T) → Moves (watches takes keeps) w (map found fs) x → Moves takes w.0 fs x.0
+  moves_found [] w x e = ap (λ p. p.0) e
+  moves_found (f ∷ fs) w x h = (h.0.0, h.1.0, moves_found fs h.0 x h.2)
 
-  write_both : (items : List Item) (w x : S × T) → Stops (watches takes keeps) (fails drops refuses WriteFailed) w items x → Stops takes drops w.0 (findings_in items) x.0 × MovesBySome (gives keeps) w.1 (given_rows items) x.1
-  write_both [] w x h = absurd h
-  write_both (found f ∷ items) w x (inl h) = (inl h.0, subst (λ t. MovesBySome (gives keeps) w.1 (given_rows items) t) h.1 (some_none (gives keeps) w.1 (given_rows items)))
-  write_both (found f ∷ items) w x (inr h) =
-      let k = write_both items h.0 x h.2 in
-      (inr (h.0.0, h.1.0, k.0), subst (λ t. MovesBySome (gives keeps) t (given_rows items) x.1) (sym h.1.1) k.1)
-  write_both (given row ∷ items) w x (inl h) = absurd h
-  write_both (given row ∷ items) w x (inr h) =
-      let k = write_both items h.0 x h.2 in
-      (subst (λ t. Stops takes drops t (findings_in items) x.0) (sym h.1.1) k.0, inr (h.0.1, h.1.0, k.1))
+  some_found : (fs : List Finding) (w x : S × T) → MovesBySome (watches takes keeps) w (map found fs) x → MovesBySome takes w.0 fs x.0
+  some_found [] w x e = ap (λ p. p.0) e
+  some_found (f ∷ fs) w x (inl e) = inl (ap (λ p. p.0) e)
+  some_found (f ∷ fs) w x (inr h) = inr (h.0.0, h.1.0, some_found fs h.0 x h.2)
 
-  memory_both : (items : List Item) (w x : S × T) → Stops (watches takes keeps) (fails drops refuses OutOfMemory) w items x → MovesBySome takes w.0 (findings_in items) x.0 × Stops (gives keeps) refuses w.1 (given_rows items) x.1
-  memory_both [] w x h = absurd h
-  memory_both (found f ∷ items) w x (inl h) = absurd h
-  memory_both (found f ∷ items) w x (inr h) =
-      let k = memory_both items h.0 x h.2 in
-      (inr (h.0.0, h.1.0, k.0), subst (λ t. Stops (gives keeps) refuses t (given_rows items) x.1) (sym h.1.1) k.1)
-  memory_both (given row ∷ items) w x (inl h) = (subst (λ t. MovesBySome takes w.0 (findings_in items) t) h.1 (some_none takes w.0 (findings_in items)), inl h.0)
-  memory_both (given row ∷ items) w x (inr h) =
-      let k = memory_both items h.0 x h.2 in
-      (subst (λ t. MovesBySome takes t (findings_in items) x.0) (sym h.1.1) k.0, inr (h.0.1, h.1.0, k.1))
+  stops_found : (fs : List Finding) (w x : S × T) → Stops (watches takes keeps) (fails takes drops keeps refuses WriteFailed) w (map found fs) x → Stops takes drops w.0 fs x.0
+  stops_found [] w x h = absurd h
+  stops_found (f ∷ fs) w x (inl h) = inl h.0
+  stops_found (f ∷ fs) w x (inr h) = inr (h.0.0, h.1.0, stops_found fs h.0 x h.2)
 
-  pub handed_both : {A : Type 0} (r : Result A RunError) (items : List Item) (w x : S × T) → Handed (watches takes keeps) (fails drops refuses) r w items x
-      → Tells takes drops r w.0 (findings_in items) x.0 × Gives keeps refuses r w.1 (given_rows items) x.1
-  handed_both (Ok a) items w x h = moves_both takes keeps items w x h
-  handed_both (Err (Refused e)) items w x h = some_both items w x h
-  handed_both (Err ReadFailed) items w x h = some_both items w x h
-  handed_both (Err WriteFailed) items w x h = write_both items w x h
-  handed_both (Err OutOfMemory) items w x h = memory_both items w x h
+  -- no memory was asked for
+  never_refused : (fs : List Finding) (w x : S × T) → Stops (watches takes keeps) (fails takes drops keeps refuses OutOfMemory) w (map found fs) x → ⊥
+  never_refused [] w x h = h
+  never_refused (f ∷ fs) w x (inl h) = h
+  never_refused (f ∷ fs) w x (inr h) = never_refused fs h.0 x h.2
+
+  pub handed_found : {A : Type 0} (r : Result A RunError) (fs : List Finding) (w x : S × T) → Handed (watches takes keeps) (fails takes drops keeps refuses) r w (map found fs) x → Tells takes drops r w.0 fs x.0
+  handed_found (Ok a) fs w x h = moves_found fs w x h
+  handed_found (Err (Refused e)) fs w x h = some_found fs w x h
+  handed_found (Err ReadFailed) fs w x h = some_found fs w x h
+  handed_found (Err WriteFailed) fs w x h = stops_found fs w x h
+  handed_found (Err OutOfMemory) fs w x h = absurd (never_refused fs w x h)
+
+  -- a row of the schema alone, and none
+  pub row_handed : (r : Result (Unit {0}) RunError) (c : SchemaCell) (w x : S × T) → TellsRow takes drops keeps refuses (row_at c) r w x → Handed (watches takes keeps) (fails takes drops keeps refuses) r w (given c ∷ []) x
+  row_handed (Ok a) c w x h = (x, h, refl)
+  row_handed (Err (Refused e)) c w x h = absurd h
+  row_handed (Err ReadFailed) c w x h = absurd h
+  row_handed (Err WriteFailed) c w x h = inl h
+  row_handed (Err OutOfMemory) c w x h = inl h
 
 -- What calls have done, one after another.
 

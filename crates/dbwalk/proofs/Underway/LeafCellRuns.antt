@@ -22,7 +22,7 @@ use Rattle.dbbytes.specs.declared.sieve.RowSieve.{RowSieve}
 use Rattle.dbsource.specs.declared.error.RunError.{RunError}
 use Rattle.dbtrace.specs.Finding.{Finding, told_below, visited_below}
 use Rattle.dbtrace.specs.declared.CellKey.{CellKey}
-use Rattle.dbtrace.specs.Item.{Item, found}
+use Rattle.dbtrace.specs.Item.{Item, found, given}
 use Rattle.dbtrace.specs.Progress.{rows_of}
 use Rattle.dbtrace.specs.Walk.{Walk, bare, advance}
 use Rattle.dbtrace.proofs.Asides.{are_aside}
@@ -31,7 +31,7 @@ use Rattle.dbwalk.specs.Done.{IsDone}
 use Rattle.dbwalk.specs.LeafCells.{overflow_errands, late_told, top_after, AreBefore}
 use Rattle.dbmarks.specs.Marking.{AreMarksOf}
 use Rattle.dbwalk.specs.Telling.{IsReadOrWrite}
-use Rattle.dbwalk.specs.Taking.{HasRoom, row_place, TellsRow, HasFed, HoldsCell, FeedsPayload}
+use Rattle.dbwalk.specs.Taking.{row_place, TellsRow, HasFed, HoldsCell, FeedsPayload}
 use Rattle.dbwalk.specs.Underway.{IsAt, done_below}
 use Rattle.dbwalk.specs.Watching.{watches, fails, StopsAt, Handed}
 use Rattle.dbmarks.specs.declared.marks.Mark.{Mark}
@@ -40,9 +40,8 @@ use Rattle.dbwalk.specs.declared.state.Tree.{Tree}
 use Rattle.dbwalk.specs.declared.taker.Taken.{Taken}
 use Rattle.dbwalk.proofs.Leaves.LeafErrands.{own_errands, read_overflow, errands_split, quiet_overflow}
 use Rattle.dbwalk.proofs.Telling.Belows.{told_none}
-use Rattle.dbwalk.proofs.Underway.CellSteps.{row_items, order_told_of, cell_items, greatest_behind, no_row_elsewhere}
-use Rattle.dbwalk.proofs.Underway.Handing.{HasEnded, bare_visits, done_then, done_stops, found_handed, no_memory, only_found, handed_after, stop_first}
-use Rattle.dbwalk.proofs.RootTakings.{row_handed}
+use Rattle.dbwalk.proofs.Underway.CellSteps.{order_told_of, cell_items, greatest_behind, no_row_elsewhere}
+use Rattle.dbwalk.proofs.Underway.Handing.{HasEnded, bare_visits, done_then, done_stops, found_handed, no_memory, handed_after, stop_first, row_handed}
 
 -- the row of a readable cell of the schema's tree, by these visits
 abbrev pub rows_behind : List ℕ → List Reference → Reference → View → ℕ → Option Cell → List SchemaCell
@@ -75,7 +74,7 @@ module _ (file : List ℕ) (from : Walk) (c : Reference) (kind : TreeKind) (v : 
       by_chain None = let none = (has_steps file).none (bare from) in (ap (λ w. w.state) none, ap (λ w. w.items) none ∙ ap (map found) (sym (told_none file from.visits)))
       by_chain (Some o) =
           let aside = are_aside file (bare from) _ refl in
-          (aside.state, only_found (done_below file from (overflow_errands c i (Some o))).items aside.rows ∙ ap (map found) aside.findings_are)
+          (aside.state, aside.items)
 
   visited : m.visits ≡ from.visits ++ visited_below file from.visits chain
   visited = (has_steps file).visits (bare from) chain (quiet_overflow c i overflow)
@@ -85,7 +84,7 @@ module _ (file : List ℕ) (from : Walk) (c : Reference) (kind : TreeKind) (v : 
     visits : w.visits ≡ m.visits
     greatest_is : w.state.greatest ≡ top_after from.state.greatest c.page i key
     leaf_is : w.state.leaf ≡ from.state.leaf
-    items : w.items ≡ row_items from.state.roots (rows_behind file m.visits c v i o) ++ key_items
+    items : w.items ≡ map given (rows_behind file m.visits c v i o) ++ key_items
 
   same_faults : (top : Option CellKey) (o : Option ℤ) → order_told_of true top c.page i o ≡ late_told top c.page i o
   same_faults top None = refl
@@ -109,9 +108,9 @@ module _ (file : List ℕ) (from : Walk) (c : Reference) (kind : TreeKind) (v : 
             greatest_is = greatest_behind file c v i x (bare m) ∙ ap (λ p. top_after p.greatest c.page i x.key) chained.0 ∙ ap (top_after from.state.greatest c.page i) (sym e);
             leaf_is = ap (λ p. p.leaf) chained.0;
             items = cell_items file c v i x U m.state (rows_of file m.visits c v (i, x)) here
-                ∙ ap (λ p. row_items p.roots (rows_of file m.visits c v (i, x)) ++ map found (order_told_of (not (is_interior v.kind)) p.greatest c.page i x.key)) chained.0
-                ∙ ap (λ b. row_items from.state.roots (rows_of file m.visits c v (i, x)) ++ map found (order_told_of (not b) from.state.greatest c.page i x.key)) leaf
-                ∙ ap (λ fs. row_items from.state.roots (rows_of file m.visits c v (i, x)) ++ map found fs) (same_faults from.state.greatest x.key ∙ ap (late_told from.state.greatest c.page i) (sym e));
+                ∙ ap (λ p. map given (rows_of file m.visits c v (i, x)) ++ map found (order_told_of (not (is_interior v.kind)) p.greatest c.page i x.key)) chained.0
+                ∙ ap (λ b. map given (rows_of file m.visits c v (i, x)) ++ map found (order_told_of (not b) from.state.greatest c.page i x.key)) leaf
+                ∙ ap (λ fs. map given (rows_of file m.visits c v (i, x)) ++ map found fs) (same_faults from.state.greatest x.key ∙ ap (late_told from.state.greatest c.page i) (sym e));
           })
 
   split : cell_errands c kind v i ≡ chain ++ own
@@ -123,14 +122,14 @@ module _ (file : List ℕ) (from : Walk) (c : Reference) (kind : TreeKind) (v : 
 
   module _ {S T : Type 0} (takes drops : S → Finding → S → Type 0) (keeps : T → SchemaRow → Taken → T → Type 0) (refuses : T → SchemaRow → T → Type 0) where
     abbrev pub Whole : Result (Unit {0}) RunError → List Mark × Tree → (S × T) → (S × T) → Type 0
-    Whole r now w x = HasEnded (watches takes keeps) (fails drops refuses) file (done_below file from (cell_errands c kind v i)) r now w x
+    Whole r now w x = HasEnded (watches takes keeps) (fails takes drops keeps refuses) file (done_below file from (cell_errands c kind v i)) r now w x
 
     -- what the chain's call has done
     chain_done : (r : Result (Unit {0}) RunError) (marks : List Mark) (tree : Tree) (s s' : S) (t : T) → IfErr r IsReadOrWrite → tree.greatest ≡ from.state.greatest → tree.leaf ≡ from.state.leaf
-        → IsDone takes drops file from.visits chain r marks s s' → HasEnded (watches takes keeps) (fails drops refuses) file m r (marks, tree) (s, t) (s', t)
+        → IsDone takes drops file from.visits chain r marks s s' → HasEnded (watches takes keeps) (fails takes drops keeps refuses) file m r (marks, tree) (s, t) (s', t)
     chain_done r marks tree s s' t only top depth done = record {
       at = by_ok r done.marked;
-      handed = subst (λ l. Handed (watches takes keeps) (fails drops refuses) r (s, t) l (s', t)) (sym chained.1) (found_handed takes drops keeps refuses r (told_below file from.visits chain) s s' t (no_memory r only) done.told);
+      handed = subst (λ l. Handed (watches takes keeps) (fails takes drops keeps refuses) r (s, t) l (s', t)) (sym chained.1) (found_handed takes drops keeps refuses r (told_below file from.visits chain) s s' t (no_memory r only) done.told);
     }
       where
         by_ok : (r : Result (Unit {0}) RunError) → OnOk r (AreMarksOf file (from.visits ++ visited_below file from.visits chain) marks) → OnOk r (IsAt file m marks tree)
@@ -140,17 +139,17 @@ module _ (file : List ℕ) (from : Walk) (c : Reference) (kind : TreeKind) (v : 
     -- it could not be walked to its end
     pub chain_stops : (e : RunError) (marks : List Mark) (now : List Mark × Tree) (s s' : S) (t : T) → IsReadOrWrite e → (tree : Tree) → tree.greatest ≡ from.state.greatest → tree.leaf ≡ from.state.leaf
         → IsDone {A = Unit {0}} takes drops file from.visits chain (Err e) marks s s' → Whole (Err e) now (s, t) (s', t)
-    chain_stops e marks now s s' t only tree top depth done = subst (λ es. HasEnded (watches takes keeps) (fails drops refuses) file (done_below file from es) (Err e) now (s, t) (s', t)) (sym split)
-        (done_stops (watches takes keeps) (fails drops refuses) file from e chain own (marks, tree) now (s, t) (s', t) (quiet_overflow c i overflow) (chain_done (Err e) marks tree s s' t only top depth done))
+    chain_stops e marks now s s' t only tree top depth done = subst (λ es. HasEnded (watches takes keeps) (fails takes drops keeps refuses) file (done_below file from es) (Err e) now (s, t) (s', t)) (sym split)
+        (done_stops (watches takes keeps) (fails takes drops keeps refuses) file from e chain own (marks, tree) now (s, t) (s', t) (quiet_overflow c i overflow) (chain_done (Err e) marks tree s s' t only top depth done))
 
     -- it was, and then row and key were handed out, or not
     pub own_done : (r : Result (Unit {0}) RunError) (marks : List Mark) (old new : Tree) (s s' : S) (t : T) (x : S × T) → old.greatest ≡ from.state.greatest → old.leaf ≡ from.state.leaf → IsDone {A = Unit {0}} takes drops file from.visits chain (Ok tt) marks s s'
-        → Handed (watches takes keeps) (fails drops refuses) r (s', t) (row_items from.state.roots rows ++ key_items) x
+        → Handed (watches takes keeps) (fails takes drops keeps refuses) r (s', t) (map given rows ++ key_items) x
         → OnOk r ((new.greatest ≡ top_after old.greatest c.page i key) × (new.leaf ≡ old.leaf)) → Whole r (marks, new) (s, t) x
-    own_done r marks old new s s' t x top depth done handed tree_is = subst (λ es. HasEnded (watches takes keeps) (fails drops refuses) file (done_below file from es) r (marks, new) (s, t) x) (sym split)
-        (done_then (watches takes keeps) (fails drops refuses) file from tt r chain own (marks, old) (marks, new) (s, t) (s', t) x (quiet_overflow c i overflow) (chain_done (Ok tt) marks old s s' t tt top depth done) (record {
+    own_done r marks old new s s' t x top depth done handed tree_is = subst (λ es. HasEnded (watches takes keeps) (fails takes drops keeps refuses) file (done_below file from es) r (marks, new) (s, t) x) (sym split)
+        (done_then (watches takes keeps) (fails takes drops keeps refuses) file from tt r chain own (marks, old) (marks, new) (s, t) (s', t) x (quiet_overflow c i overflow) (chain_done (Ok tt) marks old s s' t tt top depth done) (record {
           at = by_ok r tree_is;
-          handed = subst (λ l. Handed (watches takes keeps) (fails drops refuses) r (s', t) l x) (sym behind.items) handed;
+          handed = subst (λ l. Handed (watches takes keeps) (fails takes drops keeps refuses) r (s', t) l x) (sym behind.items) handed;
         }))
       where
         by_ok : (r : Result (Unit {0}) RunError) → OnOk r ((new.greatest ≡ top_after old.greatest c.page i key) × (new.leaf ≡ old.leaf)) → OnOk r (IsAt file (done_below file m own) marks new)
@@ -158,13 +157,13 @@ module _ (file : List ℕ) (from : Walk) (c : Reference) (kind : TreeKind) (v : 
         by_ok (Err e) h = tt
 
     -- the row: by the sieve that took the payload
-    module _ (held : T → ℕ) (t t' : T) (place : RowPlace) (p : ℕ) (place_is : place ≡ row_place p i key) (page : c.page ≡ p) (e : Encoding) (coded : e ≡ encoding file) (r : Result (Unit {0}) RunError) (s s' : S) (new : Option RowSieve)
+    module _ (t t' : T) (place : RowPlace) (p : ℕ) (place_is : place ≡ row_place p i key) (page : c.page ≡ p) (e : Encoding) (coded : e ≡ encoding file) (r : Result (Unit {0}) RunError) (s s' : S) (new : Option RowSieve)
         (quiet : new ≡ None → (r ≡ Ok tt) × (s' ≡ s) × (t' ≡ t)) where
       abbrev Rows : List SchemaCell → Type 0
-      Rows cells = Handed (watches takes keeps) (fails drops refuses) r (s, t) (row_items from.state.roots cells) (s', t')
+      Rows cells = Handed (watches takes keeps) (fails takes drops keeps refuses) r (s, t) (map given cells) (s', t')
 
       none_handed : new ≡ None → Rows []
-      none_handed none = let q = quiet none in subst (λ r. Handed (watches takes keeps) (fails drops refuses) r (s, t) [] (s', t')) (sym q.0) (subst (λ s'. ◌≡◌ {A = S × T} (s, t) (s', t')) (sym q.1) (subst (λ t'. ◌≡◌ {A = S × T} (s, t) (s, t')) (sym q.2) refl))
+      none_handed none = let q = quiet none in subst (λ r. Handed (watches takes keeps) (fails takes drops keeps refuses) r (s, t) [] (s', t')) (sym q.0) (subst (λ s'. ◌≡◌ {A = S × T} (s, t) (s', t')) (sym q.1) (subst (λ t'. ◌≡◌ {A = S × T} (s, t) (s, t')) (sym q.2) refl))
 
       -- in other trees there is none
       no_row_handed : (start_of c.address == schema_start) ≡ false → new ≡ None → Rows rows
@@ -174,9 +173,9 @@ module _ (file : List ℕ) (from : Walk) (c : Reference) (kind : TreeKind) (v : 
           by_cell None = refl
           by_cell (Some x) = no_row_elsewhere file m.visits c v (i, x) other
 
-      cell_row_handed : (start_of c.address == schema_start) ≡ true → HasRoom keeps held from.state.roots t → (old : Option RowSieve) → HoldsCell old e (result_ok (cell v i)) → AreBefore from.visits (then_step c.address (overflow_step i)) → FeedsPayload file from.visits c i overflow old new
+      cell_row_handed : (start_of c.address == schema_start) ≡ true → (old : Option RowSieve) → HoldsCell old e (result_ok (cell v i)) → AreBefore from.visits (then_step c.address (overflow_step i)) → FeedsPayload file from.visits c i overflow old new
           → is_some new ≡ is_some old → ((size : ℕ) (e : Encoding) (bytes : List ℕ) → HasFed new size e bytes → TellsRow takes drops keeps refuses (place, schema_row bytes size e) r (s, t) (s', t')) → Rows rows
-      cell_row_handed schema room old holds before fed kept told = by_cell (result_ok (cell v i)) key_is holds
+      cell_row_handed schema old holds before fed kept told = by_cell (result_ok (cell v i)) key_is holds
         where
           gone : (o : Option RowSieve) → is_some o ≡ false → o ≡ None
           gone None e = refl
@@ -188,17 +187,17 @@ module _ (file : List ℕ) (from : Walk) (c : Reference) (kind : TreeKind) (v : 
               let bytes : payload file (from.visits ++ visited_below file from.visits chain) c.address i x ≡ payload file m.visits c.address i x = ap (λ U. payload file U c.address i x) (sym visited) in
               let one : rows_of file m.visits c v (i, x) ≡ schema_cell file m.visits c (i, x) ∷ [] = rw (schema, leaf) refl in
               let here : place ≡ row_place c.page i x.key = place_is ∙ ap (λ q. row_place q i key) (sym page) ∙ ap (row_place c.page i) key_is in
-              subst Rows (sym one) (row_handed takes drops keeps refuses held from.state.roots (schema_cell file m.visits c (i, x)) s s' t t' room r
+              subst Rows (sym one) (row_handed takes drops keeps refuses r (schema_cell file m.visits c (i, x)) (s, t) (s', t')
               (subst (λ q. TellsRow takes drops keeps refuses (q, schema_row (payload file m.visits c.address i x) x.size (encoding file)) r (s, t) (s', t')) here
               (subst (λ e. TellsRow takes drops keeps refuses (place, schema_row (payload file m.visits c.address i x) x.size e) r (s, t) (s', t')) coded
               (subst (λ b. TellsRow takes drops keeps refuses (place, schema_row b x.size e) r (s, t) (s', t')) bytes (told x.size e _ (fed.fed x e before h))))))
 
       -- by the start of the tree
-      pub row_told : (k : ℕ) → start_of c.address ≡ k → (k ≡ schema_start → HasRoom keeps held from.state.roots t) → (old : Option RowSieve) → (k ≡ schema_start → HoldsCell old e (result_ok (cell v i))) → (1 ≤ k → old ≡ None)
+      pub row_told : (k : ℕ) → start_of c.address ≡ k → (old : Option RowSieve) → (k ≡ schema_start → HoldsCell old e (result_ok (cell v i))) → (1 ≤ k → old ≡ None)
           → AreBefore from.visits (then_step c.address (overflow_step i)) → FeedsPayload file from.visits c i overflow old new → is_some new ≡ is_some old
           → ((size : ℕ) (e : Encoding) (bytes : List ℕ) → HasFed new size e bytes → TellsRow takes drops keeps refuses (place, schema_row bytes size e) r (s, t) (s', t')) → Rows rows
-      row_told k start room old holds other before fed kept told = elim (cases_Bool (start_of c.address == schema_start)) [
-        | inl f ↦ (let z : k ≡ schema_start = sym start ∙ eqb-true (start_of c.address) schema_start f in cell_row_handed f (room z) old (holds z) before fed kept told)
+      row_told k start old holds other before fed kept told = elim (cases_Bool (start_of c.address == schema_start)) [
+        | inl f ↦ (let z : k ≡ schema_start = sym start ∙ eqb-true (start_of c.address) schema_start f in cell_row_handed f old (holds z) before fed kept told)
         | inr f ↦ no_row_handed f (gone new (kept ∙ ap is_some (other (later start f))))
       ]
         where
@@ -211,11 +210,11 @@ module _ (file : List ℕ) (from : Walk) (c : Reference) (kind : TreeKind) (v : 
 
     -- the row could not be taken, or not all was reported of it
     pub row_stops : (e : RunError) (marks : List Mark) (old new : Tree) (s s' : S) (t : T) (x : S × T) → old.greatest ≡ from.state.greatest → old.leaf ≡ from.state.leaf → IsDone {A = Unit {0}} takes drops file from.visits chain (Ok tt) marks s s'
-        → StopsAt (watches takes keeps) (fails drops refuses) e (s', t) (row_items from.state.roots rows) x → Whole (Err e) (marks, new) (s, t) x
-    row_stops e marks old new s s' t x top depth done stops = own_done (Err e) marks old new s s' t x top depth done (stop_first (watches takes keeps) (fails drops refuses) e (s', t) x (row_items from.state.roots rows) key_items stops) tt
+        → StopsAt (watches takes keeps) (fails takes drops keeps refuses) e (s', t) (map given rows) x → Whole (Err e) (marks, new) (s, t) x
+    row_stops e marks old new s s' t x top depth done stops = own_done (Err e) marks old new s s' t x top depth done (stop_first (watches takes keeps) (fails takes drops keeps refuses) e (s', t) x (map given rows) key_items stops) tt
 
     -- the key's fault was reported, or not completely
     pub key_done : (r : Result (Unit {0}) RunError) (marks : List Mark) (old new : Tree) (s s' s'' : S) (t t' : T) (x : S × T) → old.greatest ≡ from.state.greatest → old.leaf ≡ from.state.leaf → IsDone {A = Unit {0}} takes drops file from.visits chain (Ok tt) marks s s'
-        → Moves (watches takes keeps) (s', t) (row_items from.state.roots rows) (s'', t') → Handed (watches takes keeps) (fails drops refuses) r (s'', t') key_items x
+        → Moves (watches takes keeps) (s', t) (map given rows) (s'', t') → Handed (watches takes keeps) (fails takes drops keeps refuses) r (s'', t') key_items x
         → OnOk r ((new.greatest ≡ top_after old.greatest c.page i key) × (new.leaf ≡ old.leaf)) → Whole r (marks, new) (s, t) x
-    key_done r marks old new s s' s'' t t' x top depth done moved handed tree_is = own_done r marks old new s s' t x top depth done (handed_after (watches takes keeps) (fails drops refuses) r (s', t) (s'', t') x (row_items from.state.roots rows) key_items moved handed) tree_is
+    key_done r marks old new s s' s'' t t' x top depth done moved handed tree_is = own_done r marks old new s s' t x top depth done (handed_after (watches takes keeps) (fails takes drops keeps refuses) r (s', t) (s'', t') x (map given rows) key_items moved handed) tree_is

@@ -24,7 +24,6 @@ use Rattle.dbtrace.specs.Item.{Item}
 use Rattle.dbtrace.specs.Walk.{Walk, bare}
 use Rattle.dbtrace.proofs.Stepping.{has_steps}
 use Rattle.dbwalk.specs.LeafCells.{AreRisingFrom, ArePassedAt, overflow_errands, AreBefore}
-use Rattle.dbwalk.specs.Taking.{HasRoom}
 use Rattle.dbwalk.specs.Underway.{IsAt, done_below}
 use Rattle.dbwalk.specs.Walking.{IsLeafAt}
 use Rattle.dbwalk.specs.Watching.{watches}
@@ -37,7 +36,6 @@ use Rattle.dbwalk.proofs.Telling.Belows.{visited_none, below_begins}
 use Rattle.dbwalk.proofs.Underway.Handing.{HasEnded, bare_visits, done_none, done_then, done_stops}
 use Rattle.dbwalk.proofs.Underway.LeafCellRuns.{cell_visits}
 use Rattle.dbwalk.proofs.Underway.CellSteps.{with_greatest, passed}
-use Rattle.dbwalk.proofs.RootTakings.{room_on}
 
 -- the part of the walk that is the first cells of a leaf
 abbrev pub cells_done : List ℕ → Walk → Reference → TreeKind → View → ℕ → Walk
@@ -109,64 +107,54 @@ module _ (file : List ℕ) (from : Walk) (c : Reference) (kind : TreeKind) (v : 
         subst (λ es. HasEnded (watches takes keeps) stops file (done_below file from es) (Err e) now w x) (sym (cells_after c kind v i (count v - i)) ∙ ap (errands_before c kind v) n)
         (done_stops (watches takes keeps) stops file from e (errands_before c kind v i) (flat_map (cell_errands c kind v) (range_with_len i (count v - i))) mid now w x (quiet_before i) h)
 
-    -- the taker's room
-    pub room_more : (held : T → ℕ) (i : ℕ) (mid now : List Mark × Tree) (x y : S × T) → HasRoom keeps held (D i).state.roots x.1 → HasEnded (watches takes keeps) stops file (done_below file (D i) (cell_errands c kind v i)) (Ok tt) now x y → HasRoom keeps held (D (i + 1)).state.roots y.1
-    room_more held i mid now x y room k =
-        let roots = ap (λ es. (done_below file from es).state.roots) (one_cell_more c kind v i) ∙ ap (λ w. w.state.roots) ((has_steps file).join (bare from) (errands_before c kind v i) (cell_errands c kind v i) (quiet_before i)) ∙ (has_steps file).roots (D i) (cell_errands c kind v i) in
-        room_on takes keeps held (done_below file (D i) (cell_errands c kind v i)).items x y (D i).state.roots (D (i + 1)).state.roots roots room k.handed
+    -- The first cells are done, and all visits are before the next.
+    abbrev OnCells : ℕ → List Mark × Tree → (S × T) → Type 0
+    OnCells i now x = HasEnded (watches takes keeps) stops file (D i) (Ok tt) now w x × AreBefore (D i).visits (then_step c.address (overflow_step i)) × (i ≤ count v)
 
-    -- The first cells are done, all visits are before the next, and the taker of the schema's tree has its room.
-    module _ (held : T → ℕ) (k : ℕ) where
-      abbrev OnCells : ℕ → List Mark × Tree → (S × T) → Type 0
-      OnCells i now x = HasEnded (watches takes keeps) stops file (D i) (Ok tt) now w x × AreBefore (D i).visits (then_step c.address (overflow_step i)) × (k ≡ schema_start → HasRoom keeps held (D i).state.roots x.1) × (i ≤ count v)
+    pub on_start : (now : List Mark × Tree) → IsAt file from now.0 now.1 → AreBefore from.visits (then_step c.address 0) → OnCells 0 now w
+    on_start now at before =
+        let none = (has_steps file).none (bare from) in (
+          cells_start now at,
+          subst (λ m. AreBefore m.visits (then_step c.address 0)) (sym none) before,
+          omega arith,
+        )
 
-      pub on_start : (now : List Mark × Tree) → IsAt file from now.0 now.1 → AreBefore from.visits (then_step c.address 0) → (k ≡ schema_start → HasRoom keeps held from.state.roots w.1) → OnCells 0 now w
-      on_start now at before room =
-          let none = (has_steps file).none (bare from) in (
-            cells_start now at,
-            subst (λ m. AreBefore m.visits (then_step c.address 0)) (sym none) before,
-            λ e. subst (λ m. HasRoom keeps held m.state.roots w.1) (sym none) (room e),
-            omega arith,
-          )
+    pub on_more : (i : ℕ) (mid now : List Mark × Tree) (x y : S × T) → i < count v → OnCells i mid x → HasEnded (watches takes keeps) stops file (done_below file (D i) (cell_errands c kind v i)) (Ok tt) now x y → OnCells (i + 1) now y
+    on_more i mid now x y l on k = (
+      cells_more (Ok tt) i mid now x y on.0 k,
+      next_before i on.1,
+      omega arith,
+    )
 
-      pub on_more : (i : ℕ) (mid now : List Mark × Tree) (x y : S × T) → i < count v → OnCells i mid x → HasEnded (watches takes keeps) stops file (done_below file (D i) (cell_errands c kind v i)) (Ok tt) now x y → OnCells (i + 1) now y
-      on_more i mid now x y l on k = (
-        cells_more (Ok tt) i mid now x y on.0 k,
-        next_before i on.1,
-        λ e. room_more held i mid now x y (on.2 e) k,
-        omega arith,
-      )
+    pub on_stop : (e : RunError) (i : ℕ) (mid now : List Mark × Tree) (x y : S × T) → i < count v → OnCells i mid x → HasEnded (watches takes keeps) stops file (done_below file (D i) (cell_errands c kind v i)) (Err e) now x y → HasEnded (watches takes keeps) stops file (D (count v)) (Err e) now w y
+    on_stop e i mid now x y l on k = cells_stop e (i + 1) now now y (omega arith) (cells_more (Err e) i mid now x y on.0 k)
 
-      pub on_stop : (e : RunError) (i : ℕ) (mid now : List Mark × Tree) (x y : S × T) → i < count v → OnCells i mid x → HasEnded (watches takes keeps) stops file (done_below file (D i) (cell_errands c kind v i)) (Err e) now x y → HasEnded (watches takes keeps) stops file (D (count v)) (Err e) now w y
-      on_stop e i mid now x y l on k = cells_stop e (i + 1) now now y (omega arith) (cells_more (Err e) i mid now x y on.0 k)
+    -- cells that are passed over
+    pub on_pass : (i end : ℕ) (marks : List Mark) (old new : Tree) (x : S × T) → i ≤ end → end ≤ count v → (i < end → (start_of c.address == schema_start) ≡ false) → AreRisingFrom c.page v i (end - i) old.greatest new.greatest → new.leaf ≡ old.leaf
+        → OnCells i (marks, old) x → OnCells end (marks, new) x
+    on_pass i end marks old new x ahead within other rising deep on = by_gap (end - i) refl rising
+      where
+        same : (j : ℕ) → j ≡ i → new.greatest ≡ old.greatest → OnCells j (marks, new) x
+        same j e g = subst (λ j. OnCells j (marks, new) x) (sym e) (record { at = (on.0.at.0, g ∙ on.0.at.1, deep ∙ on.0.at.2); handed = on.0.handed }, on.1, on.2)
 
-      -- cells that are passed over
-      pub on_pass : (i end : ℕ) (marks : List Mark) (old new : Tree) (x : S × T) → i ≤ end → end ≤ count v → (i < end → (start_of c.address == schema_start) ≡ false) → AreRisingFrom c.page v i (end - i) old.greatest new.greatest → new.leaf ≡ old.leaf
-          → OnCells i (marks, old) x → OnCells end (marks, new) x
-      on_pass i end marks old new x ahead within other rising deep on = by_gap (end - i) refl rising
-        where
-          same : (j : ℕ) → j ≡ i → new.greatest ≡ old.greatest → OnCells j (marks, new) x
-          same j e g = subst (λ j. OnCells j (marks, new) x) (sym e) (record { at = (on.0.at.0, g ∙ on.0.at.1, deep ∙ on.0.at.2); handed = on.0.handed }, on.1, on.2, on.3)
+        moved : (start_of c.address == schema_start) ≡ false → AreRisingFrom c.page v i (end - i) old.greatest new.greatest → OnCells end (marks, new) x
+        moved f rising =
+            let n : i + (end - i) ≡ end = omega arith in
+            let all : D end ≡ with_greatest (D i) new.greatest = ap D (sym n) ∙ pass_is f i (end - i) (omega arith) new.greatest (subst (λ top. AreRisingFrom c.page v i (end - i) top new.greatest) on.0.at.1 rising) in (
+              subst (λ m. HasEnded (watches takes keeps) stops file m (Ok tt) (marks, new) w x) (sym all) (record { at = (on.0.at.0, refl, deep ∙ on.0.at.2); handed = on.0.handed }),
+              subst (λ m. AreBefore m.visits (then_step c.address (overflow_step end))) (sym all) (λ u j. by_end (overflow_step i) (overflow_step end) (omega arith) u (on.1 u j)),
+              within,
+            )
+          where
+            by_end : (s t : ℕ) → s ≤ t → (u : Reference) → IsBefore u.address (then_step c.address s) → IsBefore u.address (then_step c.address t)
+            by_end s t l u h = elim (cases_order s t) [
+              | inl e ↦ subst (λ n. IsBefore u.address (then_step c.address n)) e h
+              | inr k ↦ (elim k [ inl m ↦ IsBefore-trans u.address (then_step c.address s) (then_step c.address t) h (before_next c.address s t [] m) | inr m ↦ absurd (omega arith) ])
+            ]
 
-          moved : (start_of c.address == schema_start) ≡ false → AreRisingFrom c.page v i (end - i) old.greatest new.greatest → OnCells end (marks, new) x
-          moved f rising =
-              let n : i + (end - i) ≡ end = omega arith in
-              let all : D end ≡ with_greatest (D i) new.greatest = ap D (sym n) ∙ pass_is f i (end - i) (omega arith) new.greatest (subst (λ top. AreRisingFrom c.page v i (end - i) top new.greatest) on.0.at.1 rising) in (
-                subst (λ m. HasEnded (watches takes keeps) stops file m (Ok tt) (marks, new) w x) (sym all) (record { at = (on.0.at.0, refl, deep ∙ on.0.at.2); handed = on.0.handed }),
-                subst (λ m. AreBefore m.visits (then_step c.address (overflow_step end))) (sym all) (λ u j. by_end (overflow_step i) (overflow_step end) (omega arith) u (on.1 u j)),
-                λ e. subst (λ m. HasRoom keeps held m.state.roots x.1) (sym all) (on.2 e),
-                within,
-              )
-            where
-              by_end : (s t : ℕ) → s ≤ t → (u : Reference) → IsBefore u.address (then_step c.address s) → IsBefore u.address (then_step c.address t)
-              by_end s t l u h = elim (cases_order s t) [
-                | inl e ↦ subst (λ n. IsBefore u.address (then_step c.address n)) e h
-                | inr k ↦ (elim k [ inl m ↦ IsBefore-trans u.address (then_step c.address s) (then_step c.address t) h (before_next c.address s t [] m) | inr m ↦ absurd (omega arith) ])
-              ]
+        by_gap : (n : ℕ) → end - i ≡ n → AreRisingFrom c.page v i (end - i) old.greatest new.greatest → OnCells end (marks, new) x
+        by_gap zero e rising = same end (omega arith) (subst (λ n. AreRisingFrom c.page v i n old.greatest new.greatest) e rising)
+        by_gap (suc n) e rising = moved (other (omega arith)) rising
 
-          by_gap : (n : ℕ) → end - i ≡ n → AreRisingFrom c.page v i (end - i) old.greatest new.greatest → OnCells end (marks, new) x
-          by_gap zero e rising = same end (omega arith) (subst (λ n. AreRisingFrom c.page v i n old.greatest new.greatest) e rising)
-          by_gap (suc n) e rising = moved (other (omega arith)) rising
-
-      pub on_end : (now : List Mark × Tree) (x : S × T) (i : ℕ) → i ≡ count v → OnCells i now x → HasEnded (watches takes keeps) stops file (D (count v)) (Ok tt) now w x
-      on_end now x i e on = subst (λ n. HasEnded (watches takes keeps) stops file (D n) (Ok tt) now w x) e on.0
+    pub on_end : (now : List Mark × Tree) (x : S × T) (i : ℕ) → i ≡ count v → OnCells i now x → HasEnded (watches takes keeps) stops file (D (count v)) (Ok tt) now w x
+    on_end now x i e on = subst (λ n. HasEnded (watches takes keeps) stops file (D n) (Ok tt) now w x) e on.0

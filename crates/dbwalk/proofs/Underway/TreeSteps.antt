@@ -14,9 +14,9 @@ use Rattle.dbformat.specs.Story.{Event, at_page, at_key, own_visit, story_of}
 use Rattle.dbformat.specs.declared.TreeKind.{TreeKind}
 use Rattle.dbsource.specs.declared.error.RunError.{RunError}
 use Rattle.dbtrace.specs.Item.{Item, found}
-use Rattle.dbtrace.specs.Steps.{roots_in, IsAside}
+use Rattle.dbtrace.specs.Steps.{IsAside}
 use Rattle.dbtrace.specs.Walk.{Walk, advance, run_below, bare}
-use Rattle.dbtrace.proofs.Stepping.{has_steps, roots_at, more_roots}
+use Rattle.dbtrace.proofs.Stepping.{has_steps}
 use Rattle.dbwalk.specs.Entered.{IsNext}
 use Rattle.dbwalk.specs.LeafCells.{top_after}
 use Rattle.dbmarks.specs.Marking.{AreMarksOf}
@@ -36,7 +36,7 @@ use Rattle.dbtrace.specs.Finding.{Finding, told_below, visited_below}
 use Rattle.dbtrace.proofs.Asides.{are_aside}
 use Rattle.dbwalk.specs.Done.{IsDone}
 use Rattle.dbwalk.specs.declared.taker.Taken.{Taken}
-use Rattle.dbwalk.proofs.Underway.Handing.{found_handed, no_memory, only_found}
+use Rattle.dbwalk.proofs.Underway.Handing.{found_handed, no_memory}
 
 -- frames
 
@@ -53,16 +53,6 @@ read_on : (file : List ℕ) (levels : List (List ℕ)) (f g : StackFrame) → g.
 read_on file levels f g page level [] r = (r.0 ∙ ap (λ p. Some (page_bytes file p)) (sym page), tt)
 read_on file levels f g page level (h ∷ hs) r = (r.0, read_on file levels f g page (level + 1) hs r.1)
 
--- the roots so far are those of the items so far, after an event and after a call
-
-pub roots_on : (file : List ℕ) (now : Walk) (e : Event) → now.state.roots ≡ roots_in now.items → (advance file now e).state.roots ≡ roots_in (advance file now e).items
-roots_on file now e h = roots_at file now e ∙ ap (λ n. n + roots_in (items_of file now e)) h ∙ sym (more_roots now.items (items_of file now e))
-
-roots_below : (file : List ℕ) (now : Walk) (es : List (Errand Way Event)) → now.state.roots ≡ roots_in now.items → (run_below file now es).state.roots ≡ roots_in (run_below file now es).items
-roots_below file now es h =
-    let out = (done_below file now es).items in
-    (has_steps file).roots now es ∙ ap (λ n. n + roots_in out) h ∙ sym (more_roots now.items out) ∙ ap roots_in (sym ((has_steps file).items now es))
-
 pub quiet_go : (d : Reference) → AreQuiet {E = Event} own_visit (Go d ∷ [])
 quiet_go d e (inl h) = cc
 quiet_go d e (inr h) = absurd h
@@ -76,7 +66,6 @@ by_other {moves = moves} {file = file} {W = W} {c = c} {before = before} {frames
       now = on.now;
       under = subst (λ k. IsUnderway moves file (tree_walk file W c) before on.now (left_over file k c frames) (marks, tree') w) (sym kinds)
           (record { rest = u.rest; at = (u.at.0, tops ∙ u.at.1, leafs ∙ u.at.2); past = u.past; apart = u.apart; handed = u.handed });
-      roots = on.roots;
       frames_are = subst (λ k. AreOpenFrames file k c frames) (sym kinds) on.frames_are;
       calls = on.calls;
       read = read_kept file levels levels' 0 frames (λ n l. same n (omega arith)) on.read;
@@ -98,7 +87,6 @@ module _ {P : Type 0} {moves : P → Item → P → Type 0} {file : List ℕ} {W
   on_end e = record {
     now = on.now;
     under = subst Left (left-push file tree.kind c fs f ∙ ap (λ es. es ++ left_over file tree.kind c fs) e) on.under;
-    roots = on.roots;
     frames_are = frames.0;
     calls = calls_front fs f on.calls;
     read = read_front file levels 0 fs f on.read;
@@ -116,12 +104,11 @@ module _ {P : Type 0} {moves : P → Item → P → Type 0} {file : List ℕ} {W
     open_on = open_push file tree.kind c fs g frames.0 (record { page = page ∙ frames.1.page; view = frames.1.view; viewed = frames.1.viewed; interior = frames.1.interior; within = omega arith })
 
     -- what stays, whatever is at the step
-    turn : (now : Walk) (marks' : List Mark) (tree' : Tree) (x : P) → tree'.kind ≡ tree.kind → IsUnderway moves file (tree_walk file W c) before now rest (marks', tree') x → now.state.roots ≡ roots_in now.items
+    turn : (now : Walk) (marks' : List Mark) (tree' : Tree) (x : P) → tree'.kind ≡ tree.kind → IsUnderway moves file (tree_walk file W c) before now rest (marks', tree') x
         → IsWalkingOn moves file W c before (on_frames, levels) (marks', tree') x
-    turn now marks' tree' x kinds under roots = record {
+    turn now marks' tree' x kinds under = record {
       now = now;
       under = subst (λ k. IsUnderway moves file (tree_walk file W c) before now (left_over file k c on_frames) (marks', tree') x) (sym kinds) under;
-      roots = roots;
       frames_are = subst (λ k. AreOpenFrames file k c on_frames) (sym kinds) open_on;
       calls = calls_on fs f g on.calls;
       read = read_on file levels f g page 0 fs on.read;
@@ -133,7 +120,7 @@ module _ {P : Type 0} {moves : P → Item → P → Type 0} {file : List ℕ} {W
 
     -- a step at which nothing is
     pub on_skip : errands_from file top f.next ≡ errands_from file top (suc f.next) → IsWalkingOn moves file W c before (on_frames, levels) (marks, tree) w
-    on_skip e = turn on.now marks tree w refl (first_errands [] e) on.roots
+    on_skip e = turn on.now marks tree w refl (first_errands [] e)
 
     -- the place of a readable cell's key, whether it has one or not
     module _ (n : ℕ) (cell : Cell) (x : P) (e : errands_from file top f.next ≡ tell_cell top frames.1.view n cell ∷ errands_from file top (suc f.next)) where
@@ -160,7 +147,6 @@ module _ {P : Type 0} {moves : P → Item → P → Type 0} {file : List ℕ} {W
             leafs ∙ on.under.at.2,
           )
           (subst (λ l. Moves moves w l x) (sym items_are) m))
-          (roots_on file on.now event on.roots)
 
       -- and its fault could not be reported
       pub cell_stopped : (stops : RunError → P → Item → P → Type 0) (x_error : RunError) → StopsAt moves stops x_error w told x → StopsAt moves stops x_error before (tree_walk file W c).items x
@@ -180,7 +166,6 @@ module _ {P : Type 0} {moves : P → Item → P → Type 0} {file : List ℕ} {W
             → IsWalkingOn moves file W c before (on_frames, levels) (marks', tree') x
         on_call a kinds done = turn (run_below file on.now (Go d ∷ [])) marks' tree' x kinds
             (under_call moves file (tree_walk file W c) before on.now (marks, tree) (marks', tree') w x stops a (Go d ∷ []) rest (first_errands (Go d ∷ []) e) (quiet_go d) done)
-            (roots_below file on.now (Go d ∷ []) on.roots)
 
         -- not all could be done
         pub call_stopped : {A : Type 0} (x_error : RunError) → HasDone {A = A} moves stops file (done_below file on.now (Go d ∷ [])) (Err x_error) (marks', tree') w x → StopsAt moves stops x_error before (tree_walk file W c).items x
@@ -203,7 +188,6 @@ module _ {P : Type 0} {moves : P → Item → P → Type 0} {file : List ℕ} {W
               under = subst (λ k. IsUnderway moves file (tree_walk file W c) before (advance file on.now (at_page d)) (left_over file k c (on_frames ++ (h ∷ []))) (marks', tree') x) (sym kinds)
                   (subst (λ es. IsUnderway moves file (tree_walk file W c) before (advance file on.now (at_page d)) es (marks', tree') x) (sym pushed)
                   (under_visit moves file (tree_walk file W c) before on.now (marks, tree) (marks', tree') w x d rest (first_errands (Go d ∷ []) e) inside.followed done.at done.handed));
-              roots = roots_on file on.now (at_page d) on.roots;
               frames_are = subst (λ k. AreOpenFrames file k c (on_frames ++ (h ∷ []))) (sym kinds) (open_push file k c on_frames h open_on (subst (λ r. IsOpenFrame file r h) (sym up) frame));
               calls = calls_push fs g h n (next ∙ ap suc step) (calls_on fs f g on.calls);
               read = read_push file levels' 0 on_frames h (read_kept file levels levels' 0 on_frames (λ n l. kept n (omega arith)) (read_on file levels f g page 0 fs on.read))
@@ -214,10 +198,10 @@ module _ {P : Type 0} {moves : P → Item → P → Type 0} {file : List ℕ} {W
 
 module _ {S T A : Type 0} (takes drops : S → Finding → S → Type 0) (keeps : T → SchemaRow → Taken → T → Type 0) (refuses : T → SchemaRow → T → Type 0) (file : List ℕ) (from : Walk) (c : Reference) (none : tree_kind (role_of c) ≡ None) where
   pub aside_done : (r : Result A RunError) (marks marks' : List Mark) (tree : Tree) (s s' : S) (t : T) → IfErr r IsReadOrWrite → IsAt file from marks tree → IsDone takes drops file from.visits (Go c ∷ []) r marks' s s'
-      → HasDone (watches takes keeps) (fails drops refuses) file (done_below file from (Go c ∷ [])) r (marks', tree) (s, t) (s', t)
+      → HasDone (watches takes keeps) (fails takes drops keeps refuses) file (done_below file from (Go c ∷ [])) r (marks', tree) (s, t) (s', t)
   aside_done r marks marks' tree s s' t only at done = record {
     at = on_ok r done.marked;
-    handed = subst (λ items. Handed (watches takes keeps) (fails drops refuses) r (s, t) items (s', t)) (sym (only_found (done_below file from (Go c ∷ [])).items aside.rows ∙ ap (map found) aside.findings_are))
+    handed = subst (λ items. Handed (watches takes keeps) (fails takes drops keeps refuses) r (s, t) items (s', t)) (sym aside.items)
         (found_handed takes drops keeps refuses r (told_below file from.visits (Go c ∷ [])) s s' t (no_memory r only) done.told);
   }
     where

@@ -118,8 +118,8 @@ unread moves stops file done now w = record { at = tt; handed = some_none moves 
 
 -- the reason against a reference, as the items of its refusal
 pub refused_handed : {S T A : Type 0} (takes drops : S → Finding → S → Type 0) (keeps : T → SchemaRow → Taken → T → Type 0) (refuses : T → SchemaRow → T → Type 0) (file : List ℕ) (from : Walk) (c : Reference)
-    (r : Result A RunError) (s s' : S) (t : T) → (r ≡ Err OutOfMemory → ⊥) → Tells takes drops r s (told_at file from.visits (at_refused c)) s' → Handed (watches takes keeps) (fails drops refuses) r (s, t) (refused file from c).items (s', t)
-refused_handed takes drops keeps refuses file from c r s s' t quiet h = subst (λ items. Handed (watches takes keeps) (fails drops refuses) r (s, t) items (s', t)) (sym are)
+    (r : Result A RunError) (s s' : S) (t : T) → (r ≡ Err OutOfMemory → ⊥) → Tells takes drops r s (told_at file from.visits (at_refused c)) s' → Handed (watches takes keeps) (fails takes drops keeps refuses) r (s, t) (refused file from c).items (s', t)
+refused_handed takes drops keeps refuses file from c r s s' t quiet h = subst (λ items. Handed (watches takes keeps) (fails takes drops keeps refuses) r (s, t) items (s', t)) (sym are)
     (found_handed takes drops keeps refuses r (told_at file from.visits (at_refused c)) s s' t quiet h)
   where
     are : (refused file from c).items ≡ map found (told_at file from.visits (at_refused c))
@@ -142,8 +142,8 @@ module _ (file : List ℕ) (from : Walk) (c : Reference) {leaf : Option TreeLeaf
   page_moves role takes drops keeps refuses s s' t h = subst (λ items. Moves (watches takes keeps) (s, t) items (s', t)) (sym (page_items role)) (found_moves takes drops keeps refuses (page_findings file leaf c) s s' t h)
 
   pub page_stops : {kind : TreeKind} → tree_kind (role_of c) ≡ Some kind → {S T : Type 0} (takes drops : S → Finding → S → Type 0) (keeps : T → SchemaRow → Taken → T → Type 0) (refuses : T → SchemaRow → T → Type 0) (s s' : S) (t : T) → Stops takes drops s (page_findings file leaf c) s'
-      → Stops (watches takes keeps) (fails drops refuses WriteFailed) (s, t) (visited file from c).items (s', t)
-  page_stops role takes drops keeps refuses s s' t h = subst (λ items. Stops (watches takes keeps) (fails drops refuses WriteFailed) (s, t) items (s', t)) (sym (page_items role)) (found_stops takes drops keeps refuses (page_findings file leaf c) s s' t h)
+      → Stops (watches takes keeps) (fails takes drops keeps refuses WriteFailed) (s, t) (visited file from c).items (s', t)
+  page_stops role takes drops keeps refuses s s' t h = subst (λ items. Stops (watches takes keeps) (fails takes drops keeps refuses WriteFailed) (s, t) items (s', t)) (sym (page_items role)) (found_stops takes drops keeps refuses (page_findings file leaf c) s s' t h)
 
   -- and this is the point of the walk after it
   pub visited_at : {marks : List Mark} (tree : Tree) → AreMarksOf file (from.visits ++ (c ∷ [])) marks → tree.greatest ≡ from.state.greatest → tree.leaf ≡ leaf_after file leaf c → IsAt file (visited file from c) marks tree

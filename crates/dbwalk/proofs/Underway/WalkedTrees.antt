@@ -1,32 +1,32 @@
 -- The walk over a whole tree: its root, and the end of the loop.
-use Rattle.std.proofs.Common.{◌≡◌, ℕ, [], ◌∷◌, length, ap, arith, ◌<◌, true, false, inl, inr, List, Option, Some, None, refl, sym, subst, ◌↔◌, ◌-◌, cond, ◌++◌, map, Result, Ok, Err, ◌∙◌}
+use Rattle.std.proofs.Common.{◌≡◌, ℕ, [], ◌∷◌, length, ap, arith, ◌<◌, ◌≤◌, true, false, inl, inr, List, Option, Some, None, refl, sym, subst, ◌↔◌, ◌-◌, cond, ◌++◌, map, Result, Ok, Err, ◌∙◌}
 use Rattle.dbsurvey.specs.Address.{Address, IsIn, IsBefore}
 use Rattle.dbformat.specs.Address.{start_of, schema_start}
-use Rattle.std.specs.Prelude.{Bool, IsSome, OnOk, IfErr, slice_get}
+use Rattle.std.specs.Prelude.{Bool, ◌==◌, IsSome, OnOk, IfErr, slice_get}
 use Rattle.dbsurvey.specs.Story.{errand_key, Go, errands_of}
 use Rattle.dbformat.specs.Reference.{Reference, role_of, tree_kind}
 use Rattle.dbformat.specs.declared.TreeKind.{TreeKind}
 use Rattle.dbtrace.specs.Starts.{IsOfEarlierStart, AreOfEarlierStarts}
 use Rattle.dbwalk.specs.Entered.{IsNext}
 use Rattle.dbwalk.specs.Walking.{IsCandidate, left_over}
-use Rattle.std.proofs.lemmas.Bool.{eq-eqb}
+use Rattle.std.proofs.lemmas.Bool.Decides.{nat_tests}
 use Rattle.std.proofs.lemmas.List.{append-nil}
 use Rattle.dbsurvey.specs.Traverse.{is_followed}
 use Rattle.dbsurvey.proofs.Moving.{some_none}
 use Rattle.dbformat.specs.File.{geometry, page_bytes}
+use Rattle.dbformat.specs.Schema.{schema}
 use Rattle.dbformat.specs.SchemaRow.{SchemaRow}
 use Rattle.dbformat.specs.Story.{at_page, at_refused, story_of}
 use Rattle.dbformat.specs.Survey.{rules_of}
 use Rattle.dbsource.specs.declared.error.RunError.{RunError}
 use Rattle.dbsource.specs.declared.error.RunError.TheVariants.{ReadFailed}
-use Rattle.dbtrace.specs.Finding.{Finding, told_at, visited_below}
-use Rattle.dbtrace.specs.Item.{Item, found}
+use Rattle.dbtrace.specs.Finding.{Finding, told_at, told_below, visited_below}
+use Rattle.dbtrace.specs.Item.{Item, found, given_cells}
 use Rattle.dbtrace.specs.Walk.{begin, advance}
 use Rattle.dbtrace.proofs.Folding.{is_fold}
 use Rattle.dbtrace.proofs.Stepping.{has_steps}
 use Rattle.dbmarks.specs.Marking.{AreMarksOf, marks_of}
 use Rattle.dbwalk.specs.Telling.{Tells, IsReadOrWrite}
-use Rattle.dbwalk.specs.Taking.{Gives, readable_rows}
 use Rattle.dbwalk.specs.Underway.{IsAt, HasDone, IsUnderway, IsEntered, entered, IsWalkingOn, tree_walk}
 use Rattle.dbwalk.specs.Done.{IsTreeDone}
 use Rattle.dbwalk.specs.Watching.{watches, fails, Handed}
@@ -35,8 +35,7 @@ use Rattle.dbmarks.specs.declared.marks.Mark.{Mark}
 use Rattle.dbwalk.specs.declared.state.Tree.{Tree}
 use Rattle.dbwalk.specs.declared.taker.Taken.{Taken}
 use Rattle.dbwalk.proofs.Trees.Stacking.{from_first}
-use Rattle.dbwalk.proofs.Underway.Handing.{found_handed, handed_both, no_memory}
-use Rattle.dbwalk.proofs.Underway.TreeSteps.{roots_on}
+use Rattle.dbwalk.proofs.Underway.Handing.{found_handed, handed_found, no_memory, only_found}
 use Rattle.dbwalk.proofs.Underway.Underways.{under_visit, under_end}
 
 -- What a page of a tree leads to, and where its root is.
@@ -88,19 +87,22 @@ module _ {S T : Type 0} (takes drops : S → Finding → S → Type 0) (keeps : 
     (at : c.address ≡ k ∷ []) (early : AreOfEarlierStarts k W) where
   -- by the marks, and what was handed out
   pub tree_handed : (r : Result (Unit {0}) RunError) (marks : List Mark) (before after : S × T) → OnOk r (AreMarksOf file (tree_walk file W c).visits marks)
-      → Handed (watches takes keeps) (fails drops refuses) r before (tree_walk file W c).items after → IsTreeDone takes drops keeps refuses file W c r marks before.0 after.0 before.1 after.1
-  tree_handed r marks before after marked h =
-      let both = handed_both takes drops keeps refuses r (tree_walk file W c).items before after h in record {
-        done = record {
-          marked = subst (λ U. OnOk r (AreMarksOf file U marks)) ((is_fold file).visits_are k W c at early) marked;
-          told = subst (λ L. Tells takes drops r before.0 L after.0) ((is_fold file).findings_are k W c at early) both.0;
-        };
-        given = λ e. subst (λ rows. Gives keeps refuses r before.1 rows after.1)
-            ((is_fold file).rows_are k W c at early ∙ ap (λ b. cond b (readable_rows file (W ++ visited_below file W (Go c ∷ []))) []) (eq-eqb k schema_start (sym (ap start_of at) ∙ e))) both.1;
-      }
+      → Handed (watches takes keeps) (fails takes drops keeps refuses) r before (tree_walk file W c).items after → IsTreeDone takes drops keeps refuses file W c r marks before after
+  tree_handed r marks before after marked h = record {
+    marked = subst (λ U. OnOk r (AreMarksOf file U marks)) ((is_fold file).visits_are k W c at early) marked;
+    handed = h;
+    others = λ l.
+        let items = (tree_walk file W c).items in
+        let none : given_cells items ≡ [] = (is_fold file).rows_are k W c at early ∙ ap (λ b. cond b (schema file (W ++ visited_below file W (Go c ∷ []))) []) (other (start_of c.address) l (ap start_of at)) in
+        handed_found takes drops keeps refuses r (told_below file W (Go c ∷ [])) before after
+        (subst (λ L. Handed (watches takes keeps) (fails takes drops keeps refuses) r before L after) (only_found items none ∙ ap (map found) ((is_fold file).findings_are k W c at early)) h);
+  }
+    where
+      other : (n : ℕ) → 1 ≤ n → n ≡ k → (k == schema_start) ≡ false
+      other n l e = grind (arith, nat_tests)
 
-  pub tree_done : (r : Result (Unit {0}) RunError) (marks : List Mark) (tree : Tree) (before after : S × T) → HasDone (watches takes keeps) (fails drops refuses) file (tree_walk file W c) r (marks, tree) before after
-      → IsTreeDone takes drops keeps refuses file W c r marks before.0 after.0 before.1 after.1
+  pub tree_done : (r : Result (Unit {0}) RunError) (marks : List Mark) (tree : Tree) (before after : S × T) → HasDone (watches takes keeps) (fails takes drops keeps refuses) file (tree_walk file W c) r (marks, tree) before after
+      → IsTreeDone takes drops keeps refuses file W c r marks before after
   tree_done r marks tree before after h = tree_handed r marks before after (marked r h.at) h.handed
     where
       marked : (r : Result (Unit {0}) RunError) → OnOk r (IsAt file (tree_walk file W c) marks tree) → OnOk r (AreMarksOf file (tree_walk file W c).visits marks)
@@ -109,11 +111,11 @@ module _ {S T : Type 0} (takes drops : S → Finding → S → Type 0) (keeps : 
 
   -- the root is refused, and that was reported, or not completely
   pub tree_refused : (r : Result (Unit {0}) RunError) (marks : List Mark) (s s' : S) (t : T) → IfErr r IsReadOrWrite → is_followed (rules_of file) W c ≡ false → AreMarksOf file W marks
-      → Tells takes drops r s (told_at file W (at_refused c)) s' → IsTreeDone takes drops keeps refuses file W c r marks s s' t t
+      → Tells takes drops r s (told_at file W (at_refused c)) s' → IsTreeDone takes drops keeps refuses file W c r marks (s, t) (s', t)
   tree_refused r marks s s' t only refused m told =
       let whole : tree_walk file W c ≡ advance file (begin W) (at_refused c) = (has_steps file).refused (begin W) c [] refused ∙ (has_steps file).none (advance file (begin W) (at_refused c)) in
       tree_handed r marks (s, t) (s', t) (on_ok r (sym (ap (λ m. m.visits) whole ∙ append-nil W)))
-      (subst (λ items. Handed (watches takes keeps) (fails drops refuses) r (s, t) items (s', t)) (ap (λ U. map found (told_at file U (at_refused c))) (sym (append-nil W)) ∙ sym (ap (λ m. m.items) whole))
+      (subst (λ items. Handed (watches takes keeps) (fails takes drops keeps refuses) r (s, t) items (s', t)) (ap (λ U. map found (told_at file U (at_refused c))) (sym (append-nil W)) ∙ sym (ap (λ m. m.items) whole))
       (found_handed takes drops keeps refuses r (told_at file W (at_refused c)) s s' t (no_memory r only) told))
     where
       on_ok : (r : Result (Unit {0}) RunError) → W ≡ (tree_walk file W c).visits → OnOk r (AreMarksOf file (tree_walk file W c).visits marks)
@@ -121,7 +123,7 @@ module _ {S T : Type 0} (takes drops : S → Finding → S → Type 0) (keeps : 
       on_ok (Err e) k = tt
 
   -- the root could not be read
-  pub tree_unread : (marks : List Mark) (s : S) (t : T) → IsTreeDone takes drops keeps refuses file W c (Err ReadFailed) marks s s t t
+  pub tree_unread : (marks : List Mark) (s : S) (t : T) → IsTreeDone takes drops keeps refuses file W c (Err ReadFailed) marks (s, t) (s, t)
   tree_unread marks s t = tree_handed (Err ReadFailed) marks (s, t) (s, t) tt (some_none (watches takes keeps) (s, t) (tree_walk file W c).items)
 
 module _ {P : Type 0} {moves : P → Item → P → Type 0} {stops : RunError → P → Item → P → Type 0} {file : List ℕ} (W : List Reference) (c : Reference) {w : P} where
@@ -140,7 +142,6 @@ module _ {P : Type 0} {moves : P → Item → P → Type 0} {stops : RunError �
         under = subst (λ es. IsUnderway moves file (tree_walk file W c) w (advance file (begin W) (at_page c)) es (marks, tree) x) all
             (under_visit moves file (tree_walk file W c) w (begin W) (marks_of (geometry file) W, none) (marks, tree) w x c []
             (record { rest = refl; at = (refl, refl, refl); past = next; apart = ((λ e i. absurd i), tt); handed = refl }) inside.followed done.at done.handed);
-        roots = roots_on file (begin W) (at_page c) refl;
         frames_are = (record { page = page; view = inside.frame.view; viewed = inside.frame.viewed; interior = inside.frame.interior; within = omega arith }, tt);
         calls = tt;
         read = (ap (slice_get levels) (let e : 0 ≡ length c.address - 1 = omega arith in e) ∙ inside.bytes ∙ ap (λ q. Some (page_bytes file q)) (sym page), tt);

@@ -13,6 +13,7 @@ const CASES: [Case; 11] = [
             Ok(()) reads 1\n\
             takes Table 2 t\n",
     ],
+    // S04 is by what the taker answers, as of each taker: this one takes one root.
     [
         "no room for the second of two rows",
         "SharedRoot 3",

@@ -7,7 +7,6 @@ use Rattle.dbwalk.specs.Walking.{IsOpen, AreOpen}
 use Rattle.dbwalk.proofs.Trees.Frames.{open_push, ends_on, ends_enter, path_last, at_step, step_on, as_deep, way_on}
 use Rattle.dbwalk.specs.Underway.{tree_walk}
 use Rattle.dbwalk.specs.Watching.{StopsAt, fails}
-use Rattle.dbwalk.proofs.RootTakings.{room_after}
 use Rattle.dbwalk.proofs.Underway.TreeSteps.{by_other}
 use Rattle.dbwalk.proofs.Underway.TreeTurns.{next_here, child_asked, child_passed, child_stopped, child_entered, turn_failed}
 use Rattle.dbwalk.proofs.Underway.Walks.{walked_as, walked_behind, walked_by}
@@ -24,12 +23,11 @@ enter_page-requires g c =
     search rules
 
 pub returns-in_err-enter_page-clause-log : goal.returns-in_err-enter_page-clause-log
-returns-in_err-enter_page-clause-log g c = has_weaker _ _ c.in_err-enter_page.ensures.log (λ log r. r) (λ file h e coded W d before candidate walk held empty.
+returns-in_err-enter_page-clause-log g c = has_weaker _ _ c.in_err-enter_page.ensures.log (λ log r. r) (λ file h e coded W d before candidate walk.
     let here = next_here c.args.frames.now.items c.args.frame walk candidate (ap (λ s. s.usable) e) c.requires.step in
-    let asked = child_asked c.args.frames.now.items c.args.frame walk candidate c.stepped.result c.stepped.ensures.page c.stepped.ensures.next c.args.page here (c.push-2.ensures.items ∙ ap (λ l. l ++ (c.args.frame.next / 3 ∷ [])) c.requires.path) (h e coded) held
-    (λ z. room_after g.K.Sink.takes g.T.Taker.takes held walk.now.items before (c.args.self.now.sink.now, c.args.self.now.taker.now) walk.now.state.roots walk.roots (empty z) walk.under.handed) in
+    let asked = child_asked c.args.frames.now.items c.args.frame walk candidate c.stepped.result c.stepped.ensures.page c.stepped.ensures.next c.args.page here (c.push-2.ensures.items ∙ ap (λ l. l ++ (c.args.frame.next / 3 ∷ [])) c.requires.path) (h e coded) in
     let q = err_from_is_err_and c.from_residual.result c.from_residual.ensures.1 in
-    let stops = fails g.K.Sink.drops g.T.Taker.refuses in
+    let stops = fails g.K.Sink.takes g.K.Sink.drops g.T.Taker.takes g.T.Taker.refuses in
     turn_failed _ (λ e. StopsAt _ stops e before (tree_walk file W d).items (c.enter_page.new.self.sink.now, c.enter_page.new.self.taker.now)) c.from_residual.result c.in_err-enter_page.field-0.0 (q.1 ∙ ap Err q.2)
     (child_stopped c.args.frames.now.items c.args.frame walk candidate c.stepped.result c.stepped.ensures.page c.stepped.ensures.next c.args.page here stops c.enter_page.ensures.walked.kind c.in_err-enter_page.field-0.0 asked.0))
 
@@ -43,12 +41,11 @@ pub returns-then-not-branch-clause-ends : goal.returns-then-not-branch-clause-en
 returns-then-not-branch-clause-ends g c = ends_on c.args.self.now.marks.now c.enter_page.new.self.marks.now c.args.frames.now.items c.args.frame c.stepped.result c.push.ensures.items c.in_ok-enter_page.ensures.fewer.0 c.stepped.ensures.next (at_step c.args.frames.now.items c.args.frame c.requires.«open» c.requires.step).most
 
 pub returns-then-not-branch-clause-log : goal.returns-then-not-branch-clause-log
-returns-then-not-branch-clause-log g c = has_weaker _ _ c.in_ok-enter_page.ensures.log (λ log r. r) (λ file h e coded W d before candidate walk held empty.
+returns-then-not-branch-clause-log g c = has_weaker _ _ c.in_ok-enter_page.ensures.log (λ log r. r) (λ file h e coded W d before candidate walk.
     let deep = as_deep c.args.frames.now.items c.args.frame c.stepped.result c.stepped.ensures.next c.push-2.new.self.items (c.push-2.ensures.items ∙ ap (λ l. l ++ (c.args.frame.next / 3 ∷ [])) c.requires.path) in
     let here = next_here c.args.frames.now.items c.args.frame walk candidate (ap (λ s. s.usable) e) c.requires.step in
-    let asked = child_asked c.args.frames.now.items c.args.frame walk candidate c.stepped.result c.stepped.ensures.page c.stepped.ensures.next c.args.page here (c.push-2.ensures.items ∙ ap (λ l. l ++ (c.args.frame.next / 3 ∷ [])) c.requires.path) (h e coded) held
-    (λ z. room_after g.K.Sink.takes g.T.Taker.takes held walk.now.items before (c.args.self.now.sink.now, c.args.self.now.taker.now) walk.now.state.roots walk.roots (empty z) walk.under.handed) in
-    (by_other (child_passed c.args.frames.now.items c.args.frame walk candidate c.stepped.result c.stepped.ensures.page c.stepped.ensures.next c.args.page here (fails g.K.Sink.drops g.T.Taker.refuses) c.enter_page.ensures.walked.kind c.if-not-branch.true asked) c.push.ensures.items refl refl refl (λ k l. c.enter_page.ensures.levels k (omega arith)), tt))
+    let asked = child_asked c.args.frames.now.items c.args.frame walk candidate c.stepped.result c.stepped.ensures.page c.stepped.ensures.next c.args.page here (c.push-2.ensures.items ∙ ap (λ l. l ++ (c.args.frame.next / 3 ∷ [])) c.requires.path) (h e coded) in
+    (by_other (child_passed c.args.frames.now.items c.args.frame walk candidate c.stepped.result c.stepped.ensures.page c.stepped.ensures.next c.args.page here (fails g.K.Sink.takes g.K.Sink.drops g.T.Taker.takes g.T.Taker.refuses) c.enter_page.ensures.walked.kind c.if-not-branch.true asked) c.push.ensures.items refl refl refl (λ k l. c.enter_page.ensures.levels k (omega arith)), tt))
 
 pub returns-clause-open : goal.returns-clause-open
 returns-clause-open g c =
@@ -69,12 +66,11 @@ pub returns-clause-ends : goal.returns-clause-ends
 returns-clause-ends g c = ends_enter c.args.self.now.marks.now c.enter_page.new.self.marks.now c.args.frames.now.items c.args.frame c.stepped.result (record { page = c.args.page; next = 0 }) (c.push-3.ensures.items ∙ ap (λ l. l ++ (record { page = c.args.page; next = 0 } ∷ [])) c.push.ensures.items) (c.in_ok-enter_page.ensures.fewer.1 (search rules)) c.stepped.ensures.next (at_step c.args.frames.now.items c.args.frame c.requires.«open» c.requires.step).most refl
 
 pub returns-clause-log : goal.returns-clause-log
-returns-clause-log g c = has_weaker _ _ c.in_ok-enter_page.ensures.log (λ log r. r) (λ file h e coded W d before candidate walk held empty.
+returns-clause-log g c = has_weaker _ _ c.in_ok-enter_page.ensures.log (λ log r. r) (λ file h e coded W d before candidate walk.
     let deep = as_deep c.args.frames.now.items c.args.frame c.stepped.result c.stepped.ensures.next c.push-2.new.self.items (c.push-2.ensures.items ∙ ap (λ l. l ++ (c.args.frame.next / 3 ∷ [])) c.requires.path) in
     let here = next_here c.args.frames.now.items c.args.frame walk candidate (ap (λ s. s.usable) e) c.requires.step in
-    let asked = child_asked c.args.frames.now.items c.args.frame walk candidate c.stepped.result c.stepped.ensures.page c.stepped.ensures.next c.args.page here (c.push-2.ensures.items ∙ ap (λ l. l ++ (c.args.frame.next / 3 ∷ [])) c.requires.path) (h e coded) held
-    (λ z. room_after g.K.Sink.takes g.T.Taker.takes held walk.now.items before (c.args.self.now.sink.now, c.args.self.now.taker.now) walk.now.state.roots walk.roots (empty z) walk.under.handed) in
-    let entered = child_entered c.args.frames.now.items c.args.frame walk candidate c.stepped.result c.stepped.ensures.page c.stepped.ensures.next c.args.page here (fails g.K.Sink.drops g.T.Taker.refuses) c.enter_page.ensures.walked.kind (record { page = c.args.page; next = 0 }) refl refl (λ k l. c.enter_page.ensures.levels k (omega arith)) c.if-not-branch.false asked in
+    let asked = child_asked c.args.frames.now.items c.args.frame walk candidate c.stepped.result c.stepped.ensures.page c.stepped.ensures.next c.args.page here (c.push-2.ensures.items ∙ ap (λ l. l ++ (c.args.frame.next / 3 ∷ [])) c.requires.path) (h e coded) in
+    let entered = child_entered c.args.frames.now.items c.args.frame walk candidate c.stepped.result c.stepped.ensures.page c.stepped.ensures.next c.args.page here (fails g.K.Sink.takes g.K.Sink.drops g.T.Taker.takes g.T.Taker.refuses) c.enter_page.ensures.walked.kind (record { page = c.args.page; next = 0 }) refl refl (λ k l. c.enter_page.ensures.levels k (omega arith)) c.if-not-branch.false asked in
     (by_other entered (c.push-3.ensures.items ∙ ap (λ l. l ++ (record { page = c.args.page; next = 0 } ∷ [])) c.push.ensures.items) refl refl refl (λ n l. refl), tt))
 
 pub returns-in_err-enter_page-clause-walked : goal.returns-in_err-enter_page-clause-walked

@@ -25,24 +25,24 @@ use Rattle.dbwalk.proofs.Underway.Walks.{walked_behind, walked_by}
 use Rattle.dbwalk.proofs.tree_walk.TreeWalk.enter_page.Goals as goal
 
 pub returns-in_err-enter-clause-log : goal.returns-in_err-enter-clause-log
-returns-in_err-enter-clause-log g c = log_none c.args.bench.now.geometry.page_size c.args.self.now.marks.now c.enter.new.marks (g.S.Source.held c.args.self.now.source.now) c.in_err-enter.ensures.after_error.1 (λ file e coded from d candidate next at held room.
+returns-in_err-enter-clause-log g c = log_none c.args.bench.now.geometry.page_size c.args.self.now.marks.now c.enter.new.marks (g.S.Source.held c.args.self.now.source.now) c.in_err-enter.ensures.after_error.1 (λ file e coded from d candidate next at.
     let t = c.args.self.now.tree in
     let q = err_from_is_err_and c.from_residual.result c.from_residual.ensures.1 in
     let is = c.tree_step-step.ensures.step t.kind t.start t.path.items d (sym c.len-level.ensures.value) candidate in
     let f = c.in_err-enter.ensures.after_error.0 in
     let r : Result (Unit {0}) RunError = Err c.in_err-enter.field-0.0 in
     let n = c.in_err-enter.ensures.entered file from.visits d is next at.0 (tree_refusal file from.visits d candidate) in
-    entered_err (watches g.K.Sink.takes g.T.Taker.takes) (fails g.K.Sink.drops g.T.Taker.refuses) file from d c.args.bench.now.levels _ c.in_err-enter.field-0.0 (c.enter.new.marks, c.args.self.now.tree) (c.args.self.now.sink.now, c.args.self.now.taker.now) (c.enter.new.sink, c.args.self.now.taker.now) (q.1 ∙ ap Err q.2)
-    (done_refused (watches g.K.Sink.takes g.T.Taker.takes) (fails g.K.Sink.drops g.T.Taker.refuses) file from d r (c.enter.new.marks, c.args.self.now.tree) (c.args.self.now.sink.now, c.args.self.now.taker.now) (c.enter.new.sink, c.args.self.now.taker.now) n.0 (n.1, at.1, at.2)
+    entered_err (watches g.K.Sink.takes g.T.Taker.takes) (fails g.K.Sink.takes g.K.Sink.drops g.T.Taker.takes g.T.Taker.refuses) file from d c.args.bench.now.levels _ c.in_err-enter.field-0.0 (c.enter.new.marks, c.args.self.now.tree) (c.args.self.now.sink.now, c.args.self.now.taker.now) (c.enter.new.sink, c.args.self.now.taker.now) (q.1 ∙ ap Err q.2)
+    (done_refused (watches g.K.Sink.takes g.T.Taker.takes) (fails g.K.Sink.takes g.K.Sink.drops g.T.Taker.takes g.T.Taker.refuses) file from d r (c.enter.new.marks, c.args.self.now.tree) (c.args.self.now.sink.now, c.args.self.now.taker.now) (c.enter.new.sink, c.args.self.now.taker.now) n.0 (n.1, at.1, at.2)
     (refused_handed g.K.Sink.takes g.K.Sink.drops g.T.Taker.takes g.T.Taker.refuses file from d r c.args.self.now.sink.now c.enter.new.sink c.args.self.now.taker.now (λ o. cc) n.2)))
 
 pub returns-then-not-branch-clause-log : goal.returns-then-not-branch-clause-log
-returns-then-not-branch-clause-log g c = log_none c.args.bench.now.geometry.page_size c.args.self.now.marks.now c.enter.new.marks (g.S.Source.held c.args.self.now.source.now) (c.in_ok-enter.ensures.unmarked c.if-not-branch.true) (λ file e coded from d candidate next at held room.
+returns-then-not-branch-clause-log g c = log_none c.args.bench.now.geometry.page_size c.args.self.now.marks.now c.enter.new.marks (g.S.Source.held c.args.self.now.source.now) (c.in_ok-enter.ensures.unmarked c.if-not-branch.true) (λ file e coded from d candidate next at.
     let t = c.args.self.now.tree in
     let is = c.tree_step-step.ensures.step t.kind t.start t.path.items d (sym c.len-level.ensures.value) candidate in
     let n = subst (λ b. Enters g.K.Sink.takes g.K.Sink.drops file from.visits d (Ok b) c.enter.new.marks c.args.self.now.sink.now c.enter.new.sink) c.if-not-branch.true (c.in_ok-enter.ensures.entered file from.visits d is next at.0 (tree_refusal file from.visits d candidate)) in
-    entered_past (watches g.K.Sink.takes g.T.Taker.takes) (fails g.K.Sink.drops g.T.Taker.refuses) file from d c.args.bench.now.levels false (c.enter.new.marks, c.args.self.now.tree) (c.args.self.now.sink.now, c.args.self.now.taker.now) (c.enter.new.sink, c.args.self.now.taker.now)
-    (done_refused (watches g.K.Sink.takes g.T.Taker.takes) (fails g.K.Sink.drops g.T.Taker.refuses) file from d (Ok false) (c.enter.new.marks, c.args.self.now.tree) (c.args.self.now.sink.now, c.args.self.now.taker.now) (c.enter.new.sink, c.args.self.now.taker.now) n.0 (n.1, at.1, at.2)
+    entered_past (watches g.K.Sink.takes g.T.Taker.takes) (fails g.K.Sink.takes g.K.Sink.drops g.T.Taker.takes g.T.Taker.refuses) file from d c.args.bench.now.levels false (c.enter.new.marks, c.args.self.now.tree) (c.args.self.now.sink.now, c.args.self.now.taker.now) (c.enter.new.sink, c.args.self.now.taker.now)
+    (done_refused (watches g.K.Sink.takes g.T.Taker.takes) (fails g.K.Sink.takes g.K.Sink.drops g.T.Taker.takes g.T.Taker.refuses) file from d (Ok false) (c.enter.new.marks, c.args.self.now.tree) (c.args.self.now.sink.now, c.args.self.now.taker.now) (c.enter.new.sink, c.args.self.now.taker.now) n.0 (n.1, at.1, at.2)
     (refused_handed g.K.Sink.takes g.K.Sink.drops g.T.Taker.takes g.T.Taker.refuses file from d (Ok false) c.args.self.now.sink.now c.enter.new.sink c.args.self.now.taker.now (λ o. cc) n.2)))
 
 pub returns-in_err-load-clause-levels : goal.returns-in_err-load-clause-levels
@@ -62,14 +62,14 @@ returns-in_err-load-clause-log g c =
     log_page (λ file. Unit {0}) size c.args.self.now.marks.now c.enter.new.marks step.result.page step.result.mark k.0 k.1 step.ensures.used
     (has_one {A = Unit {0}} {E = source_error.ReadFailed} (Err c.in_err-load.field-0.0) offset read.bytes c.load.ensures.told read.holds.0 tt
     (ap (λ n. range offset n ∷ []) read.size ∙ ap (λ p. page_range size p ∷ []) (sym step.ensures.page)) (λ file h. tt))
-    (λ file u e coded from d candidate next at held room.
+    (λ file u e coded from d candidate next at.
     let t = c.args.self.now.tree in
     let q = err_from_is_err_and c.from_residual-in_err-load.result c.from_residual-in_err-load.ensures.1 in
     let is = c.tree_step-step.ensures.step t.kind t.start t.path.items d (sym c.len-level.ensures.value) candidate in
     let n = subst (λ b. Enters g.K.Sink.takes g.K.Sink.drops file from.visits d (Ok b) c.enter.new.marks c.args.self.now.sink.now c.enter.new.sink) c.if-not-branch.false (c.in_ok-enter.ensures.entered file from.visits d is next at.0 (tree_refusal file from.visits d candidate)) in
-    subst (λ s. HasDone (watches g.K.Sink.takes g.T.Taker.takes) (fails g.K.Sink.drops g.T.Taker.refuses) file (entered file from d c.from_residual-in_err-load.result) c.from_residual-in_err-load.result (c.enter.new.marks, c.args.self.now.tree) (c.args.self.now.sink.now, c.args.self.now.taker.now) (s, c.args.self.now.taker.now) × IsEntered file from d c.from_residual-in_err-load.result c.load.new.self.levels) n.2
-    (entered_err (watches g.K.Sink.takes g.T.Taker.takes) (fails g.K.Sink.drops g.T.Taker.refuses) file from d c.load.new.self.levels _ ReadFailed (c.enter.new.marks, c.args.self.now.tree) (c.args.self.now.sink.now, c.args.self.now.taker.now) (c.args.self.now.sink.now, c.args.self.now.taker.now) (q.1 ∙ ap Err q.2)
-    (unread {A = Unit {0}} (watches g.K.Sink.takes g.T.Taker.takes) (fails g.K.Sink.drops g.T.Taker.refuses) file (done_below file from (Go d ∷ [])) (c.enter.new.marks, c.args.self.now.tree) (c.args.self.now.sink.now, c.args.self.now.taker.now))))
+    subst (λ s. HasDone (watches g.K.Sink.takes g.T.Taker.takes) (fails g.K.Sink.takes g.K.Sink.drops g.T.Taker.takes g.T.Taker.refuses) file (entered file from d c.from_residual-in_err-load.result) c.from_residual-in_err-load.result (c.enter.new.marks, c.args.self.now.tree) (c.args.self.now.sink.now, c.args.self.now.taker.now) (s, c.args.self.now.taker.now) × IsEntered file from d c.from_residual-in_err-load.result c.load.new.self.levels) n.2
+    (entered_err (watches g.K.Sink.takes g.T.Taker.takes) (fails g.K.Sink.takes g.K.Sink.drops g.T.Taker.takes g.T.Taker.refuses) file from d c.load.new.self.levels _ ReadFailed (c.enter.new.marks, c.args.self.now.tree) (c.args.self.now.sink.now, c.args.self.now.taker.now) (c.args.self.now.sink.now, c.args.self.now.taker.now) (q.1 ∙ ap Err q.2)
+    (unread {A = Unit {0}} (watches g.K.Sink.takes g.T.Taker.takes) (fails g.K.Sink.takes g.K.Sink.drops g.T.Taker.takes g.T.Taker.refuses) file (done_below file from (Go d ∷ [])) (c.enter.new.marks, c.args.self.now.tree) (c.args.self.now.sink.now, c.args.self.now.taker.now))))
 
 pub returns-clause-levels : goal.returns-clause-levels
 returns-clause-levels g c =
@@ -103,15 +103,15 @@ returns-clause-log g c =
     (ap (λ n. range offset n ∷ []) change.size ∙ ap (λ p. page_range size p ∷ []) (sym step.ensures.page)) (λ file h. h))
     (λ file h. h))
     c.visit_page.ensures.log
-    (λ file h done e coded from d candidate next at held room.
+    (λ file h done e coded from d candidate next at.
     let t = c.args.self.now.tree in
     let is = c.tree_step-step.ensures.step t.kind t.start t.path.items d (sym c.len-level.ensures.value) candidate in
     let n = subst (λ b. Enters g.K.Sink.takes g.K.Sink.drops file from.visits d (Ok b) c.enter.new.marks c.args.self.now.sink.now c.enter.new.sink) c.if-not-branch.false (c.in_ok-enter.ensures.entered file from.visits d is next at.0 (tree_refusal file from.visits d candidate)) in
     let read = page_read file change.bytes c.args.bench.now.geometry.page_size c.args.page change.size h (sym (ap (λ s. s.page_size) e)) in
     let there = subst (λ l. HasPageAt c.load.new.self.levels l (page_bytes file c.args.page)) c.len-level.ensures.value
     (read_there c.args.bench.now c.load.new.self c.len-level.result low change.bytes change.only (page_bytes file c.args.page) read) in
-    subst (λ s. HasDone (watches g.K.Sink.takes g.T.Taker.takes) (fails g.K.Sink.drops g.T.Taker.refuses) file (entered file from d c.visit_page.result) c.visit_page.result (c.visit_page.new.self.marks.now, c.visit_page.new.self.tree) (s, c.args.self.now.taker.now) (c.visit_page.new.self.sink.now, c.visit_page.new.self.taker.now) × IsEntered file from d c.visit_page.result c.visit_page.new.bench.levels) (sym n.2)
-    (done (same ∙ e) coded from d c.args.from c.args.item candidate there next n.0 n.1 at.1 at.2 held room))
+    subst (λ s. HasDone (watches g.K.Sink.takes g.T.Taker.takes) (fails g.K.Sink.takes g.K.Sink.drops g.T.Taker.takes g.T.Taker.refuses) file (entered file from d c.visit_page.result) c.visit_page.result (c.visit_page.new.self.marks.now, c.visit_page.new.self.tree) (s, c.args.self.now.taker.now) (c.visit_page.new.self.sink.now, c.visit_page.new.self.taker.now) × IsEntered file from d c.visit_page.result c.visit_page.new.bench.levels) (sym n.2)
+    (done (same ∙ e) coded from d c.args.from c.args.item candidate there next n.0 n.1 at.1 at.2))
 
 pub returns-in_err-load-clause-walked : goal.returns-in_err-load-clause-walked
 returns-in_err-load-clause-walked g c =

@@ -22,13 +22,13 @@ loop-i-init g c = record {
   tree = c.pass_cells-i.ensures.others;
   empty = λ later. refl;
   log = log_none c.args.bench.now.geometry.page_size c.args.self.now.marks.now c.args.self.now.marks.now (g.S.Source.held c.args.self.now.source.now) refl
-      (λ file e coded from d v at viewed leaf before isat held room.
+      (λ file e coded from d v at viewed leaf before isat.
       let t = c.args.self.now.tree in
       let p = c.pass_cells-i.ensures in
       let seen = seen_here file at viewed (ap (λ s. s.usable) e) in
       let rise = subst (λ q. (c.pass_cells-i.result ≤ count v) × AreRisingFrom q v 0 (c.pass_cells-i.result - 0) t.greatest c.pass_cells-i.new.tree.greatest) (sym at.page) (p.passed.rising (page_bytes file c.args.page) v at.bytes seen (omega arith)) in
-      on_pass file from d t.kind v leaf g.K.Sink.takes g.T.Taker.takes (fails g.K.Sink.drops g.T.Taker.refuses) (c.args.self.now.sink.now, c.args.self.now.taker.now) held t.start 0 c.pass_cells-i.result c.args.self.now.marks.now t c.pass_cells-i.new.tree (c.args.self.now.sink.now, c.args.self.now.taker.now) p.passed.ahead rise.0 (λ l. other_start d.address t.start at.start (p.other l)) rise.1 p.others.2
-      (on_start file from d t.kind v leaf g.K.Sink.takes g.T.Taker.takes (fails g.K.Sink.drops g.T.Taker.refuses) (c.args.self.now.sink.now, c.args.self.now.taker.now) held t.start (c.args.self.now.marks.now, t) isat before room));
+      on_pass file from d t.kind v leaf g.K.Sink.takes g.T.Taker.takes (fails g.K.Sink.takes g.K.Sink.drops g.T.Taker.takes g.T.Taker.refuses) (c.args.self.now.sink.now, c.args.self.now.taker.now) 0 c.pass_cells-i.result c.args.self.now.marks.now t c.pass_cells-i.new.tree (c.args.self.now.sink.now, c.args.self.now.taker.now) p.passed.ahead rise.0 (λ l. other_start d.address t.start at.start (p.other l)) rise.1 p.others.2
+      (on_start file from d t.kind v leaf g.K.Sink.takes g.T.Taker.takes (fails g.K.Sink.takes g.K.Sink.drops g.T.Taker.takes g.T.Taker.refuses) (c.args.self.now.sink.now, c.args.self.now.taker.now) (c.args.self.now.marks.now, t) isat before));
 }
 
 pub loop-i-preserved : goal.loop-i-preserved
@@ -41,51 +41,51 @@ loop-i-preserved g c =
       levels = n.levels ∙ w.levels;
       tree = (p.others.0 ∙ n.tree.0 ∙ w.tree.0, p.others.1 ∙ n.tree.1 ∙ w.tree.1, p.others.2 ∙ n.tree.2 ∙ w.tree.2, p.others.3 ∙ n.tree.3 ∙ w.tree.3);
       empty = λ later. n.empty (subst (λ k. 1 ≤ k) (sym w.tree.0) later);
-      log = log_then _ _ (ap (λ s. s.page_size) w.walked.shape) w.log n.log (λ file on done e coded from d v at viewed leaf before isat held room.
+      log = log_then _ _ (ap (λ s. s.page_size) w.walked.shape) w.log n.log (λ file on done e coded from d v at viewed leaf before isat.
           let t = c.args.self.now.tree in
           let seen = seen_here file at viewed (ap (λ s. s.usable) e) in
           let cells = cells_here file at viewed (ap (λ s. s.usable) e) c.len-level.ensures.value c.leaf_cells-cells.ensures in
           let low : c.loop-i.i < count v = omega arith in
-          let s = on e coded from d v at viewed leaf before isat held room in
+          let s = on e coded from d v at viewed leaf before isat in
           let new = c.walk_leaf_cell.new in
           let after = c.pass_cells-i-in-loop-i.new.tree in
           let end = c.pass_cells-i-in-loop-i.result in
           let passed = passed_same new.bench.geometry.usable c.args.bench.now.geometry.usable new.self.tree.kind t.kind new.bench.levels c.args.bench.now.levels (length new.self.tree.path.items) (length t.path.items) c.args.page (c.loop-i.i + 1) end new.self.tree.greatest after.greatest
           (ap (λ s. s.usable) (n.walked.shape ∙ w.walked.shape)) (n.tree.1 ∙ w.tree.1) (n.levels ∙ w.levels) (ap (λ p. length p.items) (n.tree.3 ∙ w.tree.3)) p.passed in
           let rise = subst (λ q. (end ≤ count v) × AreRisingFrom q v (c.loop-i.i + 1) (end - (c.loop-i.i + 1)) new.self.tree.greatest after.greatest) (sym at.page) (passed.rising (page_bytes file c.args.page) v at.bytes seen (omega arith)) in
-          let cell = done (w.walked.shape ∙ e) (w.walked.coded ∙ coded) (cells_done file from d t.kind v c.loop-i.i) d v (leaf_as file t.kind c.loop-i.self.tree.kind t.start c.loop-i.self.tree.start t.path.items c.loop-i.self.tree.path.items c.args.bench.now.levels c.loop-i.bench.levels c.args.page d w.tree.1 w.tree.0 (ap (λ p. p.items) w.tree.3) w.levels at) viewed leaf low s.1 s.0.at held (λ z. s.2 (sym w.tree.0 ∙ z)) in
-          on_pass file from d t.kind v leaf g.K.Sink.takes g.T.Taker.takes (fails g.K.Sink.drops g.T.Taker.refuses) (c.args.self.now.sink.now, c.args.self.now.taker.now) held t.start (c.loop-i.i + 1) end new.self.marks.now new.self.tree after (new.self.sink.now, new.self.taker.now) passed.ahead rise.0 (λ l. other_start d.address t.start at.start (subst (λ k. 1 ≤ k) (n.tree.0 ∙ w.tree.0) (p.other l))) rise.1 p.others.2
-          (on_more file from d t.kind v leaf g.K.Sink.takes g.T.Taker.takes (fails g.K.Sink.drops g.T.Taker.refuses) (c.args.self.now.sink.now, c.args.self.now.taker.now) held t.start c.loop-i.i (c.loop-i.self.marks.now, c.loop-i.self.tree) (new.self.marks.now, new.self.tree) (c.loop-i.self.sink.now, c.loop-i.self.taker.now) (new.self.sink.now, new.self.taker.now) low s
-          (subst (λ k. HasDone (watches g.K.Sink.takes g.T.Taker.takes) (fails g.K.Sink.drops g.T.Taker.refuses) file (done_below file (cells_done file from d t.kind v c.loop-i.i) (cell_errands d k v c.loop-i.i)) (Ok tt) (new.self.marks.now, new.self.tree) (c.loop-i.self.sink.now, c.loop-i.self.taker.now) (new.self.sink.now, new.self.taker.now)) w.tree.1 cell)));
+          let cell = done (w.walked.shape ∙ e) (w.walked.coded ∙ coded) (cells_done file from d t.kind v c.loop-i.i) d v (leaf_as file t.kind c.loop-i.self.tree.kind t.start c.loop-i.self.tree.start t.path.items c.loop-i.self.tree.path.items c.args.bench.now.levels c.loop-i.bench.levels c.args.page d w.tree.1 w.tree.0 (ap (λ p. p.items) w.tree.3) w.levels at) viewed leaf low s.1 s.0.at in
+          on_pass file from d t.kind v leaf g.K.Sink.takes g.T.Taker.takes (fails g.K.Sink.takes g.K.Sink.drops g.T.Taker.takes g.T.Taker.refuses) (c.args.self.now.sink.now, c.args.self.now.taker.now) (c.loop-i.i + 1) end new.self.marks.now new.self.tree after (new.self.sink.now, new.self.taker.now) passed.ahead rise.0 (λ l. other_start d.address t.start at.start (subst (λ k. 1 ≤ k) (n.tree.0 ∙ w.tree.0) (p.other l))) rise.1 p.others.2
+          (on_more file from d t.kind v leaf g.K.Sink.takes g.T.Taker.takes (fails g.K.Sink.takes g.K.Sink.drops g.T.Taker.takes g.T.Taker.refuses) (c.args.self.now.sink.now, c.args.self.now.taker.now) c.loop-i.i (c.loop-i.self.marks.now, c.loop-i.self.tree) (new.self.marks.now, new.self.tree) (c.loop-i.self.sink.now, c.loop-i.self.taker.now) (new.self.sink.now, new.self.taker.now) low s
+          (subst (λ k. HasDone (watches g.K.Sink.takes g.T.Taker.takes) (fails g.K.Sink.takes g.K.Sink.drops g.T.Taker.takes g.T.Taker.refuses) file (done_below file (cells_done file from d t.kind v c.loop-i.i) (cell_errands d k v c.loop-i.i)) (Ok tt) (new.self.marks.now, new.self.tree) (c.loop-i.self.sink.now, c.loop-i.self.taker.now) (new.self.sink.now, new.self.taker.now)) w.tree.1 cell)));
     }
 
 pub returns-in_err-walk_leaf_cell-clause-log : goal.returns-in_err-walk_leaf_cell-clause-log
 returns-in_err-walk_leaf_cell-clause-log g c =
     let w = c.loop-i.invariant in
-    log_then _ _ (ap (λ s. s.page_size) w.walked.shape) w.log c.in_err-walk_leaf_cell.ensures.log (λ file on done e coded from d v at viewed leaf before isat held room.
+    log_then _ _ (ap (λ s. s.page_size) w.walked.shape) w.log c.in_err-walk_leaf_cell.ensures.log (λ file on done e coded from d v at viewed leaf before isat.
     let t = c.args.self.now.tree in
     let q = err_from_is_err_and c.from_residual.result c.from_residual.ensures.1 in
     let cells = cells_here file at viewed (ap (λ s. s.usable) e) c.len-level.ensures.value c.leaf_cells-cells.ensures in
     let low : c.loop-i.i < count v = omega arith in
-    let s = on e coded from d v at viewed leaf before isat held room in
+    let s = on e coded from d v at viewed leaf before isat in
     let new = c.walk_leaf_cell.new in
-    let cell = done (w.walked.shape ∙ e) (w.walked.coded ∙ coded) (cells_done file from d t.kind v c.loop-i.i) d v (leaf_as file t.kind c.loop-i.self.tree.kind t.start c.loop-i.self.tree.start t.path.items c.loop-i.self.tree.path.items c.args.bench.now.levels c.loop-i.bench.levels c.args.page d w.tree.1 w.tree.0 (ap (λ p. p.items) w.tree.3) w.levels at) viewed leaf low s.1 s.0.at held (λ z. s.2 (sym w.tree.0 ∙ z)) in
+    let cell = done (w.walked.shape ∙ e) (w.walked.coded ∙ coded) (cells_done file from d t.kind v c.loop-i.i) d v (leaf_as file t.kind c.loop-i.self.tree.kind t.start c.loop-i.self.tree.start t.path.items c.loop-i.self.tree.path.items c.args.bench.now.levels c.loop-i.bench.levels c.args.page d w.tree.1 w.tree.0 (ap (λ p. p.items) w.tree.3) w.levels at) viewed leaf low s.1 s.0.at in
     stopped_as (q.1 ∙ ap Err q.2)
-    (subst (λ es. HasDone {A = Unit {0}} (watches g.K.Sink.takes g.T.Taker.takes) (fails g.K.Sink.drops g.T.Taker.refuses) file (done_below file from es) (Err c.in_err-walk_leaf_cell.field-0.0) (new.self.marks.now, new.self.tree) (c.args.self.now.sink.now, c.args.self.now.taker.now) (new.self.sink.now, new.self.taker.now)) (sym (leaf_errands_are file d t.kind v at.kind_is viewed leaf))
-    (on_stop file from d t.kind v leaf g.K.Sink.takes g.T.Taker.takes (fails g.K.Sink.drops g.T.Taker.refuses) (c.args.self.now.sink.now, c.args.self.now.taker.now) held t.start c.in_err-walk_leaf_cell.field-0.0 c.loop-i.i (c.loop-i.self.marks.now, c.loop-i.self.tree) (new.self.marks.now, new.self.tree) (c.loop-i.self.sink.now, c.loop-i.self.taker.now) (new.self.sink.now, new.self.taker.now) low s
-    (subst (λ k. HasDone {A = Unit {0}} (watches g.K.Sink.takes g.T.Taker.takes) (fails g.K.Sink.drops g.T.Taker.refuses) file (done_below file (cells_done file from d t.kind v c.loop-i.i) (cell_errands d k v c.loop-i.i)) (Err c.in_err-walk_leaf_cell.field-0.0) (new.self.marks.now, new.self.tree) (c.loop-i.self.sink.now, c.loop-i.self.taker.now) (new.self.sink.now, new.self.taker.now)) w.tree.1 cell))).handed)
+    (subst (λ es. HasDone {A = Unit {0}} (watches g.K.Sink.takes g.T.Taker.takes) (fails g.K.Sink.takes g.K.Sink.drops g.T.Taker.takes g.T.Taker.refuses) file (done_below file from es) (Err c.in_err-walk_leaf_cell.field-0.0) (new.self.marks.now, new.self.tree) (c.args.self.now.sink.now, c.args.self.now.taker.now) (new.self.sink.now, new.self.taker.now)) (sym (leaf_errands_are file d t.kind v at.kind_is viewed leaf))
+    (on_stop file from d t.kind v leaf g.K.Sink.takes g.T.Taker.takes (fails g.K.Sink.takes g.K.Sink.drops g.T.Taker.takes g.T.Taker.refuses) (c.args.self.now.sink.now, c.args.self.now.taker.now) c.in_err-walk_leaf_cell.field-0.0 c.loop-i.i (c.loop-i.self.marks.now, c.loop-i.self.tree) (new.self.marks.now, new.self.tree) (c.loop-i.self.sink.now, c.loop-i.self.taker.now) (new.self.sink.now, new.self.taker.now) low s
+    (subst (λ k. HasDone {A = Unit {0}} (watches g.K.Sink.takes g.T.Taker.takes) (fails g.K.Sink.takes g.K.Sink.drops g.T.Taker.takes g.T.Taker.refuses) file (done_below file (cells_done file from d t.kind v c.loop-i.i) (cell_errands d k v c.loop-i.i)) (Err c.in_err-walk_leaf_cell.field-0.0) (new.self.marks.now, new.self.tree) (c.loop-i.self.sink.now, c.loop-i.self.taker.now) (new.self.sink.now, new.self.taker.now)) w.tree.1 cell))).handed)
 
 pub returns-clause-log : goal.returns-clause-log
 returns-clause-log g c =
     let w = c.loop-i.invariant in
-    has_weaker _ _ w.log (λ log r. r) (λ file on e coded from d v at viewed leaf before isat held room.
+    has_weaker _ _ w.log (λ log r. r) (λ file on e coded from d v at viewed leaf before isat.
     let t = c.args.self.now.tree in
     let cells = cells_here file at viewed (ap (λ s. s.usable) e) c.len-level.ensures.value c.leaf_cells-cells.ensures in
-    let s = on e coded from d v at viewed leaf before isat held room in
-    let within = s.3 in
+    let s = on e coded from d v at viewed leaf before isat in
+    let within = s.2 in
     let end : c.loop-i.i ≡ count v = omega arith in
-    subst (λ es. HasDone (watches g.K.Sink.takes g.T.Taker.takes) (fails g.K.Sink.drops g.T.Taker.refuses) file (done_below file from es) (Ok tt) (c.loop-i.self.marks.now, c.loop-i.self.tree) (c.args.self.now.sink.now, c.args.self.now.taker.now) (c.loop-i.self.sink.now, c.loop-i.self.taker.now)) (sym (leaf_errands_are file d t.kind v at.kind_is viewed leaf))
-    (on_end file from d t.kind v leaf g.K.Sink.takes g.T.Taker.takes (fails g.K.Sink.drops g.T.Taker.refuses) (c.args.self.now.sink.now, c.args.self.now.taker.now) held t.start (c.loop-i.self.marks.now, c.loop-i.self.tree) (c.loop-i.self.sink.now, c.loop-i.self.taker.now) c.loop-i.i end s))
+    subst (λ es. HasDone (watches g.K.Sink.takes g.T.Taker.takes) (fails g.K.Sink.takes g.K.Sink.drops g.T.Taker.takes g.T.Taker.refuses) file (done_below file from es) (Ok tt) (c.loop-i.self.marks.now, c.loop-i.self.tree) (c.args.self.now.sink.now, c.args.self.now.taker.now) (c.loop-i.self.sink.now, c.loop-i.self.taker.now)) (sym (leaf_errands_are file d t.kind v at.kind_is viewed leaf))
+    (on_end file from d t.kind v leaf g.K.Sink.takes g.T.Taker.takes (fails g.K.Sink.takes g.K.Sink.drops g.T.Taker.takes g.T.Taker.refuses) (c.args.self.now.sink.now, c.args.self.now.taker.now) (c.loop-i.self.marks.now, c.loop-i.self.tree) (c.loop-i.self.sink.now, c.loop-i.self.taker.now) c.loop-i.i end s))
 
 pub walk_leaf_cell-requires : goal.walk_leaf_cell-requires
 walk_leaf_cell-requires g c =

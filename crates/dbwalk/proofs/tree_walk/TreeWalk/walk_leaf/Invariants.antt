@@ -1,10 +1,9 @@
-use Rattle.std.proofs.Common.{◌≡◌, ℕ, ◌-◌, ◌≤◌, false, Some, None, Ok}
-use Rattle.dbformat.specs.Address.{then_step, overflow_step, schema_start}
+use Rattle.std.proofs.Common.{◌≡◌, ◌-◌, ◌≤◌, false, Some, None, Ok}
+use Rattle.dbformat.specs.Address.{then_step, overflow_step}
 use Rattle.dbformat.specs.Cell.{count}
 use Rattle.dbformat.specs.Head.{View, is_interior}
 use Rattle.dbformat.specs.Reference.{Reference, tree_view}
 use Rattle.dbtrace.specs.Walk.{Walk}
-use Rattle.dbwalk.specs.Taking.{HasRoom}
 use Rattle.dbwalk.specs.LeafCells.{AreBefore}
 use Rattle.dbwalk.specs.Points.{IsSameButGreatest}
 use Rattle.dbwalk.specs.Underway.{IsAt}
@@ -22,10 +21,8 @@ invariant-loop-i g l = record {
   empty : 1 ≤ l.fn.self.tree.start → l.sieve ≡ None;
   log : SaysOfFiles g.S.Source.step g.S.Source.held l.fn.bench.geometry l.fn.self l.self (λ file. (from : Walk) (c : Reference) (v : View) → IsLeafAt file l.fn.self.tree.kind l.fn.self.tree.start l.fn.self.tree.path.items c l.fn.bench.levels l.page
       → tree_view file c ≡ Some v → is_interior v.kind ≡ false → AreBefore from.visits (then_step c.address 0) → IsAt file from l.fn.self.marks.now l.fn.self.tree
-      → (held : g.row.T.Denot → ℕ) → (l.fn.self.tree.start ≡ schema_start → HasRoom g.T.Taker.takes held from.state.roots l.fn.self.taker.now)
-      → Does {R = Unit {0}} (watches g.K.Sink.takes g.T.Taker.takes) (fails g.K.Sink.drops g.T.Taker.refuses) file (cells_done file from c l.fn.self.tree.kind v l.i) (Ok tt) l.fn.self l.self
-      × AreBefore (cells_done file from c l.fn.self.tree.kind v l.i).visits (then_step c.address (overflow_step l.i))
-      × (l.fn.self.tree.start ≡ schema_start → HasRoom g.T.Taker.takes held (cells_done file from c l.fn.self.tree.kind v l.i).state.roots l.self.taker.now) × (l.i ≤ count v));
+      → Does {R = Unit {0}} (watches g.K.Sink.takes g.T.Taker.takes) (fails g.K.Sink.takes g.K.Sink.drops g.T.Taker.takes g.T.Taker.refuses) file (cells_done file from c l.fn.self.tree.kind v l.i) (Ok tt) l.fn.self l.self
+      × AreBefore (cells_done file from c l.fn.self.tree.kind v l.i).visits (then_step c.address (overflow_step l.i)) × (l.i ≤ count v));
 }
 
 abbrev pub decreases-loop-i : goal.decreases-loop-i

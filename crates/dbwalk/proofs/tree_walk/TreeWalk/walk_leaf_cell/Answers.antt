@@ -20,7 +20,7 @@ gone None e = refl
 gone (Some s) e = cc
 
 pub returns-in_err-walk_overflow-clause-log : goal.returns-in_err-walk_overflow-clause-log
-returns-in_err-walk_overflow-clause-log g c = has_weaker _ _ c.in_err-walk_overflow.ensures.log (λ log r. r) (λ file h e coded from d v at viewed leaf low before isat held room.
+returns-in_err-walk_overflow-clause-log g c = has_weaker _ _ c.in_err-walk_overflow.ensures.log (λ log r. r) (λ file h e coded from d v at viewed leaf low before isat.
     let q = err_from_is_err_and c.from_residual.result c.from_residual.ensures.1 in
     let cell = cell_here file at viewed (ap (λ s. s.usable) e) c.len.ensures.value c.leaf_cell-cell.ensures low in
     stopped_as (q.1 ∙ ap Err q.2)
@@ -28,18 +28,18 @@ returns-in_err-walk_overflow-clause-log g c = has_weaker _ _ c.in_err-walk_overf
     c.args.self.now.sink.now c.walk_overflow.new.sink c.args.self.now.taker.now c.in_err-walk_overflow.ensures.only c.args.self.now.tree isat.1 isat.2 (h e from.visits d at (past_cell from.visits d c.args.i c.leaf_cell-cell.result.overflow before) isat.0).0).handed)
 
 pub returns-in_err-tell_row-clause-log : goal.returns-in_err-tell_row-clause-log
-returns-in_err-tell_row-clause-log g c = has_weaker _ _ c.in_ok-walk_overflow.ensures.log (λ log r. r) (λ file h e coded from d v at viewed leaf low before isat held room.
+returns-in_err-tell_row-clause-log g c = has_weaker _ _ c.in_ok-walk_overflow.ensures.log (λ log r. r) (λ file h e coded from d v at viewed leaf low before isat.
     let q = err_from_is_err_and c.from_residual-in_err-tell_row.result c.from_residual-in_err-tell_row.ensures.1 in
     let cell = cell_here file at viewed (ap (λ s. s.usable) e) c.len.ensures.value c.leaf_cell-cell.ensures low in
     let done = h e from.visits d at (past_cell from.visits d c.args.i c.leaf_cell-cell.result.overflow before) isat.0 in
     stopped_as (q.1 ∙ ap Err q.2)
     (row_stops file from d c.args.self.now.tree.kind v leaf c.args.i c.leaf_cell-cell.result.overflow cell.0 c.leaf_cell-cell.result.key cell.1 g.K.Sink.takes g.K.Sink.drops g.T.Taker.takes g.T.Taker.refuses c.in_err-tell_row.field-0.0 c.walk_overflow.new.marks c.args.self.now.tree c.args.self.now.tree
     c.args.self.now.sink.now c.walk_overflow.new.sink c.args.self.now.taker.now (c.tell_row.new.sink, c.tell_row.new.taker) isat.1 isat.2 done.0
-    (row_told file from d c.args.self.now.tree.kind v leaf c.args.i c.leaf_cell-cell.result.overflow cell.0 c.leaf_cell-cell.result.key cell.1 g.K.Sink.takes g.K.Sink.drops g.T.Taker.takes g.T.Taker.refuses held c.args.self.now.taker.now c.tell_row.new.taker c.new-place.result c.args.page c.new-place.ensures at.page c.args.self.now.encoding coded (Err c.in_err-tell_row.field-0.0)
-    c.walk_overflow.new.sink c.tell_row.new.sink c.walk_overflow.new.sieve c.in_err-tell_row.ensures.none c.args.self.now.tree.start at.start room c.begin_row.new.sieve (λ z. (c.begin_row.ensures.schema z).read (page_bytes file c.args.page) v at.bytes (seen_here file at viewed (ap (λ s. s.usable) e)) low) (λ l. c.begin_row.ensures.other l ∙ c.requires.empty l) before done.1 c.walk_overflow.ensures.kept.2 c.in_err-tell_row.ensures.told)).handed)
+    (row_told file from d c.args.self.now.tree.kind v leaf c.args.i c.leaf_cell-cell.result.overflow cell.0 c.leaf_cell-cell.result.key cell.1 g.K.Sink.takes g.K.Sink.drops g.T.Taker.takes g.T.Taker.refuses c.args.self.now.taker.now c.tell_row.new.taker c.new-place.result c.args.page c.new-place.ensures at.page c.args.self.now.encoding coded (Err c.in_err-tell_row.field-0.0)
+    c.walk_overflow.new.sink c.tell_row.new.sink c.walk_overflow.new.sieve c.in_err-tell_row.ensures.none c.args.self.now.tree.start at.start c.begin_row.new.sieve (λ z. (c.begin_row.ensures.schema z).read (page_bytes file c.args.page) v at.bytes (seen_here file at viewed (ap (λ s. s.usable) e)) low) (λ l. c.begin_row.ensures.other l ∙ c.requires.empty l) before done.1 c.walk_overflow.ensures.kept.2 c.in_err-tell_row.ensures.told)).handed)
 
 pub returns-in_err-tell_rowid-clause-log : goal.returns-in_err-tell_rowid-clause-log
-returns-in_err-tell_rowid-clause-log g c = has_weaker _ _ c.in_ok-walk_overflow.ensures.log (λ log r. r) (λ file h e coded from d v at viewed leaf low before isat held room.
+returns-in_err-tell_rowid-clause-log g c = has_weaker _ _ c.in_ok-walk_overflow.ensures.log (λ log r. r) (λ file h e coded from d v at viewed leaf low before isat.
     let q = err_from_is_err_and c.from_residual-in_err-tell_rowid.result c.from_residual-in_err-tell_rowid.ensures.1 in
     let cell = cell_here file at viewed (ap (λ s. s.usable) e) c.len.ensures.value c.leaf_cell-cell.ensures low in
     let done = h e from.visits d at (past_cell from.visits d c.args.i c.leaf_cell-cell.result.overflow before) isat.0 in
@@ -47,19 +47,19 @@ returns-in_err-tell_rowid-clause-log g c = has_weaker _ _ c.in_ok-walk_overflow.
     stopped_as (q.1 ∙ ap Err q.2)
     (key_done file from d c.args.self.now.tree.kind v leaf c.args.i c.leaf_cell-cell.result.overflow cell.0 c.leaf_cell-cell.result.key cell.1 g.K.Sink.takes g.K.Sink.drops g.T.Taker.takes g.T.Taker.refuses (Err WriteFailed) c.walk_overflow.new.marks c.args.self.now.tree c.tell_rowid.new.tree
     c.args.self.now.sink.now c.walk_overflow.new.sink c.tell_row.new.sink c.args.self.now.taker.now c.tell_row.new.taker (c.tell_rowid.new.sink, c.tell_row.new.taker) isat.1 isat.2 done.0
-    (row_told file from d c.args.self.now.tree.kind v leaf c.args.i c.leaf_cell-cell.result.overflow cell.0 c.leaf_cell-cell.result.key cell.1 g.K.Sink.takes g.K.Sink.drops g.T.Taker.takes g.T.Taker.refuses held c.args.self.now.taker.now c.tell_row.new.taker c.new-place.result c.args.page c.new-place.ensures at.page c.args.self.now.encoding coded (Ok tt)
-    c.walk_overflow.new.sink c.tell_row.new.sink c.walk_overflow.new.sieve c.in_ok-tell_row.ensures.none c.args.self.now.tree.start at.start room c.begin_row.new.sieve (λ z. (c.begin_row.ensures.schema z).read (page_bytes file c.args.page) v at.bytes (seen_here file at viewed (ap (λ s. s.usable) e)) low) (λ l. c.begin_row.ensures.other l ∙ c.requires.empty l) before done.1 c.walk_overflow.ensures.kept.2 c.in_ok-tell_row.ensures.told)
+    (row_told file from d c.args.self.now.tree.kind v leaf c.args.i c.leaf_cell-cell.result.overflow cell.0 c.leaf_cell-cell.result.key cell.1 g.K.Sink.takes g.K.Sink.drops g.T.Taker.takes g.T.Taker.refuses c.args.self.now.taker.now c.tell_row.new.taker c.new-place.result c.args.page c.new-place.ensures at.page c.args.self.now.encoding coded (Ok tt)
+    c.walk_overflow.new.sink c.tell_row.new.sink c.walk_overflow.new.sieve c.in_ok-tell_row.ensures.none c.args.self.now.tree.start at.start c.begin_row.new.sieve (λ z. (c.begin_row.ensures.schema z).read (page_bytes file c.args.page) v at.bytes (seen_here file at viewed (ap (λ s. s.usable) e)) low) (λ l. c.begin_row.ensures.other l ∙ c.requires.empty l) before done.1 c.walk_overflow.ensures.kept.2 c.in_ok-tell_row.ensures.told)
     (found_stops g.K.Sink.takes g.K.Sink.drops g.T.Taker.takes g.T.Taker.refuses _ c.tell_row.new.sink c.tell_rowid.new.sink c.tell_row.new.taker (subst (λ l. Stops g.K.Sink.takes g.K.Sink.drops c.tell_row.new.sink l c.tell_rowid.new.sink) late c.in_err-tell_rowid.ensures.told.items)) tt).handed)
 
 pub returns-clause-log : goal.returns-clause-log
-returns-clause-log g c = has_weaker _ _ c.in_ok-walk_overflow.ensures.log (λ log r. r) (λ file h e coded from d v at viewed leaf low before isat held room.
+returns-clause-log g c = has_weaker _ _ c.in_ok-walk_overflow.ensures.log (λ log r. r) (λ file h e coded from d v at viewed leaf low before isat.
     let cell = cell_here file at viewed (ap (λ s. s.usable) e) c.len.ensures.value c.leaf_cell-cell.ensures low in
     let done = h e from.visits d at (past_cell from.visits d c.args.i c.leaf_cell-cell.result.overflow before) isat.0 in
     let late = ap (λ top. late_told top c.args.page c.args.i c.leaf_cell-cell.result.key) isat.1 ∙ ap (λ p. late_told from.state.greatest p c.args.i c.leaf_cell-cell.result.key) (sym at.page) in
     key_done file from d c.args.self.now.tree.kind v leaf c.args.i c.leaf_cell-cell.result.overflow cell.0 c.leaf_cell-cell.result.key cell.1 g.K.Sink.takes g.K.Sink.drops g.T.Taker.takes g.T.Taker.refuses (Ok tt) c.walk_overflow.new.marks c.args.self.now.tree c.tell_rowid.new.tree
     c.args.self.now.sink.now c.walk_overflow.new.sink c.tell_row.new.sink c.args.self.now.taker.now c.tell_row.new.taker (c.tell_rowid.new.sink, c.tell_row.new.taker) isat.1 isat.2 done.0
-    (row_told file from d c.args.self.now.tree.kind v leaf c.args.i c.leaf_cell-cell.result.overflow cell.0 c.leaf_cell-cell.result.key cell.1 g.K.Sink.takes g.K.Sink.drops g.T.Taker.takes g.T.Taker.refuses held c.args.self.now.taker.now c.tell_row.new.taker c.new-place.result c.args.page c.new-place.ensures at.page c.args.self.now.encoding coded (Ok tt)
-    c.walk_overflow.new.sink c.tell_row.new.sink c.walk_overflow.new.sieve c.in_ok-tell_row.ensures.none c.args.self.now.tree.start at.start room c.begin_row.new.sieve (λ z. (c.begin_row.ensures.schema z).read (page_bytes file c.args.page) v at.bytes (seen_here file at viewed (ap (λ s. s.usable) e)) low) (λ l. c.begin_row.ensures.other l ∙ c.requires.empty l) before done.1 c.walk_overflow.ensures.kept.2 c.in_ok-tell_row.ensures.told)
+    (row_told file from d c.args.self.now.tree.kind v leaf c.args.i c.leaf_cell-cell.result.overflow cell.0 c.leaf_cell-cell.result.key cell.1 g.K.Sink.takes g.K.Sink.drops g.T.Taker.takes g.T.Taker.refuses c.args.self.now.taker.now c.tell_row.new.taker c.new-place.result c.args.page c.new-place.ensures at.page c.args.self.now.encoding coded (Ok tt)
+    c.walk_overflow.new.sink c.tell_row.new.sink c.walk_overflow.new.sieve c.in_ok-tell_row.ensures.none c.args.self.now.tree.start at.start c.begin_row.new.sieve (λ z. (c.begin_row.ensures.schema z).read (page_bytes file c.args.page) v at.bytes (seen_here file at viewed (ap (λ s. s.usable) e)) low) (λ l. c.begin_row.ensures.other l ∙ c.requires.empty l) before done.1 c.walk_overflow.ensures.kept.2 c.in_ok-tell_row.ensures.told)
     (found_moves g.K.Sink.takes g.K.Sink.drops g.T.Taker.takes g.T.Taker.refuses _ c.tell_row.new.sink c.tell_rowid.new.sink c.tell_row.new.taker (subst (λ l. Moves g.K.Sink.takes c.tell_row.new.sink l c.tell_rowid.new.sink) late c.in_ok-tell_rowid.ensures.told.items))
     (c.tell_rowid.ensures.greatest ∙ ap (λ p. top_after c.args.self.now.tree.greatest p c.args.i c.leaf_cell-cell.result.key) (sym at.page), c.tell_rowid.ensures.others.2))
 
