@@ -1,4 +1,4 @@
-//! Tests of `dbbytes` and `dbpage`, and of errors. They have a crate of their own, since a crate with tests is proved twice.
+//! Tests of `dbbytes` and `dbpage`, of errors and of page buffers. They have a crate of their own, since a crate with tests is proved twice.
 #![tactic(auto)]
 
 // One call where `assert!` has a branch, which would be proved at each place. The text says what did not hold, and of what.
@@ -9,6 +9,8 @@ macro_rules! holds {
     };
 }
 
+#[cfg(test)]
+mod benches;
 #[cfg(test)]
 mod errors;
 #[cfg(test)]
