@@ -1,0 +1,149 @@
+#!/usr/bin/env python3
+"""Holds the must-fail edits and their tables, crates/NAME/must-fail/GOALS.md, against each other.
+
+    tests/alarms.py                  each edit has a line and each line an edit; a line names a function that the edit changes;
+                                     where a changed function has a hand-written answer or invariant, a right twin is named
+    tests/alarms.py --try NAME..     also tries the edits of these crates, with `rt must-fail`, and compares the goals
+
+A line of a table is: edit, function, goals, right twin. The function is written with its module, as `header::Header::read`. A
+goal is named as a check prints it; of several the first is the one that says what is wrong. The prover decides, in the gate,
+whether an edit is refused: this script only keeps the tables true.
+"""
+
+import glob
+import os
+import re
+import subprocess
+import sys
+
+TOP = os.path.dirname(os.path.dirname(os.path.abspath(__file__)))
+FUNCTION = re.compile(r"( *)(?:pub(?:\(\w+\))? )?(?:const )?fn (\w+)")
+
+
+def text_of(path):
+    with open(path, encoding="utf-8") as it:
+        return it.read()
+
+
+def owner_of(line):
+    """The type of an `impl` line, and the type joined with the trait, as the folder of a proof has it."""
+    head = re.sub(r"^impl\b\s*", "", line).rstrip(" {")
+    while re.search(r"<[^<>]*>", head):
+        head = re.sub(r"<[^<>]*>", "", head)
+    trait, _, named = head.rpartition(" for ")
+    own = re.findall(r"\w+", named)[0]
+    return own, own + "".join(re.findall(r"\w+", trait))
+
+
+def functions(text):
+    """The functions of a source: name, type or '', type with trait, first and last line."""
+    lines, found, owner = text.split("\n"), [], ("", "")
+    for number, line in enumerate(lines):
+        if line.startswith("impl"):
+            owner = owner_of(line)
+        elif line.startswith("}"):
+            owner = ("", "")
+        start = FUNCTION.match(line)
+        if start:
+            ends = (at for at in range(number, len(lines)) if lines[at].startswith(start[1] + "}") or lines[at] == start[1] + "{}")
+            found.append((start[2], owner[0], owner[1], number, next(ends, number)))
+    return found
+
+
+def edited(crate, edit):
+    """The functions that an edit changes: name with its module, and the folders that its answers may have."""
+    file, changed = "", []
+    for line in text_of(edit).split("\n"):
+        if line.startswith("file: "):
+            file = line[len("file: ") :].strip()
+        elif line.startswith("old: "):
+            text = text_of(f"{crate}/{file}")
+            at = text[: text.find(line[len("old: ") :])].count("\n")
+            module = re.sub(r"^src/|\.rt$", "", file)
+            module = "" if module in ("lib", "main") else module
+            for name, own, joined, first, last in functions(text):
+                if first <= at <= last and not any(first < it[3] <= at <= it[4] for it in functions(text)):
+                    whole = "::".join(it for it in (module.replace("/", "::"), own, name) if it)
+                    of_type = glob.glob(f"{crate}/proofs/**/{own}/{name}", recursive=True) if own else []
+                    of_trait = glob.glob(f"{crate}/proofs/**/{joined}*/{name}", recursive=True) if joined != own else []
+                    changed.append((whole, (of_trait if joined != own else of_type) if own else [f"{crate}/proofs/{module}/{name}"]))
+    return changed
+
+
+def has_answer(folders):
+    return any(os.path.isfile(f"{folder}/{file}.antt") for folder in folders for file in ("Answers", "Invariants", "Proof"))
+
+
+def table_of(crate):
+    """The lines of a crate's table."""
+    path, lines = f"{crate}/must-fail/GOALS.md", []
+    for line in text_of(path).split("\n") if os.path.isfile(path) else []:
+        cells = [it.strip() for it in line.strip().strip("|").split("|")] if line.startswith("|") else []
+        if cells and cells[0] != "Edit" and not set(cells[0]) <= set("-: "):
+            lines.append(cells)
+    return lines
+
+
+def plain(cell):
+    return cell.replace("`", "").strip()
+
+
+def complaints(crate):
+    """What is wrong with the table of a crate."""
+    edits = sorted(os.path.basename(it)[: -len(".edit")] for it in glob.glob(f"{crate}/must-fail/*.edit"))
+    lines, said = table_of(crate), []
+    named = [plain(cells[0]) for cells in lines]
+    said += [f"{it}.edit has no line" for it in edits if it not in named]
+    said += [f"{it}: the line has no edit" for it in named if it not in edits]
+    said += [f"{it}: more than one line" for it in sorted({it for it in named if named.count(it) > 1})]
+    for cells in lines:
+        if len(cells) != 4:
+            said.append(f"{plain(cells[0])}: the line has {len(cells)} cells, and not four")
+            continue
+        edit, function, goals, twin = plain(cells[0]), plain(cells[1]), plain(cells[2]), cells[3].strip()
+        if edit not in edits:
+            continue
+        changed = edited(crate, f"{crate}/must-fail/{edit}.edit")
+        if function not in [it for it, _ in changed]:
+            said.append(f"{edit}: {function} is no function that the edit changes ({', '.join(it for it, _ in changed) or 'none'})")
+        if not all(re.fullmatch(r"[A-Za-z][\w+.-]*", it.strip()) for it in goals.split(",")):
+            said.append(f"{edit}: no goal is named")
+        if any(has_answer(folders) for _, folders in changed) and not twin:
+            said.append(f"{edit}: the function has a hand-written answer or invariant, and no right twin is named")
+    return [f"{os.path.basename(crate)}: {it}" for it in said]
+
+
+def tried(name):
+    """Tries the edits of a crate, and says where the goal that is refused is none of its line."""
+    ran = subprocess.run(["rt", "must-fail", name], cwd=TOP, stdout=subprocess.PIPE, stderr=subprocess.STDOUT, text=True)
+    goals = {plain(cells[0]): [it.strip() for it in plain(cells[2]).split(",")] for cells in table_of(f"{TOP}/crates/{name}")}
+    said = []
+    for line in ran.stdout.split("\n"):
+        told = re.search(rf"must-fail {name}/(\w+)\.edit: (.*)", line)
+        if not told:
+            continue
+        # (a line is cut at some length, and then its goal may be too)
+        whole, cut = re.findall(r"`([\w+.-]+)`", told[2]), re.findall(r"`([\w+.-]+)$", told[2])
+        if not told[2].startswith("refused"):
+            said.append(f"{name}: {told[1]}: {told[2]}")
+        elif not any(it in whole or any(it.startswith(part) for part in cut) for it in goals.get(told[1], [])):
+            said.append(f"{name}: {told[1]}: refused by another goal: {told[2]}")
+    return said + ([f"{name}: rt must-fail ended with {ran.returncode}"] if ran.returncode and not said else [])
+
+
+def main(words):
+    crates = sorted(glob.glob(f"{TOP}/crates/*/must-fail"))
+    said = [it for folder in crates for it in complaints(os.path.dirname(folder))]
+    if words[:1] == ["--try"]:
+        said += [it for name in words[1:] for it in tried(name)]
+    elif words:
+        sys.exit(__doc__)
+    for it in said:
+        print(f"alarms: {it}")
+    count = sum(len(glob.glob(f"{folder}/*.edit")) for folder in crates)
+    print(f"alarms: {count} edits, {len(said)} complaints")
+    return 1 if said else 0
+
+
+if __name__ == "__main__":
+    sys.exit(main(sys.argv[1:]))
