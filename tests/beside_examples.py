@@ -1,7 +1,7 @@
 #!/usr/bin/env python3
 """Makes small databases of which SQLite and dbck do not say the same: beside_examples.py FOLDER. It needs the sqlite3 program.
 
-Each is a sound database of which a few bytes are changed. docs/SQLITE.md says what SQLite and dbck say of each, and why.
+Each is a sound database of which a few bytes are changed, but vacuumed-view.db, which is as SQLite wrote it. docs/SQLITE.md says what SQLite and dbck say of each, and why.
 """
 
 import pathlib
@@ -127,6 +127,7 @@ def databases():
         "text-encoding.db": with_header(56, 4, 5),
         "reserved-header-byte.db": with_header(72, 1, 1),
         "no-schema-format.db": with_header(44, 4, 0),
+        "vacuumed-view.db": made("CREATE VIEW v AS SELECT 1 AS a; VACUUM;"),
         "less-than-a-page.db": made("VACUUM;")[:200],
         "end-in-last-page.db": end_in_last_page(),
         "end-after-last-page.db": end_after_last_page(),

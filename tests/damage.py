@@ -86,6 +86,12 @@ def view_last():
     )
 
 
+def views():
+    """A schema of views alone, over several pages. VACUUM then writes 0 as its format, and keeps the encoding."""
+    texts = "".join(f"CREATE VIEW v{view} AS SELECT {view} AS a, 'some text' AS b;" for view in range(12))
+    return texts + "COMMIT; VACUUM; BEGIN;"
+
+
 # By name: the page size, settings, and what is in it.
 DATABASES = {
     "pages-512": (512, "", short("t")),
@@ -107,6 +113,7 @@ DATABASES = {
     "fts5": (1024, "", words("fts5")),
     "ruled": (1024, "", ruled()),
     "view-last": (512, "", view_last()),
+    "views": (512, "", views()),
     "wal": (1024, "PRAGMA journal_mode = WAL;", short("t")),
 }
 

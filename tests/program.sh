@@ -365,6 +365,7 @@ text-encoding H04
 reserved-header-byte H05
 end-in-last-page H06 R01
 no-schema-format H08
+vacuumed-view H08
 many-fragments P04
 name-not-text S02
 other-type S03 N01
