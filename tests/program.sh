@@ -390,6 +390,16 @@ else
     echo 'no damaged databases to look at: there is no python3'
 fi
 
+# repairs: repairs twenty damaged databases as docs/REPAIR.md says, which has to lose no row that another recipe saves.
+repairs() {
+    tests/repair.py --few "$dbck" "$work/repairs" > "$work/why"
+}
+if command -v python3 > "$work/out" && command -v sqlite3 > "$work/out"; then
+    count 'twenty repairs' repairs
+else
+    echo 'no repairs to look at: there is no python3, or no sqlite3'
+fi
+
 # The words of the completions are those of the help.
 count 'the words of the completions' tests/completions.sh "$dbck"
 
