@@ -1,10 +1,8 @@
 -- What finishing leaves of a source over a source.
-use Rattle.std.proofs.Common.{◌≡◌, ℕ, Result, Ok, Err}
-use Rattle.std.specs.Prelude.{IfErr, IfOk}
+use Rattle.std.proofs.Common.{ℕ}
 use Rattle.dbsource.specs.declared.out.Out.{Ghosts as OutWords}
-use Rattle.dbsource.specs.declared.source.ReadFailed.{ReadFailed as Unread}
 use Rattle.dbsource.specs.declared.source.Source.{Ghosts as SourceWords}
-use Rattle.dbcli.specs.Finishing.{Finishes, FinishesOpened}
+use Rattle.dbcli.specs.Finishing.{Finishes}
 use Rattle.dbcli.specs.declared.request.Request.{Request}
 
 module _ {S W O E : Type 0} (inner : SourceWords S) (below : W → S) (out : OutWords O) (err : OutWords E) where
@@ -13,7 +11,7 @@ module _ {S W O E : Type 0} (inner : SourceWords S) (below : W → S) (out : Out
   over = record { held = λ w. inner.held (below w); step = inner.step; lengths = inner.lengths }
 
   -- what is left of it is left of that one
-  left_below : (asked : Request) (status : ℕ) (s t : W) (o o' : O) (e e' : E) → Finishes over out err asked status (s, o, e) (t, o', e')
+  pub left_below : (asked : Request) (status : ℕ) (s t : W) (o o' : O) (e e' : E) → Finishes over out err asked status (s, o, e) (t, o', e')
       → Finishes inner out err asked status (below s, o, e) (below t, o', e')
   left_below asked status s t o o' e e' h = record {
     read = record { read = h.read.read; refused = h.read.refused };
@@ -22,10 +20,3 @@ module _ {S W O E : Type 0} (inner : SourceWords S) (below : W → S) (out : Out
     first = record { whole = h.first.whole; unwritten = h.first.unwritten; tried = h.first.tried };
     second = record { whole = h.second.whole; tried = h.second.tried; quiet = h.second.quiet; line = h.second.line };
   }
-
-  -- and so of what was opened
-  pub opened_below : (asked : Request) (status : ℕ) (opened : Result S Unread) (watched : Result W Unread) (o o' : O) (e e' : E)
-      → IfOk watched (λ w. opened ≡ Ok (below w)) → IfErr watched (λ x. opened ≡ Err x)
-      → FinishesOpened over out err asked status watched (o, e) (o', e') → FinishesOpened inner out err asked status opened (o, e) (o', e')
-  opened_below asked status opened (Ok w) o o' e e' ok failed h = rw ok (below h.0, left_below asked status w h.0 o o' e e' h.1)
-  opened_below asked status opened (Err x) o o' e e' ok failed h = rw failed (record { at_4 = h.at_4; first = h.first; second = h.second })

@@ -1,6 +1,6 @@
 -- What finishing leaves, and what a run of a line does: from a source and two Outs to what these have become, by what their
 -- traits say of them.
-use Rattle.std.specs.Prelude.{◌≡◌, ◌≤◌, ◌⊎◌, ℕ, Result, Ok, Err}
+use Rattle.std.specs.Prelude.{◌≡◌, ◌≤◌, ◌⊎◌, ℕ, Err}
 use Rattle.std.specs.Io.KnownBytes.{Keeps}
 use Rattle.dbformat.specs.File.{geometry}
 use Rattle.dbformat.specs.Log.{IsRunLog, IsSomeRunLog}
@@ -14,7 +14,6 @@ use Rattle.dbsource.specs.declared.error.OpenError.TheVariants as opening
 use Rattle.dbsource.specs.declared.error.RunError.{RunError}
 use Rattle.dbsource.specs.declared.error.RunError.TheVariants.{ReadFailed}
 use Rattle.dbsource.specs.declared.out.Out.{Ghosts as OutWords}
-use Rattle.dbsource.specs.declared.source.ReadFailed.{ReadFailed as Unread}
 use Rattle.dbsource.specs.declared.source.Source.{Ghosts as SourceWords}
 use Rattle.dbcli.specs.ErrorLines.{error_line}
 use Rattle.dbcli.specs.Exit.{EndsWithLine, OutHasFailed, IsFinishOf, IsHandedOn, IsHandedOnOrFailed, IsKnown, failures_at_4, first_most, second_most}
@@ -84,8 +83,3 @@ module _ {S O E : Type 0} (source : SourceWords S) (out : OutWords O) (err : Out
     pub first : new.0 ≡ old.0
     -- the second got the line E8, and that was handed on, if it could be
     pub second : EndsWithLine (error_line ReadFailed) 2 (err.held old.1) (err.held new.1)
-
-  -- What was opened was finished, and was left in some state; or nothing was opened.
-  abbrev pub FinishesOpened : Request → ℕ → Result S Unread → O × E → O × E → Type 0
-  FinishesOpened asked status (Ok s) old new = (left : S) × Finishes asked status (s, old.0, old.1) (left, new.0, new.1)
-  FinishesOpened asked status (Err e) old new = IsUnopened status old new

@@ -3,7 +3,7 @@ ghost use Rattle.std.specs.Prelude.{◌≡◌, IfErr, OnOk};
 ghost use Rattle.dbreport.specs.Runs.{IsUnwritten};
 ghost use Rattle.dbcli.specs.ErrorLines.{error_line};
 ghost use Rattle.dbcli.specs.Exit.{EndsWithLine, IsKnown};
-ghost use Rattle.dbcli.specs.Finishing.{FailsByStatus, FinishesOpened, IsFinished, LeavesFirst, LeavesSecond, ToldFilesAreFinished};
+ghost use Rattle.dbcli.specs.Finishing.{FailsByStatus, IsFinished, LeavesFirst, LeavesSecond, ToldFilesAreFinished};
 ghost use Rattle.dbcli.specs.Handing.{IsHanded};
 ghost use Rattle.dbcli.specs.Status.{exit_status};
 
@@ -11,7 +11,7 @@ use crate::error_lines::error_line;
 use crate::request::{Request, run_request};
 use crate::status::status_of;
 use dbreport::Verdict;
-use dbsource::{Out, ReadFailed, RunError, Source};
+use dbsource::{Out, RunError, Source};
 use std::alloc::Global;
 
 /// What is reported of a run beside its two Outs, which it does not touch.
@@ -95,24 +95,6 @@ pub fn finish_opened<S: Source, O: Out, E: Out, N: Notes>(
     let outcome = run_request(alloc, request, source, out, err);
     let outcome = hand_on(out, err, outcome);
     end(err, outcome, notes)
-}
-
-/// Runs the request on the file that was opened, as [`finish_opened`], or that could not be, and answers the exit
-/// status. If it could not be opened the line of the error is put to `err`, and `out` is left alone.
-pub fn finish<S: Source + Drop, O: Out, E: Out, N: Notes>(
-    alloc: Global,
-    request: Request<'_>,
-    opened: Result<S, ReadFailed>,
-    out: &mut O,
-    err: &mut E,
-    notes: &mut N,
-) -> u8
-    ensures { FinishesOpened S.Source O.Out E.Out request.entry result opened (out.old, err.old) (out.new, err.new) }
-{
-    match opened {
-        Ok(mut source) => finish_opened(alloc, request, &mut source, out, err, notes),
-        Err(error) => end(err, Err(RunError::from(error)), notes),
-    }
 }
 
 /// What [`finish_opened`] says of each file that agrees with what was read is so of the bytes that a source tells, as memory does:

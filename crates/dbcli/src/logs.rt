@@ -1,29 +1,20 @@
 // The logs of SQLite beside a database, which a check does not read.
+use crate::lookup::Lookup;
 use crate::shown::shown;
 use dbsource::Out;
-use std::rt::Files;
-use std::{fs, io};
+use std::io;
 
 // What a log's name has after that of its database, and what SQLite does with it.
 const LOGS: [(&str, &str); 2] = [("-wal", "checkpoint"), ("-journal", "recover")];
 
-// The path of the database itself, if `file` is a link to it: SQLite looks for the logs there.
-fn link_target<R: Files + AllocGlobal>(rt: &R, file: &str) -> io::Result<String> {
-    if fs::symlink_metadata(rt, file)?.is_symlink() {
-        Ok(fs::canonicalize(rt, file)?.into_string())
-    } else {
-        Ok(String::from_str(rt.alloc(), file)?)
-    }
-}
-
 // Puts the line of a log at `path`, if it is not empty.
-fn put_note<R: Files + AllocGlobal, N: Out>(
+fn put_note<R: Lookup + AllocGlobal, N: Out>(
     rt: &R,
     path: &str,
     duty: &str,
     notes: &mut N,
 ) -> io::Result<()> {
-    let metadata = fs::metadata(rt, path)?;
+    let metadata = rt.metadata(path)?;
     if metadata.is_file() && metadata.len() > 0 {
         let name = shown(rt.alloc(), path)?;
         let line = format!(in rt.alloc();
@@ -34,8 +25,13 @@ fn put_note<R: Files + AllocGlobal, N: Out>(
     Ok(())
 }
 
-fn put_each<R: Files + AllocGlobal, N: Out>(rt: &R, file: &str, notes: &mut N) -> io::Result<()> {
-    let database = link_target(rt, file)?;
+// If `file` is a link to a database, SQLite looks for the logs beside the database itself.
+fn put_each<R: Lookup + AllocGlobal, N: Out>(rt: &R, file: &str, notes: &mut N) -> io::Result<()> {
+    let target = rt.link_target(file)?;
+    let database = match &target {
+        Some(path) => path.as_str(),
+        None => file,
+    };
     for (suffix, duty) in LOGS {
         let path = format!(in rt.alloc(); "{database}{suffix}")?;
         let _ = put_note(rt, path.as_str(), duty, notes);
@@ -45,6 +41,6 @@ fn put_each<R: Files + AllocGlobal, N: Out>(rt: &R, file: &str, notes: &mut N) -
 
 /// Puts a line to `notes` for each log of SQLite beside the database at `file` that is not empty. An error in looking
 /// for one is ignored, and so is a line that cannot be put.
-pub fn put_log_notes<R: Files + AllocGlobal, N: Out>(rt: &R, file: &str, notes: &mut N) {
+pub fn put_log_notes<R: Lookup + AllocGlobal, N: Out>(rt: &R, file: &str, notes: &mut N) {
     let _ = put_each(rt, file, notes);
 }

@@ -1,6 +1,7 @@
 // Notes on a file: lines beside the report, which they do not change.
 use crate::finishing::Notes;
 use crate::logs::put_log_notes;
+use crate::lookup::Lookup;
 use crate::shown::shown;
 use crate::watched::Watch;
 use arrayvec::ArrayVec;
@@ -8,10 +9,9 @@ use dblines::append_first_bytes;
 use dbreport::Verdict;
 use dbsource::{Out, Refusal, RunError};
 use std::alloc::{AllocError, Global};
-use std::fs::{File, Metadata};
-use std::os::unix::fs::{FileTypeExt, MetadataExt};
-use std::rt::Files;
-use std::{fs, io, str};
+use std::fs::Metadata;
+use std::os::unix::fs::MetadataExt;
+use std::str;
 
 /// Puts notes on the file at a path; `watch` has what the run has seen of it.
 #[derive(Drop)]
@@ -22,9 +22,10 @@ pub struct FileNotes<'a, R, N> {
     notes: &'a mut N,
     before: Option<Metadata>,
     is_open: bool,
+    reason: Option<String>,
 }
 
-impl<'a, R: Files<File = File> + AllocGlobal, N: Out> FileNotes<'a, R, N> {
+impl<'a, R: Lookup + AllocGlobal, N: Out> FileNotes<'a, R, N> {
     /// Notes on a file that is not yet opened.
     pub fn new(
         rt: &'a R,
@@ -37,8 +38,9 @@ impl<'a, R: Files<File = File> + AllocGlobal, N: Out> FileNotes<'a, R, N> {
             file,
             watch,
             notes,
-            before: fs::metadata(rt, file).ok(),
+            before: rt.metadata(file).ok(),
             is_open: false,
+            reason: None,
         }
     }
 
@@ -46,6 +48,14 @@ impl<'a, R: Files<File = File> + AllocGlobal, N: Out> FileNotes<'a, R, N> {
     pub fn opened(&mut self) {
         self.is_open = true;
         put_log_notes(self.rt, self.file, self.notes);
+    }
+
+    /// Says that the file could not be opened, and why, if that is known.
+    pub fn unopened(&mut self, reason: Option<&str>) {
+        let alloc = self.rt.alloc();
+        if let Some(reason) = reason {
+            self.reason = shown(alloc, reason).ok();
+        }
     }
 
     // Puts the line of a text, if there is one.
@@ -60,16 +70,15 @@ impl<'a, R: Files<File = File> + AllocGlobal, N: Out> FileNotes<'a, R, N> {
     // The note on a file that cannot be read.
     fn unread(&self) -> Result<Option<String>, AllocError> {
         let alloc = self.rt.alloc();
-        let reason = if self.is_open {
-            Some(read_reason(alloc, self.watch)?)
-        } else {
-            open_reason(self.rt, self.file)?
-        };
-        let Some(reason) = reason else {
-            return Ok(None);
-        };
         let name = shown(alloc, self.file)?;
-        Ok(Some(format!(in alloc; "{name}: {reason}")?))
+        if self.is_open {
+            let reason = read_reason(alloc, self.watch)?;
+            return Ok(Some(format!(in alloc; "{name}: {reason}")?));
+        }
+        match &self.reason {
+            Some(reason) => Ok(Some(format!(in alloc; "{name}: {reason}")?)),
+            None => Ok(None),
+        }
     }
 
     // The note on a refused file.
@@ -97,7 +106,7 @@ impl<'a, R: Files<File = File> + AllocGlobal, N: Out> FileNotes<'a, R, N> {
         let Some(before) = &self.before else {
             return Ok(None);
         };
-        match fs::metadata(self.rt, self.file) {
+        match self.rt.metadata(self.file) {
             Ok(after) if is_changed(before, &after) => {
                 let name = shown(self.rt.alloc(), self.file)?;
                 Ok(Some(format!(in self.rt.alloc();
@@ -109,7 +118,7 @@ impl<'a, R: Files<File = File> + AllocGlobal, N: Out> FileNotes<'a, R, N> {
     }
 }
 
-impl<R: Files<File = File> + AllocGlobal, N: Out> Notes for FileNotes<'_, R, N> {
+impl<R: Lookup + AllocGlobal, N: Out> Notes for FileNotes<'_, R, N> {
     fn tell(&mut self, outcome: &Result<Verdict, RunError>) {
         let text = match outcome {
             Ok(_) => rest(self.rt.alloc(), self.watch),
@@ -168,35 +177,5 @@ fn read_reason(alloc: Global, watch: &Watch) -> Result<String, AllocError> {
             format!(in alloc; "the {len} bytes at {offset} cannot be read")
         }
         None => String::from_str(alloc, "its length is not known"),
-    }
-}
-
-// Why a file cannot be opened, if it still cannot.
-fn open_reason<R: Files<File = File> + AllocGlobal>(
-    rt: &R,
-    file: &str,
-) -> Result<Option<String>, AllocError> {
-    let opened = match fs::metadata(rt, file) {
-        Ok(metadata) if metadata.is_file() || metadata.file_type().is_block_device() => {
-            fs::open(rt, file).map(|_| ())
-        }
-        Ok(_) => {
-            let text = String::from_str(rt.alloc(), "not a regular file")?;
-            return Ok(Some(text));
-        }
-        Err(error) => Err(error),
-    };
-    match opened {
-        Ok(()) => Ok(None),
-        Err(error) => Ok(Some(text_of(rt.alloc(), &error)?)),
-    }
-}
-
-// What the system says of an error, without its number.
-fn text_of(alloc: Global, error: &io::Error) -> Result<String, AllocError> {
-    let text = error.to_string(alloc)?;
-    match text.as_str().split_once(" (os error ") {
-        Some((reason, _)) => shown(alloc, reason),
-        None => shown(alloc, text.as_str()),
     }
 }

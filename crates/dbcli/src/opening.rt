@@ -1,9 +1,12 @@
-// Who opens a file.
+// Who opens a file, and gets it back.
 use dbsource::{FileSource, ReadFailed, Source};
-use std::fs::File;
+use std::alloc::AllocError;
+use std::fs::{self, File};
+use std::io;
+use std::os::unix::fs::FileTypeExt;
 use std::rt::{Clock, Files};
 
-/// Opens files by their paths.
+/// Opens files by their paths, and gets each back when it was read.
 pub trait Opener {
     ghost use Rattle.std.specs.Prelude.{ℕ, List, Result};
     ghost use Rattle.dbsource.specs.declared.source.ReadFailed.{ReadFailed as Unread};
@@ -13,6 +16,8 @@ pub trait Opener {
 
     // What opening a path makes of the opener, and which file the answer is.
     ghost opens: { Self → List ℕ → Result Self.File Unread → Self → Type 0 };
+    // What a file that is given back makes of the opener, by the state in which it is.
+    ghost closes: { Self → Self.File → Self → Type 0 };
 
     /// Opens the file at `path` for reading.
     ///
@@ -21,31 +26,84 @@ pub trait Opener {
     /// [`ReadFailed`] where it cannot be opened.
     fn open(&mut self, path: &str) -> Result<Self::File, ReadFailed>
         ensures { opens self.old path.now result self.new };
+
+    /// Takes back a file that it opened.
+    fn close(&mut self, file: Self::File)
+        ensures { closes self.old file self.new };
+
+    /// Why the last file could not be opened, if that is known.
+    fn reason(&self) -> Option<&str>;
 }
 
 /// The files of the system, as [`FileSource`] opens them.
 #[derive(Drop)]
 pub struct SystemFiles<'a, R> {
     rt: &'a R,
+    reason: Option<String>,
 }
 
 impl<'a, R: Files<File = File> + Clock + AllocGlobal> SystemFiles<'a, R> {
     /// The files of the system that `rt` reaches.
     pub fn new(rt: &'a R) -> SystemFiles<'a, R> {
-        SystemFiles { rt }
+        SystemFiles { rt, reason: None }
     }
 }
 
 impl<'a, R: Files<File = File> + Clock + AllocGlobal> Opener for SystemFiles<'a, R> {
-    ghost use Rattle.std.specs.Prelude.{◌≡◌, IfOk};
+    ghost use Rattle.std.specs.Prelude.{◌≡◌, IfOk, ⊤};
     ghost use Rattle.dbsource.specs.Sources.{untold_source};
 
     type File = FileSource<'a, R>;
 
     // No contract knows the bytes of a file.
-    ghost opens = { λ old path opened new. (new ≡ old) × IfOk opened (λ source. source ≡ untold_source) };
+    ghost opens = { λ old path opened new. IfOk opened (λ source. source ≡ untold_source) };
+
+    ghost closes = { λ old file new. ⊤ };
 
     fn open(&mut self, path: &str) -> Result<FileSource<'a, R>, ReadFailed> {
-        FileSource::open(self.rt, path)
+        let opened = FileSource::open(self.rt, path);
+        if opened.is_err() {
+            self.reason = reason_of(self.rt, path).unwrap_or(None);
+        }
+        opened
+    }
+
+    fn close(&mut self, _file: FileSource<'a, R>) {}
+
+    fn reason(&self) -> Option<&str> {
+        match &self.reason {
+            Some(reason) => Some(reason.as_str()),
+            None => None,
+        }
+    }
+}
+
+// Why a file could not be opened, if it still cannot: a `FileSource` does not say, so the system is asked once more.
+fn reason_of<R: Files<File = File> + AllocGlobal>(
+    rt: &R,
+    path: &str,
+) -> Result<Option<String>, AllocError> {
+    let opened = match fs::metadata(rt, path) {
+        Ok(metadata) if metadata.is_file() || metadata.file_type().is_block_device() => {
+            fs::open(rt, path).map(|_| ())
+        }
+        Ok(_) => {
+            let text = String::from_str(rt.alloc(), "not a regular file")?;
+            return Ok(Some(text));
+        }
+        Err(error) => Err(error),
+    };
+    match opened {
+        Ok(()) => Ok(None),
+        Err(error) => Ok(Some(text_of(rt, &error)?)),
+    }
+}
+
+// What the system says of an error, without its number.
+fn text_of<R: AllocGlobal>(rt: &R, error: &io::Error) -> Result<String, AllocError> {
+    let text = error.to_string(rt.alloc())?;
+    match text.as_str().split_once(" (os error ") {
+        Some((reason, _)) => String::from_str(rt.alloc(), reason),
+        None => Ok(text),
     }
 }

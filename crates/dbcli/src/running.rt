@@ -1,26 +1,25 @@
 // From the words of a command line to an exit status.
-ghost use Rattle.std.specs.Prelude.{◌≡◌, [], Ok, Err, IfErr, IfOk, OnErr, map};
+ghost use Rattle.std.specs.Prelude.{◌≡◌, [], IfErr, IfOk, OnErr, map};
 ghost use Rattle.clap.specs.Words.{fault_of};
 ghost use Rattle.dbcli.specs.CommandLine.{IsErrorOf, dbck_app};
 ghost use Rattle.dbcli.specs.Running.{AnswersWords, IsErrorStatus, IsUnrun, RunsLine, RunsWords};
 
 use crate::command_line::{Line, LineError, line_of, shown_error};
-use crate::finishing::finish;
+use crate::finishing::{end, finish_opened};
+use crate::lookup::Lookup;
 use crate::notes::FileNotes;
 use crate::opening::Opener;
 use crate::progress::Progress;
 use crate::status::line_status;
 use crate::watched::{Watch, Watched};
 use clap::error::ErrorKind;
-use dbsource::{Out, ReadFailed, Source};
-use std::fs::File;
+use dbsource::{Out, RunError};
 use std::io;
-use std::rt::Files;
 
-/// The system of a run: its memory and metadata, and the opener of its file.
+/// The system of a run: its memory, what it looks paths up by, and the opener of its file.
 #[derive(Drop)]
 pub struct System<'a, R, F> {
-    /// Gives memory, and the metadata of a path for the notes.
+    /// Gives memory, and what is known of a path, for the notes.
     pub rt: &'a R,
     /// Opens the file of the run.
     pub files: F,
@@ -35,24 +34,9 @@ impl<'a, R, F> System<'a, R, F> {
     }
 }
 
-// The source that was opened, watched.
-fn watch_opened<'w, 'p, S: Source, W: Print>(
-    opened: Result<S, ReadFailed>,
-    watch: &'w Watch,
-    progress: &'p Progress<W>,
-) -> Result<Watched<'w, 'p, S, W>, ReadFailed>
-    ensures ok { IfOk result (λ watched. opened ≡ Ok watched.source) }
-    ensures err { IfErr result (λ error. opened ≡ Err error) }
-{
-    match opened {
-        Ok(source) => Ok(Watched::new(source, watch, progress)),
-        Err(error) => Err(error),
-    }
-}
-
 /// Runs what a line asks for, on its file alone, and answers the exit status. What is reported of the file beside the
 /// report is put to `notes`, and the progress is wiped at the end.
-pub fn run_line<R: Files<File = File> + AllocGlobal, F: Opener, O: Out, E: Out, N: Out, W: Print>(
+pub fn run_line<R: Lookup + AllocGlobal, F: Opener, O: Out, E: Out, N: Out, W: Print>(
     system: &mut System<'_, R, F>,
     line: Line<'_>,
     out: &mut O,
@@ -60,23 +44,31 @@ pub fn run_line<R: Files<File = File> + AllocGlobal, F: Opener, O: Out, E: Out, 
     notes: &mut N,
     progress: &Progress<W>,
 ) -> u8
-    ensures { RunsLine F.opens F.File.Source O.Out E.Out line.entry.request line.entry.file.now result
+    ensures { RunsLine F.opens F.closes F.File.Source O.Out E.Out line.entry.request line.entry.file.now result
         (system.old.files, out.old, err.old) (system.new.files, out.new, err.new) }
 {
     let rt = system.rt;
     let watch = Watch::new();
     let mut notes = FileNotes::new(rt, line.file, &watch, notes);
-    let opened = system.files.open(line.file);
-    if opened.is_ok() {
-        notes.opened();
-    }
     if !line.progress {
         progress.turn_off();
     }
-    let opened = watch_opened(opened, &watch, progress);
-    let status = finish(rt.alloc(), line.request, opened, out, err, &mut notes);
-    progress.wipe();
-    status
+    let opened = system.files.open(line.file);
+    match opened {
+        Ok(source) => {
+            notes.opened();
+            let mut watched = Watched::new(source, &watch, progress);
+            let source = &mut watched;
+            let status = finish_opened(rt.alloc(), line.request, source, out, err, &mut notes);
+            system.files.close(watched.into_inner());
+            progress.wipe();
+            status
+        }
+        Err(error) => {
+            notes.unopened(system.files.reason());
+            end(err, Err(RunError::from(error)), &mut notes)
+        }
+    }
 }
 
 /// Runs what the words ask for, and answers the exit status. The first of them is the program's name.
@@ -84,15 +76,7 @@ pub fn run_line<R: Files<File = File> + AllocGlobal, F: Opener, O: Out, E: Out, 
 /// # Errors
 ///
 /// As [`line_of`], with its words as [`shown_error`] has them. Then nothing was opened and nothing was put.
-pub fn run_words<
-    'a,
-    R: Files<File = File> + AllocGlobal,
-    F: Opener,
-    O: Out,
-    E: Out,
-    N: Out,
-    W: Print,
->(
+pub fn run_words<'a, R: Lookup + AllocGlobal, F: Opener, O: Out, E: Out, N: Out, W: Print>(
     system: &mut System<'_, R, F>,
     words: &'a [&'a str],
     out: &mut O,
@@ -101,10 +85,10 @@ pub fn run_words<
     progress: &Progress<W>,
 ) -> Result<u8, LineError>
     ensures taken { IfOk result (λ status. fault_of dbck_app (map (λ word. word.now) words.entry.now) ≡ []) }
-    ensures ran { IfOk result (λ status. RunsWords F.opens F.File.Source O.Out E.Out (map (λ word. word.now) words.entry.now) status
+    ensures ran { IfOk result (λ status. RunsWords F.opens F.closes F.File.Source O.Out E.Out (map (λ word. word.now) words.entry.now) status
         (system.old.files, out.old, err.old) (system.new.files, out.new, err.new)) }
     ensures refused { IfErr result (λ error. IsErrorOf error (map (λ word. word.now) words.entry.now)) }
-    ensures unrun { OnErr result (IsUnrun F.opens F.File.Source O.Out E.Out
+    ensures unrun { OnErr result (IsUnrun F.opens F.closes F.File.Source O.Out E.Out
         (system.old.files, out.old, err.old) (system.new.files, out.new, err.new)) }
     ensures notes { OnErr result (N.held notes.new ≡ N.held notes.old) }
 {
@@ -119,7 +103,7 @@ pub fn run_words<
 /// status. The first of them is the program's name.
 pub fn answer_words<
     'a,
-    R: Files<File = File> + AllocGlobal + Print + Eprint,
+    R: Lookup + AllocGlobal + Print + Eprint,
     F: Opener,
     O: Out,
     E: Out,
@@ -133,7 +117,7 @@ pub fn answer_words<
     notes: &mut N,
     progress: &Progress<W>,
 ) -> u8
-    ensures { AnswersWords F.opens F.File.Source O.Out E.Out (map (λ word. word.now) words.entry.now) result
+    ensures { AnswersWords F.opens F.closes F.File.Source O.Out E.Out (map (λ word. word.now) words.entry.now) result
         (system.old.files, out.old, err.old) (system.new.files, out.new, err.new) }
 {
     let rt = system.rt;

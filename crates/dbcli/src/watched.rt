@@ -135,6 +135,13 @@ impl<'w, 'p, S: Source, W: Print> Watched<'w, 'p, S, W> {
             progress,
         }
     }
+
+    /// The source below it.
+    pub fn into_inner(self) -> S
+        ensures { result ≡ self.entry.source }
+    {
+        self.source
+    }
 }
 
 impl<S: Source, W: Print> Source for Watched<'_, '_, S, W> {

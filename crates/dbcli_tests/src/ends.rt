@@ -1,7 +1,7 @@
 // What the end of a run makes of outs that fail, of a file that is not opened or not read, and of want of memory.
 use crate::fake_outs::{FakeOut, LogWriter, NoNotes};
 use crate::fake_sources::PeekingSource;
-use dbcli::{Request, end, error_line, finish, hand_on};
+use dbcli::{Request, end, error_line, finish_opened, hand_on};
 use dbfiles::{StatedSource, TestFile};
 use dbreport::Command;
 use dbsource::{MemOut, ReadFailed, Refusal, RunError, StreamOut};
@@ -53,7 +53,7 @@ const ENDS: [(&str, &str, &str, &str, u8, &str, &str); 13] = [
     ("stat 2", PARENT, "", "", 4, "", E8),
     ("stat 3", PARENT, "", "", 4, PARENT_ROW, E8),
     // After want of memory what was written is handed on. (A run in a heap that is too small is a test of `run_in`:
-    // memory of `finish` is that of the program.)
+    // memory of `finish_opened` is that of the program.)
     ("stat", "no memory", "row\n", "", 5, "row\n", E9),
 ];
 
@@ -79,8 +79,10 @@ fn status_of(
     }
     let (command, call) = what.split_once(' ').unwrap_or((what, ""));
     let request = if command == "stat" { STAT } else { CHECK };
-    let opened = opened(name, file, call);
-    finish(rt.alloc(), request, opened, out, err, &mut NoNotes)
+    match opened(name, file, call) {
+        Ok(mut source) => finish_opened(rt.alloc(), request, &mut source, out, err, &mut NoNotes),
+        Err(error) => end(err, Err(RunError::from(error)), &mut NoNotes),
+    }
 }
 
 #[test]
@@ -103,13 +105,13 @@ fn holds_nothing_back(rt: HostRuntime) -> Result<(), Fail> {
     let file = TestFile::of(rt.alloc(), PARENT)?.into_bytes();
     let log = RefCell::new(Vec::new(rt.alloc()));
     let seen = Cell::new(0);
-    let source = PeekingSource::new(opened("parent", file.as_slice(), "3")?, &log, &seen);
+    let mut source = PeekingSource::new(opened("parent", file.as_slice(), "3")?, &log, &seen);
     let mut out = StreamOut::new(LogWriter::new(&log, usize::MAX));
     let mut err = MemOut::new(rt.alloc());
-    let status = finish(
+    let status = finish_opened(
         rt.alloc(),
         STAT,
-        Ok(source),
+        &mut source,
         &mut out,
         &mut err,
         &mut NoNotes,

@@ -1,7 +1,7 @@
 // Rows and faults in one log, as of `dbck stat FILE > log 2>&1`.
 use crate::fake_outs::{LogWriter, NoNotes};
 use crate::runs::run_line;
-use dbcli::{Request, finish};
+use dbcli::{Request, finish_opened};
 use dbfiles::TestFile;
 use dbreport::Command;
 use dbsource::{BufferedOut, MemOut, MemSource, StreamOut};
@@ -117,11 +117,11 @@ fn compare_at_once(
     let log = RefCell::new(Vec::new(rt.alloc()));
     let mut out = BufferedOut::new(rt.alloc(), LogWriter::new(&log, usize::MAX))?;
     let mut err = StreamOut::new(LogWriter::new(&log, usize::MAX));
-    let opened = Ok(MemSource::new(file));
-    let status = finish(
+    let mut source = MemSource::new(file);
+    let status = finish_opened(
         rt.alloc(),
         request,
-        opened,
+        &mut source,
         &mut out,
         &mut err,
         &mut NoNotes,
