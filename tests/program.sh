@@ -35,9 +35,10 @@ ended() {
     [[ $status == "$1" && ${out%.} == $2 && ${err%.} == $3 ]]
 }
 
-# run WORDS..: runs the program.
+# run WORDS..: runs the program, as somebody else where `as` says so.
+as=()
 run() {
-    "$dbck" "$@" > "$work/out" 2> "$work/err" < /dev/null
+    "${as[@]}" "$dbck" "$@" > "$work/out" 2> "$work/err" < /dev/null
     status=$?
 }
 
@@ -45,6 +46,11 @@ run() {
 expect() {
     run "${@:4}"
     count "${*:4}" ended "$1" "$2" "$3"
+}
+
+# put_at FILE OFFSET BYTES: writes bytes into a file.
+put_at() {
+    printf '%b' "$3" | dd of="$1" bs=1 seek="$2" conv=notrunc status=none
 }
 
 # A fault line, a row and an error.
@@ -186,6 +192,21 @@ for command in check explain map stat; do
     status=$?
     count "$command of a named pipe" ended 4 '' "dbck: note: $work/named: not a regular file"$'\n'"$unread"
 done
+# A file that may not be read. Root may read any, so it is nobody who runs the program then.
+cp "$data/empty.db" "$work/closed.db"
+chmod 000 "$work/closed.db"
+if [ "$(id -u)" = 0 ]; then
+    chmod 755 "$work"
+    as=(setpriv --reuid 65534 --regid 65534 --clear-groups)
+fi
+if run --version && [ "$status" = 0 ]; then
+    for command in check explain map stat; do
+        expect 4 '' "dbck: note: $work/closed.db: Permission denied"$'\n'"$unread" "$command" "$work/closed.db"
+    done
+else
+    echo 'no run without permission: nobody may run the program'
+fi
+as=()
 # A file that has fewer bytes than it says.
 lying=/sys/devices/system/cpu/online
 if [ -f "$lying" ]; then
@@ -193,6 +214,28 @@ if [ -f "$lying" ]; then
 else
     echo "no run over a file that lies: there is no $lying"
 fi
+
+# A path of any length that the system takes is that of its file, and so is one with blanks at its ends.
+cp "$data/empty.db" "$work/ blank.db  "
+expect 0 $'ok\n' '' check "$work/ blank.db  "
+expect 0 "$picture"$'  blank.db  </title>\n*</svg>\n' '' map "$work/ blank.db  "
+expect 4 '' "dbck: note: $work/ blank.db: No such file or directory"$'\n'"$unread" check "$work/ blank.db"
+cp "$data/empty.db" "$work/long.db"
+for length in 300 4000; do
+    path=$(printf '%*s' $(((length - ${#work} - 8) / 2)) '')
+    path=$work/${path// /./}long.db
+    for command in 'check --limit 7' explain; do
+        # shellcheck disable=SC2086
+        run $command "$path"
+        count "$command of a path of $length bytes" ended 0 $'ok\n' ''
+    done
+    run map "$path"
+    count "map of a path of $length bytes" ended 0 "$picture"$' long.db</title>\n*</svg>\n' ''
+    run stat "$path"
+    count "stat of a path of $length bytes" ended 0 "$page" ''
+    run check "${path%.db}"
+    count "no path of $length bytes" ended 4 '' "dbck: note: ${path%.db}: No such file or directory"$'\n'"$unread"
+done
 
 # 5: the marks of as many pages as there may be take more than the memory that is allowed.
 cp "$data/empty.db" "$work/many-pages.db"
@@ -206,40 +249,38 @@ else
     echo "no run without memory: $(cat "$work/why")"
 fi
 
-# What a command takes in all, of a file of a million pages: 7 MiB for the program, its buffers and counts, and for each page no more
-# than is said of it: 4 bytes, for `explain` 8 and a bit, for `map` 10.
-cp "$data/empty.db" "$work/million.db"
-if truncate -s 512000000 "$work/million.db" 2> "$work/why"; then
-    for words in '4000000 check --limit 1' '4000000 stat' '8125000 explain --limit 1' '10000000 map'; do
-        read -r bytes words <<< "$words"
+# What a command takes in all, of a file of 2^20 pages and one, and of 2^24 and one: 7 MiB for the program, its buffers and counts, and
+# for each eight pages no more than is said of them: 32 bytes, for `explain` 64 and a byte, for `map` 80.
+cp "$data/empty.db" "$work/large.db"
+for words in '1048577 32 check --limit 1' '1048577 32 stat' '1048577 65 explain --limit 1' '1048577 80 map' \
+    '16777217 65 explain --limit 1' '16777217 80 map'; do
+    read -r pages bytes words <<< "$words"
+    if truncate -s $((512 * pages)) "$work/large.db" 2> "$work/why"; then
         # shellcheck disable=SC2086
-        (ulimit -v $((7 * 1024 + bytes / 1024)) && run $words "$work/million.db" && exit "$status")
-        count "$words of a million pages in $bytes bytes" [ $? = 1 ]
-    done
-    rm "$work/million.db"
-else
-    echo "no run over a million pages: $(cat "$work/why")"
-fi
+        (ulimit -v $((7 * 1024 + bytes * pages / 8 / 1024)) && run $words "$work/large.db" && exit "$status")
+        count "$words of $pages pages in $bytes bytes for each eight" [ $? = 1 ]
+    else
+        echo "no run of $words over $pages pages: $(cat "$work/why")"
+    fi
+done
+rm "$work/large.db"
 
-# A page above 8 GiB is read: page 1 is an interior page whose one child is the last of 131074 pages of 65536 bytes, a leaf
-# without cells, which only a root may be. Page 16385 is the lock-byte page, and nothing names the others: 131071 are lost.
-put() {
-    printf '%b' "$2" | dd of="$work/far.db" bs=1 seek="$1" conv=notrunc status=none
-}
-if truncate -s 8590065664 "$work/far.db" 2> "$work/why"; then
-    put 0 'SQLite format 3\0'
-    put 16 '\0\01\01\01\0\0100\040\040'
-    put 100 '\05'
-    put 108 '\0\02\0\02'
-    put 8590000128 '\015'
-    expect 1 $'P10 page 131074 item 0 value 0: empty page that is not a root\nmore 131071\n' '' check --limit 1 "$work/far.db"
+# A page above 16 GiB is read: page 1 is an interior page whose one child is the last of 262147 pages of 65536 bytes, a leaf
+# without cells, which only a root may be. Page 16385 is the lock-byte page, and nothing names the others: 262144 are lost.
+if truncate -s 17180065792 "$work/far.db" 2> "$work/why"; then
+    put_at "$work/far.db" 0 'SQLite format 3\0'
+    put_at "$work/far.db" 16 '\0\01\01\01\0\0100\040\040'
+    put_at "$work/far.db" 100 '\05'
+    put_at "$work/far.db" 108 '\0\04\0\03'
+    put_at "$work/far.db" 17180000256 '\015'
+    expect 1 $'P10 page 262147 item 0 value 0: empty page that is not a root\nmore 262144\n' '' check --limit 1 "$work/far.db"
     run stat "$work/far.db"
     : > "$work/err"
-    count 'stat of a page above 8 GiB' ended 1 \
-        $'sqlite_schema\t/\t1\tinternal\t0\t0\t65424\t0\t0\t65536\nsqlite_schema\t/000/\t131074\tleaf\t0\t0\t65528\t0\t8590000128\t65536\n' ''
+    count 'stat of a page above 16 GiB' ended 1 \
+        $'sqlite_schema\t/\t1\tinternal\t0\t0\t65424\t0\t0\t65536\nsqlite_schema\t/000/\t262147\tleaf\t0\t0\t65528\t0\t17180000256\t65536\n' ''
     rm "$work/far.db"
 else
-    echo "no run above 8 GiB: $(cat "$work/why")"
+    echo "no run above 16 GiB: $(cat "$work/why")"
 fi
 
 # 6: an output that takes nothing.
@@ -273,21 +314,29 @@ status=$?
 : > "$work/err"
 count 'notes to a full disk' ended 0 $'ok\n' ''
 
-# A file that is written while a run waits for its reader: the rows of so many pages fit into no pipe.
-changed() {
+# meanwhile FILE COMMAND..: runs the statistics of all pages of a file, and the command while the run waits for its reader: the
+# rows have to be so many that they fit into no pipe.
+meanwhile() {
     local started
-    truncate -s 8192000 "$work/noted.db"
     rm -f "$work/pipe"
     mkfifo "$work/pipe"
-    "$dbck" stat --all "$work/noted.db" > "$work/pipe" 2> "$work/err" &
+    "$dbck" stat --all "$1" > "$work/pipe" 2> "$work/err" < /dev/null &
     started=$!
-    { head -c 1 > "$work/out" && touch -d 2001-01-01 "$work/noted.db" && cat >> "$work/out"; } < "$work/pipe"
+    { head -c 1 > "$work/out" && "${@:2}" && cat >> "$work/out"; } < "$work/pipe"
     wait "$started"
     status=$?
 }
-changed
-count 'a file that is written meanwhile' ended 1 "$page*" \
-    "*dbck: note: $work/noted.db was changed while it was read; the report may be of no state that it had"$'\n'
+
+# A file that is written meanwhile, also where the second of the time of its last change stays.
+truncate -s 8192000 "$work/noted.db"
+for time in '2001-01-01 00:00:00.1' '2001-01-01 00:00:00.2'; do
+    meanwhile "$work/noted.db" touch -d "$time" "$work/noted.db"
+    count "a file that is written meanwhile, at $time" ended 1 "$page*" \
+        "*dbck: note: $work/noted.db was changed while it was read; the report may be of no state that it had"$'\n'
+done
+
+# The fault of a version byte.
+version='H01 page 1 item 18 value 3: file version is not 1 or 2'
 
 # on_terminal LINE: runs a line of the shell on a terminal, whose text is the output.
 on_terminal() {
@@ -299,7 +348,8 @@ on_terminal() {
 if on_terminal true && sqlite3 "$work/large.db" 'PRAGMA page_size = 512; CREATE TABLE t (b); INSERT INTO t VALUES (zeroblob(34000000));'; then
     pages=$(($(wc -c < "$work/large.db") / 512))
     line="dbck: 65536 of $pages pages, 97%"$'\r'
-    wiped=$line$'\r                                        \r'
+    blank=$'\r                                        \r'
+    wiped=$line$blank
     on_terminal "'$dbck' check '$work/large.db'"
     count 'progress' ended 0 "$wiped"$'ok\r\n' ''
     on_terminal "'$dbck' check '$work/large.db' > '$work/report'"
@@ -310,8 +360,58 @@ if on_terminal true && sqlite3 "$work/large.db" 'PRAGMA page_size = 512; CREATE 
     on_terminal "'$dbck' check '$work/large.db' 2> '$work/report'"
     count 'no progress where standard error is a file' ended 0 $'ok\r\n' ''
     expect 0 $'ok\n' '' check "$work/large.db"
+
+    # Faults and notes, and progress, which is wiped before the fault that comes after it.
+    put_at "$work/large.db" 18 '\03'
+    put_at "$work/large.db" $((512 * pages - 512)) '\0\0\0\01'
+    printf 'sevenby' >> "$work/large.db"
+    echo log > "$work/large.db-wal"
+    on_terminal "'$dbck' stat '$work/large.db' > '$work/report'"
+    chain="O01 page $pages item 0 value 1: last overflow page names a next page"
+    count 'progress between faults and notes' ended 1 "dbck: note: $work/large.db-wal is not read; *$version"$'\r\n'"$wiped$chain"$'\r\n'\
+"dbck: note: 7 bytes after page $pages are not read"$'\r\n' ''
+
+    # Progress is shown after each 65536 pages, also after the last: `explain` reads each page that is not in use.
+    cp "$data/empty.db" "$work/twice.db"
+    truncate -s $((512 * 131072)) "$work/twice.db"
+    on_terminal "'$dbck' explain --limit 1 '$work/twice.db' > '$work/report'"
+    count 'progress twice' ended 1 $'dbck: 65536 of 131072 pages, 50%\rdbck: 131072 of 131072 pages, 100%\r'"$blank" ''
+
+    # A page that cannot be read, since the file is cut to its first page meanwhile: the one after that of the last row.
+    meanwhile "$work/large.db" truncate -s 512 "$work/large.db"
+    at=$((512 * $(wc -l < "$work/out")))
+    count 'a page that cannot be read' ended 4 $'sqlite_schema\t/\t1\t*' "*$version"$'\n'\
+"dbck: note: $work/large.db: the 512 bytes at $at cannot be read"$'\n'"dbck: note: $work/large.db was changed while it was read; *"$'\n'"$unread"
+    rm "$work"/large.db*
 else
     echo 'no progress to look at: there is no sqlite3, or no script'
+fi
+
+# written MOST LINE: whether a line of the shell takes at most so many writes, and at least half of them. The system counts them.
+cat > "$work/writes" << 'END'
+writes() { while read -r key value; do [ "$key" != syscw: ] || writes=$value; done < /proc/$$/io; }
+writes
+before=$writes
+eval "$2"
+writes
+echo $((writes - before)) > "$1"
+END
+written() {
+    on_terminal "bash '$work/writes' '$work/count' \"$2\""
+    [ "$(< "$work/count")" -le "$1" ] && [ "$(< "$work/count")" -ge $(($1 / 2)) ]
+}
+
+# Lines go to a file by at least 32 KiB at once, and to a terminal one by one, whatever the other output leads to.
+if on_terminal true && [ -r /proc/self/io ]; then
+    cp "$data/empty.db" "$work/lines.db"
+    truncate -s $((512 * 6001)) "$work/lines.db"
+    bytes=$("$dbck" check --limit 6000 "$work/lines.db" | wc -c)
+    count 'writes of 6000 lines to a file' written $((bytes / 32768)) "'$dbck' check --limit 6000 '$work/lines.db' > '$work/report'"
+    count 'writes of 6000 lines to a terminal' written 6000 "'$dbck' check --limit 6000 '$work/lines.db' 2> '$work/report'"
+    count 'writes of 6000 faults to a file' written $((bytes / 32768 + 1)) "'$dbck' stat '$work/lines.db' 2> '$work/report'"
+    count 'writes of 6000 faults to a terminal' written 6001 "'$dbck' stat '$work/lines.db' > '$work/report'"
+else
+    echo 'no writes to count: there is no script, or the system counts none'
 fi
 
 # has_rows_of FILE: whether the rows of the last run are ten columns, and show the bytes of the file.

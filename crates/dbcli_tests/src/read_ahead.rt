@@ -159,15 +159,15 @@ fn bytes_read(rt: &HostRuntime) -> Option<u64> {
     line.strip_prefix("rchar: ")?.parse::<u64>().ok()
 }
 
-// How many windows are read ahead while four pages of two windows are read, where a read takes `pace` microseconds.
+// How many windows are read ahead while some pages of four windows are read, where a read takes `pace` microseconds.
 fn windows_read(rt: &HostRuntime, stop: &impl Abort, pace: u64) -> Result<Option<u64>, Fail> {
     let files = FakeFiles::new(rt, Allowed::Reading);
     files.set_pace(pace);
     let mut page = [0u8; 4096];
     let mut source = FileSource::open(&files, "ahead.db")?;
     let before = bytes_read(rt);
-    for number in [300, 2, 400, 9] {
-        read_page(stop, &mut source, 2 * WINDOW, number, &mut page);
+    for number in [300, 2, 1000, 400, 9, 600, 1010, 700, 20] {
+        read_page(stop, &mut source, 4 * WINDOW, number, &mut page);
     }
     match (before, bytes_read(rt)) {
         (Some(before), Some(after)) => Ok(Some(after.saturating_sub(before) / WINDOW)),
@@ -177,11 +177,37 @@ fn windows_read(rt: &HostRuntime, stop: &impl Abort, pace: u64) -> Result<Option
 
 #[test]
 fn reads_ahead_what_a_device_has(rt: HostRuntime) -> Result<(), Fail> {
-    make_file(&rt, "ahead.db", 2 * WINDOW)?;
-    for (pace, wanted) in [(0, 0), (14, 0), (15, 2), (1000, 2)] {
+    make_file(&rt, "ahead.db", 4 * WINDOW)?;
+    for (pace, wanted) in [(0, 0), (14, 0), (15, 4), (1000, 4)] {
         let found = windows_read(&rt, &rt, pace)?;
         holds!(rt; found.is_none() || found == Some(wanted), "windows");
     }
     fs::remove_file(&rt, "ahead.db")?;
+    Ok(())
+}
+
+// The most bytes that are read for one page of four windows, which are read in their order.
+fn most_read(rt: &HostRuntime, stop: &impl Abort) -> Result<Option<u64>, Fail> {
+    let mut page = [0u8; 4096];
+    let mut most = 0;
+    let mut source = open(rt, "along.db", None)?;
+    for number in 0..1024 {
+        let before = bytes_read(rt);
+        read_page(stop, &mut source, 4 * WINDOW, number, &mut page);
+        match (before, bytes_read(rt)) {
+            (Some(before), Some(after)) => most = after.saturating_sub(before).max(most),
+            _ => return Ok(None),
+        }
+    }
+    Ok(Some(most))
+}
+
+// The count itself is a read of less than a page.
+#[test]
+fn reads_along_by_256_kib_at_most(rt: HostRuntime) -> Result<(), Fail> {
+    make_file(&rt, "along.db", 4 * WINDOW)?;
+    let most = most_read(&rt, &rt)?.unwrap_or(262_144);
+    holds!(rt; (262_144..262_144 + 4096).contains(&most), "along");
+    fs::remove_file(&rt, "along.db")?;
     Ok(())
 }
