@@ -177,9 +177,10 @@ done
 
 # 4: what cannot be read.
 for command in check explain map stat; do
-    for path in "$work" /dev/null /dev/zero; do
-        expect 4 '' "dbck: note: $path: not a regular file"$'\n'"$unread" "$command" "$path"
+    for path in /dev/null /dev/zero -; do
+        expect 4 '' "dbck: note: $path: not a regular file: unpack it first"$'\n'"$unread" "$command" "$path"
     done
+    expect 4 '' "dbck: note: $work: a directory"$'\n'"$unread" "$command" "$work"
     for path in "$work/missing.db" '' "$work/"$'no\e'; do
         expect 4 '' "dbck: note: ${path/$'\e'/\\\\x1b}: No such file or directory"$'\n'"$unread" "$command" "$path"
     done
@@ -190,7 +191,7 @@ mkfifo "$work/named"
 for command in check explain map stat; do
     timeout 10 "$dbck" "$command" "$work/named" > "$work/out" 2> "$work/err" < /dev/null
     status=$?
-    count "$command of a named pipe" ended 4 '' "dbck: note: $work/named: not a regular file"$'\n'"$unread"
+    count "$command of a named pipe" ended 4 '' "dbck: note: $work/named: not a regular file: unpack it first"$'\n'"$unread"
 done
 # A file that may not be read. Root may read any, so it is nobody who runs the program then.
 cp "$data/empty.db" "$work/closed.db"
@@ -295,10 +296,10 @@ done
 # Notes: on a log, before all else, and on bytes after the last page.
 cp "$data/empty.db" "$work/noted.db"
 echo log > "$work/noted.db-wal"
-expect 0 $'ok\n' "dbck: note: $work/noted.db-wal is not read; *" check "$work/noted.db"
+expect 0 $'ok\n' "dbck: note: $work/noted.db-wal is not read, and may hold changes; *" check "$work/noted.db"
 cp tests/program.sh "$work/text.db"
 echo log > "$work/text.db-wal"
-expect 3 '' "dbck: note: $work/text.db-wal is not read; *dbck: note: $work/text.db is not checked"$'\n'"dbck: note: $work/text.db begins with *"$'\ndbck: E2 *' check "$work/text.db"
+expect 3 '' "dbck: note: $work/text.db-wal is not read, and may hold changes; *dbck: note: $work/text.db is not checked"$'\n'"dbck: note: $work/text.db begins with *"$'\ndbck: E2 *' check "$work/text.db"
 rm "$work"/*-wal
 printf 'sevenby' >> "$work/noted.db"
 expect 0 $'ok\n' $'dbck: note: 7 bytes after page 1 are not read\n' check "$work/noted.db"
@@ -307,6 +308,35 @@ expect 0 "$page" $'dbck: note: 7 bytes after page 1 are not read\n' stat "$work/
 cp "$data/whole.db" "$work/longer.db"
 printf '%0700d' 0 >> "$work/longer.db"
 expect 0 $'ok\n' $'dbck: note: 700 bytes after page 13 are not read\n' check "$work/longer.db"
+
+# A copy that was made as of a text has a fault, is of no whole pages, and shows it on its first page.
+version='H01 page 1 item 18 value 3: file version is not 1 or 2'
+rest='dbck: note: 7 bytes after page 1 are not read'
+cp "$data/empty.db" "$work/copied.db"
+put_at "$work/copied.db" 18 '\03'
+printf 'sevenby' >> "$work/copied.db"
+expect 1 "$version"$'\n' "$rest"$'\n' check "$work/copied.db"
+put_at "$work/copied.db" 200 '\r\n\r\n\r\n'
+expect 1 "$version"$'\n' "$rest"$'\n' check "$work/copied.db"
+put_at "$work/copied.db" 206 '\r\n'
+expect 1 "$version"$'\n' $'dbck: note: every line feed of the first page comes after a carriage return: perhaps copied as text (see the manual)\n'"$rest"$'\n' check "$work/copied.db"
+put_at "$work/copied.db" 210 '\n'
+expect 1 "$version"$'\n' "$rest"$'\n' check "$work/copied.db"
+put_at "$work/copied.db" 300 '\0303\0251\0303\0251\0303\0251\0303'
+expect 1 "$version"$'\n' "$rest"$'\n' check "$work/copied.db"
+put_at "$work/copied.db" 307 '\0251'
+expect 1 "$version"$'\n' $'dbck: note: the bytes of the first page from 80 on are well-formed UTF-8: perhaps converted as text (see the manual)\n'"$rest"$'\n' check "$work/copied.db"
+truncate -s 512 "$work/copied.db"
+expect 1 "$version"$'\n' '' check "$work/copied.db"
+
+# Whole pages after the last one.
+cp "$data/empty.db" "$work/pages-after.db"
+put_at "$work/pages-after.db" 24 '\0\0\0\07\0\0\0\01'
+put_at "$work/pages-after.db" 92 '\0\0\0\07'
+truncate -s 1024 "$work/pages-after.db"
+expect 0 $'ok\n' $'dbck: note: 512 bytes after page 1 are not read, 1 whole page among them\n' check "$work/pages-after.db"
+truncate -s 1543 "$work/pages-after.db"
+expect 0 $'ok\n' $'dbck: note: 1031 bytes after page 1 are not read, 2 whole pages among them\n' check "$work/pages-after.db"
 
 # Notes change no status, and fault lines of statistics are written many at a time.
 "$dbck" check "$work/noted.db" > "$work/out" 2> /dev/full
@@ -334,9 +364,6 @@ for time in '2001-01-01 00:00:00.1' '2001-01-01 00:00:00.2'; do
     count "a file that is written meanwhile, at $time" ended 1 "$page*" \
         "*dbck: note: $work/noted.db was changed while it was read; the report may be of no state that it had"$'\n'
 done
-
-# The fault of a version byte.
-version='H01 page 1 item 18 value 3: file version is not 1 or 2'
 
 # on_terminal LINE: runs a line of the shell on a terminal, whose text is the output.
 on_terminal() {
@@ -368,7 +395,7 @@ if on_terminal true && sqlite3 "$work/large.db" 'PRAGMA page_size = 512; CREATE 
     echo log > "$work/large.db-wal"
     on_terminal "'$dbck' stat '$work/large.db' > '$work/report'"
     chain="O01 page $pages item 0 value 1: last overflow page names a next page"
-    count 'progress between faults and notes' ended 1 "dbck: note: $work/large.db-wal is not read; *$version"$'\r\n'"$wiped$chain"$'\r\n'\
+    count 'progress between faults and notes' ended 1 "dbck: note: $work/large.db-wal is not read, and may hold changes; *$version"$'\r\n'"$wiped$chain"$'\r\n'\
 "dbck: note: 7 bytes after page $pages are not read"$'\r\n' ''
 
     # Progress is shown after each 65536 pages, also after the last: `explain` reads each page that is not in use.

@@ -41,6 +41,7 @@ pub(crate) const STAT_ABOUT: &str =
 
 pub(crate) const STAT_EXAMPLES: &str = "Columns, separated by tabs:
   name path pageno pagetype ncell payload unused mx_payload pgoffset pgsize
+ncell counts cells, also those of interior pages: it is no count of rows.
 
 Examples:
   dbck stat notes.db              A row for each page of a tree or an overflow chain

@@ -3,6 +3,7 @@
 #![tactic(auto)]
 
 mod command_line;
+mod copied;
 mod error_lines;
 mod finishing;
 mod help;

@@ -18,7 +18,7 @@ fn put_note<R: Lookup + AllocGlobal, N: Out>(
     if metadata.is_file() && metadata.len() > 0 {
         let name = shown(rt.alloc(), path)?;
         let line = format!(in rt.alloc();
-            "dbck: note: {name} is not read; let SQLite open a copy of both files to {duty} it, and check that copy\n"
+            "dbck: note: {name} is not read, and may hold changes; let SQLite open a copy of both files to {duty} it, and check that copy\n"
         )?;
         let _ = notes.put(line.as_str().as_bytes());
     }

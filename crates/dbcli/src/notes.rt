@@ -67,6 +67,14 @@ impl<'a, R: Lookup + AllocGlobal, N: Out> FileNotes<'a, R, N> {
         }
     }
 
+    // The note on a copy that was made as of a text.
+    fn put_copied(&mut self) {
+        if let Some(copied) = self.watch.copied() {
+            let text = String::from_str(self.rt.alloc(), copied.text()).map(Some);
+            self.put(text);
+        }
+    }
+
     // The note on a file that cannot be read.
     fn unread(&self) -> Result<Option<String>, AllocError> {
         let alloc = self.rt.alloc();
@@ -121,10 +129,16 @@ impl<'a, R: Lookup + AllocGlobal, N: Out> FileNotes<'a, R, N> {
 impl<R: Lookup + AllocGlobal, N: Out> Notes for FileNotes<'_, R, N> {
     fn tell(&mut self, outcome: &Result<Verdict, RunError>) {
         let text = match outcome {
-            Ok(_) => rest(self.rt.alloc(), self.watch),
+            Ok(verdict) => {
+                if *verdict != Verdict::Clean && has_rest(self.watch) {
+                    self.put_copied();
+                }
+                rest(self.rt.alloc(), self.watch)
+            }
             Err(RunError::Refused(refusal)) => {
                 let refused = self.refused();
                 self.put(refused);
+                self.put_copied();
                 self.known(*refusal)
             }
             Err(RunError::ReadFailed) => self.unread(),
@@ -155,17 +169,32 @@ fn is_changed(before: &Metadata, after: &Metadata) -> bool {
     is_same && (is_written || before.len() != after.len())
 }
 
-// The bytes after the last page, if there are some.
+// Whether the length of the file is not that of whole pages.
+fn has_rest(watch: &Watch) -> bool {
+    match watch.geometry() {
+        Some(geometry) => watch.len().checked_rem(u64::from(geometry.page_size)) != Some(0),
+        None => false,
+    }
+}
+
+// The bytes after the last page, if there are some, and how many pages these are.
 fn rest(alloc: Global, watch: &Watch) -> Result<Option<String>, AllocError> {
     let Some(geometry) = watch.geometry() else {
         return Ok(None);
     };
     let page = geometry.pages;
-    let end = u64::from(page) * u64::from(geometry.page_size);
-    match watch.len().saturating_sub(end) {
-        0 => Ok(None),
-        1 => Ok(Some(format!(in alloc; "1 byte after page {page} is not read")?)),
-        count => Ok(Some(format!(in alloc; "{count} bytes after page {page} are not read")?)),
+    let size = u64::from(geometry.page_size);
+    let rest = watch.len().saturating_sub(u64::from(page) * size);
+    match (rest, rest.checked_div(size).unwrap_or(0)) {
+        (0, _) => Ok(None),
+        (1, _) => Ok(Some(format!(in alloc; "1 byte after page {page} is not read")?)),
+        (_, 0) => Ok(Some(format!(in alloc; "{rest} bytes after page {page} are not read")?)),
+        (_, 1) => Ok(Some(format!(in alloc;
+            "{rest} bytes after page {page} are not read, 1 whole page among them"
+        )?)),
+        (_, pages) => Ok(Some(format!(in alloc;
+            "{rest} bytes after page {page} are not read, {pages} whole pages among them"
+        )?)),
     }
 }
 

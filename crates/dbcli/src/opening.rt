@@ -87,16 +87,21 @@ fn reason_of<R: Files<File = File> + AllocGlobal>(
         Ok(metadata) if metadata.is_file() || metadata.file_type().is_block_device() => {
             fs::open(rt, path).map(|_| ())
         }
-        Ok(_) => {
-            let text = String::from_str(rt.alloc(), "not a regular file")?;
-            return Ok(Some(text));
-        }
+        Ok(metadata) if metadata.is_dir() => return of_kind(rt, "a directory"),
+        Ok(_) => return of_kind(rt, "not a regular file: unpack it first"),
+        // Standard input, as its name is for other programs.
+        Err(_) if path == "-" => return of_kind(rt, "not a regular file: unpack it first"),
         Err(error) => Err(error),
     };
     match opened {
         Ok(()) => Ok(None),
         Err(error) => Ok(Some(text_of(rt, &error)?)),
     }
+}
+
+// The reason that it is none of those that are read.
+fn of_kind<R: AllocGlobal>(rt: &R, kind: &str) -> Result<Option<String>, AllocError> {
+    Ok(Some(String::from_str(rt.alloc(), kind)?))
 }
 
 // What the system says of an error, without its number.

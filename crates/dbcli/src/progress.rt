@@ -3,8 +3,10 @@ use arrayvec::ArrayString;
 use std::cell::Cell;
 use std::fmt::Write;
 
-// Progress is shown each time after this many pages.
-const STEP: u64 = 65_536;
+// Progress is shown each time after this many pages, or bytes of pages, whichever comes first.
+const PAGES: u64 = 65_536;
+
+const BYTES: u64 = 268_435_456;
 
 // Blanks over the longest text, between two returns to the beginning of the line.
 const BLANK: &str = "\r                                        \r";
@@ -33,9 +35,10 @@ impl<W: Print> Progress<W> {
         self.is_on.set(false);
     }
 
-    /// Whether it is due after `count` pages: after each 65536th.
-    pub fn is_due(&self, count: u64) -> bool {
-        count > 0 && count % STEP == 0 && self.is_on.get()
+    /// Whether it is due after `count` pages of this size: after each 65536th, and of pages above 4096 bytes after each 256 MiB.
+    pub fn is_due(&self, count: u64, page_size: u32) -> bool {
+        let step = BYTES.checked_div(u64::from(page_size)).unwrap_or(PAGES).min(PAGES).max(1);
+        count > 0 && count % step == 0 && self.is_on.get()
     }
 
     /// Shows how many pages were read, and how many there are.

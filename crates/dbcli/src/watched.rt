@@ -1,6 +1,7 @@
 // A source over another source, which sees what is asked of that.
 ghost use Rattle.std.specs.Prelude.{◌≡◌};
 
+use crate::copied::Copied;
 use crate::progress::Progress;
 use dbsource::{ByteRange, Failures, Geometry, Header, MemSource, ReadFailed, Source};
 use std::cell::Cell;
@@ -13,6 +14,7 @@ pub struct Watch {
     geometry: Cell<Option<Geometry>>,
     reads: Cell<u64>,
     failed: Cell<Option<ByteRange>>,
+    copied: Cell<Option<Copied>>,
 }
 
 impl Watch {
@@ -24,6 +26,7 @@ impl Watch {
             geometry: Cell::new(None),
             reads: Cell::new(0),
             failed: Cell::new(None),
+            copied: Cell::new(None),
         }
     }
 
@@ -47,6 +50,11 @@ impl Watch {
         self.failed.get()
     }
 
+    /// How the file was copied as text, by its first page or, where that was not read, by its header.
+    pub fn copied(&self) -> Option<Copied> {
+        self.copied.get()
+    }
+
     // The first read is that of the header.
     fn pages_read(&self) -> u64 {
         self.reads.get().saturating_sub(1)
@@ -59,6 +67,9 @@ impl Watch {
         } else if self.reads.get() == 0 {
             self.first.set(first_of(bytes));
             self.geometry.set(geometry_of(bytes, self.len()));
+        }
+        if is_read && offset == 0 {
+            self.copied.set(Copied::of(bytes));
         }
         self.reads.set(self.reads.get().saturating_add(1));
     }
@@ -161,8 +172,8 @@ impl<S: Source, W: Print> Source for Watched<'_, '_, S, W> {
         let read = self.source.read_at(offset, buf);
         self.watch.see_read(offset, buf, read.is_ok());
         let count = self.watch.pages_read();
-        if self.progress.is_due(count)
-            && let Some(geometry) = self.watch.geometry()
+        if let Some(geometry) = self.watch.geometry()
+            && self.progress.is_due(count, geometry.page_size)
         {
             self.progress.show(count, u64::from(geometry.pages));
         }

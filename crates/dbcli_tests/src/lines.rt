@@ -108,6 +108,7 @@ Options:
 
 Columns, separated by tabs:
   name path pageno pagetype ncell payload unused mx_payload pgoffset pgsize
+ncell counts cells, also those of interior pages: it is no count of rows.
 
 Examples:
   dbck stat notes.db              A row for each page of a tree or an overflow chain

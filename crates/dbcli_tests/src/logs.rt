@@ -7,13 +7,13 @@ use std::test::Fail;
 use std::{fs, io};
 
 const WAL: &str =
-    "dbck: note: logs/x.db-wal is not read; let SQLite open a copy of both files to checkpoint it, and check that copy\n";
+    "dbck: note: logs/x.db-wal is not read, and may hold changes; let SQLite open a copy of both files to checkpoint it, and check that copy\n";
 
 const JOURNAL: &str =
-    "dbck: note: logs/x.db-journal is not read; let SQLite open a copy of both files to recover it, and check that copy\n";
+    "dbck: note: logs/x.db-journal is not read, and may hold changes; let SQLite open a copy of both files to recover it, and check that copy\n";
 
 const TWO_LINES: &str =
-    "dbck: note: logs/two\\x0alines\\xc2\\x9b\\xe2\\x80\\xae.db-wal is not read; let SQLite open a copy of both files to checkpoint it, and check that copy\n";
+    "dbck: note: logs/two\\x0alines\\xc2\\x9b\\xe2\\x80\\xae.db-wal is not read, and may hold changes; let SQLite open a copy of both files to checkpoint it, and check that copy\n";
 
 // What the folder has: files of a byte, files of none where a `!` follows, and folders where a slash does. Then the database,
 // the note on its log, and the one on its journal.

@@ -85,7 +85,7 @@ const E10: &str = "dbck: E10 the output cannot be written\n";
 
 // The notes: on a log, on what is not checked, and on what is not opened or not read.
 const TEXT: &str =
-    "dbck: note: runs/text.db-wal is not read; let SQLite open a copy of both files to checkpoint it, and check that copy
+    "dbck: note: runs/text.db-wal is not read, and may hold changes; let SQLite open a copy of both files to checkpoint it, and check that copy
 dbck: note: runs/text.db is not checked
 dbck: note: runs/text.db begins with 74 51 4c 69 74 65 20 66 6f 72 6d 61 74 20 33 00  tQLite format 3.
 ";
@@ -112,9 +112,9 @@ const NO_PAGE: &str = "dbck: note: runs/no-page.db is not checked\n";
 
 const MISSING: &str = "dbck: note: runs/missing.db: No such file or directory\n";
 
-const FOLDER: &str = "dbck: note: runs: not a regular file\n";
+const FOLDER: &str = "dbck: note: runs: a directory\n";
 
-const DEVICE: &str = "dbck: note: /dev/null: not a regular file\n";
+const DEVICE: &str = "dbck: note: /dev/null: not a regular file: unpack it first\n";
 
 const ONE_BYTE: &str = "dbck: note: 1 byte after page 1 is not read\n";
 
