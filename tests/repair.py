@@ -182,8 +182,8 @@ KINDS = ("an interior page of a table", "a leaf of a table", "an interior page o
 
 def with_roots(shop, explained):
     """Gives each table whose root page is wrong one of the pages that nothing refers to: the one that leaves the fewest faults. After R03
-    the wrong number may be that of either table."""
-    for first, second in re.findall("^    start [0-9]+: root of table (.*)$(?:\n    page .*: root of table (.*)$)?", explained, re.M):
+    the wrong number may be that of the other tree."""
+    for first, second in re.findall("^    start [0-9]+: root of table (.*)$(?:\n    page .*: root of (?:table|index) (.*)$)?", explained, re.M):
         kept = shop.copy.read_bytes()
         tried = []
         for kind in KINDS:
