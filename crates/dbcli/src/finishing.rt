@@ -78,7 +78,7 @@ pub fn hand_on<O: Out, E: Out>(
 /// Runs the request on the source, and answers the exit status. What was put to `out` and then what was put to `err` is
 /// handed on before the status is decided. After an error, unless the file is refused, only `out` is tried; then the
 /// line of the error is put to `err` and handed on, if it can be.
-pub fn finish_opened<S: Source, O: Out, E: Out, N: Notes>(
+pub fn finish<S: Source, O: Out, E: Out, N: Notes>(
     alloc: Global,
     request: Request<'_>,
     source: &mut S,
@@ -97,7 +97,7 @@ pub fn finish_opened<S: Source, O: Out, E: Out, N: Notes>(
     end(err, outcome, notes)
 }
 
-/// What [`finish_opened`] says of each file that agrees with what was read is so of the bytes that a source tells, as memory does:
+/// What [`finish`] says of each file that agrees with what was read is so of the bytes that a source tells, as memory does:
 /// what was written is theirs, and of the statuses 0 and 1 it is 0 exactly where they are sound.
 pub fn told_files_are_finished<S: Source>()
     ensures { ToldFilesAreFinished S.step S.lengths }

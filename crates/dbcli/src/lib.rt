@@ -24,7 +24,7 @@ pub use command_line::{Line, LineError, line_of, shown_error};
 pub use dbreport::{Command, Verdict};
 pub use dbsource::{Out, ReadFailed, RunError, Source};
 pub use error_lines::error_line;
-pub use finishing::{Notes, end, finish_opened, hand_on, told_files_are_finished};
+pub use finishing::{Notes, end, finish, hand_on, told_files_are_finished};
 pub use line_out::LineOut;
 pub use logs::put_log_notes;
 pub use lookup::Lookup;

@@ -5,7 +5,7 @@ ghost use Rattle.dbcli.specs.CommandLine.{IsErrorOf, dbck_app};
 ghost use Rattle.dbcli.specs.Running.{AnswersWords, IsErrorStatus, IsUnrun, RunsLine, RunsWords};
 
 use crate::command_line::{Line, LineError, line_of, shown_error};
-use crate::finishing::{end, finish_opened};
+use crate::finishing::{end, finish};
 use crate::lookup::Lookup;
 use crate::notes::FileNotes;
 use crate::opening::Opener;
@@ -59,7 +59,7 @@ pub fn run_line<R: Lookup + AllocGlobal, F: Opener, O: Out, E: Out, N: Out, W: P
             notes.opened();
             let mut watched = Watched::new(source, &watch, progress);
             let source = &mut watched;
-            let status = finish_opened(rt.alloc(), line.request, source, out, err, &mut notes);
+            let status = finish(rt.alloc(), line.request, source, out, err, &mut notes);
             system.files.close(watched.into_inner());
             progress.wipe();
             status

@@ -1,7 +1,7 @@
 // What the end of a run makes of outs that fail, of a file that is not opened or not read, and of want of memory.
 use crate::fake_outs::{FakeOut, LogWriter, NoNotes};
 use crate::fake_sources::PeekingSource;
-use dbcli::{Request, end, error_line, finish_opened, hand_on};
+use dbcli::{Request, end, error_line, finish, hand_on};
 use dbfiles::{StatedSource, TestFile};
 use dbreport::Command;
 use dbsource::{MemOut, ReadFailed, Refusal, RunError, StreamOut};
@@ -53,7 +53,7 @@ const ENDS: [(&str, &str, &str, &str, u8, &str, &str); 13] = [
     ("stat 2", PARENT, "", "", 4, "", E8),
     ("stat 3", PARENT, "", "", 4, PARENT_ROW, E8),
     // After want of memory what was written is handed on. (A run in a heap that is too small is a test of `run_in`:
-    // memory of `finish_opened` is that of the program.)
+    // memory of `finish` is that of the program.)
     ("stat", "no memory", "row\n", "", 5, "row\n", E9),
 ];
 
@@ -80,7 +80,7 @@ fn status_of(
     let (command, call) = what.split_once(' ').unwrap_or((what, ""));
     let request = if command == "stat" { STAT } else { CHECK };
     match opened(name, file, call) {
-        Ok(mut source) => finish_opened(rt.alloc(), request, &mut source, out, err, &mut NoNotes),
+        Ok(mut source) => finish(rt.alloc(), request, &mut source, out, err, &mut NoNotes),
         Err(error) => end(err, Err(RunError::from(error)), &mut NoNotes),
     }
 }
@@ -108,7 +108,7 @@ fn holds_nothing_back(rt: HostRuntime) -> Result<(), Fail> {
     let mut source = PeekingSource::new(opened("parent", file.as_slice(), "3")?, &log, &seen);
     let mut out = StreamOut::new(LogWriter::new(&log, usize::MAX));
     let mut err = MemOut::new(rt.alloc());
-    let status = finish_opened(
+    let status = finish(
         rt.alloc(),
         STAT,
         &mut source,

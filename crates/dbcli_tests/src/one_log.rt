@@ -1,7 +1,7 @@
 // Rows and faults in one log, as of `dbck stat FILE > log 2>&1`.
 use crate::fake_outs::{LogWriter, NoNotes};
 use crate::runs::run_line;
-use dbcli::{Request, finish_opened};
+use dbcli::{Request, finish};
 use dbfiles::TestFile;
 use dbreport::Command;
 use dbsource::{BufferedOut, MemOut, MemSource, StreamOut};
@@ -118,7 +118,7 @@ fn compare_at_once(
     let mut out = BufferedOut::new(rt.alloc(), LogWriter::new(&log, usize::MAX))?;
     let mut err = StreamOut::new(LogWriter::new(&log, usize::MAX));
     let mut source = MemSource::new(file);
-    let status = finish_opened(
+    let status = finish(
         rt.alloc(),
         request,
         &mut source,

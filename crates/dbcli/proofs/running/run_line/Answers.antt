@@ -6,11 +6,11 @@ use Rattle.dbcli.proofs.running.run_line.Goals as goal
 pub returns-in-Ok : goal.returns-in-Ok
 returns-in-Ok g c =
     let s = c.in-Ok.source in
-    let w = c.finish_opened-status.new.source in
+    let w = c.finish-status.new.source in
     let o = c.args.out.now in
-    let o' = c.finish_opened-status.new.out in
+    let o' = c.finish-status.new.out in
     let e = c.args.err.now in
-    let e' = c.finish_opened-status.new.err in
+    let e' = c.finish-status.new.err in
     let matched = c.in-Ok.is in
     let begun = c.new-watched.ensures in
     let ended = c.into_inner.ensures in
@@ -23,14 +23,14 @@ returns-in-Ok g c =
       opened = subst (λ a. g.F.Opener.opens c.args.system.now.files c.args.line.file.now a c.open-opened.new.self) is c.open-opened.ensures;
       ran = (
         w.source,
-        subst (λ a. Finishes g.F.File.Source g.O.Out g.E.Out c.args.line.request c.finish_opened-status.result (a, o, e) (w.source, o', e')) from
-            (left_below g.F.File.Source (λ a. a.source) g.O.Out g.E.Out c.args.line.request c.finish_opened-status.result c.new-watched.result w o o' e e'
+        subst (λ a. Finishes g.F.File.Source g.O.Out g.E.Out c.args.line.request c.finish-status.result (a, o, e) (w.source, o', e')) from
+            (left_below g.F.File.Source (λ a. a.source) g.O.Out g.E.Out c.args.line.request c.finish-status.result c.new-watched.result w o o' e e'
             (record {
-              read = c.finish_opened-status.ensures.read;
-              known = c.finish_opened-status.ensures.status;
-              failed = c.finish_opened-status.ensures.failed;
-              first = c.finish_opened-status.ensures.first;
-              second = c.finish_opened-status.ensures.second;
+              read = c.finish-status.ensures.read;
+              known = c.finish-status.ensures.status;
+              failed = c.finish-status.ensures.failed;
+              first = c.finish-status.ensures.first;
+              second = c.finish-status.ensures.second;
             })),
         subst (λ a. g.F.Opener.closes c.open-opened.new.self a c.close.new.self) left c.close.ensures,
       );

@@ -2,7 +2,7 @@ use Rattle.std.proofs.Common.{ap}
 use Rattle.dbsource.proofs.Runs.{read_weaker}
 use Rattle.dbcli.proofs.Exits.{finish_of, known, refused_at_3, untold, unwritten_at_3}
 use Rattle.dbcli.proofs.Handing.{failed_at_6, first_at_error, line_at_error, quiet_at_verdict, second_at_error, second_few, second_kept, source_failures, still_for, still_refused, still_unwritten, tried_of, whole_at_verdict}
-use Rattle.dbcli.proofs.finishing.finish_opened.Goals as goal
+use Rattle.dbcli.proofs.finishing.finish.Goals as goal
 
 pub returns-clause-read : goal.returns-clause-read
 returns-clause-read g c =
