@@ -9,28 +9,29 @@ use std::fs;
 use std::process::Abort;
 use std::test::Fail;
 
-// The files: name, pages with what is patched in them, and what is after these.
-const FILES: [[&str; 3]; 16] = [
-    ["whole.db", "Smallest 1", ""],
-    ["longer.db", "Smallest 1", "\0"],
-    ["faulty.db", "Smallest 1: 1 18 03, 1 107 01", ""],
-    ["version.db", "Smallest 1: 1 18 03", ""],
-    ["fragments.db", "Smallest 1: 1 107 01", ""],
-    ["content.db", "Smallest 1: 1 105 00", ""],
-    ["unowned.db", "Smallest 2", ""],
-    ["magic.db", "Smallest 1: 1 0 00", ""],
-    ["page-size.db", "Smallest 1: 1 16 03", ""],
-    ["usable.db", "Smallest 1: 1 20 21", ""],
-    ["no-page.db", "Smallest 1: 1 16 04", ""],
-    ["text.db", "Smallest 1: 1 0 74", ""],
-    ["text.db-wal", "Smallest 0", "x"],
-    ["short.db", "Smallest 0", ""],
-    ["few.db", "Smallest 0", "few"],
-    [
+// The files: name, pages with what is patched in them, what is after these, and how many bytes there are at most.
+const FILES: [(&str, &str, &str, usize); 16] = [
+    ("whole.db", "Smallest 1", "", 1000),
+    ("longer.db", "Smallest 1", "\0", 1000),
+    ("faulty.db", "Smallest 1: 1 18 03, 1 107 01", "", 1000),
+    ("version.db", "Smallest 1: 1 18 03", "", 1000),
+    ("fragments.db", "Smallest 1: 1 107 01", "", 1000),
+    ("content.db", "Smallest 1: 1 105 00", "", 1000),
+    ("unowned.db", "Smallest 2", "", 1024),
+    ("magic.db", "Smallest 1: 1 0 00", "", 1000),
+    ("page-size.db", "Smallest 1: 1 16 03", "", 1000),
+    ("usable.db", "Smallest 1: 1 20 21", "", 1000),
+    ("no-page.db", "Smallest 1", "", 511),
+    ("text.db", "Smallest 1: 1 0 74", "", 1000),
+    ("text.db-wal", "Smallest 0", "x", 1000),
+    ("short.db", "Smallest 0", "", 1000),
+    ("few.db", "Smallest 1", "", 99),
+    (
         "zeros.db",
         "Smallest 1: 1 0 00000000000000000000000000000000",
         "",
-    ],
+        1000,
+    ),
 ];
 
 const H01: &str = "H01 page 1 item 18 value 3: file version is not 1 or 2\n";
@@ -182,9 +183,10 @@ const RUNS: [(&str, u8, &str, &str, &str); 38] = [
 fn make_files(rt: &HostRuntime, folder: &str) -> Result<(), Fail> {
     let _ = fs::remove_dir_all(rt, folder);
     fs::create_dir(rt, folder)?;
-    for [name, text, rest] in FILES {
+    for (name, text, rest, most) in FILES {
         let mut file = TestFile::of(rt.alloc(), text)?.into_bytes();
         file.extend_from_slice(rest.as_bytes())?;
+        file.truncate(most);
         let path = format!(in rt.alloc(); "{folder}/{name}")?;
         fs::write(rt, path, file.as_slice())?;
     }
