@@ -51,24 +51,38 @@ fn digit_of(letter: u8) -> Option<u8> {
     }
 }
 
-// Writes the bytes that pairs of hexadecimal digits spell from a place on. Spaces are left out. None where there is another
-// letter, a digit without its second, or no byte to write over.
-pub(crate) fn write_hex(page: &mut [u8], at: usize, digits: &str) -> Option<()> {
+/// Writes the bytes that a text spells over others from a place on: two hexadecimal digits a byte, and letters between two of '.
+/// Spaces between them are left out. Answers the place after the last byte, or none where the text has anything else or a byte
+/// has no place.
+pub fn write_bytes(bytes: &mut [u8], at: usize, text: &str) -> Option<usize> {
     let mut at = at;
+    let mut is_letter = false;
     let mut high = None;
-    for letter in digits.as_bytes() {
-        if *letter == b' ' {
+    for letter in text.as_bytes() {
+        let letter = *letter;
+        if letter == b'\'' {
+            is_letter = !is_letter;
             continue;
         }
-        let digit = digit_of(*letter)?;
+        if letter == b' ' && !is_letter {
+            continue;
+        }
+        let byte = if is_letter { letter } else { digit_of(letter)? };
         match high {
-            None => high = Some(digit),
-            Some(first) => {
-                *page.get_mut(at)? = digit.wrapping_add(first << 4);
+            None if !is_letter => high = Some(byte),
+            _ => {
+                let first: u8 = high.unwrap_or(0);
+                *bytes.get_mut(at)? = byte.wrapping_add(first << 4);
                 at = at.wrapping_add(1);
                 high = None;
             }
         }
     }
-    if high.is_some() { None } else { Some(()) }
+    if high.is_some() { None } else { Some(at) }
+}
+
+/// The bytes that a text spells, which begin the room for them; none where there is too little room.
+pub fn bytes_of<'a>(room: &'a mut [u8], text: &str) -> &'a [u8] {
+    let end = write_bytes(room, 0, text).unwrap_or(0);
+    room.get(..end).unwrap_or(&[])
 }

@@ -20,6 +20,7 @@
 
 mod bytes;
 mod drawn;
+mod holds;
 mod records;
 mod samples;
 mod stated;
@@ -27,9 +28,10 @@ mod test_file;
 mod texts;
 mod tree_page;
 
-pub use bytes::patch;
+pub use bytes::{bytes_of, patch, write_bytes};
 pub use dbsource::Source;
 pub use drawn::{DrawnSource, draw};
+pub use holds::{Text, holding};
 pub use records::{Record, schema_row, varint};
 pub use samples::Sample;
 pub use stated::StatedSource;

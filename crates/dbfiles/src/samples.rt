@@ -1,4 +1,6 @@
 // The databases that several tests share.
+mod large;
+
 use crate::records::{Record, schema_row};
 use crate::test_file::TestFile;
 use std::alloc::{AllocError, Global};
@@ -40,6 +42,17 @@ pub enum Sample {
     RootLast,
     /// The same with the root before the trunk.
     RootFirst,
+    /// A table whose leaf is full: 84 cells, each of two bytes of the pointers and four of the content.
+    FullPage,
+    /// A schema of as many levels as there are pages, each but the last an interior page without cells whose right child is the next.
+    Ladder,
+    /// A trunk, page 2, that is full: its leaves are the 126 pages after it.
+    FullTrunk,
+    /// A table of three levels with a chain of two pages, an index of two levels with a chain, and a freelist of three trunks, of
+    /// which the first, page 2, has no leaf and each other one.
+    Forest,
+    /// The same without the first trunk: page 2 is a map page.
+    MappedForest,
 }
 
 impl Sample {
@@ -63,6 +76,11 @@ impl Sample {
             "OwnTrunk" => Sample::OwnTrunk,
             "RootLast" => Sample::RootLast,
             "RootFirst" => Sample::RootFirst,
+            "FullPage" => Sample::FullPage,
+            "Ladder" => Sample::Ladder,
+            "FullTrunk" => Sample::FullTrunk,
+            "Forest" => Sample::Forest,
+            "MappedForest" => Sample::MappedForest,
             _ => return None,
         };
         Some(sample)
@@ -74,7 +92,7 @@ impl Sample {
     ///
     /// [`AllocError`] where memory was refused.
     pub fn of_pages(self, alloc: Global, pages: u32) -> Result<TestFile, AllocError> {
-        let mut file = TestFile::new(alloc, 512, 5)?;
+        let mut file = TestFile::new(alloc, 512, pages.max(5))?;
         match self {
             Sample::Smallest => {}
             Sample::OneTable => file.schema(&[schema_row(b"table", b"t", 2)]),
@@ -93,6 +111,11 @@ impl Sample {
             Sample::OwnTrunk => own_trunk(&mut file),
             Sample::RootLast => root_beside_trunk(&mut file, 4, 3),
             Sample::RootFirst => root_beside_trunk(&mut file, 3, 4),
+            Sample::FullPage => large::full_page(&mut file),
+            Sample::Ladder => large::ladder(&mut file, pages),
+            Sample::FullTrunk => large::full_trunk(&mut file),
+            Sample::Forest => large::forest(&mut file),
+            Sample::MappedForest => large::mapped_forest(&mut file),
         }
         file.set_pages(pages)?;
         Ok(file)

@@ -1,5 +1,5 @@
 // A database of a test, page by page.
-use crate::bytes::{base_file, patch, write_hex};
+use crate::bytes::{base_file, patch, write_bytes};
 use crate::records::Record;
 use crate::tree_page::TreePage;
 use std::alloc::{AllocError, Global};
@@ -64,9 +64,9 @@ impl TestFile {
         &mut self.bytes.as_mut_slice()[start..end]
     }
 
-    /// Writes the bytes that hexadecimal digits spell over those of a page from a place on. Spaces are left out.
+    /// Writes the bytes that hexadecimal digits spell over those of a page from a place on, as [`write_bytes`] does.
     pub fn hex(&mut self, page: u32, at: usize, digits: &str) {
-        if write_hex(self.page(page), at, digits).is_none() {
+        if write_bytes(self.page(page), at, digits).is_none() {
             self.clear();
         }
     }

@@ -1,0 +1,35 @@
+// What stops a test.
+use arrayvec::ArrayString;
+use std::fmt::Debug;
+
+/// What was reported or answered. What has no room is left out, so that a test over it fails.
+pub type Text = ArrayString<2048>;
+
+/// Stops a test where something does not hold, and says what, and of what. It is a call where `assert!` has a branch, which would be
+/// proved at each place. It is a macro since a function that may end the process has no place outside tests.
+#[macro_export]
+macro_rules! holds {
+    ($rt:expr; $is_so:expr) => {
+        $crate::holding($is_so, &"").expect(&$rt, stringify!($is_so))
+    };
+    ($rt:expr; $is_so:expr, $of:expr) => {
+        $crate::holding($is_so, &$of).expect(&$rt, stringify!($is_so))
+    };
+}
+
+/// Stops a test whose text is not what was wanted.
+#[macro_export]
+macro_rules! expect_text {
+    ($rt:expr; $text:expr, $want:expr, $of:expr) => {
+        $crate::holding($text.as_str() == $want, &($text.as_str(), $want, $of)).expect(&$rt, "text")
+    };
+}
+
+/// Of what something does not hold.
+///
+/// # Errors
+///
+/// Exactly where it does not hold.
+pub fn holding<T: Debug>(is_so: bool, of: &T) -> Result<(), &T> {
+    if is_so { Ok(()) } else { Err(of) }
+}
