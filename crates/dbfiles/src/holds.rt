@@ -1,6 +1,6 @@
 // What stops a test.
 use arrayvec::ArrayString;
-use std::fmt::Debug;
+use std::fmt::{Debug, Write};
 
 /// What was reported or answered. What has no room is left out, so that a test over it fails.
 pub type Text = ArrayString<2048>;
@@ -21,15 +21,34 @@ macro_rules! holds {
 #[macro_export]
 macro_rules! expect_text {
     ($rt:expr; $text:expr, $want:expr, $of:expr) => {
-        $crate::holding($text.as_str() == $want, &($text.as_str(), $want, $of)).expect(&$rt, "text")
+        $crate::expecting(&$text, $want, &$of).expect(&$rt, "another text")
     };
 }
 
-/// Of what something does not hold.
+/// Ok where something holds.
 ///
 /// # Errors
 ///
-/// Exactly where it does not hold.
-pub fn holding<T: Debug>(is_so: bool, of: &T) -> Result<(), &T> {
-    if is_so { Ok(()) } else { Err(of) }
+/// Of what it does not hold, as far as there is room.
+pub fn holding<T: Debug>(is_so: bool, of: &T) -> Result<(), Text> {
+    if is_so {
+        return Ok(());
+    }
+    let mut text = Text::new();
+    let _ = write!(text, "{of:?}");
+    Err(text)
+}
+
+/// Ok where a text is what was wanted.
+///
+/// # Errors
+///
+/// Of what the text is, and both texts, as far as there is room.
+pub fn expecting<T: Debug>(text: &Text, want: &str, of: &T) -> Result<(), Text> {
+    if text.as_str() == want {
+        return Ok(());
+    }
+    let mut message = Text::new();
+    let _ = write!(message, "{of:?}: {:?} for {want:?}", text.as_str());
+    Err(message)
 }

@@ -31,7 +31,7 @@ mod tree_page;
 pub use bytes::{bytes_of, patch, write_bytes};
 pub use dbsource::Source;
 pub use drawn::{DrawnSource, draw};
-pub use holds::{Text, holding};
+pub use holds::{Text, expecting, holding};
 pub use records::{Record, schema_row, varint};
 pub use samples::Sample;
 pub use stated::StatedSource;

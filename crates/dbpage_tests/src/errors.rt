@@ -1,5 +1,5 @@
 // What a program shows that passes an error on by `?`.
-use crate::texts::{Text, expect_text};
+use dbfiles::{Text, expect_text};
 use dbformat::{CellFault, HeadFault, RowFault};
 use dbsource::{ReadFailed, WriteFailed};
 use std::error::Error;
@@ -15,7 +15,7 @@ fn shows<E: Error>(rt: &impl Abort, error: E, want: &str) {
     if let Err(error) = pass_on(Err(error)) {
         let _ = write!(text, "{error}");
     }
-    expect_text(rt, &text, want, &"");
+    expect_text!(*rt; text, want, &"");
 }
 
 #[test]

@@ -3,12 +3,13 @@ mod heads;
 mod looks;
 mod marks;
 mod packed;
+mod plain;
 mod sqlite_pages;
 mod written_pages;
 
 ghost use Rattle.std.specs.Prelude.{◌≤◌, length};
 
-use crate::texts::{Text, expect_text, write_bytes};
+use dbfiles::{Text, expect_text, write_bytes};
 use dbformat::CellFault;
 use dbpage::{Cell, PageView, content_start, look_of, type_byte, uncounted_coverage};
 use std::fmt::Write;
@@ -46,6 +47,7 @@ fn check(rt: &impl Abort, case: &Case, page: &[u8], table: &mut [u8]) {
     let (number, usable) = case[1].split_once(" of ").unwrap_or(("", ""));
     let number = number.parse::<u32>().unwrap_or(0);
     let usable = usable.parse::<u32>().unwrap_or(0);
+    plain::check_coverage(rt, page, table, number, usable);
     for want in case[3].split("; ") {
         let word = match want.split_once(' ') {
             Some((word, _)) => word,
@@ -54,7 +56,7 @@ fn check(rt: &impl Abort, case: &Case, page: &[u8], table: &mut [u8]) {
         let mut text = Text::new();
         let _ = write!(text, "{word}");
         answer(rt, page, (number, usable), table, word, &mut text);
-        expect_text(rt, &text, want, case);
+        expect_text!(*rt; text, want, case);
     }
 }
 

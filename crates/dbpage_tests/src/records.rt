@@ -4,8 +4,8 @@ mod names;
 mod numbers;
 mod rows;
 
-use crate::texts::{Text, bytes_of, expect_text};
 use dbbytes::{RowFault, RowSieve, SchemaRow};
+use dbfiles::{Text, bytes_of, expect_text, holds};
 use dbformat::Encoding;
 use std::fmt::Write;
 use std::process::Abort;
@@ -29,7 +29,7 @@ fn check(rt: &impl Abort, case: &Case, bytes: &[u8]) {
     let whole = sieve_of(size, encoding, bytes);
     let mut text = Text::new();
     write_row(&mut text, whole.finish());
-    expect_text(rt, &text, case[3], case);
+    expect_text!(*rt; text, case[3], case);
     feed_in_pieces(rt, &whole, size, encoding, bytes);
 }
 

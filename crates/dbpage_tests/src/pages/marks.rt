@@ -1,6 +1,6 @@
 // Marks at the ends of their windows and lanes.
 use super::{Case, check_all};
-use crate::texts::write_bytes;
+use dbfiles::{holds, write_bytes};
 use dbformat::Coverage;
 use dbpage::{PageView, uncounted_coverage};
 use std::process::Abort;

@@ -1,7 +1,7 @@
 // Names as they are shown.
 use super::encoding_of;
-use crate::texts::bytes_of;
 use dbbytes::{name_text, plain_name_text};
+use dbfiles::{bytes_of, holds};
 use dbformat::Encoding;
 use dbsource::{MemOut, Out, StreamOut, WriteFailed};
 use std::process::Abort;

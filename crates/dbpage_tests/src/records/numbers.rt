@@ -1,6 +1,6 @@
 // Varints, the lengths of serial types, and how much of a payload is in its cell.
-use crate::texts::{Text, bytes_of, expect_text};
 use dbbytes::{local_len, serial_len, varint};
+use dbfiles::{Text, bytes_of, expect_text, holds};
 use dbformat::PayloadKind;
 use std::fmt::Write;
 use std::process::Abort;
@@ -78,7 +78,7 @@ fn varints(rt: HostRuntime) {
         let bytes = bytes_of(&mut room, case[0]);
         let mut text = Text::new();
         let _ = write!(text, "{:?}", varint(bytes));
-        expect_text(&rt, &text, case[1], case);
+        expect_text!(rt; text, case[1], case);
         check_cuts(&rt, bytes, varint(bytes));
     }
 }
@@ -101,7 +101,7 @@ fn lengths_of_serial_types(rt: HostRuntime) {
         if let Ok(serial_type) = case[0].parse::<u64>() {
             let _ = write!(text, "{:?}", serial_len(serial_type));
         }
-        expect_text(&rt, &text, case[1], case);
+        expect_text!(rt; text, case[1], case);
     }
 }
 

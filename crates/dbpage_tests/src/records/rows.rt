@@ -1,6 +1,7 @@
 // Rows of the schema that are whole or malformed, and in UTF-16.
 use super::{Case, check_all, feed_in_pieces, sieve_of};
 use dbbytes::{RowFault, RowSieve, SchemaRow};
+use dbfiles::holds;
 use dbformat::{Encoding, RowKind};
 use std::process::Abort;
 use std::test::Fail;
