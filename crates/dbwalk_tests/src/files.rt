@@ -1,5 +1,5 @@
 // The builder of test files beside bytes that are written out, and what has no place.
-use dbfiles::{TestFile, schema_row, varint};
+use dbfiles::{TestFile, holds, schema_row, varint};
 use std::alloc::{AllocError, Global};
 use std::process::Abort;
 use std::test::Fail;

@@ -3,14 +3,6 @@
 //! are in `dbck_tests`. The tests of the builder of test files are here too.
 #![tactic(auto)]
 
-// One call where `assert!` has a branch, which would be proved at each place. The text says what did not hold, and of what.
-#[cfg(test)]
-macro_rules! holds {
-    ($rt:expr; $is_so:expr, $of:expr) => {
-        crate::stop_unless(&$rt, $is_so, stringify!($is_so), &$of)
-    };
-}
-
 #[cfg(test)]
 mod files;
 #[cfg(test)]
@@ -19,9 +11,3 @@ mod owners;
 mod support;
 #[cfg(test)]
 mod walks;
-
-// Stops a test where something does not hold.
-#[cfg(test)]
-fn stop_unless(rt: &impl std::process::Abort, is_so: bool, text: &str, of: &impl std::fmt::Debug) {
-    assert!(rt; is_so, "{text}: {of:?}");
-}

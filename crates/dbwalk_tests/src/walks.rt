@@ -23,13 +23,8 @@ pub(crate) fn check_all(rt: &impl Abort, alloc: Global, cases: &[Case]) -> Resul
     Ok(())
 }
 
-/// Does what a case asks for, over these bytes.
-pub(crate) fn check(
-    rt: &impl Abort,
-    alloc: Global,
-    file: &[u8],
-    case: &[&str; 5],
-) -> Result<(), Fail> {
+// Does what a case asks for, over these bytes.
+fn check(rt: &impl Abort, alloc: Global, file: &[u8], case: &Case) -> Result<(), Fail> {
     let mut walk = Walk::new(alloc, file, case[2])?;
     walk.follow(case[3]);
     walk.expect(rt, case[4], case);

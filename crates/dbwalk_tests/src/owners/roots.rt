@@ -1,6 +1,7 @@
 // The list of roots: how many it takes, and that it is as before where it finds no memory.
 ghost use Rattle.std.specs.Prelude.{◌≤◌};
 
+use dbfiles::holds;
 use dbformat::RowKind;
 use dbscan::RootList;
 use dbwalk::{SchemaRow, Taken, Taker};

@@ -1,7 +1,6 @@
 // The start that each page belongs to, what it is, and how many pages are passed to know it.
 use crate::owners::walked::{Walked, two_trees, walk_all};
-use crate::support::{Text, expect_text};
-use dbfiles::TestFile;
+use dbfiles::{TestFile, Text, expect_text, holds};
 use dbformat::Geometry;
 use dbowner::{PageTrees, place_of};
 use dbwalk::Marks;
@@ -52,7 +51,7 @@ fn check_page(rt: &impl Abort, marks: &Marks, trees: &mut PageTrees, page: u32, 
     let place = place_of(marks, page);
     let mut text = Text::new();
     let _ = write!(text, "{start:?} {place:?}");
-    expect_text(rt, &text, want, &page);
+    expect_text!(*rt; text, want, &page);
 }
 
 // Of all pages from 0 on, forwards or backwards.

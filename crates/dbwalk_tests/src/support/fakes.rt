@@ -1,8 +1,8 @@
 // The sink and the taker of rows of the tests: each may fail or answer as a test asks for.
 ghost use Rattle.std.specs.Prelude.{◌≡◌};
 
-use crate::support::Text;
 use dbbytes::SchemaRow;
+use dbfiles::Text;
 use dbsource::{Failures, WriteFailed};
 use dbwalk::{Cause, Fault, Row, Sink, Taken, Taker};
 use std::alloc::AllocError;

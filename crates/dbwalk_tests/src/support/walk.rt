@@ -3,8 +3,7 @@ ghost use Rattle.std.specs.Prelude.{◌≡◌, ◌↔◌};
 ghost use Rattle.dbwalk.specs.declared.root.RootKind.TheVariants as root_kind;
 
 use crate::support::fakes::{Rows, Told};
-use crate::support::{Text, expect_text};
-use dbfiles::StatedSource;
+use dbfiles::{StatedSource, Text, expect_text};
 use dbformat::Encoding;
 use dbsource::{Bench, Header, MemSource, RunError};
 use dbwalk::{Marks, Root, RootKind, walk_freelist, walk_tree};
@@ -115,7 +114,7 @@ impl<'a> Walk<'a> {
 
     /// Stops a test where something else was reported.
     pub(crate) fn expect(&self, rt: &impl Abort, told: &str, of: &impl std::fmt::Debug) {
-        expect_text(rt, &self.told.text, told, of);
+        expect_text!(*rt; self.told.text, told, of);
     }
 }
 

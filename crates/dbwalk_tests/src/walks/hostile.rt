@@ -1,7 +1,7 @@
 // Sources that give other bytes at each read: the walks end, and no page is read twice, nor one of fixed use.
 use crate::support::quiet::Quiet;
 use crate::support::walk::SCHEMA;
-use dbfiles::DrawnSource;
+use dbfiles::{DrawnSource, holds};
 use dbformat::Encoding;
 use dbsource::{Bench, Geometry};
 use dbwalk::{Marks, Root, RootKind, walk_freelist, walk_tree};

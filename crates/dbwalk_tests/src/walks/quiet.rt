@@ -1,8 +1,7 @@
 // Walks with a sink and a taker of which nothing is claimed, and what they ask for.
 use crate::support::quiet::Quiet;
 use crate::support::walk::SCHEMA;
-use crate::support::{Text, expect_text};
-use dbfiles::TestFile;
+use dbfiles::{TestFile, Text, expect_text, holds};
 use dbsource::{Bench, Header, LogSource};
 use dbwalk::{Marks, walk_tree};
 use std::alloc::Global;
@@ -55,5 +54,5 @@ fn walk_quietly(
     for range in source.ranges() {
         let _ = write!(text, " {}+{}", range.offset, range.len);
     }
-    expect_text(rt, &text, want, &"");
+    expect_text!(*rt; text, want, &"");
 }

@@ -2,7 +2,7 @@
 use super::{Case, check_all};
 use std::test::Fail;
 
-const CASES: [Case; 11] = [
+const CASES: [Case; 10] = [
     [
         "a table",
         "OneTable 3",
@@ -79,17 +79,6 @@ const CASES: [Case; 11] = [
             0 /0+0 3 Overflow 0 508 0 0\n\
             Ok(()) reads 2\n\
             takes Table 2 t\n",
-    ],
-    [
-        "a row whose overflow page is missing",
-        "LongSql 3: 1 508 00000009",
-        "",
-        "schema",
-        "\
-            0 / 1 Leaf 1 92 303 600\n\
-            R01 1 0 9\n\
-            S01 1 0 1\n\
-            Ok(()) reads 1\n",
     ],
     // Memory is refused for each row in turn: what was reported before it stays, and nothing comes after it.
     [
