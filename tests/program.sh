@@ -14,6 +14,8 @@ trap 'rm -rf "$work"' EXIT
 data=crates/dbck/data
 passed=0
 failed=0
+left=0
+wants=
 
 # count NAME TEST..: counts a test, and names it where it fails.
 count() {
@@ -25,6 +27,20 @@ count() {
         failed=$((failed + 1))
         echo "FAILED: ${name//[^[:print:]]/?}"
     fi
+}
+
+# leave_out CHECKS TOOLS..: counts checks that are left out, and keeps the tools that are not there. Where all are, it keeps all: one of
+# them does not do what is wanted of it.
+leave_out() {
+    local tool lacking=()
+    left=$((left + $1))
+    for tool in "${@:2}"; do
+        command -v "$tool" > /dev/null || lacking+=("$tool")
+    done
+    [ "${#lacking[@]}" -gt 0 ] || lacking=("${@:2}")
+    for tool in "${lacking[@]}"; do
+        [[ ", $wants, " == *", $tool, "* ]] || wants+=${wants:+, }$tool
+    done
 }
 
 # ended STATUS OUT ERR: whether the last run ended so. A text that ends with '*' may go on.
@@ -133,10 +149,10 @@ expect 1 "$picture"$' two-owners.db</title>\n*, 2 faults; *<title>page 8: in no 
 cp "$data/empty.db" "$work/<b>&.db"
 expect 0 "$picture"$' &lt;b&gt;&amp;.db</title>\n*</svg>\n' '' map "$work/<b>&.db"
 
-if command -v xmllint python3 > "$work/out"; then
+if command -v xmllint > "$work/out" && command -v python3 > "$work/out"; then
     count 'pictures are XML' tests/pictures.sh "$dbck" "$data"/*.db "$work/<b>&.db" tests/sqlite/*.db
 else
-    echo 'no pictures to look at: there is no xmllint, and no python3'
+    leave_out 1 xmllint python3
 fi
 
 # 0: help and the version stand on standard output alone.
@@ -246,6 +262,8 @@ if truncate -s 34359738368 "$work/many-pages.db" 2> "$work/why"; then
         status=$?
         count "$command in 40 MB" ended 5 '' $'dbck: E9 out of memory\n'
     done
+    # As many pages are taken where there is memory: all but the first and the lock-byte page, 2097153, are not in use.
+    expect 1 $'N01 page 2 item 0 value 0: page is not in use\nmore 67108861\n' '' check --limit 1 "$work/many-pages.db"
 else
     echo "no run without memory: $(cat "$work/why")"
 fi
@@ -265,6 +283,29 @@ for words in '1048577 32 check --limit 1' '1048577 32 stat' '1048577 65 explain 
     fi
 done
 rm "$work/large.db"
+
+# shows_each_page FILE: whether the rows of the last run are of each page of 512 bytes once, or count them, beside the lines of a check.
+shows_each_page() {
+    [ "$status" = 1 ] && cmp -s "$work/lines" "$work/err" && awk -F '\t' -v bytes="$(wc -c < "$1")" '
+        NF != 10 || ($4 != "-" && seen[$3]++) { bad = 1 }
+        { pages += ($4 == "-" ? $3 : 1); sum += $10 }
+        END { exit bad || sum != bytes || pages != bytes / 512 }' "$work/out"
+}
+
+# A file of 100000 pages with a pointer map and a freelist, whose first leaves are map page 105 and page 3, which is in use. The header
+# states no number of pages.
+cp tests/sqlite/autovacuum-incremental.db "$work/sparse.db"
+truncate -s 51200000 "$work/sparse.db"
+put_at "$work/sparse.db" 28 '\0\0\0\0'
+put_at "$work/sparse.db" 5128 '\0\0\0\0151\0\0\0\03'
+run check --limit 1000000 "$work/sparse.db"
+mv "$work/out" "$work/lines"
+for words in 'stat --all' 'stat --all --aggregate'; do
+    # shellcheck disable=SC2086
+    run $words "$work/sparse.db"
+    count "$words of 100000 pages" shows_each_page "$work/sparse.db"
+done
+rm "$work/sparse.db"
 
 # A page above 16 GiB is read: page 1 is an interior page whose one child is the last of 262147 pages of 65536 bytes, a leaf
 # without cells, which only a root may be. Page 16385 is the lock-byte page, and nothing names the others: 262144 are lost.
@@ -411,7 +452,7 @@ if on_terminal true && sqlite3 "$work/large.db" 'PRAGMA page_size = 512; CREATE 
 "dbck: note: $work/large.db: the 512 bytes at $at cannot be read"$'\n'"dbck: note: $work/large.db was changed while it was read; *"$'\n'"$unread"
     rm "$work"/large.db*
 else
-    echo 'no progress to look at: there is no sqlite3, or no script'
+    leave_out 6 sqlite3 script
 fi
 
 # written MOST LINE: whether a line of the shell takes at most so many writes, and at least half of them. The system counts them.
@@ -461,7 +502,7 @@ done
 if [ "$(sqlite3 :memory: 'SELECT count(*) FROM dbstat' 2> /dev/null)" ]; then
     count 'the rows of dbstat' tests/compare_dbstat.sh "$dbck" "$data/whole.db" "$data/by-sqlite.db" tests/sqlite/*.db
 else
-    echo 'no rows to compare with: there is no sqlite3 with dbstat'
+    leave_out 1 'sqlite3 with dbstat'
 fi
 
 # verdict FILE: `ok`, `faults` or `refused`, by the first line and the status of the run.
@@ -514,7 +555,7 @@ if command -v python3 > "$work/out"; then
         count "$name: $wanted" [ "$(verdict "$work/damaged/$name")" = "$wanted" ]
     done < <(grep -v '^#' tests/damaged.txt)
 else
-    echo 'no damaged databases to look at: there is no python3'
+    leave_out $((1 + $(grep -vc '^#' tests/damaged.txt))) python3
 fi
 
 # repairs: repairs twenty damaged databases as docs/REPAIR.md says, which has to lose no row that another recipe saves.
@@ -530,5 +571,6 @@ fi
 # The words of the completions are those of the help.
 count 'the words of the completions' tests/completions.sh "$dbck"
 
+[ "$left" = 0 ] || echo "$left left out for want of: $wants"
 echo "$passed passed, $failed failed"
 [ "$failed" = 0 ]
