@@ -221,7 +221,7 @@ if run --version && [ "$status" = 0 ]; then
         expect 4 '' "dbck: note: $work/closed.db: Permission denied"$'\n'"$unread" "$command" "$work/closed.db"
     done
 else
-    echo 'no run without permission: nobody may run the program'
+    leave_out 4 setpriv
 fi
 as=()
 # A file that has fewer bytes than it says.
@@ -452,7 +452,7 @@ if on_terminal true && sqlite3 "$work/large.db" 'PRAGMA page_size = 512; CREATE 
 "dbck: note: $work/large.db: the 512 bytes at $at cannot be read"$'\n'"dbck: note: $work/large.db was changed while it was read; *"$'\n'"$unread"
     rm "$work"/large.db*
 else
-    leave_out 6 sqlite3 script
+    leave_out 9 sqlite3 script
 fi
 
 # written MOST LINE: whether a line of the shell takes at most so many writes, and at least half of them. The system counts them.
@@ -479,7 +479,7 @@ if on_terminal true && [ -r /proc/self/io ]; then
     count 'writes of 6000 faults to a file' written $((bytes / 32768 + 1)) "'$dbck' stat '$work/lines.db' 2> '$work/report'"
     count 'writes of 6000 faults to a terminal' written 6001 "'$dbck' stat '$work/lines.db' > '$work/report'"
 else
-    echo 'no writes to count: there is no script, or the system counts none'
+    leave_out 4 script '/proc/self/io'
 fi
 
 # has_rows_of FILE: whether the rows of the last run are ten columns, and show the bytes of the file.
@@ -565,7 +565,7 @@ repairs() {
 if command -v python3 > "$work/out" && command -v sqlite3 > "$work/out"; then
     count 'twenty repairs' repairs
 else
-    echo 'no repairs to look at: there is no python3, or no sqlite3'
+    leave_out 1 python3 sqlite3
 fi
 
 # The words of the completions are those of the help.
