@@ -1,5 +1,4 @@
-// Statistics of whole files.
-mod forms;
+// Statistics of whole files beside the tables.
 mod names;
-mod pages;
+mod refused;
 mod sizes;

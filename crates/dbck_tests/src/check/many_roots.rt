@@ -1,6 +1,6 @@
 // A check of a schema that names more roots than are taken.
 use crate::runs::{check_of, found_of, is_found};
-use dbfiles::{Record, TestFile};
+use dbfiles::{Record, TestFile, holds};
 use dbreport::Verdict;
 use dbsource::MemSource;
 use std::alloc::{AllocError, Global};

@@ -1,6 +1,6 @@
 // What is written of small databases with one damage each. What is expected follows from how each was made.
 use crate::explain::made::is_explained;
-use dbfiles::{TestFile, schema_row};
+use dbfiles::{TestFile, holds, schema_row};
 use std::alloc::{AllocError, Global};
 use std::test::Fail;
 

@@ -1,6 +1,6 @@
 // Files with one damage each, as texts, and what is written of them.
 use dbexplain::explain;
-use dbfiles::{TestFile, schema_row};
+use dbfiles::{TestFile, holds, schema_row};
 use dbreport::Verdict;
 use dbsource::{MemOut, MemSource};
 use std::alloc::{AllocError, Global};

@@ -3,7 +3,7 @@ use crate::explain::explained::{SHARED, shared};
 use crate::explain::made::made;
 use crate::support::fakes::SmallOut;
 use dbexplain::{explain, explain_in};
-use dbfiles::StatedSource;
+use dbfiles::{StatedSource, holds};
 use dbreport::{Command, Verdict, run};
 use dbsource::{ByteRange, LogSource, MemOut, MemSource, RunError};
 use linked_list_allocator::LocalHeap;

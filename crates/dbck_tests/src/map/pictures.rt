@@ -1,5 +1,5 @@
 // Pictures of small files, by the rules: a square of 27 pixels a page, 28 from the next, and the first of a row at (72, 64).
-use dbfiles::{StatedSource, TestFile, patch, schema_row};
+use dbfiles::{StatedSource, TestFile, holds, patch, schema_row};
 use dbmap::map;
 use dbreport::Verdict;
 use dbsource::{MemOut, MemSource};

@@ -1,7 +1,7 @@
 // Reads, writes and memory that are refused in turn.
 use crate::map::pictures::small;
 use dbexplain::explain;
-use dbfiles::StatedSource;
+use dbfiles::{StatedSource, holds};
 use dbmap::{map, map_in};
 use dbreport::Verdict;
 use dbsource::{ByteRange, LogSource, MemOut, MemSource, RunError, StreamOut};

@@ -1,4 +1,5 @@
 // What an Out that gathers bytes hands on, and when.
+use dbfiles::holds;
 use dbsource::{BufferedOut, Out, WriteFailed};
 use linked_list_allocator::LocalHeap;
 use std::alloc::{AllocError, Global};

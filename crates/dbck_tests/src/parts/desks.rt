@@ -1,7 +1,7 @@
 // Desks that are used more than once, and sources that answer other bytes at each read.
 use crate::runs::{Found, check_of, found_of, is_found, is_same, stat_of};
 use crate::support::cases::file_of;
-use dbfiles::{DrawnSource, StatedSource, TestFile};
+use dbfiles::{DrawnSource, TestFile, holds};
 use dbreport::{Command, Desk, Verdict, run_on, told_files_are_run};
 use dbsource::{Header, MemOut, MemSource, OpenError, RunError, told_files_are_read};
 use std::alloc::Global;
@@ -68,26 +68,14 @@ fn a_desk_serves_both_commands(rt: HostRuntime) -> Result<(), Fail> {
     for text in [
         "LongRow 3",
         "SharedRoot 2: 1 509 ff",
-        "ladder 21",
-        "trunk 127",
+        "Ladder 21",
+        "FullTrunk 128: 2 7 7f",
     ] {
         let file = file_of(rt.alloc(), text)?;
         let header = header_of(file.as_slice())?;
         let mut desk = Desk::new(rt.alloc(), header)?;
         serves_both(&rt, rt.alloc(), &mut desk, file.as_slice());
     }
-    Ok(())
-}
-
-// The marks of the most pages that are taken are 256 MiB, and nothing says that there is too little memory: the read of page 1
-// fails, after the length and the header.
-#[test]
-fn takes_marks_of_67108864_pages(rt: HostRuntime) -> Result<(), Fail> {
-    let file = TestFile::new(rt.alloc(), 512, 1)?.into_bytes();
-    let mut source = StatedSource::new(file.as_slice(), 67108864 * 512, 2);
-    let found = found_of(rt.alloc(), check_of(100), &mut source);
-    holds!(rt; is_found(&found, Err(RunError::ReadFailed), b"", b""));
-    holds!(rt; source.calls() == 3);
     Ok(())
 }
 

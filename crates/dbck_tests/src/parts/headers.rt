@@ -1,5 +1,6 @@
 // What a header answers, by the length that a source states and its first bytes.
-use dbfiles::{StatedSource, TestFile};
+use dbfiles::{StatedSource, TestFile, holds};
+use dbformat::Fixed;
 use dbsource::{Header, OpenError, Refusal};
 use std::test::Fail;
 
@@ -92,6 +93,47 @@ fn counts_pages(rt: HostRuntime) -> Result<(), Fail> {
         file.change(changes);
         let file = file.into_bytes();
         holds!(rt; pages_of(file.as_slice(), len) == wanted_of(wanted), name);
+    }
+    Ok(())
+}
+
+// The fixed use of a page, and the map page of another, in a file of this length whose first bytes these are.
+fn uses_of(
+    bytes: &[u8],
+    len: u64,
+    fixed: u32,
+    mapped: u32,
+) -> Result<(Option<Fixed>, Option<u32>), OpenError> {
+    let geometry = Header::read(&mut StatedSource::new(bytes, len, 9))?.geometry();
+    Ok((geometry.fixed(fixed), geometry.map_page_of(mapped)))
+}
+
+// In 200 pages of 512 bytes there are the map pages 2 and 105, and between them 102 pages. Pages that have no entry are the first, the
+// map pages, and those that are not there.
+const MAPS: [(u32, Option<Fixed>, u32, Option<u32>); 8] = [
+    (1, None, 1, None),
+    (2, Some(Fixed::Map), 2, None),
+    (3, None, 3, Some(2)),
+    (104, None, 104, Some(2)),
+    (105, Some(Fixed::Map), 105, None),
+    (106, None, 106, Some(105)),
+    (200, None, 200, Some(105)),
+    (208, None, 201, None),
+];
+
+#[test]
+fn knows_pages_of_fixed_use(rt: HostRuntime) -> Result<(), Fail> {
+    let mut file = TestFile::new(rt.alloc(), 512, 1)?;
+    file.change("1 52 00000001");
+    let file = file.into_bytes();
+    for (page, fixed, other, map) in MAPS {
+        let found = uses_of(file.as_slice(), 102400, page, other);
+        holds!(rt; found == Ok((fixed, map)), page);
+    }
+    let file = TestFile::new(rt.alloc(), 1024, 1)?.into_bytes();
+    for (page, fixed) in [(1048576u32, None), (1048577, Some(Fixed::Lock))] {
+        let found = uses_of(file.as_slice(), 1073742848, page, 3);
+        holds!(rt; found == Ok((fixed, None)), page);
     }
     Ok(())
 }

@@ -3,6 +3,7 @@ use crate::support::cases::{begins, command_of, file_of, verdict_of};
 use crate::support::fakes::SmallOut;
 use crate::support::files::{DEEP_ROWS, EMPTY_PAGES, LONG_ROW_ROWS, OLD_VERSION};
 use bumpalo::Bump;
+use dbfiles::holds;
 use dbreport::{Verdict, run_in};
 use dbsource::{MemSource, RunError};
 use linked_list_allocator::LocalHeap;
@@ -52,7 +53,7 @@ fn run_in_arena(alloc: Global, what: &str, file: &[u8], room: usize) -> Result<G
 }
 
 // What is run, the file, how many bytes its marks take, of four each, and what is written to both outs.
-const GROWTHS: [(&str, &str, usize, &str, &str); 4] = [
+const GROWTHS: [(&str, &str, usize, &str, &str); 9] = [
     ("check", "Smallest 1", 4, "ok\n", ""),
     (
         "pages",
@@ -61,9 +62,32 @@ const GROWTHS: [(&str, &str, usize, &str, &str); 4] = [
         "sqlite_schema|/|1|leaf|0|0|404|0|0|512\n",
         "",
     ),
-    ("check", "ladder 20", 80, EMPTY_PAGES, ""),
-    ("pages", "ladder 20", 80, DEEP_ROWS, EMPTY_PAGES),
+    ("check", "Ladder 20", 80, EMPTY_PAGES, ""),
+    ("pages", "Ladder 20", 80, DEEP_ROWS, EMPTY_PAGES),
+    ("check", "Freelist 3", 12, "ok\n", ""),
+    // A pointer map and a freelist.
+    ("check", "MappedFreelist 4", 16, "ok\n", ""),
+    (
+        "all pages",
+        "MappedFreelist 4",
+        16,
+        MAPPED_FREELIST_ROWS,
+        "",
+    ),
+    // A row of the schema with a chain, whose root is none.
+    ("check", "LongSql 3: 1 430 00", 12, UNUSED, ""),
+    ("pages", "LongSql 3: 1 430 00", 12, LONG_SQL_ROWS, UNUSED),
 ];
+
+const MAPPED_FREELIST_ROWS: &str = "sqlite_schema|/|1|leaf|0|0|404|0|0|512\n\
+    -|-|2|map|0|0|0|0|512|512\n\
+    -|-|3|trunk|0|0|0|0|1024|512\n\
+    -|-|4|freeleaf|0|0|0|0|1536|512\n";
+
+const LONG_SQL_ROWS: &str = "sqlite_schema|/|1|leaf|1|92|303|600|0|512\n\
+    sqlite_schema|/000+000000|3|overflow|0|508|0|0|1024|512\n";
+
+const UNUSED: &str = "N01 page 2 item 0 value 0: page is not in use\n";
 
 // With room for less than 23 growths all that there is room for are taken, and nothing is written; with room for just these no
 // growth is missed, also none that would be given back. Pages are of 512 bytes.
@@ -81,6 +105,40 @@ fn takes_23_growths_and_no_more(rt: HostRuntime) -> Result<(), Fail> {
         let room = marks.wrapping_add(22 * 512);
         let found = run_in_arena(rt.alloc(), what, file.as_slice(), room)?;
         holds!(rt; found == wanted, what);
+    }
+    Ok(())
+}
+
+// The least room, beside the buffers and the marks of the pages, with which a check of a file gets its memory, in steps of 8 bytes.
+fn least_room(alloc: Global, file: &[u8]) -> Result<usize, AllocError> {
+    let marks = (file.len() / 512).wrapping_mul(4);
+    for steps in 0..64usize {
+        let more = steps.wrapping_mul(8);
+        let room = marks.wrapping_add(22 * 512).wrapping_add(more);
+        let (answer, _, _, _) = run_in_arena(alloc, "check", file, room)?;
+        if answer.is_ok() {
+            return Ok(more);
+        }
+    }
+    Ok(usize::MAX)
+}
+
+// Files with one root, and the same with an empty one: an index of three pages and a chain, a table's chain, and one after a map.
+const ROOTED: [[&str; 2]; 3] = [
+    ["Index 5", "Index 5: 2 0 0a 0000 0000 0200 00"],
+    ["LongRow 3", "LongRow 3: 2 0 0d 0000 0000 0200 00"],
+    ["Mapped 4", "Mapped 4: 3 0 0d 0000 0000 0200 00"],
+];
+
+// Beside the list of roots, trees, chains and maps take no memory.
+#[test]
+fn trees_take_no_more_than_their_roots(rt: HostRuntime) -> Result<(), Fail> {
+    for [text, empty] in ROOTED {
+        let file = file_of(rt.alloc(), text)?;
+        let found = least_room(rt.alloc(), file.as_slice())?;
+        let file = file_of(rt.alloc(), empty)?;
+        let least = least_room(rt.alloc(), file.as_slice())?;
+        holds!(rt; found == least && 0 < least && least < 512, (text, found, least));
     }
     Ok(())
 }

@@ -2,7 +2,7 @@
 use crate::support::cases::{begins, command_of, file_of, lines, verdict_of};
 use crate::support::fakes::SmallOut;
 use crate::support::files::{LONG_ROW_ROWS, MAPPED_ROWS, OLD_VERSION};
-use dbfiles::StatedSource;
+use dbfiles::{StatedSource, holds};
 use dbreport::{Command, run};
 use dbsource::RunError;
 use std::alloc::Global;

@@ -2,6 +2,7 @@
 use crate::support::cases::{begins, command_of, file_of, is_text, lines, verdict_of};
 use crate::support::fakes::{FakeWriter, Manner, SmallOut};
 use crate::support::files::{EMPTY_PAGES, LONG_ROW_ROWS, MAPPED_ROWS, OLD_VERSION};
+use dbfiles::holds;
 use dbreport::{Verdict, run};
 use dbsource::{MemSource, RunError, StreamOut};
 use std::alloc::Global;
@@ -19,7 +20,7 @@ const LADDER_LINES: &str = "P10 page 2 item 0 value 0: empty page that is not a 
 const FIRST_OUTS: [[&str; 4]; 8] = [
     ["check", "LongRow 3", "ok\n", ""],
     ["check", "LongRow 3: 1 18 03", OLD_VERSION, ""],
-    ["check", "ladder 20", EMPTY_PAGES, ""],
+    ["check", "Ladder 20", EMPTY_PAGES, ""],
     ["pages", "LongRow 3", LONG_ROW_ROWS, ""],
     [
         "trees",
@@ -28,10 +29,10 @@ const FIRST_OUTS: [[&str; 4]; 8] = [
         "",
     ],
     ["all pages", "Mapped 4", MAPPED_ROWS, ""],
-    ["pages", "ladder 3", LADDER_ROWS, LADDER_LINES],
+    ["pages", "Ladder 3", LADDER_ROWS, LADDER_LINES],
     [
         "trees",
-        "ladder 3",
+        "Ladder 3",
         "sqlite_schema|-|3|-|0|0|1404|0|-|1536\n",
         LADDER_LINES,
     ],
@@ -78,7 +79,7 @@ const SECOND_OUTS: [(&str, &str, &str, usize); 3] = [
         3,
     ),
     // The first line is of page 2.
-    ("ladder 3", LADDER_ROWS, LADDER_LINES, 2),
+    ("Ladder 3", LADDER_ROWS, LADDER_LINES, 2),
 ];
 
 // Whether the second out holds a beginning of the lines, as long as its room, and the rows before the line that failed are written.

@@ -3,7 +3,7 @@ use crate::runs::check_of;
 use crate::slow::sound::is_sound;
 use crate::support::cases::file_of;
 use crate::support::fakes::SmallOut;
-use dbfiles::patch;
+use dbfiles::{holds, patch};
 use dbreport::{Verdict, run};
 use dbsource::{MemSource, Refusal, RunError};
 use std::alloc::{AllocError, Global};
@@ -42,7 +42,7 @@ const FILES: [(&str, &str, bool); 12] = [
     ("a wrong freelist count", "Freelist 3: 1 36 00000001", false),
     ("a root before a trunk", "RootFirst 4", true),
     ("a root after a trunk", "RootLast 4", false),
-    ("empty pages below a root", "ladder 3", false),
+    ("empty pages below a root", "Ladder 3", false),
 ];
 
 #[test]

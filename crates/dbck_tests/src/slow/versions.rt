@@ -5,7 +5,7 @@ use crate::runs::{Found, check_of, found_of, is_same, stat_of};
 use crate::slow::sound::is_sound;
 use crate::support::cases::{file_of, lines};
 use crate::support::versions::{Answer, ChangingSource};
-use dbfiles::patch;
+use dbfiles::{holds, patch};
 use dbreport::{Command, Verdict};
 use dbsource::{MemSource, RunError, Source};
 use std::alloc::{AllocError, Global};
@@ -282,8 +282,8 @@ fn runs_over_file(
 // Runs a command over the versions of each file.
 fn runs_over_versions(rt: &impl Abort, alloc: Global, command: Command) -> Result<(), Fail> {
     for name in [
-        "mapped-forest",
-        "forest",
+        "MappedForest 19",
+        "Forest 19",
         "Mapped 4",
         "TwoLeaves 4",
         "LongSql 3",
@@ -297,7 +297,7 @@ fn runs_over_versions(rt: &impl Abort, alloc: Global, command: Command) -> Resul
 // What is changed is a sound file.
 #[test]
 fn forests_are_sound(rt: HostRuntime) -> Result<(), Fail> {
-    for name in ["forest", "mapped-forest"] {
+    for name in ["Forest 19", "MappedForest 19"] {
         let file = file_of(rt.alloc(), name)?;
         let is_sound = is_sound(rt.alloc(), file.as_slice())?;
         holds!(rt; is_sound, name);

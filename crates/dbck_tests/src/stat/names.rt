@@ -1,7 +1,7 @@
 // How the rows show the names of trees.
 use crate::runs::found_of;
 use crate::support::cases::{command_of, verdict_of};
-use dbfiles::{Record, TestFile};
+use dbfiles::{Record, TestFile, holds};
 use dbsource::MemSource;
 use std::alloc::{AllocError, Global};
 use std::process::Abort;

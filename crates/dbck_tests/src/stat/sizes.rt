@@ -1,7 +1,7 @@
 // Statistics of files of many pages: paths of many digits, and each page in one row.
 use crate::runs::{Found, check_of, found_of};
 use crate::support::cases::{command_of, is_text};
-use dbfiles::{StatedSource, TestFile, draw, patch, schema_row};
+use dbfiles::{StatedSource, TestFile, draw, holds, patch, schema_row};
 use dbreport::Verdict;
 use dbsource::MemSource;
 use std::alloc::{AllocError, Global};
@@ -207,37 +207,6 @@ fn has_each_page_once(rt: &impl Abort, alloc: Global, file: &[u8], seen: &mut [b
         holds!(*rt; have_each_page(found.out.bytes(), seen), form);
         holds!(*rt; has_lines_of(&found, &checked), form);
     }
-}
-
-// This many numbers from one on.
-fn numbers(alloc: Global, first: u32, count: u32) -> Result<Vec<u32>, AllocError> {
-    let mut numbers = Vec::new(alloc);
-    for number in first..first.wrapping_add(count) {
-        numbers.push(number)?;
-    }
-    Ok(numbers)
-}
-
-// 100000 pages after a pointer map: a tree with a long chain, which two rows of the schema name, a freelist of two trunks whose
-// leaves are map pages too, and pages that nothing uses.
-fn many_pages(alloc: Global) -> Result<Vec<u8>, AllocError> {
-    let mut file = long_chain(alloc, 3, 1000)?;
-    file.schema(&[schema_row(b"table", b"t", 3), schema_row(b"table", b"t", 3)]);
-    file.map(200, &[]);
-    file.freelist(24, 205);
-    file.trunk(24, 1000, numbers(alloc, 30, 80)?.as_slice());
-    file.trunk(1000, 0, numbers(alloc, 1500, 126)?.as_slice());
-    let mut bytes = file.into_bytes();
-    bytes.resize(100000 * 512, 0)?;
-    Ok(bytes)
-}
-
-#[test]
-fn shows_each_of_100000_pages_once(rt: HostRuntime) -> Result<(), Fail> {
-    let file = many_pages(rt.alloc())?;
-    let mut seen = Vec::from_elem(rt.alloc(), false, 100001)?;
-    has_each_page_once(&rt, rt.alloc(), file.as_slice(), seen.as_mut_slice());
-    Ok(())
 }
 
 // 64 pages whose bytes are drawn from a counter, after the header of a file with a freelist and, for every other counter, a

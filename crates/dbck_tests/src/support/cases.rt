@@ -1,33 +1,13 @@
-// Cases as texts, and one runner for the checks of a table and one for its statistics.
-use crate::runs::{Found, check_of, found_of, is_found, stat_of};
-use crate::support::files::{forest, ladder, long_freelist};
+// Files, commands and verdicts by texts.
+use crate::runs::{check_of, found_of, stat_of};
 use dbfiles::TestFile;
 use dbreport::{Command, Verdict};
-use dbsource::{ByteRange, LogSource, MemSource};
+use dbsource::{ByteRange, MemSource};
 use std::alloc::{AllocError, Global};
-use std::process::Abort;
-use std::test::Fail;
 
-/// A file in four texts: a name; the sample, of some pages of 512 bytes, and what is written over it; what a check of it
-/// writes; and the pages that are read after the header, in their order.
-pub(crate) type CheckCase = [&'static str; 4];
-
-/// A file and its statistics in five texts: a name; the form; the file; the rows, in which each tab is written `|`; and the lines
-/// of the faults.
-pub(crate) type StatCase = [&'static str; 5];
-
-/// The bytes of a file that one text describes: a `ladder` of some pages, a `trunk` that states some leaves, a `forest` or a
-/// `mapped-forest`, or a sample as [`TestFile::of`] has it.
+/// The bytes of a file that one text describes, as [`TestFile::of`] has it.
 pub(crate) fn file_of(alloc: Global, text: &str) -> Result<Vec<u8>, AllocError> {
-    let (word, number) = text.split_once(' ').unwrap_or((text, ""));
-    let number = number.parse::<u8>().unwrap_or(0);
-    match word {
-        "ladder" => ladder(alloc, number),
-        "trunk" => long_freelist(alloc, number),
-        "forest" => forest(alloc, false),
-        "mapped-forest" => forest(alloc, true),
-        _ => Ok(TestFile::of(alloc, text)?.into_bytes()),
-    }
+    Ok(TestFile::of(alloc, text)?.into_bytes())
 }
 
 /// How many line feeds there are.
@@ -98,41 +78,10 @@ pub(crate) fn is_text(text: &str, bytes: &[u8]) -> bool {
     bytes.len() == text.len() && begins(text, bytes)
 }
 
-// Whether a check of a file writes this and asks for these pages.
-fn is_checked(alloc: Global, file: &[u8], report: &str, asked: &str) -> bool {
-    let mut source = LogSource::new(file);
-    let found = found_of(alloc, check_of(100), &mut source);
-    is_found(&found, Ok(verdict_of(report)), report.as_bytes(), b"")
-        && are_asked(source.ranges(), asked)
-}
-
-/// That a check of each file of a table writes and asks for what the table says.
-pub(crate) fn are_checked(rt: &impl Abort, alloc: Global, cases: &[CheckCase]) -> Result<(), Fail> {
-    for [name, file, report, asked] in cases {
-        let file = file_of(alloc, file)?;
-        holds!(*rt; is_checked(alloc, file.as_slice(), report, asked), name);
-    }
-    Ok(())
-}
-
-/// Whether these are the rows and lines that were found, and no others.
-pub(crate) fn has_rows(found: &Found, rows: &str, lines: &str) -> bool {
-    found.answer == Ok(verdict_of(lines))
-        && is_text(rows, found.out.bytes())
-        && found.err.bytes() == lines.as_bytes()
-}
-
 /// Whether a file has these rows in a form, and these lines.
 pub(crate) fn shows(alloc: Global, form: &str, file: &[u8], rows: &str, lines: &str) -> bool {
     let found = found_of(alloc, command_of(form), &mut MemSource::new(file));
-    has_rows(&found, rows, lines)
-}
-
-/// That each file of a table has the statistics that the table says.
-pub(crate) fn have_rows(rt: &impl Abort, alloc: Global, cases: &[StatCase]) -> Result<(), Fail> {
-    for [name, form, file, rows, lines] in cases {
-        let file = file_of(alloc, file)?;
-        holds!(*rt; shows(alloc, form, file.as_slice(), rows, lines), name);
-    }
-    Ok(())
+    found.answer == Ok(verdict_of(lines))
+        && is_text(rows, found.out.bytes())
+        && found.err.bytes() == lines.as_bytes()
 }

@@ -1,6 +1,4 @@
-// Files that several tests share beside the samples, and what is written of some samples.
-use dbfiles::{TestFile, patch, schema_row};
-use std::alloc::{AllocError, Global};
+// What is written of some samples.
 
 /// The line of a header whose file version is 3.
 pub(crate) const OLD_VERSION: &str = "H01 page 1 item 18 value 3: file version is not 1 or 2\n";
@@ -66,79 +64,3 @@ pub(crate) const EMPTY_PAGES: &str = "P10 page 2 item 0 value 0: empty page that
     P10 page 18 item 0 value 0: empty page that is not a root\n\
     P10 page 19 item 0 value 0: empty page that is not a root\n\
     P10 page 20 item 0 value 0: empty page that is not a root\n";
-
-/// A schema of this many pages of 512 bytes, each but the last an interior page without cells whose right child is the next.
-pub(crate) fn ladder(alloc: Global, pages: u8) -> Result<Vec<u8>, AllocError> {
-    let mut file = TestFile::new(alloc, 512, u32::from(pages))?;
-    for p in 1..pages {
-        file.interior_table(u32::from(p), u32::from(p).wrapping_add(1));
-    }
-    file.leaf_table(u32::from(pages));
-    Ok(file.into_bytes())
-}
-
-/// A freelist of one trunk, page 2, which states this many leaves, and the leaves 3 to 128, all of the pages after it.
-pub(crate) fn long_freelist(alloc: Global, count: u8) -> Result<Vec<u8>, AllocError> {
-    let mut leaves = [0u32; 126];
-    for (place, leaf) in leaves.iter_mut().zip(3..129u32) {
-        *place = leaf;
-    }
-    let mut file = TestFile::new(alloc, 512, 128)?;
-    file.freelist(2, 127);
-    file.trunk(2, 0, &leaves);
-    let mut bytes = file.into_bytes();
-    patch(bytes.as_mut_slice(), 519, &[count]);
-    Ok(bytes)
-}
-
-// The entries of the pages 3 to 19 of a mapped forest.
-const ENTRIES: [(u8, u32); 17] = [
-    (1, 0),
-    (1, 0),
-    (5, 3),
-    (5, 3),
-    (5, 5),
-    (5, 5),
-    (5, 6),
-    (5, 6),
-    (3, 7),
-    (4, 11),
-    (5, 4),
-    (5, 4),
-    (3, 4),
-    (2, 0),
-    (2, 0),
-    (2, 0),
-    (2, 0),
-];
-
-/// A table of three levels with a chain of two pages, an index of two levels with a chain, and a freelist of two trunks, each
-/// with a leaf. Page 2 is a map page, or a third trunk.
-pub(crate) fn forest(alloc: Global, is_mapped: bool) -> Result<Vec<u8>, AllocError> {
-    let mut file = TestFile::new(alloc, 512, 19)?;
-    file.schema(&[schema_row(b"table", b"t", 3), schema_row(b"index", b"i", 4)]);
-    file.interior_table(3, 6).key(5, 10);
-    file.interior_table(5, 8).key(7, 5);
-    file.interior_table(6, 10).key(9, 15);
-    file.leaf_table(7).long_cell(1, &[0; 1108], 92, 11);
-    file.leaf_table(8).cell(6, &[0; 9]);
-    file.leaf_table(9).cell(11, &[0; 9]).cell(12, &[0; 9]);
-    file.leaf_table(10).cell(16, &[0; 9]);
-    file.overflow(11, 12, &[0; 508]);
-    file.overflow(12, 0, &[0; 508]);
-    file.interior_index(4, 14)
-        .long_index_key(13, &[0; 600], 92, 15);
-    file.leaf_index(13).index_cell(&[0; 7]);
-    file.leaf_index(14).index_cell(&[0; 7]);
-    file.overflow(15, 0, &[0; 508]);
-    file.trunk(16, 18, &[17]);
-    file.trunk(18, 0, &[19]);
-    if is_mapped {
-        file.freelist(16, 4);
-        file.map(4, &ENTRIES);
-    } else {
-        file.freelist(2, 5);
-        file.trunk(2, 16, &[]);
-    }
-    Ok(file.into_bytes())
-}
