@@ -68,7 +68,6 @@ module _ {A O : Type 0} (file : List ℕ) (V : List Reference) (survey : Survey 
       pages = all.pages ∙ empty.faulty.pages;
       strong = subst (IsUnnoted (geometry file).pages) (sym all.strong) empty.strong;
       listing = listed;
-      few = empty.few;
     }
 
     -- after a failed read nothing has been put

@@ -13,18 +13,18 @@ use Rattle.dbformat.specs.File.{geometry}
 use Rattle.dbformat.specs.Reference.{Reference}
 use Rattle.dbformat.specs.SchemaRow.{SchemaRow}
 use Rattle.dbmap.specs.OwnerShares.{no_share}
-use Rattle.dbmap.specs.LegendLines.{file_share, is_other, legend_lines, line_if, other_trees, others_share, owner_lines, root_if_twice, tree_lines}
+use Rattle.dbmap.specs.LegendLines.{file_share, is_other, legend_lines, line_if, other_trees, others_share, owner_lines, tree_lines}
 use Rattle.dbmap.specs.Legends.{no_overflow}
 use Rattle.dbmap.specs.Owners.{rank_of, tree_starts}
 use Rattle.dbmap.specs.Shares.{capped_pages, share_sum}
 use Rattle.dbmap.specs.Tallies.{AreLargest, IsPageTallyOf, PagesTallied, fixed_count, lost_pages, pages_at, share_at, start_share}
 use Rattle.dbmap.specs.TreeLists.{tree_at}
 use Rattle.dbmap.specs.declared.owner_shares.Share.{Share}
-use Rattle.dbmap.specs.declared.legend.Label.TheVariants.{Faulty, Fixed, Freelist, Nobody, Others, Tree}
+use Rattle.dbmap.specs.declared.legend.Label.TheVariants.{Fixed, Freelist, Nobody, Others, Strong, Tree, Weak}
 use Rattle.dbmap.specs.declared.legend.LegendLine.{LegendLine}
 use Rattle.dbmap.specs.declared.tally.RankedTree as tally
 use Rattle.dbmap.proofs.Trees.{tree_here}
-use Rattle.dbscan.specs.Roots.{AreListed}
+use Rattle.dbscan.specs.Roots.{AreListed, root_page}
 
 -- ---- sums over starts
 
@@ -111,20 +111,21 @@ module _ (s t : ℕ → Share) (largest : List ℕ) (m d : ℕ) (same : (k : ℕ
 
 -- ---- all lines
 
-trees_same : (names : List (List ℕ)) (rows : List SchemaRow) (s t : ℕ → Share) (rank : ℕ) (ks : List ℕ) → ((k : ℕ) → IsIn k ks → s k ≡ t k)
-    → tree_lines names rows s rank ks ≡ tree_lines names rows t rank ks
-trees_same names rows s t rank [] h = refl
-trees_same names rows s t rank (k ∷ ks) h =
-    ap₂ (λ x l. line_if (Tree rank (root_if_twice names rows rank k)) x ++ l) (h k (inl refl)) (trees_same names rows s t (rank + 1) ks (λ j i. h j (inr i)))
+trees_same : (rows : List SchemaRow) (s t : ℕ → Share) (rank : ℕ) (ks : List ℕ) → ((k : ℕ) → IsIn k ks → s k ≡ t k)
+    → tree_lines rows s rank ks ≡ tree_lines rows t rank ks
+trees_same rows s t rank [] h = refl
+trees_same rows s t rank (k ∷ ks) h =
+    ap₂ (λ x l. line_if (Tree rank (root_page rows k)) x ++ l) (h k (inl refl)) (trees_same rows s t (rank + 1) ks (λ j i. h j (inr i)))
 
-pub legend_is : (file : List ℕ) (V : List Reference) (t : PagesTallied) (names : List (List ℕ)) (rows : List SchemaRow) (ks : List ℕ) (faulty : ℕ)
+pub legend_is : (file : List ℕ) (V : List Reference) (t : PagesTallied) (rows : List SchemaRow) (ks : List ℕ) (strong weak : ℕ)
     → IsPageTallyOf file V t → AreLargest t.trees (pages_at t.starts) ks → AreListed file V rows
-    → owner_lines names rows (share_at t.starts) ks t.trees t.fixed t.nobody ++ line_if Faulty (no_overflow faulty) ≡ legend_lines file V names ks faulty
-legend_is file V t names rows ks faulty h largest listed =
-    ap (λ (l : List LegendLine). l ++ line_if Faulty (no_overflow faulty)) (
+    → (owner_lines rows (share_at t.starts) ks t.trees t.fixed t.nobody ++ line_if Strong (no_overflow strong)) ++ line_if Weak (no_overflow weak)
+    ≡ legend_lines file V ks strong weak
+legend_is file V t rows ks strong weak h largest listed =
+    ap (λ (l : List LegendLine). (l ++ line_if Strong (no_overflow strong)) ++ line_if Weak (no_overflow weak)) (
     ap₂ (λ x y. x ++ y) trees (ap₂ (λ x y. x ++ y) others (ap₂ (λ x y. x ++ y) (ap (line_if Freelist) free)
     (ap₂ (λ x y. line_if Fixed (no_overflow x) ++ line_if Nobody (no_overflow y)) h.all.fixed h.all.nobody)))
-    ∙ ap (λ (r : List SchemaRow). owner_lines names r (file_share file V) ks freelist_start fixed nobody) listed)
+    ∙ ap (λ (r : List SchemaRow). owner_lines r (file_share file V) ks freelist_start fixed nobody) listed)
   where
     fixed : ℕ
     fixed = capped_pages (fixed_count file (geometry file).pages)
@@ -141,8 +142,8 @@ legend_is file V t names rows ks faulty h largest listed =
     few : (k : ℕ) → IsIn k ks → k ≤ freelist_start
     few k i = let here = (largest.some k i).0 in let most = h.all.few in omega (arith, here, most)
 
-    trees : tree_lines names rows (share_at t.starts) 0 ks ≡ tree_lines names rows (file_share file V) 0 ks
-    trees = trees_same names rows (share_at t.starts) (file_share file V) 0 ks (λ k i. same k (few k i))
+    trees : tree_lines rows (share_at t.starts) 0 ks ≡ tree_lines rows (file_share file V) 0 ks
+    trees = trees_same rows (share_at t.starts) (file_share file V) 0 ks (λ k i. same k (few k i))
 
     rest : t.trees + (freelist_start - t.trees) ≡ freelist_start
     rest = let most = h.all.few in omega (arith, most)
@@ -162,25 +163,25 @@ legend_is file V t names rows ks faulty h largest listed =
 -- ---- line after line
 
 -- a tree has its line
-pub tree_more : (names : List (List ℕ)) (rows : List SchemaRow) (starts : List Share) (ts : List tally.RankedTree) (i : ℕ) (d : tally.RankedTree) (lines : List LegendLine) {new all : List LegendLine} → i < length ts
-    → new ≡ lines ++ line_if (Tree i (root_if_twice names rows i (get_or ts i d).start)) (get_or ts i d).share → ts ≡ map (tree_at starts) (tree_starts ts)
-    → lines ++ tree_lines names rows (share_at starts) i (tree_starts (drop i ts)) ≡ all
-    → new ++ tree_lines names rows (share_at starts) (i + 1) (tree_starts (drop (i + 1) ts)) ≡ all
-tree_more names rows starts ts i d lines l e shares h =
+pub tree_more : (rows : List SchemaRow) (starts : List Share) (ts : List tally.RankedTree) (i : ℕ) (d : tally.RankedTree) (lines : List LegendLine) {new all : List LegendLine} → i < length ts
+    → new ≡ lines ++ line_if (Tree i (root_page rows (get_or ts i d).start)) (get_or ts i d).share → ts ≡ map (tree_at starts) (tree_starts ts)
+    → lines ++ tree_lines rows (share_at starts) i (tree_starts (drop i ts)) ≡ all
+    → new ++ tree_lines rows (share_at starts) (i + 1) (tree_starts (drop (i + 1) ts)) ≡ all
+tree_more rows starts ts i d lines l e shares h =
     let start = (get_or ts i d).start in
-    let rest = tree_lines names rows (share_at starts) (i + 1) (tree_starts (drop (i + 1) ts)) in
-    let line : Share → List LegendLine = line_if (Tree i (root_if_twice names rows i start)) in
+    let rest = tree_lines rows (share_at starts) (i + 1) (tree_starts (drop (i + 1) ts)) in
+    let line : Share → List LegendLine = line_if (Tree i (root_page rows start)) in
     let cut : drop i ts ≡ get_or ts i d ∷ drop (i + 1) ts = rw add-one (drop-cons ts i d l) in
     ap (λ x. x ++ rest) (e ∙ ap (λ s. lines ++ line s) (tree_here starts ts i d l shares))
     ∙ append_assoc lines (line (share_at starts start)) rest
-    ∙ ap (λ us. lines ++ tree_lines names rows (share_at starts) i (tree_starts us)) (sym cut)
+    ∙ ap (λ us. lines ++ tree_lines rows (share_at starts) i (tree_starts us)) (sym cut)
     ∙ h
 
 -- all trees have
-pub trees_end : (names : List (List ℕ)) (rows : List SchemaRow) (share : ℕ → Share) (ts : List tally.RankedTree) (i : ℕ) {lines all : List LegendLine} → length ts ≤ i
-    → lines ++ tree_lines names rows share i (tree_starts (drop i ts)) ≡ all → lines ≡ all
-trees_end names rows share ts i {lines = lines} l h =
-    sym (append-nil lines) ∙ ap (λ us. lines ++ tree_lines names rows share i (tree_starts us)) (sym (drop_all i ts l)) ∙ h
+pub trees_end : (rows : List SchemaRow) (share : ℕ → Share) (ts : List tally.RankedTree) (i : ℕ) {lines all : List LegendLine} → length ts ≤ i
+    → lines ++ tree_lines rows share i (tree_starts (drop i ts)) ≡ all → lines ≡ all
+trees_end rows share ts i {lines = lines} l h =
+    sym (append-nil lines) ∙ ap (λ us. lines ++ tree_lines rows share i (tree_starts us)) (sym (drop_all i ts l)) ∙ h
 
 -- four lines more
 pub four_more : (a b c d : List LegendLine) {trees one two three four all : List LegendLine} → trees ≡ all → one ≡ trees ++ a → two ≡ one ++ b → three ≡ two ++ c → four ≡ three ++ d

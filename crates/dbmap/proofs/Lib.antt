@@ -4,7 +4,6 @@ pub mod Heard
 pub mod Largest
 pub mod LegendLines
 pub mod MapAnswers
-pub mod Namesakes
 pub mod Owning
 pub mod PageSets
 pub mod Pictured

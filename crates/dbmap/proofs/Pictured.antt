@@ -1,6 +1,7 @@
 -- The picture of the file that a desk is of.
-use Rattle.std.proofs.Common.{◌≡◌, ℕ, List, length, Result, refl, sym, ap, subst, ◌∙◌}
+use Rattle.std.proofs.Common.{◌≡◌, ℕ, List, length, count_by, Result, refl, sym, ap, ap₂, subst, ◌∙◌}
 use Rattle.std.specs.Int.{div_ceil}
+use Rattle.std.specs.List.{range_with_len}
 use Rattle.dbsurvey.specs.Moves.{Moves}
 use Rattle.dbformat.specs.Header.{encoding}
 use Rattle.dbformat.specs.Lines.{counted}
@@ -23,6 +24,7 @@ use Rattle.dbscan.specs.Notices.{Notice}
 use Rattle.dbscan.specs.Roots.{AreListed}
 use Rattle.dbxml.specs.Names.{short_text}
 use Rattle.dbmap.specs.Drawings.{PutsPicture, stated_of}
+use Rattle.dbmap.specs.FaultyPages.{is_weak}
 use Rattle.dbmap.specs.KeptFaults.{HasFaults, HasTreeRoom}
 use Rattle.dbmap.specs.Grids.{IsLeastRun}
 use Rattle.dbmap.specs.LegendLines.{legend_lines}
@@ -32,7 +34,7 @@ use Rattle.dbmap.specs.Squares.{surveyed}
 use Rattle.dbmap.specs.declared.kept.KeptFaults.{KeptFaults}
 use Rattle.dbmap.specs.declared.map_reporter.MapReporter.{MapReporter}
 use Rattle.dbmap.proofs.SameName.{same_name}
-use Rattle.dbmap.proofs.ShownFaults.{faults_shown, pages_counted}
+use Rattle.dbmap.proofs.ShownFaults.{faults_shown, strong_counted, weak_counted}
 use Rattle.dbmap.proofs.SquareSteps.{same_picture}
 
 -- the names of trees are those of the file
@@ -50,6 +52,7 @@ pub pictured : {A E K : Type 0} {r : Result A E} {old new : OutState} {d : Thing
     → PutsPicture r old new name d k n → IsDeskOf d file V → n ≡ counted (length (faults file V)) → HasFaults file V k → HasPicture (Writes r old.bytes new.bytes) name file V
 pictured {r = r} {old = old} {new = new} {d = d} {k = k} file V put desk count has =
     let shape = desk.header.shape in
+    let faulty = faults_shown file V k has put.drawn.faults put.is.faulty in
     let room : HasTreeRoom (shape_of d).pages k.state.trees.known = subst (λ (g : Geometry). HasTreeRoom g.pages k.state.trees.known) (sym shape) has.room in
     record {
       heading = put.heading;
@@ -68,13 +71,15 @@ pictured {r = r} {old = old} {new = new} {d = d} {k = k} file V put desk count h
         many = put.is.many;
         are = put.is.are file V desk room;
         places = λ p. ap (λ (marks : List Mark). place_by (page_mark marks p)) (put.is.marks ∙ desk.marks) ∙ place_is file V desk.survey p;
-        faulty = faults_shown file V k has put.drawn.faults put.is.faulty;
+        faulty = faulty;
         starts = λ p. refl;
         largest = put.is.largest file V desk room;
         fixed = put.is.shape ∙ shape;
         trees = λ start. ap (λ (tree : ℕ → List ℕ). tree start) put.is.tree ∙ ap (λ (tree : ℕ → List ℕ). short_text (tree start)) (known_trees file V d.header d.roots.rows desk.header desk.rows);
         names = put.is.names;
       };
-      legend = put.legend file V desk room ∙ ap (legend_lines file V put.drawn.names put.drawn.owners.largest) (pages_counted file V k has);
+      legend = subst (λ (g : Geometry). put.lines ≡ legend_lines file V put.drawn.owners.largest (count_by put.drawn.faults.strong (range_with_len 1 g.pages))
+          (count_by (is_weak put.drawn.faults.has put.drawn.faults.strong) (range_with_len 1 g.pages))) shape (put.legend file V desk room)
+          ∙ ap₂ (legend_lines file V put.drawn.owners.largest) (strong_counted faulty) (weak_counted faulty);
       holds = subst (Writes r old.bytes new.bytes) (same_picture put.drawn V put.heading put.all put.lines) put.puts.held;
     }

@@ -1,6 +1,7 @@
 -- What is drawn of squares: for each place of the grid there is one.
-use Rattle.std.specs.Prelude.{◌≡◌, ℕ, Bool, List, ◌++◌, length, map, Option, Result, if◌then◌else◌}
+use Rattle.std.specs.Prelude.{◌≡◌, ℕ, Bool, List, ◌++◌, length, map, count_by, Option, Result, if◌then◌else◌}
 use Rattle.std.specs.Int.{div_ceil}
+use Rattle.std.specs.List.{range_with_len}
 use Rattle.dbformat.specs.Header.{encoding, is_size_valid, stated_pages}
 use Rattle.dbformat.specs.Reference.{Reference}
 use Rattle.dbscan.specs.Desks.{Things, shape_of}
@@ -9,8 +10,9 @@ use Rattle.dbsource.specs.Outs.{OutState, Puts}
 use Rattle.dbxml.specs.Names.{shown_file}
 use Rattle.dbmap.specs.TreeTexts.{shown_tree}
 use Rattle.dbmap.specs.Canvas.{Draws}
+use Rattle.dbmap.specs.FaultyPages.{is_weak}
 use Rattle.dbmap.specs.Grids.{IsLeastRun, rows, width_of}
-use Rattle.dbmap.specs.KeptFaults.{HasTreeRoom, IsKeptFaults, noted_pages}
+use Rattle.dbmap.specs.KeptFaults.{HasTreeRoom, IsKeptFaults}
 use Rattle.dbmap.specs.LegendLines.{legend_lines}
 use Rattle.dbmap.specs.Owners.{IsOf}
 use Rattle.dbmap.specs.Squares.{AreRows, AreSquares, DrawnFrom, IsRow, IsSquare, Square, before_text, group_after, last_group, squares_row_text, squares_rows_text, square_text, squares_text, surveyed}
@@ -91,5 +93,6 @@ pub record PutsPicture {A E K : Type 0} (r : Result A E) (old new : OutState) (n
   pub lines : List LegendLine
   pub is : IsPicture name d k faults heading drawn all
   pub legend : (file : List ℕ) (V : List Reference) → IsDeskOf d file V → HasTreeRoom (shape_of d).pages k.state.trees.known
-      → lines ≡ legend_lines file V drawn.names drawn.owners.largest (noted_pages k)
+      → lines ≡ legend_lines file V drawn.owners.largest (count_by drawn.faults.strong (range_with_len 1 (shape_of d).pages))
+      (count_by (is_weak drawn.faults.has drawn.faults.strong) (range_with_len 1 (shape_of d).pages))
   pub puts : Puts r old new (picture_text heading drawn all lines)

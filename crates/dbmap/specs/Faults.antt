@@ -13,7 +13,7 @@ code_if known code = if has_code known code then codes " " ++ code_text code els
 
 -- the codes, where some are known
 abbrev pub codes_text : Codes → List ℕ
-codes_text known = if known.bits == 0 then codes " a fault" else flat_map (code_if known) all_codes
+codes_text known = if known.bits == 0 then codes " faults" else flat_map (code_if known) all_codes
 
 -- all that is said of faults
 abbrev pub faults_text : Faulty → List ℕ

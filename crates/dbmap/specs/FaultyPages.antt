@@ -1,5 +1,5 @@
 -- Which pages have a fault, which codes these faults have, and which pages have the strong frame.
-use Rattle.std.specs.Prelude.{◌≡◌, ◌⊎◌, ℕ, ◌≤◌, Bool, true, false, List, map, take, count_by}
+use Rattle.std.specs.Prelude.{◌≡◌, ◌⊎◌, ℕ, ◌≤◌, Bool, true, false, not, ◌&&◌, List, map, take, count_by}
 use Rattle.std.specs.List.{range_with_len}
 use Rattle.dbformat.specs.File.{geometry}
 use Rattle.dbformat.specs.Reference.{Reference}
@@ -29,6 +29,10 @@ abbrev pub frame_of : Bool → Bool → Frame
 frame_of true has_fault = frame.Strong
 frame_of false true = frame.Weak
 frame_of false false = frame.None
+
+-- whether a page has the weak one, by which pages have a fault, and which the strong one
+abbrev pub is_weak : (ℕ → Bool) → (ℕ → Bool) → ℕ → Bool
+is_weak has strong p = not (strong p) && has p
 
 -- What is shown of the faults of the pages from the first to the last.
 pub record IsFaulty (g : KnownFaults) (first last : ℕ) (f : Faulty) : Type 0 where
@@ -61,6 +65,10 @@ pub record AreFaultsOf (file : List ℕ) (V : List Reference) (g : KnownFaults) 
   pub codes : (p : ℕ) → 1 ≤ p → p ≤ (geometry file).pages → ShowsCodes (coded_faults file V) p (g.codes p)
   pub strong : (p : ℕ) → 1 ≤ p → p ≤ (geometry file).pages → g.strong p ≡ is_faulty (framed (leading_faults file V)) p
 
--- how many pages of the file have a fault
-abbrev pub faulty_pages : List ℕ → List Reference → ℕ
-faulty_pages file V = count_by (is_faulty (coded_faults file V)) (range_with_len 1 (geometry file).pages)
+-- how many pages of the file have the strong frame, and how many the weak one
+abbrev pub strong_pages : List ℕ → List Reference → ℕ
+strong_pages file V = count_by (is_faulty (framed (leading_faults file V))) (range_with_len 1 (geometry file).pages)
+
+abbrev pub weak_pages : List ℕ → List Reference → ℕ
+weak_pages file V =
+    count_by (is_weak (is_faulty (coded_faults file V)) (is_faulty (framed (leading_faults file V)))) (range_with_len 1 (geometry file).pages)

@@ -1,7 +1,8 @@
 -- How the squares of a picture are laid out.
-use Rattle.std.specs.Prelude.{◌≡◌, ◌⊎◌, ℕ, ◌+◌, ◌*◌, ◌/◌, ◌%◌, ◌<◌, ◌≤◌, min, max, nat_le, if◌then◌else◌}
+use Rattle.std.specs.Prelude.{◌≡◌, ◌⊎◌, ℕ, ◌+◌, ◌*◌, ◌/◌, ◌%◌, ◌<◌, ◌-◌, ◌≤◌, min, max, nat_le, ◌==◌, if◌then◌else◌}
 use Rattle.std.specs.Int.{IsPowerOfTwo, div_ceil}
 use Rattle.dbformat.specs.Lines.{counted}
+use Rattle.dbmap.specs.Shares.{capped_pages}
 use Rattle.dbmap.specs.declared.grid.Grid.{Grid}
 use Rattle.dbmap.specs.declared.grid.Width.{Width}
 use Rattle.dbmap.specs.declared.grid.Width.TheVariants.{Narrow, Medium, Wide}
@@ -34,9 +35,11 @@ side_of Wide = 7
 abbrev pub side : Grid → ℕ
 side g = side_of g.width
 
--- how many squares and outlines there are: no more rows of outlines alone than the file has rows
+-- how many squares and outlines there are: an outline at least where pages are missing, and no more rows of outlines alone than the file
+-- has rows
 abbrev pub places : Grid → ℕ
-places g = max (min (div_ceil g.stated (max g.run 1)) (div_ceil g.squares (grid_columns g) * 2 * grid_columns g)) g.squares
+places g = max (min (div_ceil g.stated (max g.run 1)) (div_ceil g.squares (grid_columns g) * 2 * grid_columns g))
+    (capped_pages (g.squares + (if g.stated - g.pages == 0 then 0 else 1)))
 
 -- how many rows there are
 abbrev pub rows : Grid → ℕ
@@ -53,6 +56,11 @@ outlines_of_row g row = (max (min (row * grid_columns g) (places g)) g.squares, 
 -- the first and the last page of a place, in a file of `pages` pages
 abbrev pub run_of : Grid → ℕ → ℕ → ℕ × ℕ
 run_of g place pages = (min (place * g.run + 1) pages, min (place * g.run + g.run) pages)
+
+-- the first and the last page of an outline: the first outline also has those that the last square would cover
+abbrev pub missing_of : Grid → ℕ → ℕ × ℕ
+missing_of g place =
+    (if place == g.squares then capped_pages (g.pages + 1) else (run_of g place g.stated).0, (run_of g place g.stated).1)
 
 -- where a square begins in its row, and where a row begins, in pixels
 abbrev pub x_of : Grid → ℕ → ℕ

@@ -1,5 +1,5 @@
 -- What is kept of a file: the faults that were reported, and the room to know the trees of its pages.
-use Rattle.std.specs.Prelude.{◌≡◌, ℕ, ◌≤◌, min, Bool, List, [], ◌∷◌, ◌++◌, length, Option, count_by, vec_len}
+use Rattle.std.specs.Prelude.{◌≡◌, ℕ, ◌≤◌, Bool, List, [], ◌∷◌, ◌++◌, length, Option, vec_len}
 use Rattle.dbformat.specs.File.{geometry}
 use Rattle.dbformat.specs.Reference.{Reference}
 use Rattle.dbformat.specs.declared.FaultCode.{FaultCode}
@@ -7,7 +7,7 @@ use Rattle.dbtrace.specs.declared.Reported.{Reported}
 use Rattle.dblisting.specs.Lists.{IsUnused, ListsAll, ListsFault}
 use Rattle.dbmap.specs.FaultyPages.{KnownFaults, coded, coded_faults, leading_faults}
 use Rattle.dbmap.specs.FramedPages.{framed}
-use Rattle.dbmap.specs.PageSets.{AreNoted, has_page, is_noted, shown_codes}
+use Rattle.dbmap.specs.PageSets.{AreNoted, has_page, shown_codes}
 use Rattle.dbmap.specs.declared.kept.KeptFaults.{KeptFaults}
 use Rattle.dbmap.specs.declared.page_set.PageSet.{PageSet}
 
@@ -26,7 +26,6 @@ pub record HearsNone {A : Type 0} (pages : ℕ) (k : KeptFaults A) : Type 0 wher
   pub faulty : IsUnnoted pages k.faulty
   pub strong : IsUnnoted pages k.strong
   pub listing : IsUnused 100 k.listing
-  pub few : pages ≤ 67108864
 
 -- a fault was noted at its page, and listed
 pub record HasNoted {A : Type 0} (x : Reported) (k l : KeptFaults A) : Type 0 where
@@ -49,10 +48,6 @@ pub record IsKeptFaults {A : Type 0} (k : KeptFaults A) (g : KnownFaults) : Type
   pub codes : (p : ℕ) → g.codes p ≡ shown_codes k.faulty p
   pub strong : IsStrong k g.strong
 
--- how many pages with a fault were noted
-abbrev pub noted_pages : {A : Type 0} → KeptFaults A → ℕ
-noted_pages k = min (count_by is_noted k.faulty.noted.items) 4294967295
-
 -- all faults of a file were noted at their pages, and are listed; no strong frame is noted yet
 pub record HasFaults {A : Type 0} (file : List ℕ) (V : List Reference) (k : KeptFaults A) : Type 0 where
   pub room : HasTreeRoom (geometry file).pages k.state.trees.known
@@ -60,4 +55,3 @@ pub record HasFaults {A : Type 0} (file : List ℕ) (V : List Reference) (k : Ke
   pub pages : vec_len k.faulty.noted ≡ (geometry file).pages
   pub strong : IsUnnoted (geometry file).pages k.strong
   pub listing : ListsAll 100 file V k.listing
-  pub few : (geometry file).pages ≤ 67108864

@@ -11,7 +11,7 @@ use Rattle.dbmap.specs.declared.owner_shares.Owner.TheVariants as owner
 use Rattle.dbmap.specs.declared.owner_shares.Share.{Share}
 use Rattle.dbmap.specs.declared.grid.Grid.{Grid}
 use Rattle.dbmap.specs.declared.legend.Label.{Label}
-use Rattle.dbmap.specs.declared.legend.Label.TheVariants.{Faulty, Fixed, Freelist, Nobody, Others, Tree}
+use Rattle.dbmap.specs.declared.legend.Label.TheVariants.{Fixed, Freelist, Nobody, Others, Strong, Tree, Weak}
 use Rattle.dbmap.specs.declared.legend.LegendLine.{LegendLine}
 
 -- some pages, none of which is an overflow page
@@ -65,25 +65,31 @@ label_owner (Others count) = Some (owner.Tree 12)
 label_owner Freelist = Some owner.Freelist
 label_owner Fixed = Some owner.Fixed
 label_owner Nobody = Some owner.Nobody
-label_owner Faulty = None
+label_owner Strong = None
+label_owner Weak = None
 
 -- the shade of an owner's overflow pages, if there are any
 abbrev pub shade_text : Owner → ℕ → ℕ → List ℕ
 shade_text owner overflow y = if overflow == 0 then [] else box_text 88 (y - 10) (fill owner true)
 
--- the frame of squares with a fault
-abbrev pub legend_frame_text : ℕ → List ℕ
-legend_frame_text y =
+-- how the frame of a line ends, as those of squares do: the strong one covers its edge, and the weak one lies around it
+abbrev pub frame_end : Label → List ℕ
+frame_end Strong = codes "4\"/>"
+frame_end _ = codes "2\" paint-order=\"stroke\"/>"
+
+-- the frame of a line
+abbrev pub legend_frame_text : Label → ℕ → List ℕ
+legend_frame_text label y =
     concat (codes "<rect x=\"73\" y=\"" ∷ decimal (y - 9)
-    ∷ codes "\" width=\"10\" height=\"10\" fill=\"#FFFFFF\" stroke=\"#BE0700\" stroke-width=\"2\"/>" ∷ [])
+    ∷ codes "\" width=\"10\" height=\"10\" fill=\"#FFFFFF\" stroke=\"#BE0700\" stroke-width=\"" ∷ frame_end label ∷ [])
 
 -- the colours of an owner, or that frame
-abbrev pub swatch_by : Option Owner → Share → ℕ → List ℕ
-swatch_by (Some owner) share y = shade_text owner share.overflow y ++ box_text 72 (y - 10) (fill owner false)
-swatch_by None share y = legend_frame_text y
+abbrev pub swatch_by : Option Owner → Label → Share → ℕ → List ℕ
+swatch_by (Some owner) label share y = shade_text owner share.overflow y ++ box_text 72 (y - 10) (fill owner false)
+swatch_by None label share y = legend_frame_text label y
 
 abbrev pub swatch_text : Label → Share → ℕ → List ℕ
-swatch_text label share y = swatch_by (label_owner label) share y
+swatch_text label share y = swatch_by (label_owner label) label share y
 
 -- what begins the text of a line
 abbrev pub label_front : ℕ → List ℕ
@@ -93,10 +99,9 @@ label_front y = concat (codes "<text x=\"108\" y=\"" ∷ decimal y ∷ codes "\"
 abbrev pub other_trees_text : ℕ → List ℕ
 other_trees_text count = decimal count ++ (if count == 1 then codes " other tree</text>" else codes " other trees</text>")
 
--- the name of a tree, with its root page where another one has the same name
-abbrev pub named_tree_text : List (List ℕ) → ℕ → Option ℕ → List ℕ
-named_tree_text names rank (Some root) = concat (name_text names rank 36 ∷ codes ", root page " ∷ decimal root ∷ codes "</text>" ∷ [])
-named_tree_text names rank None = concat (name_text names rank 56 ∷ codes "</text>" ∷ [])
+-- the name of a tree, and its root page
+abbrev pub named_tree_text : List (List ℕ) → ℕ → ℕ → List ℕ
+named_tree_text names rank root = concat (name_text names rank 35 ∷ codes " (root page " ∷ decimal root ∷ codes ")</text>" ∷ [])
 
 -- what a line is of
 abbrev pub label_words : List (List ℕ) → Label → List ℕ
@@ -105,7 +110,8 @@ label_words names (Others count) = other_trees_text count
 label_words names Freelist = codes "freelist</text>"
 label_words names Fixed = codes "pointer map and lock-byte page</text>"
 label_words names Nobody = codes "in no tree, overflow chain or freelist</text>"
-label_words names Faulty = codes "pages with a fault</text>"
+label_words names Strong = codes "of the first 100 injuries of explain, of their causes, or named by them</text>"
+label_words names Weak = codes "other pages with a fault</text>"
 
 unfoldable pub label_text : List (List ℕ) → Label → ℕ → List ℕ
 label_text names label y = label_front y ++ label_words names label

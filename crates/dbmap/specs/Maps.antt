@@ -27,7 +27,7 @@ use Rattle.dbowner.specs.Texts.{tree_text}
 use Rattle.dbreport.specs.Runs.{IsAnswerOf}
 use Rattle.dbxml.specs.Names.{shown_file, short_text}
 use Rattle.dbmap.specs.Drawings.{stated_of}
-use Rattle.dbmap.specs.FaultyPages.{AreFaultsOf, faulty_pages}
+use Rattle.dbmap.specs.FaultyPages.{AreFaultsOf, strong_pages, weak_pages}
 use Rattle.dbmap.specs.Grids.{IsLeastRun, rows, width_of}
 use Rattle.dbmap.specs.LegendLines.{legend_lines}
 use Rattle.dbmap.specs.Pictures.{picture_text}
@@ -58,14 +58,14 @@ pub record IsPictureOf (name file : List ℕ) (V : List Reference) (h : Heading)
   pub trees : (k : ℕ) → g.tree k ≡ short_text (tree_text file V k)
   pub names : g.names ≡ map g.tree g.owners.largest
 
--- there is such a picture, whose legend says how many pages each owner has and how many have a fault, and of its bytes P holds
+-- there is such a picture, whose legend says how many pages each owner has and how many have each frame, and of its bytes P holds
 pub record HasPicture (P : List ℕ → Type 0) (name file : List ℕ) (V : List Reference) : Type 0 where
   pub heading : Heading
   pub drawn : DrawnFrom
   pub all : List (List Square)
   pub lines : List LegendLine
   pub is : IsPictureOf name file V heading drawn all
-  pub legend : lines ≡ legend_lines file V drawn.names drawn.owners.largest (faulty_pages file V)
+  pub legend : lines ≡ legend_lines file V drawn.owners.largest (strong_pages file V) (weak_pages file V)
   pub holds : P (picture_text heading drawn all lines)
 
 -- what the bytes of an Out become, where they are known: at Ok a picture was put; at a failed write nothing, or a beginning of one; at

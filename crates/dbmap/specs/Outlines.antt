@@ -1,21 +1,21 @@
 -- The outlines of pages that the header states and the file does not have.
 use Rattle.std.specs.Prelude.{ℕ, zero, suc, ◌+◌, ◌-◌, nat_lt, List, [], ◌∷◌, ◌++◌, codes, decimal, ◌==◌, if◌then◌else◌}
 use Rattle.std.specs.List.{concat}
-use Rattle.dbmap.specs.Grids.{outlines_of_row, run_of, x_of}
+use Rattle.dbmap.specs.Grids.{missing_of, outlines_of_row, x_of}
 use Rattle.dbmap.specs.Marks.{outline_tail}
 use Rattle.dbmap.specs.declared.grid.Grid.{Grid}
 
 -- that of a page
 abbrev pub page_outline : Grid → ℕ → List ℕ
 page_outline g place =
-    concat (codes "<rect x=\"" ∷ decimal (x_of g place) ∷ outline_tail g.width ∷ codes " " ∷ decimal (run_of g place g.stated).0
+    concat (codes "<rect x=\"" ∷ decimal (x_of g place) ∷ outline_tail g.width ∷ codes " " ∷ decimal (missing_of g place).0
     ∷ codes ": not in the file</title></rect>\n" ∷ [])
 
 -- that of a run of pages
 abbrev pub run_outline : Grid → ℕ → List ℕ
 run_outline g place =
-    concat (codes "<rect x=\"" ∷ decimal (x_of g place) ∷ outline_tail g.width ∷ codes "s " ∷ decimal (run_of g place g.stated).0
-    ∷ codes " to " ∷ decimal (run_of g place g.stated).1 ∷ codes ": not in the file</title></rect>\n" ∷ [])
+    concat (codes "<rect x=\"" ∷ decimal (x_of g place) ∷ outline_tail g.width ∷ codes "s " ∷ decimal (missing_of g place).0
+    ∷ codes " to " ∷ decimal (missing_of g place).1 ∷ codes ": not in the file</title></rect>\n" ∷ [])
 
 abbrev pub outline_text : Grid → ℕ → List ℕ
 outline_text g place = if g.run == 1 then page_outline g place else run_outline g place

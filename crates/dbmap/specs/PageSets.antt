@@ -49,10 +49,6 @@ has_page s p = not (number_at s.noted.items p == 0)
 abbrev pub shown_codes : {A : Type 0} → PageSet A → ℕ → Codes
 shown_codes s p = set_numbered s.sets.items (number_at s.noted.items p)
 
--- whether a number is noted that is not 0
-abbrev pub is_noted : ℕ → Bool
-is_noted number = not (number == 0)
-
 -- a set has this number
 pub record IsNumber (sets : List Codes) (n : ℕ) (codes : Codes) : Type 0 where
   pub first : 1 ≤ n

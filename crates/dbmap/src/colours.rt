@@ -59,7 +59,3 @@ pub(crate) fn fill(owner: Owner, is_overflow: bool) -> &'static str
         Owner::Nobody => "url(#unowned)",
     }
 }
-
-/// The frame of the legend, after its place.
-pub(crate) const LEGEND_FRAME: &str =
-    "\" width=\"10\" height=\"10\" fill=\"#FFFFFF\" stroke=\"#BE0700\" stroke-width=\"2\"/>";

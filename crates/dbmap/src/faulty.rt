@@ -34,7 +34,7 @@ fn draw_codes<O: Out>(canvas: &mut Canvas<'_, O>, codes: Codes)
     ensures { Draws O.held canvas.old (codes_text codes) canvas.new }
 {
     if codes.is_empty() {
-        canvas.draw(&[Piece::Markup(" a fault")]);
+        canvas.draw(&[Piece::Markup(" faults")]);
         return;
     }
     draw_each(canvas, codes);

@@ -91,13 +91,15 @@ impl Grid {
         self.stated.saturating_sub(self.pages)
     }
 
-    /// How many squares and outlines there are. There are no more rows of outlines alone than the file has rows.
+    /// How many squares and outlines there are. Where pages are missing there is an outline, and there are no more rows of outlines alone
+    /// than the file has rows.
     fn places(&self) -> u32
         ensures { result ≡ grids.places self.now }
     {
         let most = u64::from(self.file_rows()) * 2 * u64::from(self.columns());
         let stated = self.stated.div_ceil(self.run.max(1));
-        (u64::from(stated).min(most) as u32).max(self.squares)
+        let least = self.squares.saturating_add(u32::from(self.missing() != 0));
+        (u64::from(stated).min(most) as u32).max(least)
     }
 
     // How many rows the pages of the file take.
@@ -168,11 +170,16 @@ impl Grid {
         self.run_of(index, self.pages)
     }
 
-    /// The pages of an outline, the first and the last.
+    /// The pages of an outline, the first and the last. The first outline also has those that the last square would cover.
     pub(crate) fn missing_of(&self, place: u32) -> (u32, u32)
-        ensures { result ≡ grids.run_of self.now place self.now.stated }
+        ensures { result ≡ grids.missing_of self.now place }
     {
-        self.run_of(place, self.stated)
+        let (first, last) = self.run_of(place, self.stated);
+        if place == self.squares {
+            (self.pages.saturating_add(1), last)
+        } else {
+            (first, last)
+        }
     }
 
     /// Where a row begins, in pixels from the top.

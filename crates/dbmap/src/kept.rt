@@ -1,13 +1,15 @@
 // What a map keeps of a file beside what a check keeps.
-ghost use Rattle.std.specs.Prelude.{◌≡◌, ℕ, ◌++◌, List, IfOk, take, vec_len};
+ghost use Rattle.std.specs.Prelude.{◌≡◌, ℕ, ◌++◌, List, IfOk, count_by, take, vec_len};
+ghost use Rattle.std.specs.List.{range_with_len};
 ghost use Rattle.dbformat.specs.FixedPages.{IsInRange};
 ghost use Rattle.dbformat.specs.Reference.{Reference};
 ghost use Rattle.dbformat.specs.declared.FaultCode.{FaultCode};
 ghost use Rattle.dblisting.specs.Listed.{listed_entries};
 ghost use Rattle.dblisting.specs.Lists.{ListsAll};
+ghost use Rattle.dbmap.specs.FaultyPages.{is_weak};
 ghost use Rattle.dbmap.specs.FramedPages.{first_faults, framed};
 ghost use Rattle.dbmap.specs.KeptFaults.{HasNoted, HearsNone};
-ghost use Rattle.dbmap.specs.PageSets.{AreNoted};
+ghost use Rattle.dbmap.specs.PageSets.{AreNoted, has_page};
 
 use crate::draw_state::DrawState;
 use crate::listed::note_listed;
@@ -77,5 +79,22 @@ impl<A: Allocator> KeptFaults<A> {
     {
         self.listing.weave();
         note_listed(&mut self.strong, self.listing.listed());
+    }
+
+    /// How many of the first `pages` pages have the strong frame, and how many the weak one.
+    pub(crate) fn framed(&self, pages: u32) -> (u32, u32)
+        ensures strong { result.0 ≡ count_by (has_page self.now.strong) (range_with_len 1 pages) }
+        ensures weak { result.1 ≡ count_by (is_weak (has_page self.now.faulty) (has_page self.now.strong)) (range_with_len 1 pages) }
+    {
+        let mut strong = 0u32;
+        let mut weak = 0u32;
+        for index in 0..pages {
+            if self.strong.has(index + 1) {
+                strong += 1;
+            } else if self.faulty.has(index + 1) {
+                weak += 1;
+            }
+        }
+        (strong, weak)
     }
 }

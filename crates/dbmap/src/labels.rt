@@ -1,8 +1,7 @@
 // The names of the largest trees.
-ghost use Rattle.std.specs.Prelude.{◌≡◌, ◌≤◌, length, map, slice_get, option_map};
+ghost use Rattle.std.specs.Prelude.{◌≡◌, ◌≤◌, length, map};
 ghost use Rattle.dbmap.specs.TreeTexts.{shown_tree};
 ghost use Rattle.dbxml.specs.Pieces.{piece_text};
-ghost use Rattle.dbmap.specs.LegendLines.{is_twice};
 ghost use Rattle.dbmap.specs.Owners.{tree_starts};
 ghost use Rattle.dbmap.specs.Runs.{name_text};
 
@@ -34,36 +33,13 @@ impl Labels {
         labels
     }
 
-    /// The name of the tree of a rank, if there is such a tree.
-    pub(crate) fn get(&self, rank: usize) -> Option<&Shown>
-        ensures { option_map (λ name. name.now) result ≡ slice_get self.now.names.items rank }
-    {
-        self.names.as_slice().get(rank)
-    }
-
     /// The name of the tree of a rank in at most `width` columns, or nothing.
     pub(crate) fn piece(&self, rank: usize, width: u32) -> Piece<'_>
         ensures { piece_text result ≡ name_text self.now.names.items rank width }
     {
-        match self.get(rank) {
+        match self.names.as_slice().get(rank) {
             Some(name) => Piece::Shown(name, width),
             None => Piece::Markup(""),
         }
-    }
-
-    /// Whether another of the trees has the same name as far as it is shown in a number of columns.
-    pub(crate) fn is_twice(&self, rank: usize, width: u32) -> bool
-        ensures { result ≡ is_twice self.now.names.items rank width }
-    {
-        let names = self.names.as_slice();
-        let Some(name) = names.get(rank) else {
-            return false;
-        };
-        for (other, shown) in names.iter().enumerate() {
-            if other != rank && shown.is_like(name, width) {
-                return true;
-            }
-        }
-        false
     }
 }

@@ -1,31 +1,27 @@
 // The legend of the picture: which lines it has. Each is drawn in legend_text.rt.
 ghost use Rattle.std.specs.Prelude.{◌≡◌, ◌+◌, ◌≤◌, ◌<◌, ◌++◌, length, map};
 ghost use Rattle.dbmap.specs.Canvas.{Draws};
-ghost use Rattle.dbmap.specs.LegendLines.{line_if, owner_lines, root_if_twice};
+ghost use Rattle.dbmap.specs.LegendLines.{line_if, owner_lines};
 ghost use Rattle.dbmap.specs.Legends as legends;
 ghost use Rattle.dbmap.specs.Owners.{tree_starts};
 ghost use Rattle.dbmap.specs.Tallies.{share_at};
 ghost use Rattle.dbmap.specs.TreeLists.{tree_at};
-ghost use Rattle.dbmap.specs.declared.legend.Label.TheVariants.{Faulty};
+ghost use Rattle.dbmap.specs.declared.legend.Label.TheVariants.{Strong, Weak};
 
 use crate::canvas::Canvas;
-use crate::labels::Labels;
 use crate::layout::Layout;
 use crate::legend_text::{draw_columns, draw_lines, draw_missing};
 use crate::owner_shares::Share;
 use crate::tally::{PageTally, RankedTree};
 use arrayvec::ArrayVec;
 use dbformat::FREELIST_START;
-use dbowner::TreeNames;
+use dbowner::RootList;
 use dbsource::{Geometry, Out};
 use dbxml::Piece;
 use std::alloc::Allocator;
 
-/// The columns of a tree's name that are shown.
-pub(crate) const NAME_WIDTH: u32 = 56;
-
-/// The columns of a root page after a name: `, root page ` and 8 digits.
-pub(crate) const ROOT_WIDTH: u32 = 20;
+/// The columns of a tree's name that are shown: of 56, ` (root page `, 8 digits and `)` take 21.
+pub(crate) const NAME_WIDTH: u32 = 35;
 
 /// The height of a line in pixels.
 pub(crate) const LINE: u32 = 20;
@@ -33,15 +29,18 @@ pub(crate) const LINE: u32 = 20;
 /// What a line of the legend counts.
 #[derive(Clone, Copy, Default)]
 pub(crate) enum Label {
-    /// A tree, by its rank; and its root page, where another one has the same name.
-    Tree(usize, Option<u32>),
+    /// A tree, by its rank, and its root page.
+    Tree(usize, u32),
     /// This number of trees.
     Others(u32),
     Freelist,
     Fixed,
     #[default]
     Nobody,
-    Faulty,
+    /// Pages that have the strong frame.
+    Strong,
+    /// Pages that have the weak one.
+    Weak,
 }
 
 /// A line, with the number of its pages.
@@ -54,7 +53,7 @@ pub(crate) struct LegendLine {
 /// The lines of the legend.
 #[derive(Drop)]
 pub(crate) struct Legend {
-    lines: ArrayVec<LegendLine, 17>,
+    lines: ArrayVec<LegendLine, 18>,
 }
 
 /// `pages` pages, none of them an overflow page.
@@ -65,21 +64,22 @@ pub(crate) fn no_overflow(pages: u32) -> Share
 }
 
 impl Legend {
-    /// The legend of a file whose pages were counted, of its largest trees with their names, and of the number of pages with a fault.
+    /// The legend of a file whose pages were counted, of its largest trees, and of the numbers of pages with each frame.
     pub(crate) fn new<A: Allocator, B: Allocator>(
         tally: &PageTally<A>,
         largest: &[RankedTree],
-        names: &TreeNames<'_, B>,
-        labels: &Labels,
-        faulty: u32,
+        roots: &RootList<B>,
+        strong: u32,
+        weak: u32,
     ) -> Legend
         requires few { length largest.now ≤ 12 }
         requires shares { largest.now ≡ map (tree_at tally.now.starts) (tree_starts largest.now) }
-        ensures { result.lines.items ≡ owner_lines labels.now.names.items names.now.roots.now.rows (share_at tally.now.starts)
-            (tree_starts largest.now) tally.now.trees tally.now.fixed tally.now.nobody ++ line_if Faulty (legends.no_overflow faulty) }
+        ensures { result.lines.items ≡ (owner_lines roots.now.rows (share_at tally.now.starts) (tree_starts largest.now)
+            tally.now.trees tally.now.fixed tally.now.nobody ++ line_if Strong (legends.no_overflow strong)) ++ line_if Weak (legends.no_overflow weak) }
     {
-        let mut legend = Legend::of_owners(tally, largest, names, labels);
-        legend.add(Label::Faulty, no_overflow(faulty));
+        let mut legend = Legend::of_owners(tally, largest, roots);
+        legend.add(Label::Strong, no_overflow(strong));
+        legend.add(Label::Weak, no_overflow(weak));
         legend
     }
 
@@ -87,20 +87,19 @@ impl Legend {
     fn of_owners<A: Allocator, B: Allocator>(
         tally: &PageTally<A>,
         largest: &[RankedTree],
-        names: &TreeNames<'_, B>,
-        labels: &Labels,
+        roots: &RootList<B>,
     ) -> Legend
         requires few { length largest.now ≤ 12 }
         requires shares { largest.now ≡ map (tree_at tally.now.starts) (tree_starts largest.now) }
-        ensures lines { result.lines.items ≡ owner_lines labels.now.names.items names.now.roots.now.rows (share_at tally.now.starts)
-            (tree_starts largest.now) tally.now.trees tally.now.fixed tally.now.nobody }
+        ensures lines { result.lines.items ≡ owner_lines roots.now.rows (share_at tally.now.starts) (tree_starts largest.now)
+            tally.now.trees tally.now.fixed tally.now.nobody }
         ensures room { length result.lines.items ≤ 16 }
     {
         let mut legend = Legend {
             lines: ArrayVec::new(),
         };
         for (rank, tree) in largest.iter().enumerate() {
-            let root = root_if_twice(names, labels, rank, tree.start);
+            let root = roots.root_page(tree.start);
             legend.add(Label::Tree(rank, root), tree.share);
         }
         let (count, others) = tally.others(largest);
@@ -113,7 +112,7 @@ impl Legend {
 
     // Adds a line, if there is a page of it.
     fn add(&mut self, label: Label, share: Share)
-        ensures line { length self.old.lines.items < 17 → self.new.lines.items ≡ self.old.lines.items ++ line_if label share }
+        ensures line { length self.old.lines.items < 18 → self.new.lines.items ≡ self.old.lines.items ++ line_if label share }
         ensures room { length self.new.lines.items ≤ length self.old.lines.items + 1 }
     {
         if share.pages != 0 {
@@ -146,21 +145,5 @@ impl Legend {
         let y = (lines.len() as u32 + 2) * LINE;
         draw_missing(canvas, layout.grid.missing(), geometry, y);
         canvas.draw(&[Piece::Markup("</g>\n")]);
-    }
-}
-
-// The root page of a tree, where another one of the largest has the same name.
-fn root_if_twice<A: Allocator>(
-    names: &TreeNames<'_, A>,
-    labels: &Labels,
-    rank: usize,
-    start: u32,
-) -> Option<u32>
-    ensures { result ≡ root_if_twice labels.now.names.items names.now.roots.now.rows rank start }
-{
-    if labels.is_twice(rank, NAME_WIDTH) {
-        Some(names.roots.root_page(start))
-    } else {
-        None
     }
 }

@@ -6,11 +6,11 @@ ghost use Rattle.dbmap.specs.Legends as legends;
 ghost use Rattle.dbmap.specs.Sizes.{tenths_of_percent};
 
 use crate::canvas::Canvas;
-use crate::colours::{LEGEND_FRAME, fill};
+use crate::colours::fill;
 use crate::labels::Labels;
-use crate::legend::{LINE, Label, LegendLine, NAME_WIDTH, ROOT_WIDTH, no_overflow};
+use crate::legend::{LINE, Label, LegendLine, NAME_WIDTH, no_overflow};
 use crate::owner_shares::{Owner, Share};
-use crate::size::{size_tenths, size_unit};
+use crate::size::size;
 use crate::tally::COLOURED;
 use dbsource::{Geometry, Out};
 use dbxml::Piece;
@@ -31,7 +31,7 @@ pub(crate) fn draw_lines<O: Out>(
     geometry: Geometry,
     lines: &[LegendLine],
 )
-    requires { length lines.now ≤ 17 }
+    requires { length lines.now ≤ 18 }
     ensures { Draws O.held canvas.old (legends.lines_from labels.now.names.items geometry 2 lines.now) canvas.new }
 {
     for (index, line) in lines.iter().enumerate() {
@@ -144,9 +144,8 @@ fn draw_share<O: Out>(canvas: &mut Canvas<'_, O>, share: Share, geometry: Geomet
 {
     draw_number(canvas, PAGES, y, share.pages);
     draw_overflow(canvas, share.overflow, y);
-    let number = Piece::Tenths(size_tenths(share.pages, geometry.page_size));
-    let unit = Piece::Markup(size_unit(share.pages, geometry.page_size));
-    draw_right(canvas, SIZE, y, number, unit);
+    let (tenths, unit) = size(share.pages, geometry.page_size);
+    draw_right(canvas, SIZE, y, Piece::Tenths(tenths), Piece::Markup(unit));
 }
 
 // Draws the number of overflow pages, if there are any.
@@ -200,11 +199,11 @@ fn owner_of(label: Label) -> Option<Owner>
         Label::Freelist => Some(Owner::Freelist),
         Label::Fixed => Some(Owner::Fixed),
         Label::Nobody => Some(Owner::Nobody),
-        Label::Faulty => None,
+        Label::Strong | Label::Weak => None,
     }
 }
 
-// Draws the colour of a line, or the frame of squares with a fault.
+// Draws the colour of a line, or its frame.
 fn draw_swatch<O: Out>(canvas: &mut Canvas<'_, O>, label: Label, share: Share, y: u32)
     ensures { Draws O.held canvas.old (legends.swatch_text label share y) canvas.new }
 {
@@ -213,7 +212,7 @@ fn draw_swatch<O: Out>(canvas: &mut Canvas<'_, O>, label: Label, share: Share, y
             draw_shade(canvas, owner, share.overflow, y);
             draw_box(canvas, 72, y.saturating_sub(10), fill(owner, false));
         }
-        None => draw_frame(canvas, y),
+        None => draw_frame(canvas, label, y),
     }
 }
 
@@ -226,14 +225,27 @@ fn draw_shade<O: Out>(canvas: &mut Canvas<'_, O>, owner: Owner, overflow: u32, y
     }
 }
 
-// Draws the frame of squares with a fault.
-fn draw_frame<O: Out>(canvas: &mut Canvas<'_, O>, y: u32)
-    ensures { Draws O.held canvas.old (legends.legend_frame_text y) canvas.new }
+// How the frame of a line ends, as those of squares do: the strong one covers its edge, and the weak one lies around it.
+fn frame_end(label: Label) -> &'static str
+    ensures { result.now ≡ legends.frame_end label }
+{
+    match label {
+        Label::Strong => "4\"/>",
+        _ => "2\" paint-order=\"stroke\"/>",
+    }
+}
+
+// Draws the frame of a line.
+fn draw_frame<O: Out>(canvas: &mut Canvas<'_, O>, label: Label, y: u32)
+    ensures { Draws O.held canvas.old (legends.legend_frame_text label y) canvas.new }
 {
     canvas.draw(&[
         Piece::Markup("<rect x=\"73\" y=\""),
         Piece::Number(u64::from(y.saturating_sub(9))),
-        Piece::Markup(LEGEND_FRAME),
+        Piece::Markup(
+            "\" width=\"10\" height=\"10\" fill=\"#FFFFFF\" stroke=\"#BE0700\" stroke-width=\"",
+        ),
+        Piece::Markup(frame_end(label)),
     ]);
 }
 
@@ -261,7 +273,10 @@ fn draw_label<O: Out>(canvas: &mut Canvas<'_, O>, labels: &Labels, label: Label,
         Label::Nobody => canvas.draw(&[Piece::Markup(
             "in no tree, overflow chain or freelist</text>",
         )]),
-        Label::Faulty => canvas.draw(&[Piece::Markup("pages with a fault</text>")]),
+        Label::Strong => canvas.draw(&[Piece::Markup(
+            "of the first 100 injuries of explain, of their causes, or named by them</text>",
+        )]),
+        Label::Weak => canvas.draw(&[Piece::Markup("other pages with a fault</text>")]),
     }
 }
 
@@ -277,17 +292,14 @@ fn draw_others<O: Out>(canvas: &mut Canvas<'_, O>, count: u32)
     canvas.draw(&[Piece::Number(u64::from(count)), Piece::Markup(trees)]);
 }
 
-// Draws the name of a tree, with its root page where another one has the same name.
-fn draw_tree<O: Out>(canvas: &mut Canvas<'_, O>, labels: &Labels, rank: usize, root: Option<u32>)
+// Draws the name of a tree, and its root page.
+fn draw_tree<O: Out>(canvas: &mut Canvas<'_, O>, labels: &Labels, rank: usize, root: u32)
     ensures { Draws O.held canvas.old (legends.named_tree_text labels.now.names.items rank root) canvas.new }
 {
-    match root {
-        Some(root) => canvas.draw(&[
-            labels.piece(rank, NAME_WIDTH - ROOT_WIDTH),
-            Piece::Markup(", root page "),
-            Piece::Number(u64::from(root)),
-            Piece::Markup("</text>"),
-        ]),
-        None => canvas.draw(&[labels.piece(rank, NAME_WIDTH), Piece::Markup("</text>")]),
-    }
+    canvas.draw(&[
+        labels.piece(rank, NAME_WIDTH),
+        Piece::Markup(" (root page "),
+        Piece::Number(u64::from(root)),
+        Piece::Markup(")</text>"),
+    ]);
 }

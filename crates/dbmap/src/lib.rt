@@ -16,8 +16,8 @@
 //! What is proved is what is read of the file, that the verdict is the check's, and that a picture of the file is put
 //! (specs/Maps): its bytes are those of specs/Pictures, in which each page, or run of pages, has one square, in their order. The square of
 //! a page says what the page is and names its tree, each square is filled for the owners of its pages, and has the frame and the codes of
-//! the faults that the file's report has of its pages. The heading has the file's name, and the legend a line for each owner of pages, with
-//! how many it has. No text of the file or of the command line comes into it but escaped (`dbxml`). How many of the six bands
+//! the faults that the file's report has of its pages. The heading has the file's name, and the legend a line for each owner of pages and each
+//! frame, with how many pages it has. No text of the file or of the command line comes into it but escaped (`dbxml`). How many of the six bands
 //! of a square each of its owners has is tested.
 #![tactic(auto)]
 

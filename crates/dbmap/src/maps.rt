@@ -60,13 +60,8 @@ pub(crate) fn put_map<A: Allocator, O: Out>(
         grid: Grid::new(geometry.pages, stated_pages(desk.header())),
         labels: Labels::new(&names, largest.as_slice()),
     };
-    let legend = Legend::new(
-        &kept.tally,
-        largest.as_slice(),
-        &names,
-        &layout.labels,
-        kept.faulty.count(),
-    );
+    let (strong, weak) = kept.framed(geometry.pages);
+    let legend = Legend::new(&kept.tally, largest.as_slice(), desk.roots(), strong, weak);
     let heading = Heading {
         file: shown_file(name),
         geometry,

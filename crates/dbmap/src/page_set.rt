@@ -1,9 +1,9 @@
 // Pages with a fault, and the codes of their faults.
-ghost use Rattle.std.specs.Prelude.{◌≡◌, ℕ, ◌^◌, ◌==◌, [], ◌∷◌, ◌++◌, List, IfOk, count_by, min, vec_len};
+ghost use Rattle.std.specs.Prelude.{◌≡◌, ℕ, ◌^◌, ◌==◌, [], ◌∷◌, ◌++◌, List, IfOk, vec_len};
 ghost use Rattle.dbformat.specs.Codes.{code_index};
 ghost use Rattle.dbformat.specs.declared.FaultCode.{FaultCode};
 ghost use Rattle.dbmap.specs.CodeSets.{both, has_code, with_code};
-ghost use Rattle.dbmap.specs.PageSets.{any_page, codes_of_pages, has_page, is_noted, number_at, set_numbered, shown_codes, AreNoted, IsSetAt, IsKept, Numbers};
+ghost use Rattle.dbmap.specs.PageSets.{any_page, codes_of_pages, has_page, number_at, set_numbered, shown_codes, AreNoted, IsSetAt, IsKept, Numbers};
 
 use arrayvec::ArrayVec;
 use dbformat::FaultCode;
@@ -194,16 +194,5 @@ impl<A: Allocator> PageSet<A> {
         ensures { result ≡ has_page self.now page }
     {
         self.get(page) != 0
-    }
-
-    /// How many pages have one.
-    pub(crate) fn count(&self) -> u32
-        ensures { result ≡ min (count_by is_noted self.now.noted.items) 4294967295 }
-    {
-        let mut count = 0u32;
-        for number in self.noted.iter() {
-            count = count.saturating_add(u32::from(*number != 0));
-        }
-        count
     }
 }

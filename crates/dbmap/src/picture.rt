@@ -10,7 +10,7 @@ use crate::draw_state::DrawState;
 use crate::grid::Grid;
 use crate::layout::Layout;
 use crate::legend::Legend;
-use crate::size::{size_tenths, size_unit};
+use crate::size::size;
 use crate::squares::{NAME_WIDTH, Squares};
 use dbsource::{Geometry, Out};
 use dbxml::{Piece, Shown};
@@ -83,13 +83,14 @@ fn pages_word(pages: u32) -> &'static str
 fn draw_size<O: Out>(canvas: &mut Canvas<'_, O>, geometry: Geometry)
     ensures { Draws O.held canvas.old (pictures.size_text geometry) canvas.new }
 {
+    let (tenths, unit) = size(geometry.pages, geometry.page_size);
     canvas.draw(&[
         Piece::Number(u64::from(geometry.pages)),
         Piece::Markup(pages_word(geometry.pages)),
         Piece::Number(u64::from(geometry.page_size)),
         Piece::Markup(" bytes ("),
-        Piece::Tenths(size_tenths(geometry.pages, geometry.page_size)),
-        Piece::Markup(size_unit(geometry.pages, geometry.page_size)),
+        Piece::Tenths(tenths),
+        Piece::Markup(unit),
         Piece::Markup("), "),
     ]);
 }

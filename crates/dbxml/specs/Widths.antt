@@ -1,5 +1,5 @@
 -- How much of a text is shown in a number of columns.
-use Rattle.std.specs.Prelude.{ℕ, suc, ◌-◌, List, [], ◌∷◌, take, nat_lt, if◌then◌else◌}
+use Rattle.std.specs.Prelude.{ℕ, suc, ◌-◌, List, [], ◌∷◌, nat_lt, if◌then◌else◌}
 
 -- How many columns a character takes, by its first byte in UTF-8: one of three or four bytes takes two, and the bytes after the first
 -- take none.
@@ -10,7 +10,3 @@ char_columns byte = if nat_lt byte 128 then 1 else (if nat_lt byte 192 then 0 el
 abbrev pub fitting : ℕ → List ℕ → ℕ
 fitting width [] = 0
 fitting width (byte ∷ text) = if nat_lt width (char_columns byte) then 0 else suc (fitting (width - char_columns byte) text)
-
--- the bytes that do
-abbrev pub fitting_bytes : ℕ → List ℕ → List ℕ
-fitting_bytes width text = take (fitting width text) text

@@ -1,6 +1,5 @@
 // Texts of a file and of the command line, as an XML text shows them.
-ghost use Rattle.std.specs.Prelude.{◌≡◌, ◌⊎◌, ◌≤◌, [], length, nat_eq, IfSome, Some};
-ghost use Rattle.std.specs.Cmp.Lexicographic.{pointwise};
+ghost use Rattle.std.specs.Prelude.{◌≡◌, ◌⊎◌, ◌≤◌, [], length, IfSome, Some};
 ghost use Rattle.dbsource.specs.Outs.{Puts};
 ghost use Rattle.dbxml.specs.Names.{shown_file};
 ghost use Rattle.dbxml.specs.Pieces.{shown_text};
@@ -67,21 +66,6 @@ impl Shown {
         } else {
             None
         }
-    }
-
-    /// Whether it is shown as another one is, in a number of columns.
-    pub fn is_like(&self, other: &Shown, width: u32) -> bool
-        ensures { result ≡ pointwise nat_eq (widths.fitting_bytes width self.now) (widths.fitting_bytes width other.now) }
-    {
-        self.fitting_bytes(width) == other.fitting_bytes(width)
-    }
-
-    // The bytes that fit in a number of columns.
-    fn fitting_bytes(&self, width: u32) -> &[u8]
-        ensures { result.now ≡ widths.fitting_bytes width self.now }
-    {
-        let text = self.bytes.as_slice();
-        &text[..fitting(text, width)]
     }
 }
 

@@ -25,7 +25,7 @@ fn faulty(alloc: Global) -> Result<Vec<u8>, AllocError> {
 }
 
 // What its picture has: a square with a wide frame begins a pixel further right and down.
-const FRAMES: [&str; 12] = [
+const FRAMES: [&str; 13] = [
     "<rect x=\"0\" width=\"27\" height=\"27\"><title>page 1: root of sqlite_schema</title></rect>\n",
     "<rect x=\"29\" y=\"1\" width=\"25\" height=\"25\" stroke=\"#BE0700\" stroke-width=\"4\"><title>page 2: root of table a</title></rect>\n",
     "<rect x=\"57\" y=\"1\" width=\"25\" height=\"25\" stroke=\"#BE0700\" stroke-width=\"4\"><title>page 3: in table a, child of page 2</title></rect>\n",
@@ -37,7 +37,8 @@ const FRAMES: [&str; 12] = [
     "<rect x=\"225\" y=\"1\" width=\"25\" height=\"25\" stroke=\"#BE0700\" stroke-width=\"4\"><title>page 9: in table b, child of page 6, with P10</title></rect>\n",
     "<rect x=\"252\" width=\"27\" height=\"27\" stroke=\"#BE0700\" stroke-width=\"2\" paint-order=\"stroke\"><title>page 10: in table b, child of page 6, with P10</title></rect>\n",
     "<rect x=\"281\" y=\"1\" width=\"25\" height=\"25\" stroke=\"#BE0700\" stroke-width=\"4\"><title>page 11: in no tree, overflow chain or freelist, with N01</title></rect>\n",
-    ">pages with a fault</text><text x=\"580\" y=\"140\" text-anchor=\"end\">7</text>",
+    ">of the first 100 injuries of explain, of their causes, or named by them</text><text x=\"580\" y=\"140\" text-anchor=\"end\">8</text>",
+    "<rect x=\"73\" y=\"151\" width=\"10\" height=\"10\" fill=\"#FFFFFF\" stroke=\"#BE0700\" stroke-width=\"2\" paint-order=\"stroke\"/><text x=\"108\" y=\"160\">other pages with a fault</text><text x=\"580\" y=\"160\" text-anchor=\"end\">1</text>",
 ];
 
 #[test]
@@ -94,7 +95,8 @@ fn many_entries(alloc: Global) -> Result<Vec<u8>, AllocError> {
 }
 
 // The 100th entry is that of page 134, and no more are framed.
-const LAST_FRAMED: [&str; 2] = [
+const LAST_FRAMED: [&str; 3] = [
+    ">135 pages of 4096 bytes (540.0 KiB), ",
     "<rect x=\"141\" y=\"1\" width=\"25\" height=\"25\" stroke=\"#BE0700\" stroke-width=\"4\"><title>page 134: in no tree, overflow chain or freelist, with N01</title></rect>\n",
     "<rect x=\"168\" width=\"27\" height=\"27\" stroke=\"#BE0700\" stroke-width=\"2\" paint-order=\"stroke\"><title>page 135: in no tree, overflow chain or freelist, with N01</title></rect>\n",
 ];

@@ -38,13 +38,13 @@ const TEXTS: [&str; 20] = [
     "<rect x=\"140\" width=\"27\" height=\"27\"><title>page 6: leaf of the freelist</title></rect>\n</g>\n",
     "<rect x=\"169\" y=\"1\" width=\"25\" height=\"25\" stroke=\"#BE0700\" stroke-width=\"4\"><title>page 7: in no tree, overflow chain or freelist, with N01</title></rect>\n",
     "</g>\n</g>\n<g transform=\"translate(0 92)\">\n",
-    ">table a</text><text x=\"580\" y=\"40\" text-anchor=\"end\">2</text><text x=\"710\" y=\"40\" text-anchor=\"end\">1</text>",
+    ">table a (root page 2)</text><text x=\"580\" y=\"40\" text-anchor=\"end\">2</text><text x=\"710\" y=\"40\" text-anchor=\"end\">1</text>",
     "<text x=\"790\" y=\"40\" text-anchor=\"end\">1.0 KiB</text><text x=\"860\" y=\"40\" text-anchor=\"end\">28.6</text>",
-    ">sqlite_schema</text>",
-    ">index &lt;&amp;&quot;\\x0a&#39;&gt;</text>",
+    ">sqlite_schema (root page 1)</text>",
+    ">index &lt;&amp;&quot;\\x0a&#39;&gt; (root page 4)</text>",
     ">freelist</text>",
     ">in no tree, overflow chain or freelist</text>",
-    ">pages with a fault</text>",
+    "<rect x=\"73\" y=\"131\" width=\"10\" height=\"10\" fill=\"#FFFFFF\" stroke=\"#BE0700\" stroke-width=\"4\"/><text x=\"108\" y=\"140\">of the first 100 injuries of explain, of their causes, or named by them</text><text x=\"580\" y=\"140\" text-anchor=\"end\">1</text>",
 ];
 
 // That a picture has these texts one after another, and then its end.
@@ -73,7 +73,8 @@ fn draws_each_kind_of_page(rt: HostRuntime) -> Result<(), Fail> {
 
 // What the picture of 40000 pages has: of them a square covers 4. The first has two pages of `a` and one of each of two others, which
 // bring 12, 6 and 6 to the credit of their owners, and a band takes 4.
-const OF_RUNS: [&str; 7] = [
+const OF_RUNS: [&str; 8] = [
+    ">40000 pages of 512 bytes (19.5 MiB), 39994 faults",
     "; a square is 4 pages, in the order of the file</text>\n",
     "<g><title>pages 1 to 4: 2 in table a, 1 in sqlite_schema, 1 in index &lt;&amp;&quot;\\x0a&#39;&gt;</title>",
     "<rect x=\"0\" y=\"0\" width=\"6\" height=\"3\" fill=\"#067CFF\"/>",
@@ -101,6 +102,31 @@ fn squares_cover_runs(rt: HostRuntime) -> Result<(), Fail> {
     let verdict = map(rt.alloc(), "x", &mut source, &mut out);
     holds!(rt; verdict == Ok(Verdict::Faulty(39994)));
     has_runs(&rt, str::from_utf8(out.bytes()).unwrap_or(""));
+    Ok(())
+}
+
+// The picture of 39998 such pages has this text where the header states so many: the last square covers two of them.
+fn has_outline(rt: &impl Abort, alloc: Global, file: &[u8], text: &str) {
+    let mut source = StatedSource::new(file, 20478976, u64::MAX);
+    let mut out = MemOut::new(alloc);
+    let verdict = map(alloc, "x", &mut source, &mut out);
+    holds!(*rt; verdict.is_ok());
+    holds!(*rt; str::from_utf8(out.bytes()).unwrap_or("").contains(text), text);
+}
+
+// What follows the square of the pages 39997 and 39998, which is the 16th in its row, where the header states 40000 or 40006.
+const TWO_MISSING: &str = "<rect x=\"112\" width=\"5\" height=\"5\"><title>pages 39999 to 40000: not in the file</title></rect>\n</g>\n";
+
+const EIGHT_MISSING: &str = "<rect x=\"112\" width=\"5\" height=\"5\"><title>pages 39999 to 40004: not in the file</title></rect>\n<rect x=\"119\" width=\"5\" height=\"5\"><title>pages 40005 to 40006: not in the file</title></rect>\n</g>\n";
+
+// Missing pages that the last square would cover are in the first outline.
+#[test]
+fn outlines_follow_runs(rt: HostRuntime) -> Result<(), Fail> {
+    let mut file = small(rt.alloc())?;
+    patch(&mut file, 28, &40000u32.to_be_bytes());
+    has_outline(&rt, rt.alloc(), file.as_slice(), TWO_MISSING);
+    patch(&mut file, 28, &40006u32.to_be_bytes());
+    has_outline(&rt, rt.alloc(), file.as_slice(), EIGHT_MISSING);
     Ok(())
 }
 
@@ -142,13 +168,13 @@ fn outlines_are_drawn(rt: HostRuntime) -> Result<(), Fail> {
     Ok(())
 }
 
-// What the picture has of two trees of one name, and of a name that turns text around.
+// What the picture has of two trees of one name, and of a name that turns text around, of which the legend shows 35 columns.
 const NAMES: [&str; 5] = [
     "<title>page 2: root of table t</title>",
     "<title>page 4: root of table \\xe2\\x80\\xaeb\\xe2\\x81\\xa6\\xef\\xbf\\xbf\u{202f}</title>",
-    ">table t, root page 2</text>",
-    ">table t, root page 3</text>",
-    ">table \\xe2\\x80\\xaeb\\xe2\\x81\\xa6\\xef\\xbf\\xbf\u{202f}</text>",
+    ">table t (root page 2)</text>",
+    ">table t (root page 3)</text>",
+    ">table \\xe2\\x80\\xaeb\\xe2\\x81\\xa6\\xef… (root page 4)</text>",
 ];
 
 #[test]

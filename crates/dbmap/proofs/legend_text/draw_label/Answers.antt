@@ -22,6 +22,10 @@ pub returns-in-Nobody : goal.returns-in-Nobody
 unfolding label_text
 returns-in-Nobody g c = rw c.in-Nobody.is (draws_then c.draw_label_front.ensures c.draw-in-Nobody.ensures)
 
-pub returns-in-Faulty : goal.returns-in-Faulty
+pub returns-in-Strong : goal.returns-in-Strong
 unfolding label_text
-returns-in-Faulty g c = rw c.in-Faulty.is (draws_then c.draw_label_front.ensures c.draw-in-Faulty.ensures)
+returns-in-Strong g c = rw c.in-Strong.is (draws_then c.draw_label_front.ensures c.draw-in-Strong.ensures)
+
+pub returns-in-Weak : goal.returns-in-Weak
+unfolding label_text
+returns-in-Weak g c = rw c.in-Weak.is (draws_then c.draw_label_front.ensures c.draw-in-Weak.ensures)

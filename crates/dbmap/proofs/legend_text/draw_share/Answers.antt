@@ -5,5 +5,5 @@ use Rattle.dbmap.proofs.legend_text.draw_share.Goals as goal
 pub returns : goal.returns
 unfolding share_text
 returns g c =
-    let size = rw (c.size_tenths.ensures, c.size_unit.ensures) at c.draw_right.ensures in
+    let size = rw (c.size-tenths.ensures.tenths, c.size-tenths.ensures.unit) at c.draw_right.ensures in
     draws_then c.draw_number.ensures (draws_then c.draw_overflow.ensures size)

@@ -1,6 +1,7 @@
-use Rattle.std.proofs.Common.{rules, ◌≡◌, ℕ, List, [], None, length, map, min, refl, ap, ap₂, subst, ◌∙◌, arith}
+use Rattle.std.proofs.Common.{rules, ◌≡◌, ℕ, List, [], None, length, map, refl, ap, ap₂, subst, ◌∙◌, arith}
 use Rattle.std.specs.Prelude.{count_by}
 use Rattle.std.specs.Int.{div_ceil}
+use Rattle.std.specs.List.{range_with_len}
 use Rattle.dbformat.specs.File.{geometry}
 use Rattle.dbformat.specs.Reference.{Reference}
 use Rattle.dbformat.specs.declared.Geometry.{Geometry}
@@ -13,11 +14,12 @@ use Rattle.dbformat.specs.FixedPages.{geometry_of}
 use Rattle.dbformat.specs.Header.{encoding}
 use Rattle.dbmap.specs.TreeTexts.{shown_tree}
 use Rattle.dbmap.specs.Drawings.{stated_of}
+use Rattle.dbmap.specs.FaultyPages.{is_weak}
 use Rattle.dbmap.specs.KeptFaults.{HasTreeRoom}
 use Rattle.dbmap.specs.Grids.{IsLeastRun}
 use Rattle.dbmap.specs.LegendLines.{legend_lines}
 use Rattle.dbmap.specs.Owners.{IsOf, tree_starts}
-use Rattle.dbmap.specs.PageSets.{has_page, is_noted, shown_codes}
+use Rattle.dbmap.specs.PageSets.{has_page, shown_codes}
 use Rattle.dbmap.specs.declared.page_set.PageSet.{PageSet}
 use Rattle.dbmap.specs.declared.tally.RankedTree.{RankedTree}
 use Rattle.dbmap.specs.declared.draw_state.DrawState.{DrawState}
@@ -80,10 +82,14 @@ returns g c =
         };
       };
       legend = λ file V d room.
+          let pages = ap (λ (g : Geometry). range_with_len 1 g.pages) c.geometry-geometry.ensures.shape in
+          let largest = tree_starts c.largest-largest.result.items in
+          let kept = c.note_listed.new.self in
           (rw c.as_slice-2.ensures.value at c.new-legend.ensures)
-          ∙ legend_is file V c.count.new.self c.new-2.result.names.items c.roots-2.result.now.rows (tree_starts c.largest-largest.result.items) c.count-2.result
-          (c.count.ensures.tally file V (begun file V d room)) c.largest-largest.ensures.largest (ap (λ (l : Listed). l.rows) c.roots-2.ensures ∙ d.rows)
-          ∙ ap (legend_lines file V c.new-2.result.names.items (tree_starts c.largest-largest.result.items))
-          (c.count-2.ensures ∙ ap (λ (s : PageSet _). min (count_by is_noted s.noted.items) 4294967295) c.note_listed.ensures.faulty);
+          ∙ legend_is file V c.count.new.self c.roots-3.result.now.rows largest c.framed-strong.result.0 c.framed-strong.result.1
+          (c.count.ensures.tally file V (begun file V d room)) c.largest-largest.ensures.largest (ap (λ (l : Listed). l.rows) c.roots-3.ensures ∙ d.rows)
+          ∙ ap₂ (legend_lines file V largest)
+          (c.framed-strong.ensures.strong ∙ ap (count_by (has_page kept.strong)) pages)
+          (c.framed-strong.ensures.weak ∙ ap (count_by (is_weak (has_page kept.faulty) (has_page kept.strong))) pages);
       puts = rw k (put_drawn c.end.result _ _ _ _ _ c.new-canvas.ensures.fresh c.end.ensures (rw (ap g.O.Out.held c.new-canvas.ensures.out) at drawn.drawn));
     }

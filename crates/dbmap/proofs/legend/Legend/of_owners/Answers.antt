@@ -1,6 +1,7 @@
 use Rattle.std.proofs.Common.{◌≡◌, ◌++◌, get_or, ap, ap₂, ◌∙◌, arith}
 use Rattle.dbformat.specs.Address.{freelist_start}
-use Rattle.dbmap.specs.LegendLines.{line_if, other_trees, others_share, root_if_twice}
+use Rattle.dbscan.specs.Roots.{root_page}
+use Rattle.dbmap.specs.LegendLines.{line_if, other_trees, others_share}
 use Rattle.dbmap.specs.Legends.{no_overflow}
 use Rattle.dbmap.specs.Owners.{tree_starts}
 use Rattle.dbmap.specs.Tallies.{share_at}
@@ -12,8 +13,7 @@ use Rattle.dbmap.proofs.legend.Legend.of_owners.Goals as goal
 
 pub loop-rank-preserved : goal.loop-rank-preserved
 loop-rank-preserved g c =
-    let names = c.args.labels.now.names.items in
-    let rows = c.args.names.now.roots.now.rows in
+    let rows = c.args.roots.now.rows in
     let starts = c.args.tally.now.starts in
     let i = c.loop-rank.rank in
     let none : RankedTree = record { start = 0; share = record { pages = 0; overflow = 0 } } in
@@ -21,17 +21,16 @@ loop-rank-preserved g c =
     let room = c.loop-rank.invariant.room in
     let few = c.requires.few in
     let more = c.add.ensures.room in
-    let line : c.add.new.self.lines.items ≡ c.loop-rank.legend.lines.items ++ line_if (label.Tree i (root_if_twice names rows i tree.start)) tree.share =
-    c.add.ensures.line (omega (arith, room, few, c.loop-rank-test.true)) ∙ ap (λ root. c.loop-rank.legend.lines.items ++ line_if (label.Tree i root) tree.share) c.root_if_twice-root.ensures in
+    let line : c.add.new.self.lines.items ≡ c.loop-rank.legend.lines.items ++ line_if (label.Tree i (root_page rows tree.start)) tree.share =
+    c.add.ensures.line (omega (arith, room, few, c.loop-rank-test.true)) ∙ ap (λ root. c.loop-rank.legend.lines.items ++ line_if (label.Tree i root) tree.share) c.root_page-root.ensures in
     record {
-      lines = tree_more names rows starts c.args.largest.now i none c.loop-rank.legend.lines.items c.loop-rank-test.true line c.requires.shares c.loop-rank.invariant.lines;
+      lines = tree_more rows starts c.args.largest.now i none c.loop-rank.legend.lines.items c.loop-rank-test.true line c.requires.shares c.loop-rank.invariant.lines;
       room = omega (arith, room, more);
     }
 
 pub returns-clause-lines : goal.returns-clause-lines
 returns-clause-lines g c =
-    let names = c.args.labels.now.names.items in
-    let rows = c.args.names.now.roots.now.rows in
+    let rows = c.args.roots.now.rows in
     let starts = c.args.tally.now.starts in
     let few = c.loop-rank.invariant.room in
     let end = c.loop-rank.auto.rank-end in
@@ -40,7 +39,7 @@ returns-clause-lines g c =
     let room3 = c.add-3.ensures.room in
     let room4 = c.add-4.ensures.room in
     four_more (line_if (Others (other_trees (share_at starts) (tree_starts c.args.largest.now) c.args.tally.now.trees)) (others_share (share_at starts) (tree_starts c.args.largest.now) c.args.tally.now.trees))
-    (line_if Freelist (share_at starts freelist_start)) (line_if Fixed (no_overflow c.args.tally.now.fixed)) (line_if Nobody (no_overflow c.args.tally.now.nobody)) (trees_end names rows (share_at starts) c.args.largest.now c.loop-rank.rank c.loop-rank-test.false c.loop-rank.invariant.lines)
+    (line_if Freelist (share_at starts freelist_start)) (line_if Fixed (no_overflow c.args.tally.now.fixed)) (line_if Nobody (no_overflow c.args.tally.now.nobody)) (trees_end rows (share_at starts) c.args.largest.now c.loop-rank.rank c.loop-rank-test.false c.loop-rank.invariant.lines)
     (c.add-2.ensures.line (omega (arith, few, end, most)) ∙ ap₂ (λ n s. c.loop-rank.legend.lines.items ++ line_if (Others n) s) c.others-count.ensures.trees c.others-count.ensures.share)
     (c.add-3.ensures.line (omega (arith, few, end, most, room2)) ∙ ap (λ s. c.add-2.new.self.lines.items ++ line_if Freelist s) c.share.ensures)
     (c.add-4.ensures.line (omega (arith, few, end, most, room2, room3)) ∙ ap (λ s. c.add-3.new.self.lines.items ++ line_if Fixed s) (c.no_overflow.ensures ∙ ap no_overflow c.fixed.ensures))

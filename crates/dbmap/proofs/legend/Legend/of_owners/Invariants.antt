@@ -6,7 +6,7 @@ use Rattle.dbmap.proofs.legend.Legend.of_owners.Given as goal
 
 abbrev pub invariant-loop-rank : goal.invariant-loop-rank
 invariant-loop-rank g l = record {
-  lines : l.legend.lines.items ++ tree_lines l.labels.names.items l.names.roots.now.rows (share_at l.tally.starts) l.rank (tree_starts (drop l.rank l.largest))
-      ≡ tree_lines l.labels.names.items l.names.roots.now.rows (share_at l.tally.starts) 0 (tree_starts l.largest);
+  lines : l.legend.lines.items ++ tree_lines l.roots.rows (share_at l.tally.starts) l.rank (tree_starts (drop l.rank l.largest))
+      ≡ tree_lines l.roots.rows (share_at l.tally.starts) 0 (tree_starts l.largest);
   room : length l.legend.lines.items ≤ l.rank;
 }
