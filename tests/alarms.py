@@ -108,7 +108,7 @@ def complaints(crate):
             said.append(f"{edit}: {function} is no function that the edit changes ({', '.join(it for it, _ in changed) or 'none'})")
         if not all(re.fullmatch(r"[A-Za-z][\w+.-]*", it.strip()) for it in goals.split(",")):
             said.append(f"{edit}: no goal is named")
-        if any(has_answer(folders) for _, folders in changed) and not twin:
+        if any(has_answer(folders) for _, folders in changed) and not re.search(r"\w", twin):
             said.append(f"{edit}: the function has a hand-written answer or invariant, and no right twin is named")
     return [f"{os.path.basename(crate)}: {it}" for it in said]
 
