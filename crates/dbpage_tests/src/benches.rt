@@ -1,4 +1,5 @@
 // A level of a bench stays lent while the page of a chain is written.
+use dbfiles::holds;
 use dbsource::{Bench, Geometry, MemSource};
 use std::test::Fail;
 

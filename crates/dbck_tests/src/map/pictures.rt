@@ -115,9 +115,11 @@ fn has_outline(rt: &impl Abort, alloc: Global, file: &[u8], text: &str) {
 }
 
 // What follows the square of the pages 39997 and 39998, which is the 16th in its row, where the header states 40000 or 40006.
-const TWO_MISSING: &str = "<rect x=\"112\" width=\"5\" height=\"5\"><title>pages 39999 to 40000: not in the file</title></rect>\n</g>\n";
+const TWO_MISSING: &str =
+    "<rect x=\"112\" width=\"5\" height=\"5\"><title>pages 39999 to 40000: not in the file</title></rect>\n</g>\n";
 
-const EIGHT_MISSING: &str = "<rect x=\"112\" width=\"5\" height=\"5\"><title>pages 39999 to 40004: not in the file</title></rect>\n<rect x=\"119\" width=\"5\" height=\"5\"><title>pages 40005 to 40006: not in the file</title></rect>\n</g>\n";
+const EIGHT_MISSING: &str =
+    "<rect x=\"112\" width=\"5\" height=\"5\"><title>pages 39999 to 40004: not in the file</title></rect>\n<rect x=\"119\" width=\"5\" height=\"5\"><title>pages 40005 to 40006: not in the file</title></rect>\n</g>\n";
 
 // Missing pages that the last square would cover are in the first outline.
 #[test]
