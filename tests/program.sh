@@ -270,19 +270,27 @@ fi
 
 # What a command takes in all, of a file of 2^20 pages and one, and of 2^24 and one: 7 MiB for the program, its buffers and counts, and
 # for each eight pages no more than is said of them: 32 bytes, for `explain` 64 and a byte, for `map` 80.
-cp "$data/empty.db" "$work/large.db"
-for words in '1048577 32 check --limit 1' '1048577 32 stat' '1048577 65 explain --limit 1' '1048577 80 map' \
-    '16777217 65 explain --limit 1' '16777217 80 map'; do
-    read -r pages bytes words <<< "$words"
-    if truncate -s $((512 * pages)) "$work/large.db" 2> "$work/why"; then
+# The second is run beside all that follows, and looked at in the end.
+cp "$data/empty.db" "$work/million.db"
+cp "$data/empty.db" "$work/millions.db"
+started=()
+if truncate -s $((512 * 1048577)) "$work/million.db" 2> "$work/why" && truncate -s $((512 * 16777217)) "$work/millions.db" 2> "$work/why"; then
+    for words in '65 explain --limit 1' '80 map'; do
+        read -r bytes words <<< "$words"
         # shellcheck disable=SC2086
-        (ulimit -v $((7 * 1024 + bytes * pages / 8 / 1024)) && run $words "$work/large.db" && exit "$status")
-        count "$words of $pages pages in $bytes bytes for each eight" [ $? = 1 ]
-    else
-        echo "no run of $words over $pages pages: $(cat "$work/why")"
-    fi
-done
-rm "$work/large.db"
+        (ulimit -v $((7 * 1024 + bytes * 16777217 / 8 / 1024)) && exec "$dbck" $words "$work/millions.db" > "$work/millions.${words%% *}" 2>&1) &
+        started+=($!)
+    done
+    for words in '32 check --limit 1' '32 stat' '65 explain --limit 1' '80 map'; do
+        read -r bytes words <<< "$words"
+        # shellcheck disable=SC2086
+        (ulimit -v $((7 * 1024 + bytes * 1048577 / 8 / 1024)) && run $words "$work/million.db" && exit "$status")
+        count "$words of 1048577 pages in $bytes bytes for each eight" [ $? = 1 ]
+    done
+    rm "$work/million.db"
+else
+    echo "no run over a million pages: $(cat "$work/why")"
+fi
 
 # shows_each_page FILE: whether the rows of the last run are of each page of 512 bytes once, or count them, beside the lines of a check.
 shows_each_page() {
@@ -567,6 +575,12 @@ if command -v python3 > "$work/out" && command -v sqlite3 > "$work/out"; then
 else
     leave_out 1 python3 sqlite3
 fi
+
+# The runs over 2^24 pages and one, which were started before.
+for run in "${started[@]}"; do
+    wait "$run"
+    count 'explain and map of 16777217 pages' [ $? = 1 ]
+done
 
 # The words of the completions are those of the help.
 count 'the words of the completions' tests/completions.sh "$dbck"
