@@ -315,6 +315,18 @@ for words in 'stat --all' 'stat --all --aggregate'; do
 done
 rm "$work/sparse.db"
 
+# Three squares of two pages each after one another, by half in the freelist and in no tree: each has three bands of either.
+cp "$data/empty.db" "$work/mixed.db"
+put_at "$work/mixed.db" 32 '\0\0\0\03\0\0\0\03'
+put_at "$work/mixed.db" 1024 '\0\0\0\0\0\0\0\02\0\0\0\05\0\0\0\07'
+truncate -s $((512 * 16386)) "$work/mixed.db"
+run map "$work/mixed.db"
+for x in 7 14 21; do
+    free="<rect x=\"$x\" y=\"0\" width=\"6\" height=\"3\" fill=\"#DBDBDB\"/>"
+    lost="<rect x=\"$x\" y=\"3\" width=\"6\" height=\"3\" fill=\"url(#unowned)\"/>"
+    count "the bands of the square at $x" grep -qF "$free$lost" "$work/out"
+done
+
 # A page above 16 GiB is read: page 1 is an interior page whose one child is the last of 262147 pages of 65536 bytes, a leaf
 # without cells, which only a root may be. Page 16385 is the lock-byte page, and nothing names the others: 262144 are lost.
 if truncate -s 17180065792 "$work/far.db" 2> "$work/why"; then
