@@ -368,7 +368,7 @@ expect 0 "$page" $'dbck: note: 7 bytes after page 1 are not read\n' stat "$work/
 # A whole page more than its header states.
 cp "$data/whole.db" "$work/longer.db"
 printf '%0700d' 0 >> "$work/longer.db"
-expect 0 $'ok\n' $'dbck: note: 700 bytes after page 13 are not read\n' check "$work/longer.db"
+expect 0 $'ok\n' $'dbck: note: 700 bytes after page 13 are not read, 1 whole page among them\n' check "$work/longer.db"
 
 # A copy that was made as of a text has a fault, is of no whole pages, and shows it on its first page.
 version='H01 page 1 item 18 value 3: file version is not 1 or 2'
