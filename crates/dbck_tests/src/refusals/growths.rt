@@ -100,8 +100,12 @@ fn takes_23_growths_and_no_more(rt: HostRuntime) -> Result<(), Fail> {
             let found = run_in_arena(rt.alloc(), what, file.as_slice(), room)?;
             holds!(rt; found == (Err(RunError::OutOfMemory), 0, 0, 0), (what, growths));
         }
-        let report = if what == "check" { out } else { err };
-        let wanted = (Ok(verdict_of(report)), 0, out.len(), err.len());
+        let verdict = if what == "check" {
+            verdict_of(out)
+        } else {
+            verdict_of(err)
+        };
+        let wanted = (Ok(verdict), 0, out.len(), err.len());
         let room = marks.wrapping_add(22 * 512);
         let found = run_in_arena(rt.alloc(), what, file.as_slice(), room)?;
         holds!(rt; found == wanted, what);
