@@ -2,7 +2,7 @@
 use crate::fake_outs::{FakeOut, LogWriter, NoNotes};
 use crate::fake_sources::PeekingSource;
 use dbcli::{Request, end, error_line, finish, hand_on};
-use dbfiles::{StatedSource, TestFile};
+use dbfiles::{StatedSource, TestFile, holds};
 use dbreport::Command;
 use dbsource::{MemOut, ReadFailed, Refusal, RunError, StreamOut};
 use std::cell::{Cell, RefCell};

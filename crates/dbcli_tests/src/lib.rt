@@ -2,14 +2,6 @@
 //! is proved twice.
 #![tactic(auto)]
 
-// One call where `assert!` has a branch, which would be proved at each place. The text says what did not hold, and of what.
-#[cfg(test)]
-macro_rules! holds {
-    ($rt:expr; $is_so:expr, $of:expr) => {
-        crate::stop_unless(&$rt, $is_so, stringify!($is_so), $of)
-    };
-}
-
 #[cfg(test)]
 mod ends;
 #[cfg(test)]
@@ -30,9 +22,3 @@ mod one_log;
 mod read_ahead;
 #[cfg(test)]
 mod runs;
-
-// Stops a test where something does not hold.
-#[cfg(test)]
-fn stop_unless(rt: &impl std::process::Abort, is_so: bool, text: &str, of: &str) {
-    assert!(rt; is_so, "{text}: {of}");
-}

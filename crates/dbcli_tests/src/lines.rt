@@ -1,5 +1,6 @@
 // Command lines that are taken, and lines that are not, with the texts of help and of errors.
 use dbcli::{LineError, Request, line_of, line_status};
+use dbfiles::holds;
 use dbreport::Command;
 use dbsource::{Refusal, RunError};
 use std::alloc::{AllocError, Global};

@@ -1,6 +1,7 @@
 // The notes on logs that lie beside a database.
 use crate::fake_files::{Allowed, FakeFiles};
 use dbcli::put_log_notes;
+use dbfiles::holds;
 use dbsource::MemOut;
 use std::os::unix::fs::symlink;
 use std::test::Fail;

@@ -2,7 +2,7 @@
 use crate::fake_outs::{LogWriter, NoNotes};
 use crate::runs::run_line;
 use dbcli::{Request, finish};
-use dbfiles::TestFile;
+use dbfiles::{TestFile, holds};
 use dbreport::Command;
 use dbsource::{BufferedOut, MemOut, MemSource, StreamOut};
 use std::alloc::{AllocError, Global};

@@ -2,7 +2,7 @@
 use crate::fake_files::{Allowed, FakeFiles};
 use crate::fake_outs::LogWriter;
 use dbcli::{Progress, System, SystemFiles, run_words};
-use dbfiles::TestFile;
+use dbfiles::{TestFile, holds};
 use dbsource::{BufferedOut, MemOut};
 use std::cell::RefCell;
 use std::fs;
