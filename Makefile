@@ -7,6 +7,8 @@ VERSION := $(shell sed -n 's/^const VERSION: &str = "\(.*\)";$$/\1/p' crates/dbc
 PROGRAM := crates/dbck/out/dbck
 BIN := $(DESTDIR)$(PREFIX)/bin
 SHARE := $(DESTDIR)$(PREFIX)/share
+# What the manual refers to.
+DOCUMENTS := DECISIONS FAULTS FORMAT REPAIR
 
 # Where the toolchain is.
 KIT = $(patsubst %/,%,$(dir $(shell rt doc)))
@@ -24,10 +26,14 @@ install: all
 	$(INSTALL) -D -m 644 completions/dbck.bash $(SHARE)/bash-completion/completions/dbck
 	$(INSTALL) -D -m 644 completions/_dbck $(SHARE)/zsh/site-functions/_dbck
 	$(INSTALL) -D -m 644 completions/dbck.fish $(SHARE)/fish/vendor_completions.d/dbck.fish
+	$(INSTALL) -d $(SHARE)/doc/dbck
+	$(INSTALL) -m 644 $(DOCUMENTS:%=docs/%.md) $(SHARE)/doc/dbck
 
 uninstall:
 	rm -f $(BIN)/dbck $(SHARE)/man/man1/dbck.1 $(SHARE)/bash-completion/completions/dbck \
 	    $(SHARE)/zsh/site-functions/_dbck $(SHARE)/fish/vendor_completions.d/dbck.fish
+	rm -f $(DOCUMENTS:%=$(SHARE)/doc/dbck/%.md)
+	-rmdir $(SHARE)/doc/dbck
 
 deb: all
 	packaging/make-deb $(PROGRAM) $(VERSION)

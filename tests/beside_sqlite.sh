@@ -126,16 +126,15 @@ classify() {
 }
 
 # table: the lines of all files, counted. What dbck says is part of a row where SQLite does not bear it out. Of the kinds of SQLite's
-# lines a row has the first, and `schema` after `structure`.
+# lines a row has the first, and `schema` after `structure`. The rows come by their class, which what both say gives away.
 table() {
     awk -F '\t' '
         { codes = $1 == "faults by dbck alone" || $1 == "refused by dbck" || $1 == "SQLite was stopped"
           split($3, kinds, " ")
           kind = $3 ~ /^structure schema/ ? "structure schema" : kinds[1]
           row = "| " $1 " | " (codes || $2 == "ok" ? $2 : "faults") " | " kind " | "
-          files[row]++
-          quick[row] += $4 != "ok" }
-        END { for (row in files) print row files[row] " | " quick[row] " |" }' "$list" | LC_ALL=C sort
+          files[row]++ }
+        END { for (row in files) print row files[row] " |" }' "$list" | LC_ALL=C sort | cut -d '|' -f 1,3-
 }
 
 cp -r "$folder" "$work/files"
@@ -153,6 +152,6 @@ done > "$list"
 echo "$("$dbck" --version), SQLite $(sqlite3 --version | cut -d ' ' -f 1), $(wc -l < "$list") files"
 echo
 # shellcheck disable=SC2016
-echo '| Class | `dbck` | `integrity_check` | Files | Faults by `quick_check` |'
-echo '|---|---|---|---|---|'
+echo '| `dbck` | `integrity_check` | Files |'
+echo '|---|---|---|'
 table

@@ -325,7 +325,7 @@ class Sums:
         self.elsewhere += sum(rows.total() for rows in result.lost.values())
 
     def __str__(self):
-        return f"{self.whole} / {self.lost} / {self.sound}" if self.injuries else ""
+        return f"{self.whole}/{self.lost}/{self.sound}" if self.injuries else ""
 
 
 def table(head, lines):

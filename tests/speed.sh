@@ -115,7 +115,7 @@ cold() {
 
 # span NAME: the least and the greatest of its times.
 span() {
-    echo "$((time[$1] / 1000)) to $((most[$1] / 1000))"
+    echo "$((time[$1] / 1000))-$((most[$1] / 1000))"
 }
 
 # ratio NAME NAME: of two times, with two decimals.
