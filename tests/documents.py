@@ -1,0 +1,174 @@
+#!/usr/bin/env python3
+"""Compares the documents with the sources, without a build: documents.py [--width].
+
+The codes of docs/FAULTS.md are those of `FaultCode`, in its order and with its words. Commands, options, limits and exit statuses of
+the manual, and those of README, are the program's. The columns of FAULTS are those of the help. README and PROOFS state one
+theorem, and PROOFS names calls and clauses that there are. Each link leads somewhere, and no document is longer than it may be. --width:
+no line of a proof is wider than 160 columns. What fails is printed, and then the status is 1.
+"""
+
+import glob
+import os
+import re
+import sys
+
+TOP = os.path.dirname(os.path.dirname(os.path.abspath(__file__)))
+WORDS = {"README.md": 1600, "docs/PROOFS.md": 3500}
+ALL_WORDS = 22000
+WIDTH = 160
+# Words in PROOFS that look like names and are none of the sources.
+OTHER_NAMES = {"rt", "plant"}
+
+failed = []
+
+
+def text_of(path):
+    with open(os.path.join(TOP, path), encoding="utf-8") as it:
+        return it.read()
+
+
+def paths(pattern):
+    found = glob.glob(os.path.join(TOP, pattern), recursive=True)
+    return sorted(os.path.relpath(path, TOP) for path in found if "/out/" not in path)
+
+
+def compare(what, there, here):
+    """Says where two lists differ, of the program and of a document."""
+    if there != here:
+        failed.append(f"{what}:")
+        failed.extend(f"    not in the document, or not in this place: {it}" for it in there if it not in here)
+        failed.extend(f"    not in the program: {it}" for it in here if it not in there)
+        if sorted(map(str, there)) == sorted(map(str, here)):
+            failed.append("    the order differs")
+
+
+def codes():
+    """The codes, by the enum, by their texts, and by the table of FAULTS."""
+    enum = re.search(r"pub enum FaultCode \{(.*?)\n\}", text_of("crates/dbformat/src/lib.rt"), re.S)[1]
+    texts = text_of("crates/dblines/src/codes.rt").split("pub fn code_words")
+    spelled = dict(re.findall(r'FaultCode::(\w+) => "([^"]*)"', texts[0]))
+    words = dict(re.findall(r'FaultCode::(\w+) => "([^"]*)"', texts[1]))
+    program = [(spelled.get(name, name), words.get(name, "")) for name in re.findall(r"^    (\w+),$", enum, re.M)]
+    rows = re.findall(r"^\| ([A-Z]\d\d) \|.*\| `([^`]*)` \|$", text_of("docs/FAULTS.md"), re.M)
+    compare("docs/FAULTS.md, the codes and their words", program, rows)
+
+
+def plain(manual):
+    """The text of a piece of the manual, on one line."""
+    manual = re.sub(r"^\.Nm$", "dbck", manual, flags=re.M)
+    return " ".join(re.sub(r"^\.\w+ ?", "", manual, flags=re.M).split())
+
+
+def statuses():
+    text = re.search(r'STATUSES: &str = "(.*?)";', text_of("crates/dbcli/src/help.rt"), re.S)[1]
+    program = re.findall(r"^  (\d)  (.*)$", text, re.M)
+    manual = re.search(r"^\.Sh EXIT STATUS\n\.Bl .*?\n(.*?)^\.El", text_of("docs/dbck.1"), re.S | re.M)[1]
+    compare("docs/dbck.1, the statuses", program, [(it[0], plain(it[1:])) for it in re.split(r"^\.It ", manual, flags=re.M)[1:]])
+    compare("README.md, the statuses", program, re.findall(r"^\| (\d) \| (.*?) \|$", text_of("README.md"), re.M))
+
+
+def usage():
+    """Commands with their options, by the functions that make them."""
+    source = text_of("crates/dbcli/src/command_line.rt")
+    bodies = {name: body for name, body in re.findall(r"^fn (\w+)_command<.*?\n\{\n(.*?)^\}", source, re.M | re.S)}
+    names = re.findall(r"subcommand\((\w+)_command\(", bodies["dbck"])
+    program = []
+    for name in names:
+        body = bodies[name]
+        flags = re.findall(r'flag_arg\(\s*alloc,\s*"(\w+)"', body)
+        limit = ["limit N"] if "limited_command(" in body else []
+        if "limited_command(" in body:
+            body += bodies["limited"]
+        progress = ["no-progress"] if "no_progress_arg(" in body else []
+        program.append((name, limit + flags + progress))
+    synopsis = re.search(r"^\.Sh SYNOPSIS\n(.*?)^\.Sh", text_of("docs/dbck.1"), re.S | re.M)[1]
+    manual = []
+    for part in re.findall(r"^\.Nm\n\.Cm (\w+)\n(.*?)\.Ar FILE", synopsis, re.M | re.S):
+        manual.append((part[0], [it.replace(" Ar ", " ") for it in re.findall(r"^\.Op Fl Fl (\S.*)$", part[1], re.M)]))
+    compare("docs/dbck.1, the synopsis", program, manual)
+    lines = re.findall(r"^    dbck (\w+) (.*?)FILE ", text_of("README.md").split("## Usage")[1], re.M)
+    readme = [(name, re.findall(r"\[--([^]]*)\]", options)) for name, options in lines]
+    compare("README.md, the usage", [(name, [it for it in options if it != "no-progress"]) for name, options in program], readme)
+    most = [re.search(rf"const {name}: u32 = (\d+);", source)[1] for name in ("MOST_SHOWN", "MOST_EXPLAINED")]
+    for path in ("README.md", "docs/dbck.1"):
+        for number in most:
+            if number not in text_of(path):
+                failed.append(f"{path}: the limit {number} is not there")
+
+
+def columns():
+    text = re.search(r'STAT_EXAMPLES: &str = "(.*?)";', text_of("crates/dbcli/src/help.rt"), re.S)[1]
+    program = re.search(r"^  (name .*)$", text, re.M)[1].split()
+    table = text_of("docs/FAULTS.md").split("| Column |")[1].split("\n\n")[0]
+    compare("docs/FAULTS.md, the columns", program, re.findall(r"^\| (\w+) \|", table, re.M))
+
+
+def theorem():
+    quotes = []
+    for path in ("README.md", "docs/PROOFS.md"):
+        lines = re.search(r"(?:^> .*\n)+", text_of(path), re.M)[0]
+        quotes.append(" ".join(lines.replace("> ", "").split()))
+    if quotes[0] != quotes[1]:
+        failed.append("README.md and docs/PROOFS.md state two theorems")
+
+
+def clauses():
+    """The names in PROOFS: each is one of the sources, and a clause one of its call."""
+    sources = "".join(text_of(path) for pattern in ("crates/*/src/**/*.rt", "crates/*/specs/**/*.antt", "crates/*/proofs/**/*.antt")
+                      for path in paths(pattern))
+    names = set(re.findall(r"\w+", sources)) | set(re.findall(r"^\w+", text_of("crates.txt"), re.M)) | OTHER_NAMES
+    heads = {}
+    for path in paths("crates/*/src/**/*.rt"):
+        for name, head in re.findall(r"\bfn (\w+)\b(.*?)(?:^\s*\{$|\{\}$|;$|\{$)", text_of(path), re.M | re.S):
+            heads.setdefault(name, set()).update(re.findall(r"^\s*(?:ensures|requires) (\w+) ", head, re.M))
+    for quoted in re.findall(r"`([^`\n]+)`", text_of("docs/PROOFS.md")):
+        for word in re.findall(r"[A-Za-z]\w+", quoted):
+            if word not in names and not re.fullmatch(r"[0-9a-f]{16}", word):
+                failed.append(f"docs/PROOFS.md: `{quoted}`: {word} is not in the sources")
+        clause = re.fullmatch(r"(?:\w+::)*(\w+): (\w+)", quoted)
+        if clause and clause[2] not in heads.get(clause[1], ()):
+            failed.append(f"docs/PROOFS.md: `{quoted}`: there is no such clause")
+
+
+def links():
+    for path in ["README.md", "CONTRIBUTING.md", *paths("docs/*.md")]:
+        for link in re.findall(r"\]\(([^)#:]+)\)", text_of(path)):
+            if not os.path.exists(os.path.join(TOP, os.path.dirname(path), link)):
+                failed.append(f"{path}: {link} is not there")
+    page = text_of("docs/dbck.1")
+    heads = set(re.findall(r"^\.S[hs] (.*)$", page, re.M))
+    for head in re.findall(r"^\.Sx (.*?)(?: [.,;])?$", page, re.M):
+        if head not in heads:
+            failed.append(f"docs/dbck.1: there is no section {head}")
+
+
+def lengths():
+    documents = ["README.md", "CONTRIBUTING.md", "CHANGELOG.md", "docs/dbck.1", *paths("docs/*.md")]
+    count = {path: len(text_of(path).split()) for path in documents}
+    for path, most in WORDS.items():
+        if count[path] > most:
+            failed.append(f"{path}: {count[path]} words, of at most {most}")
+    if sum(count.values()) > ALL_WORDS:
+        failed.append(f"all documents: {sum(count.values())} words, of at most {ALL_WORDS}")
+
+
+def width():
+    for path in paths("crates/*/proofs/**/*.antt"):
+        wide = [number for number, line in enumerate(text_of(path).splitlines(), 1) if len(line) > WIDTH]
+        if wide:
+            failed.append(f"{path}: {len(wide)} lines are wider than {WIDTH} columns, the first is {wide[0]}")
+
+
+def main():
+    if sys.argv[1:] not in ([], ["--width"]):
+        sys.exit(__doc__)
+    for check in (codes, statuses, usage, columns, theorem, clauses, links, lengths):
+        check()
+    if sys.argv[1:]:
+        width()
+    print("\n".join(failed) if failed else "the documents are as the sources")
+    sys.exit(1 if failed else 0)
+
+
+if __name__ == "__main__":
+    main()
