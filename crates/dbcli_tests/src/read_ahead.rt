@@ -187,6 +187,54 @@ fn reads_ahead_what_a_device_has(rt: HostRuntime) -> Result<(), Fail> {
     Ok(())
 }
 
+// Reads that jump through a file of 64 windows: a window for each, and how many windows are read ahead with it. After four jumps four
+// windows are read at once, and after four more sixteen, of which the ones that were read before are left out.
+const JUMPS: [(u64, u64); 11] = [
+    (0, 1),
+    (20, 1),
+    (40, 1),
+    (60, 1),
+    (10, 4),
+    (30, 4),
+    (50, 4),
+    (5, 4),
+    (25, 4),
+    (45, 15),
+    (15, 7),
+];
+
+// How many windows are read ahead with a read of some bytes at the beginning of a window.
+fn windows_with(
+    rt: &HostRuntime,
+    source: &mut impl Source,
+    window: u64,
+    buf: &mut [u8],
+) -> Option<u64> {
+    let before = bytes_read(rt)?;
+    let _ = source.read_at(window.wrapping_mul(WINDOW), buf);
+    Some(bytes_read(rt)?.saturating_sub(before) / WINDOW)
+}
+
+#[test]
+fn reads_more_windows_where_reads_jump(rt: HostRuntime) -> Result<(), Fail> {
+    fs::write(&rt, "jumps.db", b"")?;
+    cut(&rt, "jumps.db", 64 * WINDOW)?;
+    // Of pages of which a few fill a window, one window is read at once.
+    for (size, is_short) in [(4096, true), (32_768, false)] {
+        let files = FakeFiles::new(&rt, Allowed::Reading);
+        files.set_pace(1000);
+        let mut buf = vec![in rt.alloc(); 0; size]?;
+        let mut source = FileSource::open(&files, "jumps.db")?;
+        for (window, at_once) in JUMPS {
+            let wanted = if is_short { at_once } else { 1 };
+            let found = windows_with(&rt, &mut source, window, &mut buf);
+            holds!(rt; found.is_none() || found == Some(wanted), (size, window));
+        }
+    }
+    fs::remove_file(&rt, "jumps.db")?;
+    Ok(())
+}
+
 // The most bytes that are read for one page of four windows, which are read in their order.
 fn most_read(rt: &HostRuntime, stop: &impl Abort) -> Result<Option<u64>, Fail> {
     let mut page = [0u8; 4096];

@@ -7,8 +7,17 @@ use std::rt::Clock;
 use std::time::{Duration, Instant};
 
 // The size of a window in bytes. A turning disk reads this much in about the time that its head takes to move to a page, and
-// an SSD at the rate at which it reads a whole file. Larger windows are seldom faster, and read more that a run may not need.
+// an SSD at the rate at which it reads a whole file.
 const WINDOW: usize = 1_048_576;
+
+// Reads that jump from window to window will need most of them, and a disk is faster the more it reads at once. So after this many
+// slow reads, each in a window that does not follow the last, four times as many windows are read at once, up to the greatest number.
+const JUMPS: u32 = 4;
+
+const MOST_AT_ONCE: u64 = 16;
+
+// The longest page for which more than one window is read at once. A few longer ones fill a window.
+const LONGEST: usize = 16_384;
 
 // The windows of the greatest file that is checked, of 67108864 pages of 65536 bytes. Their bits take half a mebibyte.
 const MOST_WINDOWS: u64 = 4_194_304;
@@ -22,14 +31,20 @@ const TIMED: usize = 4096;
 pub(crate) const DEVICE_MICROS: u64 = 15;
 
 /// The windows of a file. The beginning of the first read in each is timed: if it came from a device, the whole window
-/// is read once, so that the system has it in memory when its other pages are read. These bytes are not used.
+/// is read once, so that the system has it in memory when its other pages are read; and where reads jump, the windows beside it.
+/// These bytes are not used.
 #[derive(Drop)]
 pub(crate) struct ReadAhead<'r, C> {
     clock: &'r C,
     bound: Duration,
-    // One bit for each window: whether a read in it was timed.
+    // One bit for each window: whether a read in it was timed, or it was read with another.
     seen: Vec<u64>,
+    windows: u64,
     buffer: Vec<u8>,
+    // How many windows are read at once, the last window with a slow read, and how many of them did not follow the one before.
+    at_once: u64,
+    last: u64,
+    jumps: u32,
 }
 
 impl<'r, C: Clock> ReadAhead<'r, C> {
@@ -50,15 +65,19 @@ impl<'r, C: Clock> ReadAhead<'r, C> {
             clock,
             bound,
             seen: vec![in alloc; 0; windows.div_ceil(64) as usize]?,
+            windows,
             buffer: Vec::new(alloc),
+            at_once: 1,
+            last: 0,
+            jumps: 0,
         })
     }
 
-    // Whether no read in this window was timed yet. There are no windows after the length that the file had.
+    // Whether this window is seen for the first time. There are no windows after the length that the file had.
     fn is_new(&mut self, window: u64) -> bool {
         let bit = 1u64 << (window % 64);
         match self.seen.get_mut((window / 64) as usize) {
-            Some(bits) if *bits & bit == 0 => {
+            Some(bits) if *bits & bit == 0 && window < self.windows => {
                 *bits |= bit;
                 true
             }
@@ -73,6 +92,7 @@ impl<'r, C: Clock> ReadAhead<'r, C> {
         if !self.is_new(window) {
             return file.read_exact_at(buf, offset);
         }
+        let is_short = buf.len() <= LONGEST;
         let (first, rest) = buf.split_at_mut(TIMED.min(buf.len()));
         let start = Instant::now(self.clock);
         file.read_exact_at(first, offset)?;
@@ -80,15 +100,41 @@ impl<'r, C: Clock> ReadAhead<'r, C> {
             && let Ok(time) = start.elapsed(self.clock)
             && time >= self.bound
         {
-            self.fetch(file, window * WINDOW as u64);
+            if is_short {
+                self.grow(window);
+            }
+            self.fetch(file, window);
+            self.fetch_beside(file, window);
         }
         file.read_exact_at(rest, offset.wrapping_add(first.len() as u64))
     }
 
+    // Notes a slow read in a window, after which more windows may be read at once.
+    fn grow(&mut self, window: u64) {
+        if window != self.last.saturating_add(1) {
+            self.jumps = self.jumps.saturating_add(1);
+        }
+        self.last = window;
+        if self.jumps > JUMPS {
+            self.jumps = 0;
+            self.at_once = MOST_AT_ONCE.min(self.at_once.saturating_mul(4));
+        }
+    }
+
+    // Reads the windows that are read at once with a window, but for those that were seen.
+    fn fetch_beside(&mut self, file: &File, window: u64) {
+        let first = window.saturating_sub(window.checked_rem(self.at_once).unwrap_or(0));
+        for beside in first..first.saturating_add(self.at_once) {
+            if self.is_new(beside) {
+                self.fetch(file, beside);
+            }
+        }
+    }
+
     // Reads a window. The buffer gets its bytes only now, so that a file in memory costs none.
-    fn fetch(&mut self, file: &File, start: u64) {
+    fn fetch(&mut self, file: &File, window: u64) {
         if self.buffer.resize(WINDOW, 0).is_ok() {
-            let _ = file.read_at(&mut self.buffer, start);
+            let _ = file.read_at(&mut self.buffer, window.saturating_mul(WINDOW as u64));
         }
     }
 }
