@@ -156,10 +156,22 @@ else
 fi
 
 # 0: help and the version stand on standard output alone.
-for words in --help -h help 'help check' 'help explain' 'help map' 'help stat' 'check --help' 'explain --help' 'map --help' 'stat --help'; do
+while read -r text words; do
     # shellcheck disable=SC2086
-    expect 0 $'*\nUsage: dbck *' '' $words
-done
+    expect 0 "$(< "tests/help/$text.txt")"$'\n' '' $words
+done << 'END'
+dbck --help
+dbck -h
+dbck help
+check check --help
+check help check
+explain explain --help
+explain help explain
+map map --help
+map help map
+stat stat --help
+stat help stat
+END
 expect 0 $'dbck +([0-9.])\n' '' --version
 expect 0 $'dbck +([0-9.])\n' '' -V
 
@@ -172,13 +184,34 @@ for words in --help --version help 'check --help'; do
     count "$words to a full disk" ended 6 '' "$unwritten"
 done
 
-# 2: nothing stands on standard output where the line is refused.
-for words in '' check explain map stat 'repair x' 'check x y' 'check --limit 0 x' 'check --limit 1000001 x' 'check --limit x' \
-    'check --limit 1 --limit 1 x' 'check --all x' 'explain --limit 10001 x' 'explain --all x' 'map --limit 1 x' 'map --all x' \
-    'stat --limit 1 x' 'stat --all --all x' 'stat --all=true x' --limit; do
+# 2: nothing stands on standard output where the line is refused, and a line says why. Words, a bar, and how that line begins.
+while IFS='|' read -r words text; do
     # shellcheck disable=SC2086
-    expect 2 '' 'dbck: *' $words
-done
+    expect 2 '' "dbck: $text*" $words
+done << 'END'
+|'dbck' requires a subcommand but one was not provided
+repair x|unrecognized subcommand 'repair'
+check|the following required arguments were not provided:
+check x y|unexpected argument 'y' found
+check --limit|a value is required for '--limit <N>' but none was supplied
+check --limit 0 x|invalid value '0' for '--limit <N>'
+check --limit 1000001 x|invalid value '1000001' for '--limit <N>'
+check --limit five x|invalid value 'five' for '--limit <N>'
+check --limit 1 --limit 2 x|the argument '--limit <N>' cannot be used multiple times
+check --all x|unexpected argument '--all' found
+check --version|unexpected argument '--version' found
+explain|the following required arguments were not provided:
+explain --limit 10001 x|invalid value '10001' for '--limit <N>'
+explain --all x|unexpected argument '--all' found
+map|the following required arguments were not provided:
+map --limit 1 x|unexpected argument '--limit' found
+map --all x|unexpected argument '--all' found
+stat|the following required arguments were not provided:
+stat --limit 1 x|unexpected argument '--limit' found
+stat --all --all x|the argument '--all' cannot be used multiple times
+stat --aggregate x --aggregate|the argument '--aggregate' cannot be used multiple times
+stat --all=true x|unexpected value 'true' for '--all' found; no more were expected
+END
 expect 2 '' $'dbck: a word of the command line is not UTF-8\n' check $'\xff'
 expect 2 '' "dbck: unexpected argument 'y\\\\x1b\\[2J\\\\x0az' found"$'\n*' check x $'y\x1b[2J\nz'
 expect 2 '' "dbck: unrecognized subcommand 'a\\\\x0ab\\\\xc2\\\\x9b'"$'\n*' $'a\nb\xc2\x9b'
