@@ -1,4 +1,4 @@
-// A level of a bench stays lent while the page of a chain is written.
+// A level of a bench stays borrowed while the page of a chain is written.
 use dbfiles::holds;
 use dbsource::{Bench, Geometry, MemSource};
 use std::test::Fail;

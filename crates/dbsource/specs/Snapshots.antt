@@ -84,7 +84,7 @@ pub record HasReadTold (step : Step) (P : List ByteRange → Type 0) (Q : List �
 abbrev pub ToldFileIsRead : Step → Lengths → (List ByteRange → Type 0) → (List ℕ → List ByteRange → Type 0) → SourceState → SourceState → Type 0
 ToldFileIsRead step lengths P Q old new = HasRead step lengths P Q old new → IfSome old.bytes (HasReadTold step P Q old new)
 
--- What a run after a header made of a source with told bytes that have this header.
+-- What a run leaves of a source with told bytes, after it read this header of them.
 pub record HasReadAfterTold (step : Step) (P : List ByteRange → Type 0) (Q : List ℕ → Type 0) (old new : SourceState) (file : List ℕ) : Type 0 where
   -- the answers to the reads after the header, in their order
   pub log : List Answer
@@ -99,7 +99,7 @@ pub record HasReadAfterTold (step : Step) (P : List ByteRange → Type 0) (Q : L
   -- they do not change
   pub stay : new.bytes ≡ Some file
 
--- So Q holds of told bytes of a header wherever it holds of each file of it that agrees with what was read.
+-- So Q holds of told bytes with this header wherever it holds of each such file that agrees with what was read.
 abbrev pub ToldFileIsReadAfter : Step → (List ByteRange → Type 0) → HeaderBytes → (List ℕ → Type 0) → SourceState → SourceState → Type 0
 ToldFileIsReadAfter step P h Q old new = HasReadAfterHeader step P h Q old new
     → IfSome old.bytes (λ file. IsHeaderOf h file → HasReadAfterTold step P Q old new file)

@@ -56,7 +56,7 @@ impl<A: Allocator> Bench<A> {
         }
     }
 
-    /// The bytes at a level, and beside them the chain buffer: a view of the level stays lent while the page of a chain is
+    /// The bytes at a level, and beside them the chain buffer: a view of the level stays borrowed while the page of a chain is
     /// written.
     pub fn chain(&mut self, level: usize) -> (&[u8], &mut [u8])
         requires { level < 20 }

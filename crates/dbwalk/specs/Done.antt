@@ -24,7 +24,7 @@ pub record IsDone {S A : Type 0} (takes drops : S → Finding → S → Type 0) 
 
 -- What the walk over a whole tree leaves. At Ok the marks are those of W and of all that is visited below the root. The items of
 -- the walk (`IsFold` says what they are) were handed to sink and taker: all of them at Ok, after an error a beginning. So in a
--- tree that is not the schema's, which has no rows, all that is told below the root was reported.
+-- tree that is not the schema's, which has no rows, all that is found below the root was reported.
 pub record IsTreeDone {S T : Type 0} (takes drops : S → Finding → S → Type 0) (keeps : T → SchemaRow → Taken → T → Type 0) (refuses : T → SchemaRow → T → Type 0) (file : List ℕ) (W : List Reference) (c : Reference) (r : Result (Unit {0}) RunError)
     (marks : List Mark) (before after : S × T) : Type 0 where
   pub marked : OnOk r (AreMarksOf file (W ++ visited_below file W (Go c ∷ [])) marks)

@@ -105,7 +105,7 @@ fn squares_cover_runs(rt: HostRuntime) -> Result<(), Fail> {
     Ok(())
 }
 
-// The picture of 39998 such pages has this text where the header states so many: the last square covers two of them.
+// The picture of 39998 such pages has this text where the header states 39998 pages: the last square covers two of them.
 fn has_outline(rt: &impl Abort, alloc: Global, file: &[u8], text: &str) {
     let mut source = StatedSource::new(file, 20478976, u64::MAX);
     let mut out = MemOut::new(alloc);
