@@ -1,6 +1,6 @@
 -- From the words of a command line to an exit status: what was opened, what became of it, and how it was given back.
-use Rattle.std.specs.Prelude.{◌≡◌, ◌⊎◌, ℕ, List, Result, Ok, Err}
-use Rattle.clap.specs.Words.{Text, subcommand_of}
+use Rattle.std.specs.Prelude.{◌≡◌, ◌⊎◌, ℕ, List, [], Result, Ok, Err}
+use Rattle.clap.specs.Words.{Text, fault_of, subcommand_of}
 use Rattle.dbsource.specs.declared.out.Out.{Ghosts as OutWords}
 use Rattle.dbsource.specs.declared.source.ReadFailed.{ReadFailed as Unread}
 use Rattle.dbsource.specs.declared.source.Source.{Ghosts as SourceWords}
@@ -31,8 +31,9 @@ module _ {F S O E : Type 0} (opens : F → List ℕ → Result S Unread → F �
     -- and what was opened was run
     pub ran : RunsOpened asked status answer (between, old.1, old.2) new
 
-  -- What became of words that are taken: what they ask for, of the file that they name, was run.
+  -- What became of words that are taken, in which the parser finds no fault: what they ask for, of the file that they name, was run.
   pub record RunsWords (words : List Text) (status : ℕ) (old new : F × O × E) : Type 0 where
+    pub taken : fault_of dbck_app words ≡ []
     pub request : Request
     pub file : Text
     pub asked : AsksFor (subcommand_of dbck_app words) request file

@@ -1,7 +1,6 @@
 // From the words of a command line to an exit status.
-ghost use Rattle.std.specs.Prelude.{◌≡◌, [], IfErr, IfOk, OnErr, map};
-ghost use Rattle.clap.specs.Words.{fault_of};
-ghost use Rattle.dbcli.specs.CommandLine.{IsErrorOf, dbck_app};
+ghost use Rattle.std.specs.Prelude.{◌≡◌, IfErr, IfOk, OnErr, map};
+ghost use Rattle.dbcli.specs.CommandLine.{IsErrorOf};
 ghost use Rattle.dbcli.specs.Running.{AnswersWords, IsErrorStatus, IsUnrun, RunsLine, RunsWords};
 
 use crate::command_line::{Line, LineError, line_of, shown_error};
@@ -84,7 +83,6 @@ pub fn run_words<'a, R: Lookup + AllocGlobal, F: Opener, O: Out, E: Out, N: Out,
     notes: &mut N,
     progress: &Progress<W>,
 ) -> Result<u8, LineError>
-    ensures taken { IfOk result (λ status. fault_of dbck_app (map (λ word. word.now) words.entry.now) ≡ []) }
     ensures ran { IfOk result (λ status. RunsWords F.opens F.closes F.File.Source O.Out E.Out (map (λ word. word.now) words.entry.now) status
         (system.old.files, out.old, err.old) (system.new.files, out.new, err.new)) }
     ensures refused { IfErr result (λ error. IsErrorOf error (map (λ word. word.now) words.entry.now)) }
