@@ -43,11 +43,12 @@ def recipe_of(explained, status, done=()):
     # The recipes.
     if lines == ["ok"]:
         return "Nothing"
-    tables = [line for line in by_tree if line.startswith(("in table ", "in sqlite_schema "))]
-    indexes = [line for line in by_tree if line.startswith("in index ")]
-    if not tables and not indexes and not looks and "H06" not in codes and status == 1:
+    whole = re.search(r"^    (\d+) of (\d+) tables? and (\d+) of (\d+) index(?:es)? without a fault$", explained, re.M)
+    if status != 1 or not whole or whole[1] != whole[2] or any(line.startswith("in sqlite_schema ") for line in by_tree):
+        return "Both ways"
+    if whole[3] == whole[4] and not looks and "H06" not in codes:
         return "VACUUM INTO"
-    if not tables and indexes and not any(" of a table " in line for line in looks) and not "R03" in codes:
+    if not any(" of a table " in line for line in looks) and "R03" not in codes:
         return ".dump"
     return "Both ways"
 
