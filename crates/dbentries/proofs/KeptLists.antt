@@ -2,14 +2,12 @@
 use Rattle.std.proofs.Common.{◌≡◌, ℕ, ◌+◌, ◌<◌, ◌≤◌, List, [], ◌∷◌, ◌++◌, length, take, map, get_or, ap, ◌∙◌, arith}
 use Rattle.std.specs.Prelude.{pos}
 use Rattle.std.proofs.lemmas.List.{get_or-map, length-map, take_all, take_more}
-use Rattle.std.proofs.lemmas.List.Sums.{fold-append}
 use Rattle.dbformat.specs.Faults.{fault}
 use Rattle.dbformat.specs.declared.FaultCode.TheVariants.{H01}
 use Rattle.dbtrace.specs.declared.Cause.TheVariants as cause
 use Rattle.dbtrace.specs.declared.Part.TheVariants as part
 use Rattle.dbentries.specs.Kept.{kept_of}
 use Rattle.dbentries.specs.Listing as listing
-use Rattle.dbentries.specs.Woven.{woven, woven_in}
 use Rattle.dbentries.specs.declared.entry.Entry.{Entry}
 
 abbrev pub no_entry : listing.Entry
@@ -34,7 +32,3 @@ module _ (listed : List Entry) (es : List listing.Entry) (is : listed ≡ map ke
 
   pub taken_all : (i : ℕ) → length listed ≤ i → take i es ≡ es
   taken_all i h = take_all i es (beyond i h)
-
--- one entry of a lost page more
-pub woven_more : (es ls : List listing.Entry) (l : listing.Entry) → woven es (ls ++ l ∷ []) ≡ woven_in l (woven es ls)
-woven_more es ls l = fold-append (λ es e. woven_in e es) es ls (l ∷ [])

@@ -1,10 +1,13 @@
 pub mod Adding
-pub mod Apart
 pub mod Belonging
-pub mod ByCode
+pub mod Desks
 pub mod Few
+pub mod Heard
 pub mod KeptLists
+pub mod ListedFaults
+pub mod Looking
+pub mod LostPages
 pub mod Noting
 pub mod Numbers
+pub mod PartsRise
 pub mod Placing
-pub mod Weaving

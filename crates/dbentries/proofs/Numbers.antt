@@ -1,12 +1,9 @@
 -- Lists: the numbers of the elements that pass a test, and a list with one element changed.
-use Rattle.std.proofs.Common.{◌≡◌, ◌≢◌, ℕ, zero, suc, ◌+◌, ◌-◌, ◌<◌, ◌≤◌, Bool, true, false, cond, List, [], ◌∷◌, ◌++◌, length, map, take, drop, get_or, set, Option, Some, None, ◌⊎◌, inl, inr, refl, sym, ap, ap₂, subst, ◌∙◌, arith, add-one, drop-cons, take-suc}
-use Rattle.std.specs.Prelude.{min, nat_le}
+use Rattle.std.proofs.Common.{◌≡◌, ℕ, zero, suc, ◌+◌, ◌<◌, ◌≤◌, Bool, true, false, cond, List, [], ◌∷◌, ◌++◌, length, map, take, drop, get_or, set, Option, Some, None, ◌⊎◌, inl, inr, refl, sym, ap, ap₂, subst, ◌∙◌, arith}
 use Rattle.std.specs.List.{find, sum_by, slice_get}
 use Rattle.std.specs.Option.{option_or}
-use Rattle.std.proofs.lemmas.List.Folds.{find-append}
 use Rattle.std.proofs.lemmas.List.Sums.{sum_by-append, sum_by-cons}
-use Rattle.std.proofs.lemmas.List.{take-append-drop, take_all}
-use Rattle.std.proofs.lemmas.Bool.Decides.{nat_tests}
+use Rattle.std.proofs.lemmas.List.{take-append-drop}
 use Rattle.dbsurvey.specs.Address.{IsIn}
 use Rattle.dbentries.specs.Listing.{changed_at, last_of, entry_numbers_from}
 
@@ -41,6 +38,13 @@ numbers-none p i [] h = refl
 numbers-none p i (x ∷ xs) h =
     ap (λ b. cond b (i ∷ entry_numbers_from p (suc i) xs) (entry_numbers_from p (suc i) xs)) (h x (inl refl)) ∙ numbers-none p (suc i) xs (λ y m. h y (inr m))
 
+-- those of what is made of each element
+pub numbers-map : {X Y : Type 0} (f : X → Y) (q : Y → Bool) (p : X → Bool) → ((x : X) → q (f x) ≡ p x) → (i : ℕ) (xs : List X)
+    → entry_numbers_from q i (map f xs) ≡ entry_numbers_from p i xs
+numbers-map f q p h i [] = refl
+numbers-map f q p h i (x ∷ xs) =
+    ap₂ (λ b (l : List ℕ). cond b (i ∷ l) l) (h x) (numbers-map f q p h (suc i) xs)
+
 -- they are those of elements of the list
 pub numbers_within : {X : Type 0} (p : X → Bool) (i : ℕ) (xs : List X) (k : ℕ) → IsIn k (entry_numbers_from p i xs) → (i ≤ k) × (k < i + length xs)
 numbers_within p i [] k m = absurd m
@@ -73,30 +77,6 @@ last-some (i ∷ is) h = by_case (last_of is)
 pub last-append : (is js : List ℕ) (k : ℕ) → last_of js ≡ Some k → last_of (is ++ js) ≡ Some k
 last-append [] js k e = e
 last-append (i ∷ is) js k e = ap (λ o. option_or o (Some i)) (last-append is js k e)
-
--- the last of the first n is the one before element n
-pub last-take : (is : List ℕ) (n : ℕ) → n < length is → last_of (take (suc n) is) ≡ Some (get_or is n 0)
-last-take [] n h = absurd (let no : ⊥ = omega arith in no)
-last-take (i ∷ is) zero h = ap (λ l. last_of (i ∷ l)) (take-zero is)
-  where
-    take-zero : (l : List ℕ) → take 0 l ≡ []
-    take-zero [] = refl
-    take-zero (x ∷ xs) = refl
-last-take (i ∷ is) (suc n) h = ap (λ o. option_or o (Some i)) (last-take is n (omega arith))
-
--- the same by a number that stops at the length
-pub last-min : (is : List ℕ) (k m : ℕ) → m ≡ min k (length is) → m ≢ 0 → Some (get_or is (m - 1) 0) ≡ last_of (take k is)
-last-min is k m e h = sym (ap last_of same ∙ last-take is (m - 1) (omega (arith, e, h)))
-  where
-    same : take k is ≡ take (suc (m - 1)) is
-    same = by_case (nat_le k (length is)) refl
-      where
-        by_case : (b : Bool) → nat_le k (length is) ≡ b → take k is ≡ take (suc (m - 1)) is
-        by_case true t = let q : k ≡ suc (m - 1) = grind (arith, nat_tests, e, h, t) in ap (λ n. take n is) q
-        by_case false t =
-            let l : length is ≤ k = grind (arith, nat_tests, t) in
-            let n : length is ≤ suc (m - 1) = omega (arith, e, l) in
-            take_all k is l ∙ sym (take_all (suc (m - 1)) is n)
 
 -- ---- an element changed
 
@@ -189,26 +169,3 @@ find-same p q (x ∷ xs) h = ap (λ b. cond b (Some x) (find p xs)) (h x (inl re
 -- the sum of a list, by its parts
 pub sum-parts : {X : Type 0} (g : X → ℕ) (n : ℕ) (xs : List X) → sum_by g xs ≡ sum_by g (take n xs) + sum_by g (drop n xs)
 sum-parts g n xs = ap (sum_by g) (sym (take-append-drop n xs)) ∙ sum_by-append g (take n xs) (drop n xs)
-
--- ---- a search, number by number
-
-module _ (p : ℕ → Bool) (is : List ℕ) (n : ℕ) (none : find p (take n is) ≡ None) (within : n < length is) where
-  here : find p is ≡ cond (p (get_or is n 0)) (Some (get_or is n 0)) (find p (drop (suc n) is))
-  here =
-      ap (find p) (sym (take-append-drop n is))
-      ∙ find-append p (take n is) (drop n is)
-      ∙ ap (λ o. option_or o (find p (drop n is))) none
-      ∙ ap (find p) (drop-cons is n 0 within)
-
-  pub found_here : p (get_or is n 0) ≡ true → find p is ≡ Some (get_or is n 0)
-  found_here e = here ∙ ap (λ b. cond b (Some (get_or is n 0)) (find p (drop (suc n) is))) e
-
-  pub not_here : p (get_or is n 0) ≡ false → find p (take (n + 1) is) ≡ None
-  not_here e =
-      ap (find p) (ap (λ m. take m is) (add-one n) ∙ take-suc is n 0 within)
-      ∙ find-append p (take n is) (get_or is n 0 ∷ [])
-      ∙ ap₂ (λ o b. option_or o (cond b (Some (get_or is n 0)) None)) none e
-
--- past the end nothing more is found
-pub none_past : (p : ℕ → Bool) (is : List ℕ) (n : ℕ) → find p (take n is) ≡ None → length is ≤ n → find p (take (n + 1) is) ≡ None
-none_past p is n none h = ap (find p) (take_all (n + 1) is (omega (arith, h)) ∙ sym (take_all n is h)) ∙ none

@@ -1,7 +1,9 @@
-pub mod Apart
 pub mod Kept
 pub mod Lines
+pub mod Listed
 pub mod Listing
+pub mod Lists
+pub mod Lost
 pub mod Others
+pub mod Reported
 pub mod Store
-pub mod Woven

@@ -77,13 +77,13 @@ abbrev pub last_of : List ℕ → Option ℕ
 last_of [] = None
 last_of (i ∷ is) = option_or (last_of is) (Some i)
 
--- The entry that a fault belongs to, by those of its code and part: the one that goes back to the same; none where there are
--- not yet as many as there may be, and then it is an entry itself; else the last.
-abbrev pub home_among : Reported → List Entry → List ℕ → Option ℕ
-home_among x es is = option_or (find (is_cause x es) is) (if nat_lt (length is) (most x.fault.code) then None else last_of is)
+-- The entry that a fault with this code belongs to, by the numbers of those of its code and part: the one that goes back to the same; none
+-- where there are not yet as many as there may be, and then it is an entry itself; else the last.
+abbrev pub home_among : FaultCode → (ℕ → Bool) → List ℕ → Option ℕ
+home_among code same is = option_or (find same is) (if nat_lt (length is) (most code) then None else last_of is)
 
 abbrev pub home : Reported → List Entry → Option ℕ
-home x es = home_among x es (beside x es)
+home x es = home_among x.fault.code (is_cause x es) (beside x es)
 
 -- one more belongs to an entry
 abbrev pub joined : Reported → Entry → Entry

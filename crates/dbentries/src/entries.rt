@@ -1,17 +1,11 @@
 // The entries of the reported faults.
-ghost use Rattle.std.specs.Prelude.{◌≡◌, ◌≤◌, ◌<◌, ◌+◌, [], ◌∷◌, ◌++◌, List, IfOk, find, map};
-ghost use Rattle.dbentries.specs.Kept.{kept_of};
-ghost use Rattle.dbentries.specs.Listing as listing;
+ghost use Rattle.std.specs.Prelude.{◌≡◌, ◌≤◌, [], ◌∷◌, ◌++◌, List, IfOk};
 ghost use Rattle.dbentries.specs.Listing.{rank};
-ghost use Rattle.dbentries.specs.Store.{added, home_by, home_of, is_listed_cause, note_of, slots_of, AreEntriesOf};
-ghost use Rattle.dbentries.specs.Store.{put_at_home, put_kept, put_new, put_unkept, turned};
-ghost use Rattle.dbentries.specs.Woven.{kept_in, put_last, woven, woven_in, KeepsFirst};
+ghost use Rattle.dbentries.specs.Store.{AreEntriesOf, added, home_kept, is_beside, put_at, put_kept, put_new, turned};
 
 use crate::causes::{most, same_cause};
 use crate::entry::Entry;
-use crate::note::{MOST, NO_NOTE, Note};
 use crate::part::rank;
-use crate::woven::push_through;
 use dbformat::{Fault, FaultCode};
 use dbtrace::{Cause, Part, Reported};
 use std::alloc::{AllocError, Allocator, Global};
@@ -23,8 +17,9 @@ pub struct Entries<A: Allocator = Global> {
     listed: Vec<Entry, A>,
     shown: usize,
     rest: u64,
+    // The part of the last fault, and where its entries begin.
     part: u64,
-    notes: [Note; 35],
+    begins: usize,
 }
 
 impl<A: Allocator> Model for Entries<A> {
@@ -39,14 +34,6 @@ impl<A: Allocator> Model for Entries<A> {
     ghost invariant = { IsStored };
 }
 
-// Where a fault goes: to an entry that is kept, or to one that is not; or it is an entry itself.
-#[derive(Clone, Copy)]
-pub(crate) enum Home {
-    Kept(usize),
-    Unkept,
-    New,
-}
-
 // Fills the places where no entry is kept yet.
 const NO_ENTRY: Reported = Reported {
     part: Part::Header,
@@ -58,6 +45,14 @@ const NO_ENTRY: Reported = Reported {
     },
     cause: Cause::Itself,
 };
+
+// Whether an entry is of the code and the part of a fault.
+fn is_beside(told: &Reported, entry: &Entry) -> bool
+    ensures { result ≡ is_beside told.now entry.now }
+{
+    entry.first.fault.code.index() == told.fault.code.index()
+        && rank(entry.first.part) == rank(told.part)
+}
 
 impl<A: Allocator + Copy> Entries<A> {
     /// No entries, with room for `limit`: one growth from any allocator. After that it takes no memory.
@@ -76,7 +71,7 @@ impl<A: Allocator + Copy> Entries<A> {
             shown: 0,
             rest: 0,
             part: 0,
-            notes: [NO_NOTE; 35],
+            begins: 0,
         })
     }
 }
@@ -87,32 +82,13 @@ impl<A: Allocator> Entries<A> {
         ensures entries { (xs : List Reported) → AreEntriesOf xs self.old → self.old.part ≤ rank told.now.part → AreEntriesOf (xs ++ told.now ∷ []) self.new }
         ensures limit { self.new.limit ≡ self.old.limit }
         ensures part { self.new.part ≡ rank told.now.part }
+        ensures last { self.old.part ≤ 4294967297 }
     {
         self.turn_to(rank(told.part));
-        let home = self.home(told);
-        self.put(home, told);
-    }
-
-    /// Puts the entries of lost pages in their places, each before the first that comes after it: one of the end that is of a
-    /// later page, and whose code is not H08, H09 or H10. Where there is no room, the last entries are no longer kept. No fault is
-    /// added after this.
-    pub fn weave(&mut self, lost: &[Entry])
-        ensures entries { (es ls : List listing.Entry) → KeepsFirst es self.old → lost.now ≡ map kept_of ls → KeepsFirst (woven es ls) self.new }
-        ensures limit { self.new.limit ≡ self.old.limit }
-    {
-        for entry in lost {
-            self.insert(entry);
+        match self.home(told) {
+            Some(slot) => self.put_kept(slot, told),
+            None => self.put_new(told),
         }
-    }
-
-    // Puts an entry of lost pages in its place.
-    fn insert(&mut self, entry: &Entry)
-        ensures entries { (es : List listing.Entry) (e : listing.Entry) → KeepsFirst es self.old → entry.now ≡ kept_of e
-            → KeepsFirst (woven_in e es) self.new }
-        ensures limit { self.new.limit ≡ self.old.limit }
-    {
-        let last = self.make_way(entry);
-        self.put_last(&last);
     }
 
     /// The entries that are kept, in their order.
@@ -129,74 +105,38 @@ impl<A: Allocator> Entries<A> {
         self.rest
     }
 
-    // Forgets the notes of another part.
+    // The entries from here on are of this part.
     fn turn_to(&mut self, part: u64)
-        ensures { self.new ≡ turned part self.old }
+        requires { part ≤ 4294967297 }
+        ensures turned { self.new ≡ turned part self.old }
+        ensures last { self.old.part ≤ 4294967297 }
     {
         if self.part != part {
             self.part = part;
-            self.notes = [NO_NOTE; 35];
+            self.begins = self.shown;
         }
     }
 
-    // Whether an entry that is kept goes back to what a fault goes back to.
-    fn goes_back(&self, told: &Reported, slot: usize) -> bool
-        ensures { result ≡ is_listed_cause told.now self.now.listed slot }
+    // The entry that a fault belongs to, if one is kept: there are at most three of each code in a part, and six of lost pages.
+    fn home(&self, told: &Reported) -> Option<usize>
+        ensures { result ≡ home_kept told.now self.now }
     {
-        match self.listed().get(slot) {
-            Some(entry) => same_cause(told.cause, entry.first.cause),
-            None => false,
-        }
-    }
-
-    // The first of the entries of a note that goes back to what a fault goes back to.
-    fn same(&self, told: &Reported, note: &Note) -> Option<usize>
-        ensures { result ≡ find (is_listed_cause told.now self.now.listed) (slots_of note.now) }
-    {
-        for index in 0..MOST {
-            if index < note.kept && self.goes_back(told, note.slots[index]) {
-                return Some(note.slots[index]);
+        let mut beside = 0;
+        let mut last = None;
+        for slot in self.begins..self.shown {
+            let entry = &self.listed[slot];
+            if is_beside(told, entry) {
+                if same_cause(told.cause, entry.first.cause) {
+                    return Some(slot);
+                }
+                beside += 1;
+                last = Some(slot);
             }
         }
-        None
-    }
-
-    // What is noted of a code.
-    fn note(&self, code: FaultCode) -> &Note
-        ensures { result.now ≡ note_of self.now.notes code }
-    {
-        &self.notes[code.index()]
-    }
-
-    // Where a fault goes.
-    fn home(&self, told: &Reported) -> Home
-        ensures { result ≡ home_of told.now self.now }
-    {
-        let note = self.note(told.fault.code);
-        if let Some(slot) = self.same(told, note) {
-            return Home::Kept(slot);
-        }
-        if note.cut {
-            return Home::Unkept;
-        }
-        if note.kept < most(told.fault.code) {
-            return Home::New;
-        }
-        match note.last() {
-            Some(slot) => Home::Kept(slot),
-            None => Home::Unkept,
-        }
-    }
-
-    // Puts a fault where it goes.
-    fn put(&mut self, home: Home, told: &Reported)
-        requires { home ≡ home_of told.now self.old }
-        ensures { self.new ≡ put_at_home home told.now self.old }
-    {
-        match home {
-            Home::Kept(slot) => self.put_kept(slot, told),
-            Home::Unkept => self.rest = self.rest.saturating_add(1),
-            Home::New => self.put_new(told),
+        if beside < most(told.fault.code) {
+            None
+        } else {
+            last
         }
     }
 
@@ -211,41 +151,13 @@ impl<A: Allocator> Entries<A> {
 
     // Adds an entry, where there is room.
     fn put_new(&mut self, told: &Reported)
-        requires { (note_of self.old.notes told.now.fault.code).kept < 6 }
         ensures { self.new ≡ put_new told.now self.old }
     {
-        let index = told.fault.code.index();
-        let note = self.notes[index];
         if self.shown < self.listed.len() {
-            self.notes[index] = note.with_slot(self.shown);
             self.listed[self.shown] = Entry::of(told);
             self.shown += 1;
         } else {
-            self.notes[index] = note.with_unkept();
             self.rest = self.rest.saturating_add(1);
-        }
-    }
-
-    // Puts an entry in its place, and answers the one that is then the last.
-    fn make_way(&mut self, entry: &Entry) -> Entry
-        ensures listed { self.new.listed ++ result ∷ [] ≡ kept_in entry.now self.old.listed }
-        ensures others { self.new ≡ record self.old { listed = self.new.listed } }
-    {
-        push_through(&mut self.listed, self.shown, entry)
-    }
-
-    // Puts an entry after all others, where there is room.
-    fn put_last(&mut self, entry: &Entry)
-        ensures { self.new ≡ put_last entry.now self.old }
-    {
-        if self.shown < self.listed.len() {
-            self.listed[self.shown] = *entry;
-            self.shown += 1;
-        } else {
-            self.rest = self
-                .rest
-                .saturating_add(entry.others.count)
-                .saturating_add(1);
         }
     }
 }

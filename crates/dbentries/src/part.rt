@@ -1,5 +1,5 @@
 // The order of the parts of a report.
-ghost use Rattle.std.specs.Prelude.{◌≡◌};
+ghost use Rattle.std.specs.Prelude.{◌≡◌, ◌≤◌};
 ghost use Rattle.dbentries.specs.Listing.{rank};
 
 use dbtrace::Part;
@@ -9,7 +9,8 @@ const END: u64 = 4294967297;
 
 // The number of a part in the order of a report.
 pub(crate) fn rank(part: Part) -> u64
-    ensures { result ≡ rank part }
+    ensures number { result ≡ rank part }
+    ensures most { result ≤ 4294967297 }
 {
     match part {
         Part::Header => 0,

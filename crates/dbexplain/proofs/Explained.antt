@@ -25,8 +25,9 @@ use Rattle.dbreport.specs.Runs.{IsAnswerOf}
 use Rattle.dbreport.proofs.NotBegun.{no_failure}
 use Rattle.dbreport.proofs.RunAnswers.{if_ok, read_answer}
 use Rattle.dbreport.proofs.RunReports.{check_answer}
-use Rattle.dblisting.specs.Listed.{first_entries, listed_entries, lost_faults, other_faults}
-use Rattle.dblisting.specs.Lists.{ListsFirst}
+use Rattle.dbentries.specs.Listed.{listed_entries, listed_faults}
+use Rattle.dbentries.specs.Listing.{entries}
+use Rattle.dbentries.specs.Lists.{ListsFirst}
 use Rattle.dbexplain.specs.Explained.{explain_report, explain_text, found_text}
 use Rattle.dbexplain.specs.Keeping.{IsEmpty}
 use Rattle.dbexplain.specs.Reporting.{Ends, Hears, IsReportLeft, LeavesExplained, PutsLines}
@@ -63,12 +64,12 @@ module _ {A O : Type 0} (held : O → OutState) (limit : ℕ) (file : List ℕ) 
   found_put : IsReportLeft held limit file V (Err ReadFailed) first now → PutsLines held now after → PutsFound limit file V (held first.out.now) (held after.out.now)
   found_put k lines =
       let found : ListsFirst limit file V now.kept.now.listing = k.1 in
-      let text = found_text limit (first_entries found.first) in record {
+      let text = found_text limit (entries found.told) in record {
         text = text;
-        found = record { first = found.first; lines = refl };
+        found = record { told = found.told; first = found.first; lines = refl };
         answer = lines.put;
         put = record {
-          held = subst (λ o. Writes lines.put (held o).bytes (held after.out.now).bytes text) k.0 (lines.lines limit file V found.first found.listed);
+          held = subst (λ o. Writes lines.put (held o).bytes (held after.out.now).bytes text) k.0 (lines.lines limit found.told found.listed);
           count = lines.count ∙ ap (λ o. failures_after is_any lines.put (held o).failures) k.0;
         };
       }
@@ -144,7 +145,8 @@ not_explained limit file e out answer = record {
     unwritten V ReadFailed = record {
       text = [];
       found = record {
-        first = record { told = []; lost = []; told_first = (other_faults file V, refl); lost_first = (lost_faults file V, refl) };
+        told = [];
+        first = (listed_faults file V, refl);
         lines = none limit;
       };
       answer = Ok tt;

@@ -8,9 +8,10 @@ use Rattle.dbtrace.specs.declared.Reported.{Reported}
 use Rattle.dbentries.specs.Listing.{rank}
 use Rattle.dbscan.specs.Notices.{run_notices}
 use Rattle.dbscan.specs.Placed.{told_faults}
-use Rattle.dblisting.specs.Lists.{HasListed, Lists, ListsFirst}
-use Rattle.dblisting.proofs.Heard.{file_begun, file_heard}
-use Rattle.dblisting.proofs.ListedFaults.{heard_first, one_listed}
+use Rattle.dbentries.specs.Lists.{HasListed, ListsFirst}
+use Rattle.dbentries.specs.Store.{Stored}
+use Rattle.dbentries.proofs.Heard.{file_begun, file_heard}
+use Rattle.dbentries.proofs.ListedFaults.{heard_first, one_listed}
 use Rattle.dbexplain.specs.Keeping.{IsEmpty}
 use Rattle.dbexplain.specs.Reporting.{Adds, Hears}
 use Rattle.dbexplain.specs.Tallies.{IsTallyOf}
@@ -25,10 +26,10 @@ module _ {A O : Type 0} where
     pub trees : now.kept.now.trees ≡ first.kept.now.trees
     pub out : now.out.now ≡ first.out.now
 
-  abbrev listing : ExplainReporter A O → Lists
+  abbrev listing : ExplainReporter A O → Stored
   listing s = s.kept.now.listing
 
-  one_heard : (limit : ℕ) (first : ExplainReporter A O) (x : Reported) (ts : List Reported) (s t : ExplainReporter A O) → (listing s).entries.part ≤ rank x.part
+  one_heard : (limit : ℕ) (first : ExplainReporter A O) (x : Reported) (ts : List Reported) (s t : ExplainReporter A O) → (listing s).part ≤ rank x.part
       → HasHeardFaults limit ts first s → Adds x s t → HasHeardFaults limit (ts ++ x ∷ []) first t
   one_heard limit first x ts s t most h a = record {
     tally = a.tally ts h.tally;

@@ -20,9 +20,10 @@ use Rattle.dbscan.specs.Finishes.{HasHeard, Leaves}
 use Rattle.dbscan.specs.Notices.{CutsNever, run_notices}
 use Rattle.dbscan.specs.Placed.{told_faults}
 use Rattle.dbscan.proofs.AllTold.{all_told}
-use Rattle.dblisting.specs.Listed.{listed_entries}
-use Rattle.dblisting.specs.Lists.{Lists, ListsAll, ListsFirst}
-use Rattle.dblisting.proofs.Heard.{never_stops}
+use Rattle.dbentries.specs.Listed.{listed_entries}
+use Rattle.dbentries.specs.Lists.{ListsAll, ListsFirst}
+use Rattle.dbentries.specs.Store.{Stored}
+use Rattle.dbentries.proofs.Heard.{never_stops}
 use Rattle.dbexplain.specs.Explained.{explain_text}
 use Rattle.dbexplain.specs.Keeping.{HasAll, IsEmpty}
 use Rattle.dbexplain.specs.Reporting.{Hears, IsReportLeft, LeavesExplained}
@@ -67,7 +68,7 @@ module _ {A O : Type 0} (held : O → OutState) {limit : ℕ} {file : List ℕ} 
   told_some some e = some (heard.all.tally.all ∙ ap (λ (ts : List Reported). counted (length ts)) e)
 
   -- with the lost pages
-  pub all_kept : (l : Lists) → ListsAll limit file V l → HasAll limit file V (record now.kept.now { listing = l })
+  pub all_kept : (l : Stored) → ListsAll limit file V l → HasAll limit file V (record now.kept.now { listing = l })
   all_kept l listed = record {
     listing = listed;
     tally = heard.all.tally;

@@ -13,10 +13,11 @@ use Rattle.dbformat.specs.declared.FaultCode.{FaultCode}
 use Rattle.dbformat.specs.declared.FaultCode.TheVariants.{H06}
 use Rattle.dbtrace.specs.declared.Cause.{Cause}
 use Rattle.dbtrace.specs.declared.Cause.TheVariants as cause
+use Rattle.dbtrace.specs.declared.Reported.{Reported}
 use Rattle.dbentries.specs.Lines.{cause_text, indented, key_text}
-use Rattle.dbentries.specs.Listing.{Entry, size}
+use Rattle.dbentries.specs.Listing.{Entry, entries, size}
 use Rattle.dbentries.specs.Others.{others_text}
-use Rattle.dblisting.specs.Listed.{FirstFaults, first_entries, listed_entries}
+use Rattle.dbentries.specs.Listed.{IsBeginning, listed_entries, listed_faults}
 use Rattle.dbexplain.specs.Below.{lines_below, place_line}
 use Rattle.dbscan.specs.Placed.{told_faults}
 use Rattle.dbexplain.specs.Summary.{summary}
@@ -65,8 +66,8 @@ explain_report limit file V = option_map_or refused_report (refusal file)
 abbrev pub found_text : ℕ → List Entry → List ℕ
 found_text limit es = flat_map (λ (e : Entry). fault_line e.first.fault) (take limit es)
 
--- The fault lines of the first entries of the faults found so far: of a beginning of those that the walks and the marks tell, and
--- of the first lost pages.
+-- The fault lines of the first entries of the faults found so far: of a beginning of those that are listed.
 pub record IsFoundText (limit : ℕ) (file : List ℕ) (V : List Reference) (text : List ℕ) : Type 0 where
-  pub first : FirstFaults file V
-  pub lines : text ≡ found_text limit (first_entries first)
+  pub told : List Reported
+  pub first : IsBeginning told (listed_faults file V)
+  pub lines : text ≡ found_text limit (entries told)

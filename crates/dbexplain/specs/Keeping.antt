@@ -5,7 +5,7 @@ use Rattle.dbformat.specs.Lines.{fault_line}
 use Rattle.dbformat.specs.Reference.{Reference}
 use Rattle.dbformat.specs.declared.Geometry.{Geometry}
 use Rattle.dbentries.specs.declared.entry.Entry.{Entry}
-use Rattle.dblisting.specs.Lists.{IsUnused, ListsAll}
+use Rattle.dbentries.specs.Lists.{IsUnused, ListsAll}
 use Rattle.dbscan.specs.Placed.{told_faults}
 use Rattle.dbexplain.specs.Tallies.{HasPageBit, IsTallyOf}
 use Rattle.dbexplain.specs.declared.kept.Kept.{Kept}

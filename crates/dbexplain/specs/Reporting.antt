@@ -13,9 +13,10 @@ use Rattle.dbsource.specs.declared.error.RunError.TheVariants.{ReadFailed}
 use Rattle.dbsource.specs.declared.out.WriteFailed.{WriteFailed}
 use Rattle.dbwalk.specs.Telling.{SinkState, one_out}
 use Rattle.dbscan.specs.Notices.{Notice}
-use Rattle.dblisting.specs.Listed.{FirstFaults, first_entries, listed_entries}
-use Rattle.dblisting.specs.Lists.{HoldsFaults, ListsFault, ListsFirst}
-use Rattle.dblisting.specs.Reported.{HearsReported}
+use Rattle.dbentries.specs.Listed.{listed_entries}
+use Rattle.dbentries.specs.Listing.{entries}
+use Rattle.dbentries.specs.Lists.{HoldsFaults, ListsFault, ListsFirst}
+use Rattle.dbentries.specs.Reported.{HearsReported}
 use Rattle.dbexplain.specs.Explained.{explain_text, found_text}
 use Rattle.dbexplain.specs.Keeping.{IsEmpty}
 use Rattle.dbexplain.specs.Tallies.{IsTallyOf}
@@ -53,8 +54,8 @@ module _ {A O : Type 0} where
     -- What the end of a run makes of it: after a failed read the lines of the entries found so far were put, as far as the Out took them.
     pub record PutsLines (s t : ExplainReporter A O) : Type 0 where
       pub put : Result (Unit {0}) WriteFailed
-      pub lines : (limit : ℕ) (file : List ℕ) (V : List Reference) (first : FirstFaults file V) → HoldsFaults limit first.told first.lost s.kept.now.listing
-          → Writes put (held s.out.now).bytes (held t.out.now).bytes (found_text limit (first_entries first))
+      pub lines : (limit : ℕ) (told : List Reported) → HoldsFaults limit told s.kept.now.listing
+          → Writes put (held s.out.now).bytes (held t.out.now).bytes (found_text limit (entries told))
       pub count : (held t.out.now).failures ≡ failures_after is_any put (held s.out.now).failures
 
     -- by the answer

@@ -3,8 +3,10 @@ ghost use Rattle.std.specs.Prelude.{◌≡◌, ℕ, List, []};
 ghost use Rattle.dbformat.specs.Reference.{Reference};
 ghost use Rattle.dbsource.specs.Failures.{failures_after, is_any};
 ghost use Rattle.dbsource.specs.Outs.{Writes};
-ghost use Rattle.dblisting.specs.Listed.{FirstFaults, first_entries, listed_entries};
-ghost use Rattle.dblisting.specs.Lists.{HoldsFaults, Shows};
+ghost use Rattle.dbtrace.specs.declared.Reported.{Reported};
+ghost use Rattle.dbentries.specs.Listed.{listed_entries};
+ghost use Rattle.dbentries.specs.Listing.{entries};
+ghost use Rattle.dbentries.specs.Lists.{HoldsFaults, Shows};
 ghost use Rattle.dbowner.specs.Climbs.{AreTrees};
 ghost use Rattle.dbscan.specs.Finishes.{IsDeskOf};
 ghost use Rattle.dbscan.specs.Placed.{told_faults};
@@ -33,7 +35,7 @@ fn owners_of<A: Allocator>(desk: &Desk<A>) -> Owners<'_, A>
     }
 }
 
-// Makes ready what is kept when all of a file is known: whose each page is, and the entries of lost pages in their places.
+// Makes ready what is kept when all of a file is known: whose each page is.
 fn make_ready<A: Allocator>(desk: &Desk<A>, kept: &mut Kept<A>)
     ensures trees { (limit : ℕ) (file : List ℕ) (V : List Reference) → IsDeskOf desk.now file V → HasAll limit file V kept.old
         → AreTrees file V kept.new.trees.known }
@@ -41,7 +43,6 @@ fn make_ready<A: Allocator>(desk: &Desk<A>, kept: &mut Kept<A>)
     ensures tally { kept.new.tally ≡ kept.old.tally }
 {
     kept.trees.enter_roots(desk.marks(), desk.roots());
-    kept.listing.weave();
 }
 
 /// Puts the report of a file in which faults were found: the first entries, how many faults belong to none of them, and the
@@ -72,13 +73,12 @@ pub(crate) fn put_report<A: Allocator, O: Out>(
 ///
 /// [`WriteFailed`] where the Out failed: it took a beginning of the lines.
 pub(crate) fn put_found<A: Allocator, O: Out>(
-    kept: &mut Kept<A>,
+    kept: &Kept<A>,
     out: &mut O,
 ) -> Result<(), WriteFailed>
-    ensures lines { (limit : ℕ) (file : List ℕ) (V : List Reference) (first : FirstFaults file V) → HoldsFaults limit first.told first.lost kept.old.listing
-        → Writes result (O.held out.old).bytes (O.held out.new).bytes (found_text limit (first_entries first)) }
+    ensures lines { (limit : ℕ) (told : List Reported) → HoldsFaults limit told kept.now.listing
+        → Writes result (O.held out.old).bytes (O.held out.new).bytes (found_text limit (entries told)) }
     ensures count { (O.held out.new).failures ≡ failures_after is_any result (O.held out.old).failures }
 {
-    kept.listing.weave();
     put_fault_lines(out, kept.listing.listed())
 }

@@ -7,7 +7,6 @@ use crate::report::{put_found, put_report};
 use dbentries::Reported;
 use dbformat::Verdict;
 use dblines::put_ok;
-use dblisting::{at_start, of_file};
 use dbscan::{Desk, Finish, Notice, Reporter};
 use dbsource::{Geometry, Out, RunError, Source, WriteFailed};
 use dbwalk::Marks;
@@ -36,7 +35,7 @@ impl<'a, A: Allocator, O: Out> ExplainReporter<'a, A, O> {
         ensures held { explain_held O.held self.new ≡ explain_held O.held self.old }
     {
         self.kept.tally.add(told);
-        self.kept.listing.add(told);
+        self.kept.listing.hear(told);
     }
 
     /// After a failed read, puts the lines of the entries found so far. That the Out fails then too is not reported.
@@ -62,8 +61,7 @@ impl<A: Allocator, O: Out> Reporter for ExplainReporter<'_, A, O> {
 
     fn hear(&mut self, notice: &Notice<'_>) -> Result<(), WriteFailed> {
         match notice {
-            Notice::Whole(fault) => self.add(&of_file(fault)),
-            Notice::Fault(start, fault, cause) => self.add(&at_start(start, fault, **cause)),
+            Notice::Fault(told) => self.add(told),
             Notice::Row(_, _) | Notice::Ended(_) => {}
         }
         Ok(())

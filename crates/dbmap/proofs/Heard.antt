@@ -11,9 +11,10 @@ use Rattle.dbtrace.specs.declared.Reported.{Reported}
 use Rattle.dbentries.specs.Listing.{rank}
 use Rattle.dbscan.specs.Notices.{run_notices}
 use Rattle.dbscan.specs.Placed.{told_faults}
-use Rattle.dblisting.specs.Lists.{HasListed, Lists}
-use Rattle.dblisting.proofs.Heard.{file_begun, file_heard}
-use Rattle.dblisting.proofs.ListedFaults.{one_listed}
+use Rattle.dbentries.specs.Lists.{HasListed}
+use Rattle.dbentries.specs.Store.{Stored}
+use Rattle.dbentries.proofs.Heard.{file_begun, file_heard}
+use Rattle.dbentries.proofs.ListedFaults.{one_listed}
 use Rattle.dbmap.specs.FaultyPages.{coded}
 use Rattle.dbmap.specs.KeptFaults.{HearsNone}
 use Rattle.dbmap.specs.MapReporter.{Adds, Hears}
@@ -39,10 +40,10 @@ module _ {A O : Type 0} where
     pub state : now.kept.now.state ≡ first.kept.now.state
     pub out : now.out.now ≡ first.out.now
 
-  abbrev listing : MapReporter A O → Lists
+  abbrev listing : MapReporter A O → Stored
   listing s = s.kept.now.listing
 
-  one_heard : (first : MapReporter A O) (x : Reported) (ts : List Reported) (s t : MapReporter A O) → (listing s).entries.part ≤ rank x.part → HasNotedFaults ts first s → Adds x s t
+  one_heard : (first : MapReporter A O) (x : Reported) (ts : List Reported) (s t : MapReporter A O) → (listing s).part ≤ rank x.part → HasNotedFaults ts first s → Adds x s t
       → HasNotedFaults (ts ++ x ∷ []) first t
   one_heard first x ts s t most h a = record {
     count = let e = a.count in let n = h.count in let l = length-append ts (x ∷ []) in omega (arith, e, n, l);

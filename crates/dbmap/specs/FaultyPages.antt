@@ -7,7 +7,7 @@ use Rattle.dbformat.specs.Report.{faults}
 use Rattle.dbformat.specs.declared.Fault.{Fault}
 use Rattle.dbformat.specs.declared.FaultCode.{FaultCode}
 use Rattle.dbtrace.specs.declared.Reported.{Reported}
-use Rattle.dblisting.specs.Listed.{listed_entries}
+use Rattle.dbentries.specs.Listed.{listed_entries}
 use Rattle.dbmap.specs.CodeSets.{no_codes}
 use Rattle.dbmap.specs.FramedPages.{first_faults, framed}
 use Rattle.dbmap.specs.PageSets.{HasManySets, any_page, codes_at, codes_of_pages, is_faulty}

@@ -4,7 +4,7 @@ use Rattle.dbformat.specs.File.{geometry}
 use Rattle.dbformat.specs.Reference.{Reference}
 use Rattle.dbformat.specs.declared.FaultCode.{FaultCode}
 use Rattle.dbtrace.specs.declared.Reported.{Reported}
-use Rattle.dblisting.specs.Lists.{IsUnused, ListsAll, ListsFault}
+use Rattle.dbentries.specs.Lists.{IsUnused, ListsAll, ListsFault}
 use Rattle.dbmap.specs.FaultyPages.{KnownFaults, coded, coded_faults, leading_faults}
 use Rattle.dbmap.specs.FramedPages.{framed}
 use Rattle.dbmap.specs.PageSets.{AreNoted, has_page, shown_codes}

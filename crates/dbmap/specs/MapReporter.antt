@@ -10,7 +10,7 @@ use Rattle.dbsource.specs.Outs.{OutState}
 use Rattle.dbsource.specs.declared.error.RunError.{RunError}
 use Rattle.dbwalk.specs.Telling.{SinkState, one_out}
 use Rattle.dbscan.specs.Notices.{Notice}
-use Rattle.dblisting.specs.Reported.{HearsReported}
+use Rattle.dbentries.specs.Reported.{HearsReported}
 use Rattle.dbmap.specs.KeptFaults.{HearsNone, HasNoted}
 use Rattle.dbmap.specs.Maps.{DrawsMap}
 use Rattle.dbmap.specs.declared.map_reporter.MapReporter.{MapReporter}

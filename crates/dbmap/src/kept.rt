@@ -4,8 +4,8 @@ ghost use Rattle.std.specs.List.{range_with_len};
 ghost use Rattle.dbformat.specs.FixedPages.{IsInRange};
 ghost use Rattle.dbformat.specs.Reference.{Reference};
 ghost use Rattle.dbformat.specs.declared.FaultCode.{FaultCode};
-ghost use Rattle.dblisting.specs.Listed.{listed_entries};
-ghost use Rattle.dblisting.specs.Lists.{ListsAll};
+ghost use Rattle.dbentries.specs.Listed.{listed_entries};
+ghost use Rattle.dbentries.specs.Lists.{ListsAll};
 ghost use Rattle.dbmap.specs.FaultyPages.{is_weak};
 ghost use Rattle.dbmap.specs.FramedPages.{first_faults, framed};
 ghost use Rattle.dbmap.specs.KeptFaults.{HasNoted, HearsNone};
@@ -15,8 +15,7 @@ use crate::draw_state::DrawState;
 use crate::listed::note_listed;
 use crate::page_set::PageSet;
 use crate::tally::PageTally;
-use dbentries::Reported;
-use dblisting::Listing;
+use dbentries::{Entries, Reported};
 use dbowner::PageTrees;
 use dbsource::Geometry;
 use std::alloc::{AllocError, Allocator, Global};
@@ -36,11 +35,11 @@ pub(crate) struct KeptFaults<A: Allocator = Global> {
     /// The pages of the entries that are listed, and of their causes.
     pub(crate) strong: PageSet<A>,
     /// What is listed of the faults.
-    pub(crate) listing: Listing<A>,
+    pub(crate) listing: Entries<A>,
 }
 
 impl<A: Allocator + Copy> KeptFaults<A> {
-    // That of a file of this shape, of which nothing else is known yet. Each part is one growth, and the listing two.
+    // That of a file of this shape, of which nothing else is known yet. Each part is one growth.
     pub(crate) fn new_in(alloc: A, geometry: &Geometry) -> Result<KeptFaults<A>, AllocError>
         requires { IsInRange geometry.now }
         ensures { IfOk result (HearsNone geometry.now.pages) }
@@ -49,7 +48,7 @@ impl<A: Allocator + Copy> KeptFaults<A> {
         let tally = PageTally::new_in(alloc)?;
         let faulty = PageSet::new_in(alloc, geometry.pages)?;
         let strong = PageSet::new_in(alloc, geometry.pages)?;
-        let listing = Listing::new_in(alloc, ENTRIES)?;
+        let listing = Entries::new_in(alloc, ENTRIES)?;
         Ok(KeptFaults {
             state: DrawState::new(trees),
             tally,
@@ -66,10 +65,10 @@ impl<A: Allocator> KeptFaults<A> {
         ensures { HasNoted told.now self.old self.new }
     {
         self.faulty.note(told.fault.page, told.fault.code);
-        self.listing.add(told);
+        self.listing.hear(told);
     }
 
-    /// Puts the entries of lost pages in their places, and notes the pages of the entries that are listed then, and of their causes.
+    /// Notes the pages of the entries that are listed, and of their causes.
     pub(crate) fn note_listed(&mut self)
         ensures strong { (fs : List (ℕ × FaultCode)) (limit : ℕ) (file : List ℕ) (V : List Reference) → ListsAll limit file V self.old.listing
             → AreNoted fs self.old.strong → AreNoted (fs ++ framed (first_faults (take limit (listed_entries file V)))) self.new.strong }
@@ -77,7 +76,6 @@ impl<A: Allocator> KeptFaults<A> {
         ensures faulty { self.new.faulty ≡ self.old.faulty }
         ensures state { self.new.state ≡ self.old.state }
     {
-        self.listing.weave();
         note_listed(&mut self.strong, self.listing.listed());
     }
 

@@ -10,7 +10,7 @@
 //! [`map`] reads the file as `explain` does, and writes no line of a fault: its reporter counts the faults, and notes the pages that
 //! they are found at. When the walks and the end are done, and the lost pages have been looked at, the marks and the list of roots say
 //! which tree each page belongs to (`dbowner`); a first pass over the pages counts those of each tree, and a second one writes the
-//! squares. The faults that lead are kept as `explain` keeps them (`dbentries`, `dblisting`): their pages, and those of their causes,
+//! squares. The faults that lead are kept as `explain` keeps them (`dbentries`): their pages, and those of their causes,
 //! have a stronger frame than other pages with a fault.
 //!
 //! What is proved is what is read of the file, that the verdict is the check's, and that a picture of the file is put

@@ -7,7 +7,6 @@ use crate::kept::KeptFaults;
 use crate::maps::put_map;
 use dbentries::Reported;
 use dbformat::Verdict;
-use dblisting::{at_start, of_file};
 use dbscan::{Desk, Finish, Notice, Reporter};
 use dbsource::{Geometry, Out, RunError, Source, WriteFailed};
 use dbwalk::Marks;
@@ -73,8 +72,7 @@ impl<A: Allocator, O: Out> Reporter for MapReporter<'_, A, O> {
 
     fn hear(&mut self, notice: &Notice<'_>) -> Result<(), WriteFailed> {
         match notice {
-            Notice::Whole(fault) => self.note(&of_file(fault)),
-            Notice::Fault(start, fault, cause) => self.note(&at_start(start, fault, **cause)),
+            Notice::Fault(told) => self.note(told),
             Notice::Row(_, _) | Notice::Ended(_) => {}
         }
         Ok(())

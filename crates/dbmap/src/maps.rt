@@ -147,7 +147,7 @@ pub fn map_in<A: Allocator + Copy, S: Source, O: Out>(
 /// refers, once, for what it looks like.
 ///
 /// It keeps, beside what a check does, a number of four bytes and two notes of one byte for each page, the counts of 65538 starts,
-/// and 106 entries of faults. Each of these is one growth, before the first page is read.
+/// and 100 entries of faults. Each of these is one growth, before the first page is read.
 ///
 /// # Errors
 ///

@@ -11,9 +11,8 @@ use Rattle.dbsource.specs.declared.error.RunError.{RunError}
 use Rattle.dbsource.specs.declared.error.RunError.TheVariants.{ReadFailed, WriteFailed, OutOfMemory, Refused}
 use Rattle.dbsource.proofs.Beginnings.{begins_more}
 use Rattle.dbsource.proofs.Puts.{appends_nothing, kept_appends}
-use Rattle.dbtrace.specs.Finding.{told_row, told_fault}
 use Rattle.dbwalk.specs.Telling.{Tells}
-use Rattle.dbscan.specs.Notices.{Notice, whole, found, ended, walked, faults_heard}
+use Rattle.dbscan.specs.Notices.{Notice, heard_fault, heard_row, ended, walked, faults_heard}
 use Rattle.dbscan.specs.Starts.{At}
 use Rattle.dbreport.specs.StatReporter.{tree_end_text, other_lines, pages_text, CutsStatFault, CutsStat, HasBegun, HasWritten, HearsStat, IsFlushedIf, IsSameReporter, TakesFault, WritesBoth}
 use Rattle.dbreport.specs.Sums.{sums_of}
@@ -60,17 +59,15 @@ pub record Sheet : Type 0 where
 
 -- the bytes that are put to the first Out at a notice
 abbrev pub lines : Sheet → Notice → List ℕ
-lines p (whole f) = []
-lines p (found at (told_row r)) = pages_text p.form.aggregate (name_at p.encoding at) p.size (r ∷ [])
-lines p (found at (told_fault f why)) = []
+lines p (heard_fault x) = []
+lines p (heard_row at r) = pages_text p.form.aggregate (name_at p.encoding at) p.size (r ∷ [])
 lines p (ended at) = tree_end_text p.form.aggregate (name_at p.encoding at) p.size p.rows
 lines p (walked g marks) = other_lines p.form.all g marks
 
 -- and how they are written after it
 abbrev pub next : Sheet → Notice → Sheet
-next p (whole f) = p
-next p (found at (told_row r)) = record p { rows = p.rows ++ r ∷ [] }
-next p (found at (told_fault f why)) = p
+next p (heard_fault x) = p
+next p (heard_row at r) = record p { rows = p.rows ++ r ∷ [] }
 next p (ended at) = record p { rows = [] }
 next p (walked g marks) = p
 
@@ -82,9 +79,8 @@ abbrev faults_of : List Notice → List Fault
 faults_of ns = faults_heard ns
 
 one_more : (n : Notice) (ns : List Notice) → faults_of (n ∷ []) ++ faults_of ns ≡ faults_of (n ∷ ns)
-one_more (whole f) ns = refl
-one_more (found at (told_row r)) ns = refl
-one_more (found at (told_fault f why)) ns = refl
+one_more (heard_fault x) ns = refl
+one_more (heard_row at r) ns = refl
 one_more (ended at) ns = refl
 one_more (walked g marks) ns = refl
 
@@ -145,13 +141,12 @@ module _ {O E : Type 0} (held : O → OutState) (held' : E → OutState) where
     on_same m same rows e = record { form = same.form ∙ on.form; encoding = same.encoding ∙ on.encoding; size = same.page_size ∙ on.size; summed = e }
 
     one_written : (n : Notice) (m : StatReporter O E) → all s n m → HasWritten held held' s m (lines p n) (faults_of (n ∷ [])) × IsOn (next p n) m
-    one_written (whole f) m a = (fault_written s m f a, on_same m a.same p.rows (a.sums ∙ on.summed))
-    one_written (found at (told_row r)) m a = (
-      rows_written (not s.form.aggregate) s m (lines p (found at (told_row r))) a.same a.found a.err
+    one_written (heard_fault x) m a = (fault_written s m x.fault a, on_same m a.same p.rows (a.sums ∙ on.summed))
+    one_written (heard_row at r) m a = (
+      rows_written (not s.form.aggregate) s m (lines p (heard_row at r)) a.same a.found a.err
           (by_sheet (Appends (held s.out.now).bytes (held m.out.now).bytes) (λ form name size. pages_text form name size (r ∷ [])) at a.puts.held),
       on_same m a.same (p.rows ++ r ∷ []) (a.sums p.rows on.summed),
     )
-    one_written (found at (told_fault f why)) m a = (fault_written s m f a, on_same m a.same p.rows (a.sums ∙ on.summed))
     one_written (ended at) m a = (
       rows_written s.form.aggregate s m (lines p (ended at)) a.same a.found a.err
           (by_sheet (Appends (held s.out.now).bytes (held m.out.now).bytes) (λ form name size. tree_end_text form name size p.rows) at (a.writes p.rows on.summed)),
@@ -164,12 +159,11 @@ module _ {O E : Type 0} (held : O → OutState) (held' : E → OutState) where
     )
 
     one_begun : (n : Notice) (t : StatReporter O E) → part s n t → HasBegun held held' s t (lines p n) (faults_of (n ∷ []))
-    one_begun (whole f) t a = fault_begun s t f a
-    one_begun (found at (told_row r)) t a = record {
+    one_begun (heard_fault x) t a = fault_begun s t x.fault a
+    one_begun (heard_row at r) t a = record {
       out = by_sheet (Begins (held s.out.now).bytes (held t.out.now).bytes) (λ form name size. pages_text form name size (r ∷ [])) at a.out;
       err = keeps_begins (held' s.err.now).bytes (held' t.err.now).bytes [] a.err;
     }
-    one_begun (found at (told_fault f why)) t a = fault_begun s t f a
     one_begun (ended at) t a = record {
       out = by_sheet (Begins (held s.out.now).bytes (held t.out.now).bytes) (λ form name size. tree_end_text form name size p.rows) at (a.writes p.rows on.summed);
       err = keeps_begins (held' s.err.now).bytes (held' t.err.now).bytes [] a.kept;

@@ -26,7 +26,9 @@ use Rattle.dbtrace.specs.Finding.{Finding, told_row, told_fault, told_below, vis
 use Rattle.dbwalk.specs.Trunks.{freelist_reference}
 use Rattle.dbwalk.specs.Telling.{Tells}
 use Rattle.dbwalk.proofs.Telling.Belows.{told_none}
-use Rattle.dbscan.specs.Notices.{Notice, whole, found, ended, walked, errands_left, root_reference, tree_notices, later_notices, start_notices, end_notices, run_notices}
+use Rattle.dbtrace.specs.declared.Part.{Part}
+use Rattle.dbtrace.specs.declared.Part.TheVariants as part
+use Rattle.dbscan.specs.Notices.{Notice, heard_fault, heard_row, whole, found, ended, walked, errands_left, root_reference, tree_notices, later_notices, start_notices, end_notices, run_notices}
 use Rattle.dbscan.specs.Roots.{listed_rows}
 use Rattle.dbscan.specs.Starts.{At, at_freelist, at_row, at_schema, schema_reference}
 use Rattle.dbscan.specs.Findings.{found_rows}
@@ -43,7 +45,8 @@ use Rattle.dbreport.proofs.StatTexts.{rows_below}
 use Rattle.dbreport.proofs.StatTrees.{freelist_rows}
 use Rattle.dbscan.proofs.StartByStart.{of_later}
 use Rattle.dbscan.proofs.Starts.{quiet_go}
-use Rattle.dbscan.proofs.ToldStarts.{run_heard, start_errands_listed}
+use Rattle.dbscan.proofs.HeardFaults.{faults_are_heard}
+use Rattle.dbscan.proofs.ToldStarts.{start_errands_listed}
 
 schema_name : (file : List ℕ) (V : List Reference) → codes "sqlite_schema" ≡ tree_name file V 0
 unfolding tree_name
@@ -155,25 +158,24 @@ module _ (file : List ℕ) (V : List Reference) (form all : Bool) where
       ∙ ap (starts_text form file V []) (sym (start_errands_listed file V survey))
 
   -- of faults of the whole file there is no row
-  lines_whole : (p : Sheet) (fs : List Fault) (rest : List Notice) → all_lines p (map whole fs ++ rest) ≡ all_lines p rest
-  lines_whole p [] rest = refl
-  lines_whole p (f ∷ fs) rest = lines_whole p fs rest
+  lines_whole : (q : Part) (p : Sheet) (fs : List Fault) (rest : List Notice) → all_lines p (map (whole q) fs ++ rest) ≡ all_lines p rest
+  lines_whole q p [] rest = refl
+  lines_whole q p (f ∷ fs) rest = lines_whole q p fs rest
 
-  no_lines : (p : Sheet) (fs : List Fault) → all_lines p (map whole fs) ≡ []
-  no_lines p [] = refl
-  no_lines p (f ∷ fs) = no_lines p fs
+  no_lines : (q : Part) (p : Sheet) (fs : List Fault) → all_lines p (map (whole q) fs) ≡ []
+  no_lines q p [] = refl
+  no_lines q p (f ∷ fs) = no_lines q p fs
 
   same_form : (p : Sheet) (n : Notice) → (next p n).form ≡ p.form
-  same_form p (whole f) = refl
-  same_form p (found at (told_row r)) = refl
-  same_form p (found at (told_fault f why)) = refl
+  same_form p (heard_fault x) = refl
+  same_form p (heard_row at r) = refl
   same_form p (ended at) = refl
   same_form p (walked g marks) = refl
 
   -- after some notices those of the marks, and nothing after them
   lines_then : (p : Sheet) (ns : List Notice) (g : Geometry) (marks : List Mark) (fs : List Fault)
-      → all_lines p (ns ++ (walked g marks ∷ map whole fs)) ≡ all_lines p ns ++ other_lines p.form.all g marks
-  lines_then p [] g marks fs = ap (λ l. other_lines p.form.all g marks ++ l) (no_lines p fs) ∙ append-nil (other_lines p.form.all g marks)
+      → all_lines p (ns ++ (walked g marks ∷ map (whole part.End) fs)) ≡ all_lines p ns ++ other_lines p.form.all g marks
+  lines_then p [] g marks fs = ap (λ l. other_lines p.form.all g marks ++ l) (no_lines part.End p fs) ∙ append-nil (other_lines p.form.all g marks)
   lines_then p (n ∷ ns) g marks fs =
       ap (λ l. lines p n ++ l) (lines_then (next p n) ns g marks fs)
       ∙ ap (λ (f : Form). lines p n ++ (all_lines (next p n) ns ++ other_lines f.all g marks)) (same_form p n)
@@ -185,7 +187,7 @@ module _ (file : List ℕ) (V : List Reference) (form all : Bool) where
 
   run_lines : Survey file V → all_lines sheet (run_notices file V) ≡ rows_text form all file V
   run_lines survey =
-      lines_whole sheet (header_faults file (length file)) (start_notices file V ++ end_notices file V)
+      lines_whole part.Header sheet (header_faults file (length file)) (start_notices file V ++ end_notices file V)
       ∙ lines_then sheet (start_notices file V) (geometry file) (marks_of (geometry file) V) (end_faults file V)
       ∙ ap₂ (λ a b. a ++ b) (start_lines survey) (others_shown all survey)
 
@@ -196,5 +198,5 @@ pub run_written : {A O E : Type 0} (held : O → OutState) (held' : E → OutSta
 run_written held held' file V survey s t is r told =
     let p = sheet file V s.form.aggregate s.form.all in
     subst (λ x. WritesBoth held held' r s t x (faults file V)) (run_lines file V s.form.aggregate s.form.all survey)
-    (subst (λ fs. WritesBoth held held' r s t (all_lines p (run_notices file V)) fs) (run_heard file V survey)
+    (subst (λ fs. WritesBoth held held' r s t (all_lines p (run_notices file V)) fs) (faults_are_heard file V survey)
     (notices_written held held' r p (run_notices file V) s t (record { form = refl; encoding = is.encoding; size = is.page_size; summed = is.summed }) told))

@@ -6,9 +6,8 @@ use Rattle.dbformat.specs.Rows.{StatRow}
 use Rattle.dbformat.specs.declared.Fault.{Fault}
 use Rattle.dbformat.specs.declared.Geometry.{Geometry}
 use Rattle.dbsource.specs.Outs.{Begins, Flushes, OutState}
-use Rattle.dbtrace.specs.Finding.{told_row, told_fault}
 use Rattle.dbmarks.specs.declared.marks.Mark.{Mark}
-use Rattle.dbscan.specs.Notices.{Notice, whole, found, ended, walked}
+use Rattle.dbscan.specs.Notices.{Notice, heard_fault, heard_row, ended, walked}
 use Rattle.dbscan.specs.Starts.{At}
 use Rattle.dbwalk.specs.Telling.{SinkState}
 use Rattle.dbreport.specs.CheckReporter.{PutsAll}
@@ -143,16 +142,14 @@ pub record CutsOthers {O E : Type 0} (held : O → OutState) (held' : E → OutS
 
 -- a notice was taken
 abbrev pub HearsStat : {O E : Type 0} → (O → OutState) → (E → OutState) → StatReporter O E → Notice → StatReporter O E → Type 0
-HearsStat out err s (whole f) t = TakesFault out err s f t
-HearsStat out err s (found at (told_fault f why)) t = TakesFault out err s f t
-HearsStat out err s (found at (told_row r)) t = TakesStatRow out err s at r t
+HearsStat out err s (heard_fault x) t = TakesFault out err s x.fault t
+HearsStat out err s (heard_row at r) t = TakesStatRow out err s at r t
 HearsStat out err s (ended at) t = EndsTree out err s at t
 HearsStat out err s (walked g marks) t = PutsOthers out err s g marks t
 
 -- it was not taken whole
 abbrev pub CutsStat : {O E : Type 0} → (O → OutState) → (E → OutState) → StatReporter O E → Notice → StatReporter O E → Type 0
-CutsStat out err s (whole f) t = CutsStatFault out err s f t
-CutsStat out err s (found at (told_fault f why)) t = CutsStatFault out err s f t
-CutsStat out err s (found at (told_row r)) t = CutsRow out err s at r t
+CutsStat out err s (heard_fault x) t = CutsStatFault out err s x.fault t
+CutsStat out err s (heard_row at r) t = CutsRow out err s at r t
 CutsStat out err s (ended at) t = CutsEnd out err s at t
 CutsStat out err s (walked g marks) t = CutsOthers out err s g marks t

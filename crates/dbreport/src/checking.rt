@@ -80,7 +80,7 @@ impl<O: Out> Reporter for CheckReporter<'_, O> {
 
     fn hear(&mut self, notice: &Notice<'_>) -> Result<(), WriteFailed> {
         match notice {
-            Notice::Whole(fault) | Notice::Fault(_, fault, _) => self.show(fault),
+            Notice::Fault(told) => self.show(&told.fault),
             Notice::Row(_, _) | Notice::Ended(_) => Ok(()),
         }
     }

@@ -13,7 +13,8 @@ use Rattle.dbformat.specs.declared.Fault.{Fault}
 use Rattle.dbtrace.specs.Causes.{cause_of}
 use Rattle.dbtrace.specs.declared.Part.TheVariants as part
 use Rattle.dbtrace.specs.declared.Reported.{Reported}
-use Rattle.dbscan.specs.Placed.{at_start, of_file, walk_told, told_faults, faults_of}
+use Rattle.dbscan.specs.Notices.{at_start, of_file}
+use Rattle.dbscan.specs.Placed.{walk_told, told_faults, faults_of}
 
 -- the faults alone, whatever each is reported with
 bare : (tell : Fault → Reported) → ((f : Fault) → (tell f).fault ≡ f) → (fs : List Fault) → faults_of (map tell fs) ≡ fs

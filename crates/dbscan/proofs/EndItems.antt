@@ -25,6 +25,7 @@ use Rattle.dbsource.specs.HeaderBytes.{HeaderBytes}
 use Rattle.dbsource.specs.Headers.{IsHeaderOf}
 use Rattle.dbsource.specs.declared.error.RunError.{RunError}
 use Rattle.dbmarks.specs.EndMarks.{is_free_mark, greatest_root_marked, least_other_marked, mark_fault, late_fault}
+use Rattle.dbtrace.specs.declared.Part.TheVariants as part
 use Rattle.dbscan.specs.Notices.{Notice, whole, walked, end_notices}
 use Rattle.dbmarks.specs.Marking.{mark_of, marks_of, role_mark, visit_mark, AreMarksOf}
 use Rattle.dbwalk.specs.Telling.{Tells}
@@ -45,7 +46,7 @@ late_none false later f = refl
 -- nothing is reported of a page of fixed use
 pub fixed_items : (file : List ℕ) (least : Option ℕ) (p : ℕ) (m : Mark) → is_fixed_mark m ≡ true → page_notices file least p m ≡ []
 fixed_items file None p Fixed h = refl
-fixed_items file (Some least) p Fixed h = ap (map whole) (late_none (geometry file).has_map (nat_lt least p) (fault M02 p 0 (pos least)))
+fixed_items file (Some least) p Fixed h = ap (map (whole part.End)) (late_none (geometry file).has_map (nat_lt least p) (fault M02 p 0 (pos least)))
 fixed_items file least p Unmarked h = cc
 fixed_items file least p Root h = cc
 fixed_items file least p Trunk h = cc
@@ -56,10 +57,10 @@ fixed_items file least p (Child from) h = cc
 
 -- what is reported of another page, from its two faults
 pub other_items : (file : List ℕ) (least : Option ℕ) (p : ℕ) (m : Mark) (a b : Option Fault) (e : Option MapEntry) (has : Bool) → e ≡ map_entry file p → has ≡ (geometry file).has_map
-    → option_to_list a ≡ mark_fault p e m → option_to_list b ≡ late_fault has p m least → items_of (a ∷ b ∷ []) ≡ page_notices file least p m
+    → option_to_list a ≡ mark_fault p e m → option_to_list b ≡ late_fault has p m least → items_of part.End (a ∷ b ∷ []) ≡ page_notices file least p m
 other_items file least p m a b e has is own ea eb =
-    ap (λ l. map whole (option_to_list a ++ l)) (append-nil (option_to_list b))
-    ∙ ap (map whole) (ap₂ (λ x y. x ++ y) (ea ∙ ap (λ o. mark_fault p o m) is) (eb ∙ ap (λ h. late_fault h p m least) own))
+    ap (λ l. map (whole part.End) (option_to_list a ++ l)) (append-nil (option_to_list b))
+    ∙ ap (map (whole part.End)) (ap₂ (λ x y. x ++ y) (ea ∙ ap (λ o. mark_fault p o m) is) (eb ∙ ap (λ h. late_fault h p m least) own))
 
 -- a mark is that of fixed use exactly where the page has one
 role_not_fixed : (role : Role) (from : ℕ) → is_fixed_mark (role_mark role from) ≡ false
@@ -96,12 +97,12 @@ items_begin file V least n m l =
 -- ---- all of it, by the visits
 
 module _ (file : List ℕ) (V : List Reference) (s : Survey file V) where
-  pages_are : pages_items file V (least_other_marked (marks_of (geometry file) V)) (geometry file).pages ≡ map whole (flat_map (page_end_faults file V) (page_numbers (geometry file)))
+  pages_are : pages_items file V (least_other_marked (marks_of (geometry file) V)) (geometry file).pages ≡ map (whole part.End) (flat_map (page_end_faults file V) (page_numbers (geometry file)))
   pages_are =
       let told = marks_tell_the_end file V s in
-      sym (map-flat_map (page_end_faults file V) whole (page_numbers (geometry file))
+      sym (map-flat_map (page_end_faults file V) (whole part.End) (page_numbers (geometry file))
       ∙ flat_map-same _ (λ p. page_notices file (least_other_marked (marks_of (geometry file) V)) p (mark_of (geometry file) V p)) (page_numbers (geometry file))
-      (λ p i. ap (map whole) (ap₂ (λ a b. a ++ b) (told.uses p) (told.late p))))
+      (λ p i. ap (map (whole part.End)) (ap₂ (λ a b. a ++ b) (told.uses p) (told.late p))))
 
   sums_are : (h : HeaderBytes) (rows : Bool) → IsHeaderOf h file → rows ≡ has_rows file V
       → counted_faults h.bytes rows (greatest_root_marked (marks_of (geometry file) V)) (count_by is_free_mark (marks_of (geometry file) V)) ≡ sum_faults file V
@@ -118,11 +119,11 @@ module _ (file : List ℕ) (V : List Reference) (s : Survey file V) where
   pub all_items : (h : HeaderBytes) (rows : Bool) (marks : List Mark) (greatest free : ℕ) (faults : List (Option Fault))
       → IsHeaderOf h file → AreMarksOf file V marks → rows ≡ has_rows file V → greatest ≡ greatest_root_marked marks → free ≡ count_by is_free_mark marks
       → flat_map option_to_list faults ≡ counted_faults h.bytes rows greatest free
-      → items_of faults ++ pages_items file V (least_other_marked (marks_of (geometry file) V)) (geometry file).pages ≡ map whole (end_faults file V)
+      → items_of part.End faults ++ pages_items file V (least_other_marked (marks_of (geometry file) V)) (geometry file).pages ≡ map (whole part.End) (end_faults file V)
   all_items h rows marks greatest free faults header m e g f k =
-      ap₂ (λ a b. map whole a ++ b)
+      ap₂ (λ a b. map (whole part.End) a ++ b)
       (k ∙ ap₂ (counted_faults h.bytes rows) (g ∙ ap greatest_root_marked m) (f ∙ ap (count_by is_free_mark) m) ∙ sums_are h rows header e) pages_are
-      ∙ sym (map-append whole (sum_faults file V) (flat_map (page_end_faults file V) (page_numbers (geometry file))))
+      ∙ sym (map-append (whole part.End) (sum_faults file V) (flat_map (page_end_faults file V) (page_numbers (geometry file))))
 
 -- some items, and then others
 pub tells_then : {S I A : Type 0} (takes drops : S → I → S → Type 0) (r : Result A RunError) (s m t : S) (L M : List I) → Moves takes s L m → Tells takes drops r m M t → Tells takes drops r s (L ++ M) t
@@ -131,7 +132,7 @@ tells_then takes drops (Err e) s m t L M h k = stops_by_after takes drops e s m 
 
 -- the marks, and then the faults at the end
 pub walked_then : {S A : Type 0} (hears cuts : S → Notice → S → Type 0) (file : List ℕ) (V : List Reference) (r : Result A RunError) (s m t : S) (g : Geometry) (marks : List Mark)
-    → g ≡ geometry file → AreMarksOf file V marks → hears s (walked g marks) m → Tells hears cuts r m (map whole (end_faults file V)) t → Tells hears cuts r s (end_notices file V) t
+    → g ≡ geometry file → AreMarksOf file V marks → hears s (walked g marks) m → Tells hears cuts r m (map (whole part.End) (end_faults file V)) t → Tells hears cuts r s (end_notices file V) t
 walked_then hears cuts file V r s m t g marks same marked told k =
     let n = walked (geometry file) (marks_of (geometry file) V) in
-    tells_then hears cuts r s m t (n ∷ []) (map whole (end_faults file V)) (Moves-one hears s m n (subst (λ n. hears s n m) (ap₂ walked same marked) told)) k
+    tells_then hears cuts r s m t (n ∷ []) (map (whole part.End) (end_faults file V)) (Moves-one hears s m n (subst (λ n. hears s n m) (ap₂ walked same marked) told)) k

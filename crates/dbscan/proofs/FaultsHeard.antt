@@ -8,39 +8,34 @@ use Rattle.dbformat.specs.Survey.{Survey}
 use Rattle.dbformat.specs.declared.Fault.{Fault}
 use Rattle.dbsource.specs.declared.error.RunError.{RunError}
 use Rattle.dbsource.specs.declared.error.RunError.TheVariants.{ReadFailed, WriteFailed, OutOfMemory, Refused}
-use Rattle.dbtrace.specs.Finding.{told_row, told_fault}
 use Rattle.dbwalk.specs.Telling.{Tells}
-use Rattle.dbscan.specs.Notices.{CutsFaults, HearsFaults, Notice, whole, found, ended, walked, faults_heard, run_notices}
-use Rattle.dbscan.proofs.ToldStarts.{run_heard}
+use Rattle.dbscan.specs.Notices.{CutsFaults, HearsFaults, Notice, heard_fault, heard_row, ended, walked, faults_heard, run_notices}
+use Rattle.dbscan.proofs.HeardFaults.{faults_are_heard}
 
 module _ {S : Type 0} (takes cuts : S → Fault → S → Type 0) where
   all_heard : (ns : List Notice) (s t : S) → Moves (HearsFaults takes) s ns t → Moves takes s (faults_heard ns) t
   all_heard [] s t h = h
-  all_heard (whole f ∷ ns) s t h = (h.0, h.1, all_heard ns h.0 t h.2)
-  all_heard (found at (told_fault f why) ∷ ns) s t h = (h.0, h.1, all_heard ns h.0 t h.2)
-  all_heard (found at (told_row r) ∷ ns) s t h = subst (λ m. Moves takes m (faults_heard ns) t) h.1 (all_heard ns h.0 t h.2)
+  all_heard (heard_fault x ∷ ns) s t h = (h.0, h.1, all_heard ns h.0 t h.2)
+  all_heard (heard_row at r ∷ ns) s t h = subst (λ m. Moves takes m (faults_heard ns) t) h.1 (all_heard ns h.0 t h.2)
   all_heard (ended at ∷ ns) s t h = subst (λ m. Moves takes m (faults_heard ns) t) h.1 (all_heard ns h.0 t h.2)
   all_heard (walked g marks ∷ ns) s t h = subst (λ m. Moves takes m (faults_heard ns) t) h.1 (all_heard ns h.0 t h.2)
 
   some_heard : (ns : List Notice) (s t : S) → MovesBySome (HearsFaults takes) s ns t → MovesBySome takes s (faults_heard ns) t
   some_heard [] s t h = h
   some_heard (n ∷ ns) s t (inl e) = subst (λ m. MovesBySome takes s (faults_heard (n ∷ ns)) m) e (some_none takes s (faults_heard (n ∷ ns)))
-  some_heard (whole f ∷ ns) s t (inr h) = inr (h.0, h.1, some_heard ns h.0 t h.2)
-  some_heard (found at (told_fault f why) ∷ ns) s t (inr h) = inr (h.0, h.1, some_heard ns h.0 t h.2)
-  some_heard (found at (told_row r) ∷ ns) s t (inr h) = subst (λ m. MovesBySome takes m (faults_heard ns) t) h.1 (some_heard ns h.0 t h.2)
+  some_heard (heard_fault x ∷ ns) s t (inr h) = inr (h.0, h.1, some_heard ns h.0 t h.2)
+  some_heard (heard_row at r ∷ ns) s t (inr h) = subst (λ m. MovesBySome takes m (faults_heard ns) t) h.1 (some_heard ns h.0 t h.2)
   some_heard (ended at ∷ ns) s t (inr h) = subst (λ m. MovesBySome takes m (faults_heard ns) t) h.1 (some_heard ns h.0 t h.2)
   some_heard (walked g marks ∷ ns) s t (inr h) = subst (λ m. MovesBySome takes m (faults_heard ns) t) h.1 (some_heard ns h.0 t h.2)
 
   stops_heard : (ns : List Notice) (s t : S) → Stops (HearsFaults takes) (CutsFaults cuts) s ns t → Stops takes cuts s (faults_heard ns) t
   stops_heard [] s t h = absurd h
-  stops_heard (whole f ∷ ns) s t (inl h) = inl h
-  stops_heard (found at (told_fault f why) ∷ ns) s t (inl h) = inl h
-  stops_heard (found at (told_row r) ∷ ns) s t (inl h) = absurd h
+  stops_heard (heard_fault x ∷ ns) s t (inl h) = inl h
+  stops_heard (heard_row at r ∷ ns) s t (inl h) = absurd h
   stops_heard (ended at ∷ ns) s t (inl h) = absurd h
   stops_heard (walked g marks ∷ ns) s t (inl h) = absurd h
-  stops_heard (whole f ∷ ns) s t (inr h) = inr (h.0, h.1, stops_heard ns h.0 t h.2)
-  stops_heard (found at (told_fault f why) ∷ ns) s t (inr h) = inr (h.0, h.1, stops_heard ns h.0 t h.2)
-  stops_heard (found at (told_row r) ∷ ns) s t (inr h) = subst (λ m. Stops takes cuts m (faults_heard ns) t) h.1 (stops_heard ns h.0 t h.2)
+  stops_heard (heard_fault x ∷ ns) s t (inr h) = inr (h.0, h.1, stops_heard ns h.0 t h.2)
+  stops_heard (heard_row at r ∷ ns) s t (inr h) = subst (λ m. Stops takes cuts m (faults_heard ns) t) h.1 (stops_heard ns h.0 t h.2)
   stops_heard (ended at ∷ ns) s t (inr h) = subst (λ m. Stops takes cuts m (faults_heard ns) t) h.1 (stops_heard ns h.0 t h.2)
   stops_heard (walked g marks ∷ ns) s t (inr h) = subst (λ m. Stops takes cuts m (faults_heard ns) t) h.1 (stops_heard ns h.0 t h.2)
 
@@ -53,4 +48,4 @@ module _ {S : Type 0} (takes cuts : S → Fault → S → Type 0) where
 
   pub faults_heard_by : {A : Type 0} (file : List ℕ) (V : List Reference) → Survey file V → (r : Result A RunError) (s t : S)
       → Tells (HearsFaults takes) (CutsFaults cuts) r s (run_notices file V) t → Tells takes cuts r s (faults file V) t
-  faults_heard_by file V survey r s t h = subst (λ fs. Tells takes cuts r s fs t) (run_heard file V survey) (heard_by r (run_notices file V) s t h)
+  faults_heard_by file V survey r s t h = subst (λ fs. Tells takes cuts r s fs t) (faults_are_heard file V survey) (heard_by r (run_notices file V) s t h)

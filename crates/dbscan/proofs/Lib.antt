@@ -5,7 +5,6 @@ pub mod DeskWalks
 pub mod EndItems
 pub mod FaultPages
 pub mod FaultsHeard
-pub mod FileCodes
 pub mod Finished
 pub mod HeardFaults
 pub mod Keeping
@@ -16,7 +15,6 @@ pub mod Reached
 pub mod RootLists
 pub mod RootsTaken
 pub mod RunItems
-pub mod RunTold
 pub mod Scanned
 pub mod SchemaTold
 pub mod SchemaWalks
@@ -28,4 +26,3 @@ pub mod Tellers
 pub mod ToldFaults
 pub mod ToldStarts
 pub mod TreeWalks
-pub mod WalkCodes

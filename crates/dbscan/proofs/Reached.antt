@@ -34,7 +34,8 @@ use Rattle.dbtrace.proofs.Told.{IsOf, told_of}
 use Rattle.dbformat.specs.Starts.{start_at}
 use Rattle.dbformat.proofs.BelowStarts.{one_below, start_here, start_of-step, start_visited}
 use Rattle.dbformat.proofs.Ways.{of_role}
-use Rattle.dbscan.specs.Placed.{at_start, of_file, told_faults, walk_told, IsOfStart}
+use Rattle.dbscan.specs.Notices.{at_start, of_file}
+use Rattle.dbscan.specs.Placed.{told_faults, walk_told, IsOfStart}
 use Rattle.dbscan.proofs.FaultPages.{accepted, is_refusal, page_of_event, event_of_page}
 
 -- starts are from no page

@@ -1,9 +1,10 @@
 -- What a reporter hears in a scan, part by part: the faults of the header, what is found at the starts, and what is reported
 -- after the walks.
-use Rattle.std.proofs.Common.{◌≡◌, ℕ, Bool, List, ◌++◌, length, map, Result, Ok, Err, sym, ap, subst}
+use Rattle.std.proofs.Common.{◌≡◌, ℕ, Bool, List, ◌++◌, length, map, Result, Ok, Err, sym, ap, ap₂, subst, ◌∙◌}
 use Rattle.dbsurvey.specs.Moves.{Moves}
 use Rattle.dbformat.specs.HeaderFaults.{header_faults}
 use Rattle.dbformat.specs.Reference.{Reference}
+use Rattle.dbformat.proofs.HeaderPrefix.{header_faults_within}
 use Rattle.dbsource.specs.HeaderBytes.{HeaderBytes}
 use Rattle.dbsource.specs.Headers.{IsHeaderOf}
 use Rattle.dbsource.specs.declared.error.RunError.{RunError}
@@ -12,25 +13,30 @@ use Rattle.dbscan.specs.Roots.{AreListed}
 use Rattle.dbwalk.specs.Telling.{StopsBy, Tells}
 use Rattle.dbwalk.proofs.Telling.Belows.{stops_by_first, stops_by_after}
 use Rattle.dbscan.specs.Desks.{Things}
+use Rattle.dbtrace.specs.declared.Part.TheVariants as part
 use Rattle.dbscan.specs.Notices.{Notice, whole, start_notices, end_notices, run_notices}
 use Rattle.dbscan.specs.Scans.{IsScanned}
 use Rattle.dbscan.specs.Walks.{AreWalked}
 use Rattle.dbscan.proofs.EndItems.{tells_then}
-use Rattle.dbscan.proofs.RunTold.{header_items}
+
+-- the header's faults, as they are reported
+header_items : (file : List ℕ) (h : HeaderBytes) → IsHeaderOf h file
+    → map (whole part.Header) (header_faults h.bytes h.file_len) ≡ map (whole part.Header) (header_faults file (length file))
+header_items file h is = ap (map (whole part.Header)) (ap₂ header_faults is.begins is.whole ∙ header_faults_within file (length file))
 
 module _ {S : Type 0} (hears cuts : S → Notice → S → Type 0) (file : List ℕ) (V : List Reference) (h : HeaderBytes) (is : IsHeaderOf h file) (s : S) where
   abbrev first : List Notice
-  first = map whole (header_faults file (length file))
+  first = map (whole part.Header) (header_faults file (length file))
 
   abbrev last : List Notice
   last = end_notices file V
 
   -- it stopped within the header's faults
-  pub header_stopped : (e : RunError) (t : S) → StopsBy hears cuts e s (map whole (header_faults h.bytes h.file_len)) t → StopsBy hears cuts e s (run_notices file V) t
+  pub header_stopped : (e : RunError) (t : S) → StopsBy hears cuts e s (map (whole part.Header) (header_faults h.bytes h.file_len)) t → StopsBy hears cuts e s (run_notices file V) t
   header_stopped e t k = stops_by_first hears cuts e s t first (start_notices file V ++ last)
       (subst (λ items. StopsBy hears cuts e s items t) (header_items file h is) k)
 
-  module _ (a : S) (told : Moves hears s (map whole (header_faults h.bytes h.file_len)) a) where
+  module _ (a : S) (told : Moves hears s (map (whole part.Header) (header_faults h.bytes h.file_len)) a) where
     header_told : Moves hears s first a
     header_told = subst (λ items. Moves hears s items a) (header_items file h is) told
 

@@ -11,7 +11,7 @@ use Rattle.dbformat.specs.Address.{freelist_start, last_root_start}
 use Rattle.dbformat.specs.Reference.{Reference}
 use Rattle.dbformat.specs.Schema.{schema, rooted_rows}
 use Rattle.dbformat.specs.SchemaRow.{SchemaRow}
-use Rattle.dbtrace.specs.Finding.{Finding, told_below, visited_below}
+use Rattle.dbtrace.specs.Finding.{Finding, told_fault, told_row, told_below, visited_below}
 use Rattle.dbscan.specs.Notices.{Notice, found, ended, errands_left, root_reference, tree_notices, later_notices, start_notices}
 use Rattle.dbscan.specs.Placed.{number_of, AreStarts, StartsRise}
 use Rattle.dbscan.specs.Roots.{listed_rows}
@@ -22,12 +22,15 @@ numbers notices = filter_map number_of notices
 
 of_found : (at : At) (items : List Finding) → (k : ℕ) → IsIn k (numbers (map (found at) items)) → k ≡ at.number
 of_found at [] k i = absurd i
-of_found at (item ∷ items) k (inl e) = e
-of_found at (item ∷ items) k (inr i) = of_found at items k i
+of_found at (told_row r ∷ items) k (inl e) = e
+of_found at (told_row r ∷ items) k (inr i) = of_found at items k i
+of_found at (told_fault f why ∷ items) k (inl e) = e
+of_found at (told_fault f why ∷ items) k (inr i) = of_found at items k i
 
 found_rise : (at : At) (items : List Finding) → StartsRise (map (found at) items)
 found_rise at [] = tt
-found_rise at (item ∷ items) = ((λ k i. let e = of_found at items k i in omega (arith, e)), found_rise at items)
+found_rise at (told_row r ∷ items) = ((λ k i. let e = of_found at items k i in omega (arith, e)), found_rise at items)
+found_rise at (told_fault f why ∷ items) = ((λ k i. let e = of_found at items k i in omega (arith, e)), found_rise at items)
 
 of_tree : (at : At) (file : List ℕ) (W : List Reference) (c : Reference) (k : ℕ) → IsIn k (numbers (tree_notices at file W c)) → k ≡ at.number
 of_tree at file W c k i =

@@ -12,6 +12,7 @@ use Rattle.dbmarks.specs.EndMarks.{mark_fault, late_fault}
 use Rattle.dbmarks.specs.Marking.{mark_of}
 use Rattle.dbmarks.specs.declared.marks.Mark.{Mark}
 use Rattle.dbmarks.specs.declared.marks.Mark.TheVariants.{Fixed}
+use Rattle.dbtrace.specs.declared.Part.TheVariants as part
 use Rattle.dbscan.specs.Notices.{Notice, whole}
 
 -- the faults of the whole, by the header, whether the schema has rows, the greatest root and the count of the freelist
@@ -28,7 +29,7 @@ is_fixed_mark _ = false
 
 -- what is reported of page p, by its mark and the least page that is no root
 abbrev pub page_notices : List ℕ → Option ℕ → ℕ → Mark → List Notice
-page_notices file least p mark = map whole (mark_fault p (map_entry file p) mark ++ late_fault (geometry file).has_map p mark least)
+page_notices file least p mark = map (whole part.End) (mark_fault p (map_entry file p) mark ++ late_fault (geometry file).has_map p mark least)
 
 -- what is reported of the first n pages, after the visits of V
 abbrev pub pages_items : List ℕ → List Reference → Option ℕ → ℕ → List Notice

@@ -9,7 +9,6 @@ pub mod MapReads
 pub mod Notices
 pub mod Placed
 pub mod Roots
-pub mod RunItems
 pub mod Scans
 pub mod Starts
 pub mod Tellers

@@ -7,6 +7,7 @@ use Rattle.dbformat.specs.File.{geometry}
 use Rattle.dbformat.specs.HeaderFaults.{header_faults}
 use Rattle.dbformat.specs.Reference.{root, Way, Reference}
 use Rattle.dbformat.specs.Schema.{root_kind, root_start, freelist_starts}
+use Rattle.dbformat.specs.Rows.{StatRow}
 use Rattle.dbformat.specs.SchemaRow.{SchemaRow}
 use Rattle.dbformat.specs.Story.{Event}
 use Rattle.dbformat.specs.declared.Fault.{Fault}
@@ -14,32 +15,52 @@ use Rattle.dbformat.specs.declared.Geometry.{Geometry}
 use Rattle.dbmarks.specs.Marking.{marks_of}
 use Rattle.dbmarks.specs.declared.marks.Mark.{Mark}
 use Rattle.dbtrace.specs.Finding.{Finding, told_fault, told_row, told_below, visited_below}
+use Rattle.dbtrace.specs.declared.Cause.{Cause}
+use Rattle.dbtrace.specs.declared.Cause.TheVariants.{Itself}
+use Rattle.dbtrace.specs.declared.Part.{Part}
+use Rattle.dbtrace.specs.declared.Part.TheVariants as part
+use Rattle.dbtrace.specs.declared.Reported.{Reported}
 use Rattle.dbwalk.specs.Rows.{row_of}
-use Rattle.dbscan.specs.Findings.{fault_in}
 use Rattle.dbscan.specs.Roots.{listed_rows}
 use Rattle.dbscan.specs.Starts.{At, at_schema, at_row, at_freelist, schema_reference}
 use Rattle.dbscan.specs.declared.notice.Notice.{Notice as Lent}
 use Rattle.dbscan.specs.declared.notice.Notice.TheVariants as lent
 
--- A fault of the whole file; what is found at a start; the end of the tree of a start; or the end of all walks, and then these
--- are the marks of the file's pages.
+-- A fault, with its part and its cause; a row of the tree of a start; the end of the tree of a start; or the end of all walks, and then
+-- these are the marks of the file's pages.
 pub data Notice : Type 0 where
-  whole : Fault → Notice
-  found : At → Finding → Notice
+  heard_fault : Reported → Notice
+  heard_row : At → StatRow → Notice
   ended : At → Notice
   walked : Geometry → List Mark → Notice
 
+-- a fault at start k
+abbrev pub at_start : ℕ → Fault → Cause → Reported
+at_start k f why = record { part = part.Start k; fault = f; cause = why }
+
+-- a fault of the whole file, which goes back to nothing else
+abbrev pub of_file : Part → Fault → Reported
+of_file where_told f = record { part = where_told; fault = f; cause = Itself }
+
+-- what is found at a start
+abbrev pub found : At → Finding → Notice
+found at (told_fault f why) = heard_fault (at_start at.number f why)
+found at (told_row r) = heard_row at r
+
+-- a fault of the whole file
+abbrev pub whole : Part → Fault → Notice
+whole where_told f = heard_fault (of_file where_told f)
+
 -- the notice that is borrowed
 abbrev pub notice_of : Lent → Notice
-notice_of (lent.Whole f) = whole f.now
-notice_of (lent.Fault at f why) = found at.now (told_fault f.now why.now)
-notice_of (lent.Row at r) = found at.now (told_row (row_of r.now))
+notice_of (lent.Fault x) = heard_fault x.now
+notice_of (lent.Row at r) = heard_row at.now (row_of r.now)
 notice_of (lent.Ended at) = ended at.now
 
 -- the fault of a notice, if it is one
 abbrev pub notice_fault : Notice → Option Fault
-notice_fault (whole f) = Some f
-notice_fault (found at item) = fault_in item
+notice_fault (heard_fault x) = Some x.fault
+notice_fault (heard_row at r) = None
 notice_fault (ended at) = None
 notice_fault (walked g marks) = None
 
@@ -49,16 +70,14 @@ faults_heard notices = filter_map notice_fault notices
 
 -- A reporter on which only faults have an effect: its state after a fault that it takes whole, and after one that it does not.
 abbrev pub HearsFaults : {S : Type 0} → (S → Fault → S → Type 0) → S → Notice → S → Type 0
-HearsFaults takes s (whole f) t = takes s f t
-HearsFaults takes s (found at (told_fault f why)) t = takes s f t
-HearsFaults takes s (found at (told_row r)) t = t ≡ s
+HearsFaults takes s (heard_fault x) t = takes s x.fault t
+HearsFaults takes s (heard_row at r) t = t ≡ s
 HearsFaults takes s (ended at) t = t ≡ s
 HearsFaults takes s (walked g marks) t = t ≡ s
 
 abbrev pub CutsFaults : {S : Type 0} → (S → Fault → S → Type 0) → S → Notice → S → Type 0
-CutsFaults cuts s (whole f) t = cuts s f t
-CutsFaults cuts s (found at (told_fault f why)) t = cuts s f t
-CutsFaults cuts s (found at (told_row r)) t = ⊥
+CutsFaults cuts s (heard_fault x) t = cuts s x.fault t
+CutsFaults cuts s (heard_row at r) t = ⊥
 CutsFaults cuts s (ended at) t = ⊥
 CutsFaults cuts s (walked g marks) t = ⊥
 
@@ -93,8 +112,8 @@ start_notices file V =
 
 -- all that is reported after the walks: the marks of the pages, and the faults at the end
 abbrev pub end_notices : List ℕ → List Reference → List Notice
-end_notices file V = walked (geometry file) (marks_of (geometry file) V) ∷ map whole (end_faults file V)
+end_notices file V = walked (geometry file) (marks_of (geometry file) V) ∷ map (whole part.End) (end_faults file V)
 
 -- all that is reported of a file: the faults of its header, what is found at its starts, and what is reported after the walks
 abbrev pub run_notices : List ℕ → List Reference → List Notice
-run_notices file V = map whole (header_faults file (length file)) ++ (start_notices file V ++ end_notices file V)
+run_notices file V = map (whole part.Header) (header_faults file (length file)) ++ (start_notices file V ++ end_notices file V)

@@ -1,5 +1,5 @@
 -- Faults as a reporter hears them: each with the part of the report that it belongs to, and with its cause.
-use Rattle.std.specs.Prelude.{◌≡◌, ℕ, ◌≤◌, List, ◌++◌, length, map, filter_map, flat_map, Bool, true, false, not, ◌||◌, Option, None, Some, if◌then◌else◌}
+use Rattle.std.specs.Prelude.{◌≡◌, ℕ, ◌≤◌, List, ◌++◌, length, map, filter_map, flat_map, Option, None, Some}
 use Rattle.dbsurvey.specs.Address.{EachPair, IsIn}
 use Rattle.dbformat.specs.Address.{freelist_start, start_of}
 use Rattle.dbformat.specs.EndFaults.{end_faults}
@@ -9,27 +9,14 @@ use Rattle.dbformat.specs.Report.{event_faults}
 use Rattle.dbformat.specs.Schema.{starts}
 use Rattle.dbformat.specs.Story.{telling}
 use Rattle.dbformat.specs.declared.Fault.{Fault}
-use Rattle.dbformat.specs.declared.FaultCode.{FaultCode}
-use Rattle.dbformat.specs.declared.FaultCode.TheVariants.{H01, H02, H03, H04, H05, H06, H07, H08, H09, H10, N01, M01, M02}
 use Rattle.dbtrace.specs.Causes.{cause_of}
-use Rattle.dbtrace.specs.Finding.{told_fault}
-use Rattle.dbtrace.specs.declared.Cause.{Cause}
 use Rattle.dbtrace.specs.declared.Part.{Part}
 use Rattle.dbtrace.specs.declared.Part.TheVariants as part
 use Rattle.dbtrace.specs.declared.Reported.{Reported}
-use Rattle.dbtrace.specs.declared.Cause.TheVariants.{Itself}
 use Rattle.dbformat.specs.Starts.{start_at}
-use Rattle.dbscan.specs.Notices.{Notice, whole, found, ended}
+use Rattle.dbscan.specs.Notices.{Notice, at_start, heard_fault, heard_row, ended, of_file}
 
 -- Faults with their causes.
-
--- a fault at start k
-abbrev pub at_start : ℕ → Fault → Cause → Reported
-at_start k f why = record { part = part.Start k; fault = f; cause = why }
-
--- a fault of the whole file
-abbrev pub of_file : Part → Fault → Reported
-of_file where_told f = record { part = where_told; fault = f; cause = Itself }
 
 -- the faults of the walk, each at the start of the address that it is reported at
 abbrev pub walk_told : List ℕ → List Reference → List Reported
@@ -43,14 +30,14 @@ told_faults file V = map (of_file part.Header) (header_faults file (length file)
 abbrev pub faults_of : List Reported → List Fault
 faults_of ts = map (λ t. t.fault) ts
 
--- the fault of a notice, if it is one at a start
-abbrev pub start_fault_of : Notice → Option Reported
-start_fault_of (found at (told_fault f why)) = Some (at_start at.number f why)
-start_fault_of _ = None
+-- the fault of a notice, if it is one
+abbrev pub reported_of : Notice → Option Reported
+reported_of (heard_fault x) = Some x
+reported_of _ = None
 
 -- those among notices
-abbrev pub start_faults_in : List Notice → List Reported
-start_faults_in notices = filter_map start_fault_of notices
+abbrev pub reported_in : List Notice → List Reported
+reported_in notices = filter_map reported_of notices
 
 -- Where faults at starts are.
 
@@ -63,52 +50,17 @@ pub record IsAtStart (file : List ℕ) (V : List Reference) (f : Fault) (k : ℕ
 abbrev pub IsOfStart : List ℕ → List Reference → Reported → Type 0
 IsOfStart file V t = (k : ℕ) → t.part ≡ part.Start k → IsAtStart file V t.fault k
 
--- Codes of the whole file.
-
--- a code of the header's faults
-abbrev pub is_header_code : FaultCode → Bool
-is_header_code H01 = true
-is_header_code H02 = true
-is_header_code H03 = true
-is_header_code H04 = true
-is_header_code H05 = true
-is_header_code H06 = true
-is_header_code H07 = true
-is_header_code _ = false
-
--- a code of the faults at the end
-abbrev pub is_end_code : FaultCode → Bool
-is_end_code H08 = true
-is_end_code H09 = true
-is_end_code H10 = true
-is_end_code N01 = true
-is_end_code M01 = true
-is_end_code M02 = true
-is_end_code _ = false
-
--- a code of the faults of the walk: each of the others
-abbrev pub is_walk_code : FaultCode → Bool
-is_walk_code code = not (is_header_code code || is_end_code code)
-
--- the part of the report that a fault of the whole file belongs to, by its code
-abbrev pub part_of_code : FaultCode → Part
-part_of_code code = if is_header_code code then part.Header else part.End
-
--- the fault of a notice, if it is one, with its part and its cause
-abbrev pub reported_of : Notice → Option Reported
-reported_of (whole f) = Some (of_file (part_of_code f.code) f)
-reported_of (found at (told_fault f why)) = Some (at_start at.number f why)
-reported_of _ = None
-
--- those among notices
-abbrev pub reported_in : List Notice → List Reported
-reported_in notices = filter_map reported_of notices
-
 -- Starts of notices.
+
+-- the number of the start of a part of the report, if it is one
+abbrev pub part_number : Part → Option ℕ
+part_number (part.Start k) = Some k
+part_number _ = None
 
 -- the number of the start of a notice, if it is of one
 abbrev pub number_of : Notice → Option ℕ
-number_of (found at item) = Some at.number
+number_of (heard_fault x) = part_number x.part
+number_of (heard_row at r) = Some at.number
 number_of (ended at) = Some at.number
 number_of _ = None
 

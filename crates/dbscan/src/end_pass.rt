@@ -25,6 +25,7 @@ use crate::reporter::Reporter;
 use crate::tell::tell_all;
 use dbmarks::MapEntry;
 use dbsource::{Bench, Fixed, Geometry, RunError, Source};
+use dbtrace::Part;
 use dbwalk::{CHAIN, Mark, Marks};
 use std::alloc::Allocator;
 
@@ -90,7 +91,7 @@ fn end_page<S: Source, K: Reporter, A: Allocator, B: Allocator>(
         use_fault(page, entry, mark),
         late_fault(has_map, page, mark, least_other),
     ];
-    tell_all(&faults, reporter)
+    tell_all(Part::End, &faults, reporter)
 }
 
 // Does this for each page, by number.
@@ -140,7 +141,7 @@ pub fn tell_end<S: Source, K: Reporter, A: Allocator>(
     reporter.walked(desk.header.geometry(), &desk.marks)?;
     let counts = count_marks(&desk.marks);
     let faults = counted_faults(&desk.header, any_rows, counts);
-    tell_all(&faults, reporter)?;
+    tell_all(Part::End, &faults, reporter)?;
     let least = counts.least_other;
     end_pages(source, &mut desk.bench, &desk.marks, least, reporter)
 }

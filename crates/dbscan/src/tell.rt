@@ -3,6 +3,7 @@ ghost use Rattle.std.specs.Prelude.{◌≡◌, IfErr, map};
 ghost use Rattle.dbformat.specs.HeaderFaults.{header_faults};
 ghost use Rattle.dbsource.specs.Errors.{is_write_failed};
 ghost use Rattle.dbsource.specs.declared.error.RunError.TheVariants.{WriteFailed};
+ghost use Rattle.dbtrace.specs.declared.Part.TheVariants as part;
 ghost use Rattle.dbwalk.specs.Telling.{Tells, SinkAfter};
 ghost use Rattle.dbscan.specs.Notices.{whole};
 ghost use Rattle.dbscan.specs.Telling.{items_of};
@@ -12,19 +13,25 @@ use crate::notice::Notice;
 use crate::reporter::Reporter;
 use dbformat::Fault;
 use dbsource::{Header, RunError};
+use dbtrace::{Cause, Part, Reported};
 
-// Reports those that are faults.
+// Reports those that are faults, in this part of the report.
 pub(crate) fn tell_all<K: Reporter>(
+    part: Part,
     faults: &[Option<Fault>],
     reporter: &mut K,
 ) -> Result<(), RunError>
-    ensures told { Tells K.hears K.cuts result reporter.old (items_of faults.now) reporter.new }
+    ensures told { Tells K.hears K.cuts result reporter.old (items_of part faults.now) reporter.new }
     ensures writes { SinkAfter is_write_failed result (K.held reporter.old) (K.held reporter.new) }
     ensures only { IfErr result (λ e. e ≡ WriteFailed) }
 {
     for fault in faults {
         if let Some(fault) = fault {
-            reporter.hear(&Notice::Whole(fault))?;
+            reporter.hear(&Notice::Fault(&Reported {
+                part,
+                fault: *fault,
+                cause: Cause::Itself,
+            }))?;
         }
     }
     Ok(())
@@ -36,10 +43,10 @@ pub(crate) fn tell_all<K: Reporter>(
 ///
 /// [`RunError::WriteFailed`] exactly where the reporter failed.
 pub fn tell_header<K: Reporter>(header: &Header, reporter: &mut K) -> Result<(), RunError>
-    ensures told { Tells K.hears K.cuts result reporter.old (map whole (header_faults header.now.bytes header.now.file_len)) reporter.new }
+    ensures told { Tells K.hears K.cuts result reporter.old (map (whole part.Header) (header_faults header.now.bytes header.now.file_len)) reporter.new }
     ensures writes { SinkAfter is_write_failed result (K.held reporter.old) (K.held reporter.new) }
     ensures only { IfErr result (λ e. e ≡ WriteFailed) }
 {
     let faults = faults_of(header);
-    tell_all(&faults, reporter)
+    tell_all(Part::Header, &faults, reporter)
 }

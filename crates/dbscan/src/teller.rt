@@ -11,6 +11,7 @@ use crate::reporter::Reporter;
 use crate::start::Start;
 use dbformat::SCHEMA_START;
 use dbsource::WriteFailed;
+use dbtrace::{Part, Reported};
 use dbwalk::{Cause, Fault, PageType, Row, Sink};
 
 // Hands on what it hears, and notes whether the schema has a row.
@@ -65,7 +66,11 @@ impl<K: Reporter> Sink for Teller<'_, K> {
     ghost held = { lent_by K.held };
 
     fn fault(&mut self, fault: &Fault, cause: &Cause) -> Result<(), WriteFailed> {
-        self.reporter.hear(&Notice::Fault(self.start, fault, cause))
+        self.reporter.hear(&Notice::Fault(&Reported {
+            part: Part::Start(self.start.number()),
+            fault: *fault,
+            cause: *cause,
+        }))
     }
 
     fn row(&mut self, row: &Row<'_>) -> Result<(), WriteFailed> {

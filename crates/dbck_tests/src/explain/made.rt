@@ -122,7 +122,7 @@ fn stripes(alloc: Global, pages: u32) -> Result<TestFile, AllocError> {
 }
 
 // After a pointer map whose entries of pages 4 and 8 are wrong, pages 5 to 7 are in no use: two of zeros, and a leaf between.
-fn woven(alloc: Global) -> Result<TestFile, AllocError> {
+fn lost_between(alloc: Global) -> Result<TestFile, AllocError> {
     let mut file = TestFile::new(alloc, 512, 8)?;
     file.schema(&[schema_row(b"table", b"t", 3)]);
     file.interior_table(3, 8).key(4, 10);
@@ -180,7 +180,7 @@ fn named(alloc: Global, name: &str, number: u32) -> Result<TestFile, AllocError>
         "two-depths" => two_depths(alloc),
         "two-chains" => two_chains(alloc),
         "stripes" => stripes(alloc, number),
-        "woven" => woven(alloc),
+        "lost-between" => lost_between(alloc),
         "looks" => looks(alloc),
         "lost-rows" => lost_rows(alloc),
         "all-looks" => all_looks(alloc),

@@ -49,20 +49,15 @@ M01 page 8 item 5 value 9: pointer map entry differs
 
 const ONE_LOST: &str = "H01 page 1 item 18 value 3: file version is not 1 or 2
 M01 page 4 item 5 value 9: pointer map entry differs
-N01 page 5 item 0 value 0: page is not in use
 M01 page 8 item 5 value 9: pointer map entry differs
+N01 page 5 item 0 value 0: page is not in use
 ";
 
 const TWO_LOST: &str = "H01 page 1 item 18 value 3: file version is not 1 or 2
 M01 page 4 item 5 value 9: pointer map entry differs
+M01 page 8 item 5 value 9: pointer map entry differs
 N01 page 5 item 0 value 0: page is not in use
 N01 page 6 item 0 value 0: page is not in use
-M01 page 8 item 5 value 9: pointer map entry differs
-";
-
-const THREE_LINES: &str = "H01 page 1 item 18 value 3: file version is not 1 or 2
-M01 page 4 item 5 value 9: pointer map entry differs
-N01 page 5 item 0 value 0: page is not in use
 ";
 
 const TWO_LINES: &str = "H01 page 1 item 18 value 3: file version is not 1 or 2
@@ -71,7 +66,7 @@ M01 page 4 item 5 value 9: pointer map entry differs
 
 // The call of the source that fails, how many entries are listed at most, and what is written: after the length and the header come
 // the pages 1, 3, 4 and 8, the map, and the pages 5, 6 and 7.
-const FOUND: [(u64, u32, &str); 14] = [
+const FOUND: [(u64, u32, &str); 15] = [
     (0, 100, ""),
     (1, 100, ""),
     (2, 100, VERSION),
@@ -82,16 +77,17 @@ const FOUND: [(u64, u32, &str); 14] = [
     (7, 100, BEFORE_LOST),
     (8, 100, ONE_LOST),
     (9, 100, TWO_LOST),
-    // The entries of lost pages take the place of later ones.
+    // The entries of lost pages take no other's place.
     (7, 3, BEFORE_LOST),
-    (9, 3, THREE_LINES),
+    (9, 4, ONE_LOST),
+    (9, 3, BEFORE_LOST),
     (9, 2, TWO_LINES),
     (9, 1, VERSION),
 ];
 
 #[test]
 fn what_was_found_is_written(rt: HostRuntime) -> Result<(), Fail> {
-    let file = made(rt.alloc(), "woven: 1 18 03")?;
+    let file = made(rt.alloc(), "lost-between: 1 18 03")?;
     for (fails_at, limit, text) in FOUND {
         let mut source = StatedSource::new(file.as_slice(), file.len() as u64, fails_at);
         let mut out = SmallOut::new(2048);
@@ -105,7 +101,7 @@ fn what_was_found_is_written(rt: HostRuntime) -> Result<(), Fail> {
 // A read fails, and then the out: the answer is that the read failed, and the out took as much of the lines as it has room for.
 #[test]
 fn a_failed_read_is_answered(rt: HostRuntime) -> Result<(), Fail> {
-    let file = made(rt.alloc(), "woven: 1 18 03")?;
+    let file = made(rt.alloc(), "lost-between: 1 18 03")?;
     for room in 0..TWO_LOST.len() {
         let mut source = StatedSource::new(file.as_slice(), file.len() as u64, 9);
         let mut out = SmallOut::new(room);
@@ -159,13 +155,11 @@ fn in_room(
 // A buffer of a page for each of 22 levels, and four bytes a page of marks. The heap gives units of 16 bytes.
 const DESK: usize = 22 * 512 + 32;
 
-// 100 entries of 200 bytes, and six of lost pages.
+// 100 entries of 200 bytes.
 const ENTRIES: usize = DESK + 100 * 200;
 
-const LOST_ENTRIES: usize = ENTRIES + 6 * 200;
-
 // 16 bytes for each of 65538 starts, and a bit a page.
-const STARTS: usize = LOST_ENTRIES + 65538 * 16;
+const STARTS: usize = ENTRIES + 65538 * 16;
 
 const FAULTY: usize = STARTS + 16;
 
@@ -186,7 +180,6 @@ fn each_growth_is_refused(rt: HostRuntime) -> Result<(), Fail> {
         DESK - 16,
         DESK,
         ENTRIES,
-        LOST_ENTRIES,
         STARTS,
         FAULTY,
         TREES,

@@ -95,11 +95,8 @@ const STRONG: usize = FAULTY + 16;
 // 200 bytes for each of 100 entries.
 const ENTRIES: usize = STRONG + 100 * 200;
 
-// And six of lost pages.
-const LOST_ENTRIES: usize = ENTRIES + 6 * 200;
-
 // As rows are read, the list of roots takes four rows of 20 bytes, and then 8 bytes of names.
-const ROOTS: usize = LOST_ENTRIES + 80;
+const ROOTS: usize = ENTRIES + 80;
 
 // Each is refused where there is room for those before it alone.
 #[test]
@@ -114,7 +111,6 @@ fn each_growth_is_refused(rt: HostRuntime) -> Result<(), Fail> {
         FAULTY,
         STRONG,
         ENTRIES,
-        LOST_ENTRIES,
         ROOTS,
     ] {
         in_room(

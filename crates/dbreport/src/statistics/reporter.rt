@@ -166,7 +166,7 @@ impl<O: Out, E: Out> Reporter for StatReporter<'_, O, E> {
 
     fn hear(&mut self, notice: &Notice<'_>) -> Result<(), WriteFailed> {
         match notice {
-            Notice::Whole(fault) | Notice::Fault(_, fault, _) => self.fault(fault),
+            Notice::Fault(told) => self.fault(&told.fault),
             Notice::Row(start, row) => self.row(start, row),
             Notice::Ended(start) => self.end_tree(start),
         }

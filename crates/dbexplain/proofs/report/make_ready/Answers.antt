@@ -1,6 +1,7 @@
 use Rattle.std.proofs.Common.{ap, ◌∙◌}
 use Rattle.dbscan.specs.Roots.{Listed}
-use Rattle.dblisting.proofs.Woven.{all_shown}
+use Rattle.dbentries.specs.Listed.{listed_faults}
+use Rattle.dbentries.proofs.ListedFaults.{shown}
 use Rattle.dbexplain.proofs.Reports.{marks_fit}
 use Rattle.dbexplain.proofs.report.make_ready.Goals as goal
 
@@ -11,4 +12,4 @@ returns-clause-trees g c = λ limit file V d all.
 
 pub returns-clause-listed : goal.returns-clause-listed
 returns-clause-listed g c = λ limit file V all.
-    all_shown limit file V c.args.kept.now.listing c.weave.new.self (c.weave.ensures limit file V) all.listing
+    shown limit (listed_faults file V) c.args.kept.now.listing all.listing

@@ -7,7 +7,7 @@ use Rattle.dbsource.specs.Outs.{Puts, Writes}
 use Rattle.dbsource.proofs.Puts.{puts_then, puts_stop}
 use Rattle.dbentries.specs.Listing.{size}
 use Rattle.dbscan.specs.Placed.{told_faults}
-use Rattle.dblisting.specs.Listed.{listed_entries}
+use Rattle.dbentries.specs.Listed.{listed_entries}
 use Rattle.dbexplain.specs.Explained.{entry_text}
 use Rattle.dbexplain.specs.Summary.{summary}
 use Rattle.dbexplain.specs.Tallies.{HasPageBit, IsTallyOf, Tallied}

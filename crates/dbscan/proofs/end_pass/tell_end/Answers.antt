@@ -18,6 +18,7 @@ use Rattle.dbscan.specs.Desks.{Things}
 use Rattle.dbscan.specs.EndPass.{pages_items}
 use Rattle.dbscan.specs.MapReads.{IsMapInUse, MapReads}
 use Rattle.dbscan.specs.Notices.{end_notices, walked}
+use Rattle.dbtrace.specs.declared.Part.TheVariants as part
 use Rattle.dbscan.specs.Telling.{items_of}
 use Rattle.dbscan.proofs.EndItems.{all_items, tells_then, walked_then}
 use Rattle.dbscan.proofs.MapLogs.{asks_nothing, reads_none}
@@ -47,7 +48,7 @@ returns-in_err-tell_all-clause-asks g c =
     walked_then {A = Unit {0}} g.K.Reporter.hears g.K.Reporter.cuts file V (Err c.in_err-tell_all.field-0.0) c.args.reporter.now c.walked.new.self c.tell_all.new.reporter c.geometry.result c.desk.inside.marks
     (c.geometry.ensures.shape ∙ its.shape) (marks ∙ m) c.in_ok-walked.ensures.notice
     (subst (λ l. StopsBy g.K.Reporter.hears g.K.Reporter.cuts c.in_err-tell_all.field-0.0 c.walked.new.self l c.tell_all.new.reporter) items
-    (stops_by_first g.K.Reporter.hears g.K.Reporter.cuts c.in_err-tell_all.field-0.0 c.walked.new.self c.tell_all.new.reporter (items_of c.counted_faults-faults.result) pages c.in_err-tell_all.ensures.told)))))
+    (stops_by_first g.K.Reporter.hears g.K.Reporter.cuts c.in_err-tell_all.field-0.0 c.walked.new.self c.tell_all.new.reporter (items_of part.End c.counted_faults-faults.result) pages c.in_err-tell_all.ensures.told)))))
 
 pub returns-clause-asks : goal.returns-clause-asks
 returns-clause-asks g c =
@@ -63,5 +64,5 @@ returns-clause-asks g c =
     walked_then g.K.Reporter.hears g.K.Reporter.cuts file V c.end_pages.result c.args.reporter.now c.walked.new.self c.end_pages.new.reporter c.geometry.result c.desk.inside.marks
     (c.geometry.ensures.shape ∙ is.shape) m c.in_ok-walked.ensures.notice
     (subst (λ l. Tells g.K.Reporter.hears g.K.Reporter.cuts c.end_pages.result c.walked.new.self l c.end_pages.new.reporter) items
-    (tells_then g.K.Reporter.hears g.K.Reporter.cuts c.end_pages.result c.walked.new.self c.tell_all.new.reporter c.end_pages.new.reporter (items_of c.counted_faults-faults.result) (pages_items file V (least_other_marked (marks_of (geometry file) V)) (geometry file).pages)
+    (tells_then g.K.Reporter.hears g.K.Reporter.cuts c.end_pages.result c.walked.new.self c.tell_all.new.reporter c.end_pages.new.reporter (items_of part.End c.counted_faults-faults.result) (pages_items file V (least_other_marked (marks_of (geometry file) V)) (geometry file).pages)
     c.in_ok-tell_all.ensures.told rest))))

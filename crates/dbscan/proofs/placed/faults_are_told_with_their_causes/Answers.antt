@@ -1,10 +1,7 @@
 use Rattle.dbscan.proofs.AllTold.{all_told}
-use Rattle.dbscan.proofs.FileCodes.{header_codes, end_codes}
 use Rattle.dbscan.proofs.PlacedFaults.{starts_told}
 use Rattle.dbscan.proofs.HeardFaults.{run_heard}
 use Rattle.dbscan.proofs.StartsRise.{are_starts, starts_rise}
-use Rattle.dbscan.proofs.WalkCodes.{walk_codes}
-use Rattle.std.proofs.Common.{length}
 use Rattle.dbscan.proofs.placed.faults_are_told_with_their_causes.Goals as goal
 
 pub returns-clause-told : goal.returns-clause-told
@@ -21,12 +18,3 @@ returns-clause-starts c file V = are_starts file V
 
 pub returns-clause-all : goal.returns-clause-all
 returns-clause-all c file V = all_told file V
-
-pub returns-clause-header : goal.returns-clause-header
-returns-clause-header c file f i = header_codes file (length file) f i
-
-pub returns-clause-ending : goal.returns-clause-ending
-returns-clause-ending c file V f i = end_codes file V f i
-
-pub returns-clause-walk : goal.returns-clause-walk
-returns-clause-walk c file V e f i = walk_codes file V e f i

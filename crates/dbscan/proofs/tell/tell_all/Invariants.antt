@@ -5,6 +5,6 @@ use Rattle.dbscan.proofs.tell.tell_all.Given as goal
 
 abbrev pub invariant-loop-fault : goal.invariant-loop-fault
 invariant-loop-fault g l = record {
-  told : Moves g.K.Reporter.hears l.initial.reporter (items_of (take l.fault-index l.faults)) l.reporter;
+  told : Moves g.K.Reporter.hears l.initial.reporter (items_of l.part (take l.fault-index l.faults)) l.reporter;
   writes : g.K.Reporter.held l.reporter ≡ g.K.Reporter.held l.initial.reporter;
 }

@@ -8,7 +8,7 @@ use Rattle.dbsource.proofs.Logs.{asks_weaker}
 use Rattle.dbwalk.specs.Telling.{one_out}
 use Rattle.dbscan.proofs.Finished.{finished}
 use Rattle.dbexplain.specs.Reporting.{Hears, LeavesExplained, explain_held}
-use Rattle.dblisting.proofs.Desks.{desk_kept, looked_keeps}
+use Rattle.dbentries.proofs.Desks.{desk_kept, looked_keeps}
 use Rattle.dbexplain.proofs.Left.{all_counted, all_kept, clean_put, file_heard, told_some, written}
 use Rattle.dbexplain.proofs.reporter.ExplainReporterFinishDesk.finish.Goals as goal
 

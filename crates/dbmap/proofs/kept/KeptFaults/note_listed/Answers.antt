@@ -3,8 +3,8 @@ use Rattle.dbtrace.specs.declared.Reported.{Reported}
 use Rattle.dbentries.specs.Kept.{lone_entry, kept_of}
 use Rattle.dbentries.specs.Listing as listing
 use Rattle.dbentries.proofs.Noting.{first_kept}
-use Rattle.dblisting.specs.Listed.{listed_entries}
-use Rattle.dblisting.proofs.Woven.{all_shown}
+use Rattle.dbentries.specs.Listed.{listed_entries, listed_faults}
+use Rattle.dbentries.proofs.ListedFaults as kept
 use Rattle.dbmap.specs.FramedPages.{first_faults, framed, leading}
 use Rattle.dbmap.specs.PageSets.{AreNoted}
 use Rattle.dbmap.proofs.kept.KeptFaults.note_listed.Goals as goal
@@ -15,6 +15,6 @@ leading_kept (e ∷ es) = ap₂ (λ (x : Reported) xs. x ∷ xs) (first_kept e.o
 
 pub returns-clause-strong : goal.returns-clause-strong
 returns-clause-strong g c = λ fs limit file V all noted.
-    let shown = all_shown limit file V c.args.self.now.listing c.weave.new.self (c.weave.ensures limit file V) all in
+    let shown = kept.shown limit (listed_faults file V) c.args.self.now.listing all in
     let same = ap leading (c.listed.ensures ∙ shown.listed) ∙ leading_kept (take limit (listed_entries file V)) in
     subst (λ (xs : List Reported). AreNoted (fs ++ framed xs) c.note_listed.new.pages) same (c.note_listed.ensures.noted fs noted)

@@ -5,7 +5,7 @@ use Rattle.dbsource.specs.declared.error.RunError.TheVariants.{ReadFailed, Write
 use Rattle.dbsource.proofs.Logs.{asks_weaker}
 use Rattle.dbwalk.specs.Telling.{one_out}
 use Rattle.dbscan.specs.Notices.{run_notices}
-use Rattle.dblisting.proofs.Desks.{desk_kept, looked_keeps}
+use Rattle.dbentries.proofs.Desks.{desk_kept, looked_keeps}
 use Rattle.dbmap.specs.Maps.{DrawsMap}
 use Rattle.dbmap.proofs.Counting.{map_counts, map_finds, map_keeps, map_lists, map_unput, map_untouched}
 use Rattle.dbmap.proofs.Pictured.{named, pictured}

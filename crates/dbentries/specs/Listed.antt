@@ -1,0 +1,55 @@
+-- What is listed of the faults of a file with survey V (own): first all that are of no lost page, in their order, and then those of lost
+-- pages, in theirs, which go back to what their pages look like.
+use Rattle.std.specs.Prelude.{◌≡◌, ℕ, not, Bool, true, false, ◌&&◌, List, ◌++◌, map, filter}
+use Rattle.dbformat.specs.Looks.{look_at}
+use Rattle.dbformat.specs.Reference.{Reference}
+use Rattle.dbformat.specs.declared.FaultCode.{FaultCode}
+use Rattle.dbformat.specs.declared.FaultCode.TheVariants.{N01}
+use Rattle.dbtrace.specs.declared.Cause.TheVariants as cause
+use Rattle.dbtrace.specs.declared.Part.{Part}
+use Rattle.dbtrace.specs.declared.Part.TheVariants as part
+use Rattle.dbtrace.specs.declared.Reported.{Reported}
+use Rattle.dbentries.specs.Listing.{Entry, entries}
+use Rattle.dbscan.specs.Placed.{told_faults}
+
+-- ---- lost pages, to which nothing refers
+
+-- whether a part is the end
+abbrev pub is_end : Part → Bool
+is_end part.End = true
+is_end _ = false
+
+-- whether a code is that of a lost page
+abbrev pub is_lost_code : FaultCode → Bool
+is_lost_code N01 = true
+is_lost_code _ = false
+
+-- whether a fault is that of a lost page: these are found at the end
+abbrev pub is_lost : Reported → Bool
+is_lost x = is_end x.part && is_lost_code x.fault.code
+
+-- it goes back to what the page looks like
+abbrev pub looked_at : List ℕ → Reported → Reported
+looked_at file x = record x { cause = cause.Look (look_at file x.fault.page) }
+
+-- ---- all faults
+
+-- those that are of no lost page
+abbrev pub others_of : List Reported → List Reported
+others_of xs = filter (λ x. not (is_lost x)) xs
+
+-- those of lost pages
+abbrev pub lost_faults : List ℕ → List Reference → List Reported
+lost_faults file V = map (looked_at file) (filter is_lost (told_faults file V))
+
+-- all, in the order in which they are listed
+abbrev pub listed_faults : List ℕ → List Reference → List Reported
+listed_faults file V = others_of (told_faults file V) ++ lost_faults file V
+
+-- what is listed of them
+abbrev pub listed_entries : List ℕ → List Reference → List Entry
+listed_entries file V = entries (listed_faults file V)
+
+-- some of them are the first
+abbrev pub IsBeginning : List Reported → List Reported → Type 0
+IsBeginning xs ys = (rest : List Reported) × (xs ++ rest ≡ ys)
