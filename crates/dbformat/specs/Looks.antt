@@ -1,6 +1,7 @@
 -- What a page looks like by its bytes alone, whatever refers to it (own; Database File Format, section 1.6).
-use Rattle.std.specs.Prelude.{ℕ, ◌+◌, ◌-◌, Bool, ◌&&◌, List, take, Option, Some, None, Result, Ok, Err, ℤ, nat_le, ◌==◌, if◌then◌else◌}
+use Rattle.std.specs.Prelude.{ℕ, ◌+◌, ◌-◌, ◌&&◌, List, take, Option, Some, None, Result, Ok, Err, ℤ, slice_index, nat_le, ◌==◌, if◌then◌else◌}
 use Rattle.std.specs.List.{list_all}
+use Rattle.std.specs.Option.{option_map_or}
 use Rattle.dbformat.specs.Options.{◌>>=◌}
 use Rattle.dbformat.specs.Varint.{varint, signed}
 use Rattle.dbformat.specs.File.{geometry, page_bytes}
@@ -12,11 +13,11 @@ use Rattle.dbformat.specs.declared.PageKind.TheVariants.{InteriorIndex, Interior
 use Rattle.dbformat.specs.declared.Rowids.{Rowids}
 use Rattle.dbformat.specs.declared.TreeLook.{TreeLook}
 use Rattle.dbformat.specs.declared.Look.{Look}
-use Rattle.dbformat.specs.declared.Look.TheVariants.{Zeros, Tree, Other}
+use Rattle.dbformat.specs.declared.Look.TheVariants.{Blank, Tree, Other}
 
--- whether the usable bytes of a page are all 0
-abbrev pub is_zeros : ℕ → List ℕ → Bool
-is_zeros usable page = list_all (λ byte. byte == 0) (take usable page)
+-- the byte of a blank page, whose usable bytes are all as its first
+abbrev pub blank_byte : ℕ → List ℕ → Option ℕ
+blank_byte usable page = let first = slice_index page 0 in if list_all (λ byte. byte == first) (take usable page) then Some first else None
 
 -- the rowid of the table leaf's cell at offset, after the size of its payload, where both end within the usable bytes
 abbrev pub rowid_at : View → ℕ → Option ℤ
@@ -38,14 +39,14 @@ rowids LeafTable v = if count v == 0 then None else (do
   Some (record { first = first; last = last }))
 rowids _ v = None
 
--- a page that is not all zeros: that of a tree where its head is sound, or else its first 16 bytes
+-- a page that is not blank: that of a tree where its head is sound, or else its first 16 bytes
 abbrev pub look_of_view : List ℕ → Result View HeadFault → Look
 look_of_view page (Err e) = Other (take 16 page)
 look_of_view page (Ok v) = Tree (record { kind = v.kind; cells = count v; rowids = rowids v.kind v })
 
 -- what page p looks like, by its usable bytes
 unfoldable pub look_of : ℕ → ℕ → List ℕ → Look
-look_of p usable page = if is_zeros usable page then Zeros else look_of_view page (view p usable page)
+look_of p usable page = option_map_or Blank (blank_byte usable page) (look_of_view page (view p usable page))
 
 -- what page p of a file looks like
 abbrev pub look_at : List ℕ → ℕ → Look

@@ -302,8 +302,8 @@ pub struct TreeLook {
 /// What a page looks like by its bytes alone, whatever refers to it.
 #[derive(Clone, Copy, Debug, PartialEq, Eq)]
 pub enum Look {
-    /// All its usable bytes are 0.
-    Zeros,
+    /// All its usable bytes are this one.
+    Blank(u8),
     /// Its head is that of a page of a tree.
     Tree(TreeLook),
     /// Neither: its first 16 bytes.

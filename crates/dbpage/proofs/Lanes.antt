@@ -6,55 +6,59 @@ use Rattle.std.proofs.lemmas.Bool.Decides.{nat_tests}
 use Rattle.std.proofs.lemmas.Nat.Bits.{bit_at-zero, bit_at-trailing_zeros, bit_at_mask_inside}
 use Rattle.std.proofs.lemmas.Simd.{get_or-put_chunk_below, get_or-put_chunk_at, get_or-put_chunk_above, get_or-replicate, length-chunk, get_or-chunk, none_from_empty_mask}
 use lib.Lanes.{chunk, mask_l, put_chunk}
-use Rattle.dbpage.specs.Marking.{HasByte, HasMarked, Marks, mark_bit}
+use Rattle.dbpage.specs.Marking.{HasOther, HasMarked, Marks, mark_bit}
 use Rattle.dbpage.proofs.Tables.{set_is, unset_is, other_side}
 
--- whether a lane has marks
-abbrev pub has_marks : ℕ → Bool
-has_marks x = not (nat_eq x 0)
+-- whether a lane differs from a byte
+abbrev pub differs : ℕ → ℕ → Bool
+differs one x = not (nat_eq x one)
 
-no_marks : (x : ℕ) → has_marks x ≡ false → x ≡ 0
-no_marks x h = grind (arith, nat_tests)
+same_lane : (one x : ℕ) → differs one x ≡ false → x ≡ one
+same_lane one x h = grind (arith, nat_tests)
 
-some_marks : (x : ℕ) → has_marks x ≡ true → 0 < x
-some_marks x h = grind (arith, nat_tests)
+other_lane : (one x : ℕ) → differs one x ≡ true → (x == one) ≡ false
+other_lane one x h = grind (arith, nat_tests)
+
+some_bits : (m : ℕ) → differs 0 m ≡ true → 0 < m
+some_bits m h = grind (arith, nat_tests)
 
 -- a lane of a mask that is not empty
-some_lane : (xs : List ℕ) → 0 < mask_l (map has_marks xs) → (i : ℕ) × (i < length xs) × (0 < get_or xs i 0)
-some_lane [] h = absurd (omega arith)
-some_lane (x ∷ xs) h = by_case (has_marks x) refl (λ some. some_lane xs some)
+some_lane : (one : ℕ) (xs : List ℕ) → 0 < mask_l (map (differs one) xs) → (i : ℕ) × (i < length xs) × ((get_or xs i 0 == one) ≡ false)
+some_lane one [] h = absurd (omega arith)
+some_lane one (x ∷ xs) h = by_case (differs one x) refl (λ some. some_lane one xs some)
   where
-    by_case : (b : Bool) → has_marks x ≡ b → (0 < mask_l (map has_marks xs) → (i : ℕ) × (i < length xs) × (0 < get_or xs i 0))
-        → (i : ℕ) × (i < length (x ∷ xs)) × (0 < get_or (x ∷ xs) i 0)
-    by_case true e rest = (0, omega arith, some_marks x e)
+    by_case : (b : Bool) → differs one x ≡ b → (0 < mask_l (map (differs one) xs) → (i : ℕ) × (i < length xs) × ((get_or xs i 0 == one) ≡ false))
+        → (i : ℕ) × (i < length (x ∷ xs)) × ((get_or (x ∷ xs) i 0 == one) ≡ false)
+    by_case true e rest = (0, omega arith, other_lane one x e)
     by_case false e rest =
         let next = rest (omega (arith, rw e at h)) in
         (suc next.0, omega (arith, next.1), next.2)
 
-pub any_or_none : (table : List ℕ) (start m : ℕ) → start + 32 ≤ length table → ((j : ℕ) → get_or table j 0 < 256) → m ≡ mask_l (map has_marks (chunk start 32 table))
-    → MatchBool (not (nat_eq m 0)) (HasByte table start (start + 32)) ((k : ℕ) → start ≤ k → k < start + 32 → get_or table k 0 ≡ 0)
-any_or_none table start m room small is = by_case (not (nat_eq m 0)) refl
+pub other_or_none : (table : List ℕ) (one start m : ℕ) → start + 32 ≤ length table → ((j : ℕ) → get_or table j 0 < 256) → m ≡ mask_l (map (differs one) (chunk start 32 table))
+    → MatchBool (not (nat_eq m 0)) (HasOther table one start (start + 32)) ((k : ℕ) → start ≤ k → k < start + 32 → get_or table k 0 ≡ one)
+other_or_none table one start m room small is = by_case (not (nat_eq m 0)) refl
   where
-    by_case : (b : Bool) → has_marks m ≡ b → MatchBool b (HasByte table start (start + 32)) ((k : ℕ) → start ≤ k → k < start + 32 → get_or table k 0 ≡ 0)
+    by_case : (b : Bool) → differs 0 m ≡ b → MatchBool b (HasOther table one start (start + 32)) ((k : ℕ) → start ≤ k → k < start + 32 → get_or table k 0 ≡ one)
     by_case true e =
-        let lane = some_lane (chunk start 32 table) (omega (arith, is, some_marks m e)) in
+        let lane = some_lane one (chunk start 32 table) (omega (arith, is, some_bits m e)) in
         let long = length-chunk start 32 table room in
         record {
           place = start + lane.0;
           from_on = omega arith;
           below = omega (arith, lane.1, long);
-          some = omega (arith, lane.2, get_or-chunk start 32 table lane.0 0 (omega (arith, lane.1, long)));
+          other = ap (λ x. x == one) (sym (get_or-chunk start 32 table lane.0 0 (omega (arith, lane.1, long)))) ∙ lane.2;
           fits = small (start + lane.0);
         }
-    by_case false e = λ k low high. no_marks (get_or table k 0) (none_from_empty_mask has_marks table start 32 0 room (sym is ∙ no_marks m e) k low high)
+    by_case false e = λ k low high. same_lane one (get_or table k 0) (none_from_empty_mask (differs one) table start 32 0 room (sym is ∙ same_lane 0 m e) k low high)
 
 -- the marks of whole bytes
 module _ (table : List ℕ) (from : ℕ) (room : from + 256 ≤ length table) (whole : from % 8 ≡ 0) where
-  pub marked_of_byte : HasByte table (from / 8) (from / 8 + 32) → HasMarked table from (from + 256)
+  pub marked_of_byte : HasOther table 0 (from / 8) (from / 8 + 32) → HasMarked table from (from + 256)
   marked_of_byte has =
       let x : ℕ = get_or table has.place 0 in
       let t : ℕ = trailing_zeros w8 x in
-      let lowest = bit_at-trailing_zeros w8 x has.some has.fits in
+      let some : 0 < x = grind (arith, nat_tests, has.other) in
+      let lowest = bit_at-trailing_zeros w8 x some has.fits in
       let byte : ℕ = 8 * has.place + t in
       let at : byte / 8 ≡ has.place = omega (arith, lowest.0) in
       let bit : byte % 8 ≡ t = omega (arith, lowest.0) in

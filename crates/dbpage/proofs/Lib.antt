@@ -1,3 +1,4 @@
+pub mod Blanks
 pub mod CellLemmas
 pub mod FreeblockLemmas
 pub mod Items
@@ -8,4 +9,3 @@ pub mod Ranges
 pub mod Runs
 pub mod Tables
 pub mod Unheld
-pub mod Zeros

@@ -31,12 +31,12 @@ pub record HasMarked (table : List ℕ) (from to : ℕ) : Type 0 where
   pub below : byte < to
   pub marked : is_claimed table byte ≡ true
 
--- one of these bytes of a table has marks
-pub record HasByte (table : List ℕ) (from to : ℕ) : Type 0 where
+-- one of these bytes of a table is not this one
+pub record HasOther (table : List ℕ) (one from to : ℕ) : Type 0 where
   pub place : ℕ
   pub from_on : from ≤ place
   pub below : place < to
-  pub some : 0 < slice_index table place
+  pub other : (slice_index table place == one) ≡ false
   pub fits : slice_index table place < 256
 
 -- how many of the bytes from start up to end no span holds

@@ -1,15 +1,16 @@
 // What a page looks like by its bytes alone.
-ghost use Rattle.std.specs.Prelude.{◌≡◌, ◌<◌, ◌≤◌, ◌==◌, length};
+ghost use Rattle.std.specs.Prelude.{◌≡◌, ◌<◌, ◌≤◌, ◌==◌, length, take};
 ghost use Rattle.std.specs.List.{list_all};
 ghost use Rattle.dbformat.specs.Cell.{count};
-ghost use Rattle.dbformat.specs.Looks.{look_of, rowid, rowids};
+ghost use Rattle.dbformat.specs.Looks.{blank_byte, look_of, rowid, rowids};
 
-use crate::mark_table::has_any;
+use crate::mark_table::has_other;
 use crate::view::PageView;
 use dbformat::{Look, PageKind, Rowids, TreeLook};
 
-/// What page `p` looks like by its first `usable` bytes; `page` may be longer. A page of zeros is [`Look::Zeros`]; else
-/// one that [`PageView::new`] has a view of is a [`Look::Tree`]; of any other the first 16 bytes are given.
+/// What page `p` looks like by its first `usable` bytes; `page` may be longer. A page whose bytes are all one is
+/// [`Look::Blank`]; else one that [`PageView::new`] has a view of is a [`Look::Tree`]; of any other
+/// the first 16 bytes are given.
 #[inline(never)]
 #[tactic(auto, unfolding(dbformat::specs::Looks::look_of))]
 pub fn look_of(page: &[u8], p: u32, usable: u32) -> Look
@@ -18,8 +19,8 @@ pub fn look_of(page: &[u8], p: u32, usable: u32) -> Look
     requires most { usable ≤ 65536 }
     ensures { result ≡ look_of p usable page.now }
 {
-    if are_zeros(&page[..usable as usize]) {
-        return Look::Zeros;
+    if let Some(byte) = blank_byte(page, usable) {
+        return Look::Blank(byte);
     }
     match PageView::new(page, p, usable) {
         Ok(view) => Look::Tree(TreeLook {
@@ -35,24 +36,38 @@ pub fn look_of(page: &[u8], p: u32, usable: u32) -> Look
     }
 }
 
-// Whether all bytes are 0. They are looked at by 32, and one by one at the end.
-fn are_zeros(bytes: &[u8]) -> bool
-    ensures { result ≡ list_all (λ byte. byte == 0) bytes.now }
+// The byte of a blank page.
+fn blank_byte(page: &[u8], usable: u32) -> Option<u8>
+    requires whole { usable ≤ length page.now }
+    requires least { 1 ≤ usable }
+    ensures { result ≡ blank_byte usable page.now }
+{
+    let first = page[0];
+    if are_all(&page[..usable as usize], first) {
+        Some(first)
+    } else {
+        None
+    }
+}
+
+// Whether all bytes are this one. They are looked at by 32, and one by one at the end.
+fn are_all(bytes: &[u8], one: u8) -> bool
+    ensures { result ≡ list_all (λ byte. byte == one) bytes.now }
 {
     let mut start = 0;
     while bytes.len() - start >= 32 {
-        if has_any(bytes, start) {
+        if has_other(bytes, start, one) {
             return false;
         }
         start += 32;
     }
-    each_is_zero(&bytes[start..])
+    is_each(&bytes[start..], one)
 }
 
-fn each_is_zero(bytes: &[u8]) -> bool
-    ensures { result ≡ list_all (λ byte. byte == 0) bytes.now }
+fn is_each(bytes: &[u8], one: u8) -> bool
+    ensures { result ≡ list_all (λ byte. byte == one) bytes.now }
 {
-    bytes.iter().all(|byte| *byte == 0)
+    bytes.iter().all(|byte| *byte == one)
 }
 
 impl<'a> PageView<'a> {

@@ -1,7 +1,7 @@
 // A table of marks, a bit for each byte of a page.
 ghost use Rattle.std.specs.Prelude.{◌≡◌, ℕ, false, ◌+◌, ◌-◌, ◌*◌, ◌%◌, ◌^◌, ◌<◌, ◌≤◌, ◌⊎◌, length, slice_index, MatchBool};
 ghost use Rattle.std.specs.Int.{bit_at};
-ghost use Rattle.dbpage.specs.Marking.{HasByte, HasMarked, Marks, is_claimed, mark_bit};
+ghost use Rattle.dbpage.specs.Marking.{HasMarked, HasOther, Marks, is_claimed, mark_bit};
 
 use crate::mark_count::MarkCount;
 use byteorder::{ByteOrder, LittleEndian};
@@ -107,21 +107,21 @@ fn claim_lanes(table: &mut [u8], from: u32) -> bool
     ensures { MatchBool result (Marks table.old from (from + 256) table.new) (HasMarked table.old from (from + 256)) }
 {
     let start = (from / 8) as usize;
-    if has_any(table, start) {
+    if has_other(table, start, 0) {
         return false;
     }
     u8x32::splat(255).copy_to_slice(&mut table[start..]);
     true
 }
 
-/// Whether one of the 32 bytes from `start` on is not 0. In a table of marks: whether one of 256 bytes is marked.
+/// Whether one of the 32 bytes from `start` on is not `one`. In a table of marks, and not 0: whether one of 256 bytes is marked.
 #[inline(always)]
-pub(crate) fn has_any(table: &[u8], start: usize) -> bool
+pub(crate) fn has_other(table: &[u8], start: usize, one: u8) -> bool
     requires { start + 32 ≤ length table.now }
-    ensures { MatchBool result (HasByte table.now start (start + 32)) ((k : ℕ) → start ≤ k → k < start + 32 → slice_index table.now k ≡ 0) }
+    ensures { MatchBool result (HasOther table.now one start (start + 32)) ((k : ℕ) → start ≤ k → k < start + 32 → slice_index table.now k ≡ one) }
 {
     let lanes = u8x32::from_slice(&table[start..]);
-    lanes.simd_ne(u8x32::splat(0)).to_bitmask() != 0
+    lanes.simd_ne(u8x32::splat(one)).to_bitmask() != 0
 }
 
 // Marks `len` bytes from `from` on, unless one of them is marked. Their bits are in eight bytes of the table, which are
