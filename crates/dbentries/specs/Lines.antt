@@ -5,6 +5,7 @@ use Rattle.std.specs.Fmt.{signed_decimal}
 use Rattle.std.specs.Option.{option_map_or}
 use Rattle.dbformat.specs.FirstBytes.{begins_with}
 use Rattle.dbformat.specs.Lines.{line_feed}
+use Rattle.dbformat.specs.Text.{hex_text}
 use Rattle.dbformat.specs.declared.Look.{Look}
 use Rattle.dbformat.specs.declared.Look.TheVariants as look
 use Rattle.dbformat.specs.declared.PageKind.{PageKind}
@@ -59,9 +60,13 @@ tree_look_text l =
 abbrev pub first_bytes_text : List ℕ → List ℕ
 first_bytes_text bytes = indented (begins_with bytes)
 
+-- a page whose bytes are all one
+abbrev pub blank_text : ℕ → List ℕ
+blank_text byte = indented (if byte == 0 then codes "all zeros" else codes "all bytes " ++ hex_text 2 byte)
+
 -- what a page looks like
 abbrev pub look_text : Look → List ℕ
-look_text look.Zeros = indented (codes "all zeros")
+look_text (look.Blank byte) = blank_text byte
 look_text (look.Tree l) = tree_look_text l
 look_text (look.Other bytes) = first_bytes_text bytes
 

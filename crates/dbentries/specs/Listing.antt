@@ -30,9 +30,9 @@ same_kind LeafIndex LeafIndex = true
 same_kind InteriorIndex InteriorIndex = true
 same_kind _ _ = false
 
--- whether two pages look alike: both are all zeros, or pages of trees of one kind, or neither
+-- whether two pages look alike: both are blank with one byte, or pages of trees of one kind, or neither
 abbrev pub same_look : Look → Look → Bool
-same_look look.Zeros look.Zeros = true
+same_look (look.Blank a) (look.Blank b) = a == b
 same_look (look.Tree a) (look.Tree b) = same_kind a.kind b.kind
 same_look (look.Other a) (look.Other b) = true
 same_look _ _ = false

@@ -17,12 +17,13 @@ pub(crate) fn same_cause(one: Cause, other: Cause) -> bool
     }
 }
 
-// Whether two pages look alike: both are all zeros, or pages of trees of one kind, or neither.
+// Whether two pages look alike: both are blank with one byte, or pages of trees of one kind, or neither.
 fn same_look(one: Look, other: Look) -> bool
     ensures { result ≡ same_look one other }
 {
     match (one, other) {
-        (Look::Zeros, Look::Zeros) | (Look::Other(_), Look::Other(_)) => true,
+        (Look::Blank(a), Look::Blank(b)) => a == b,
+        (Look::Other(_), Look::Other(_)) => true,
         (Look::Tree(a), Look::Tree(b)) => same_kind(a.kind, b.kind),
         _ => false,
     }

@@ -4,11 +4,11 @@ ghost use Rattle.std.specs.Prelude.{◌≡◌, ◌+◌, ◌≤◌, [], ◌++◌,
 ghost use Rattle.std.specs.Fmt.{signed_decimal};
 ghost use Rattle.std.specs.Option.{option_map_or};
 ghost use Rattle.dbsource.specs.Outs.{Puts};
-ghost use Rattle.dbentries.specs.Lines.{cause_text, cells_text, broken_chain_text, key_text, leaf_text, look_text, page_kind_text, rowids_text, tree_look_text};
+ghost use Rattle.dbentries.specs.Lines.{blank_text, cause_text, cells_text, broken_chain_text, key_text, leaf_text, look_text, page_kind_text, rowids_text, tree_look_text};
 
 use crate::first_bytes::first_bytes_text;
 use arrayvec::ArrayVec;
-use dbformat::{Look, PageKind, Rowids, TreeLook};
+use dbformat::{Look, PageKind, Rowids, TreeLook, hex_byte};
 use dblines::{append, append_number};
 use dbsource::{Out, WriteFailed};
 use dbtrace::{Cause, CellChain, CellKey};
@@ -120,12 +120,27 @@ fn tree_look_text(look: TreeLook) -> ArrayVec<u8, 160>
     line
 }
 
+fn blank_text(byte: u8) -> ArrayVec<u8, 32>
+    ensures { result.items ≡ blank_text byte }
+{
+    let mut line = ArrayVec::new();
+    append(&mut line, "    all ");
+    if byte == 0 {
+        append(&mut line, "zeros");
+    } else {
+        append(&mut line, "bytes ");
+        let _ = line.try_extend_from_slice(&hex_byte(byte));
+    }
+    append(&mut line, "\n");
+    line
+}
+
 // Puts what a page looks like.
 fn put_look<O: Out>(out: &mut O, look: Look) -> Result<(), WriteFailed>
     ensures { Puts result (O.held out.old) (O.held out.new) (look_text look) }
 {
     match look {
-        Look::Zeros => out.put(b"    all zeros\n"),
+        Look::Blank(byte) => out.put(blank_text(byte).as_slice()),
         Look::Tree(look) => out.put(tree_look_text(look).as_slice()),
         Look::Other(first) => out.put(first_bytes_text(first).as_slice()),
     }
