@@ -15,8 +15,8 @@ use dbpage::{Cell, PageView, content_start, look_of, type_byte, uncounted_covera
 use std::fmt::Write;
 use std::process::Abort;
 
-/// A page in four texts: a name, the number of the page and its usable bytes, runs of bytes after their offsets (all
-/// others are 0), and the expected answers, part by part. The first word of a part says what is asked for.
+/// A page in four texts: a name, the number of the page and its usable bytes, runs of bytes after their offsets (a byte with a
+/// star and a number is written so often, and all others are 0), and the expected answers, part by part. The first word of a part says what is asked for.
 pub(crate) type Case = [&'static str; 4];
 
 /// Asks for all parts of some pages.
@@ -35,11 +35,23 @@ fn write_page(page: &mut [u8], runs: &str) {
     for run in runs.split(", ") {
         let (at, bytes) = run.split_once(' ').unwrap_or(("", ""));
         let at = at.parse::<usize>().unwrap_or(usize::MAX);
-        if write_bytes(page, at, bytes).is_none() {
+        if write_run(page, at, bytes).is_none() {
             // No type of a page.
             page.fill(0xee);
         }
     }
+}
+
+// Writes a run of bytes. Answers the place after it, or none where it has no place.
+fn write_run(page: &mut [u8], at: usize, bytes: &str) -> Option<usize> {
+    let Some((byte, count)) = bytes.split_once('*') else {
+        return write_bytes(page, at, bytes);
+    };
+    let mut at = at;
+    for _ in 0..count.parse::<u32>().ok()? {
+        at = write_bytes(page, at, byte)?;
+    }
+    Some(at)
 }
 
 // Asks for all parts of a page.

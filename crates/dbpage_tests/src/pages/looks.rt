@@ -1,8 +1,8 @@
-// What pages look like: zeros, pages of trees, and anything else.
+// What pages look like: blank, pages of trees, and anything else.
 use super::{Case, check_all};
 
-const NO_TREES: [Case; 7] = [
-    ["nothing", "2 of 512", "0 00", "look Zeros"],
+const NO_TREES: [Case; 10] = [
+    ["nothing", "2 of 512", "0 00", "look Blank(0)"],
     // The last usable byte counts, and a reserved one does not.
     [
         "the last byte alone",
@@ -16,7 +16,16 @@ const NO_TREES: [Case; 7] = [
         "479 01, 480 ffff",
         "look Other([0, 0, 0, 0, 0, 0, 0, 0, 0, 0, 0, 0, 0, 0, 0, 0])",
     ],
-    ["reserved bytes alone", "2 of 480", "480 ffff", "look Zeros"],
+    ["reserved bytes alone", "2 of 480", "480 ffff", "look Blank(0)"],
+    // A page is blank with any byte, also with the type of a leaf.
+    ["all ff", "2 of 512", "0 ff*512", "look Blank(255)"],
+    ["all 0d", "2 of 480", "0 0d*480", "look Blank(13)"],
+    [
+        "all ff but the last",
+        "2 of 512",
+        "0 ff*511, 511 fe",
+        "look Other([255, 255, 255, 255, 255, 255, 255, 255, 255, 255, 255, 255, 255, 255, 255, 255])",
+    ],
     // Page 1 begins with the header of the file.
     [
         "no tree on page 1",
