@@ -1,5 +1,5 @@
 -- What a page looks like by its bytes alone, whatever refers to it (own; Database File Format, section 1.6).
-use Rattle.std.specs.Prelude.{ℕ, ◌+◌, ◌-◌, ◌&&◌, List, take, Option, Some, None, Result, Ok, Err, ℤ, slice_index, nat_le, ◌==◌, if◌then◌else◌}
+use Rattle.std.specs.Prelude.{ℕ, ◌+◌, ◌-◌, Bool, ◌&&◌, List, take, Option, Some, None, Result, Ok, Err, ℤ, slice_index, nat_le, ◌==◌, if◌then◌else◌}
 use Rattle.std.specs.List.{list_all}
 use Rattle.std.specs.Option.{option_map_or}
 use Rattle.dbformat.specs.Options.{◌>>=◌}
@@ -14,6 +14,10 @@ use Rattle.dbformat.specs.declared.Rowids.{Rowids}
 use Rattle.dbformat.specs.declared.TreeLook.{TreeLook}
 use Rattle.dbformat.specs.declared.Look.{Look}
 use Rattle.dbformat.specs.declared.Look.TheVariants.{Blank, Tree, Other}
+
+-- whether the usable bytes of a page are all 0
+abbrev pub is_zeros : ℕ → List ℕ → Bool
+is_zeros usable page = list_all (λ byte. byte == 0) (take usable page)
 
 -- the byte of a blank page, whose usable bytes are all as its first
 abbrev pub blank_byte : ℕ → List ℕ → Option ℕ

@@ -31,7 +31,7 @@ pub use cell::Cell;
 pub use dbformat::{CellFault, Coverage, HeadFault, Look, PageKind, Rowids, TreeLook};
 pub use freeblocks::{Freeblock, Freeblocks};
 pub use held_bytes::{coverage, uncounted_coverage};
-pub use looks::look_of;
+pub use looks::{is_zeros, look_of};
 pub use mark_count::MarkCount;
 pub use packed::{CellSums, Packed, is_rising};
 pub use view::{PageView, content_start, type_byte};

@@ -2,7 +2,7 @@
 ghost use Rattle.std.specs.Prelude.{◌≡◌, ◌<◌, ◌≤◌, ◌==◌, length, take};
 ghost use Rattle.std.specs.List.{list_all};
 ghost use Rattle.dbformat.specs.Cell.{count};
-ghost use Rattle.dbformat.specs.Looks.{blank_byte, look_of, rowid, rowids};
+ghost use Rattle.dbformat.specs.Looks.{blank_byte, is_zeros, look_of, rowid, rowids};
 
 use crate::mark_table::has_other;
 use crate::view::PageView;
@@ -34,6 +34,15 @@ pub fn look_of(page: &[u8], p: u32, usable: u32) -> Look
             Look::Other(first)
         }
     }
+}
+
+/// Whether the usable bytes of a page are all 0; `page` may be longer.
+#[inline(never)]
+pub fn is_zeros(page: &[u8], usable: u32) -> bool
+    requires { usable ≤ length page.now }
+    ensures { result ≡ is_zeros usable page.now }
+{
+    are_all(&page[..usable as usize], 0)
 }
 
 // The byte of a blank page.

@@ -10,7 +10,6 @@ use Rattle.dbsurvey.proofs.Ordering.{is_before-from}
 use Rattle.dbformat.specs.Address.{start_of, then_step, key_step}
 use Rattle.dbformat.specs.Cell.{Cell}
 use Rattle.dbformat.specs.Head.{View}
-use Rattle.dbformat.specs.Header.{usable_size}
 use Rattle.dbformat.specs.KeyFaults.{Key, key_of}
 use Rattle.dbformat.specs.Laws.{event_row}
 use Rattle.dbformat.specs.PageFaults.{is_leaf_of, depth_fault, page_faults}
@@ -25,7 +24,7 @@ use Rattle.dbformat.proofs.LookBack.{find_front, keys_front, tells, all_of, late
 use Rattle.dbformat.proofs.Places.{key_place}
 use Rattle.dbformat.proofs.Theory.{no_tell, told_in_order}
 use Rattle.dbformat.specs.Schema.{starts}
-use Rattle.dbtrace.specs.Causes.{cell_key, leaf_at, top_key, top_before, first_leaf, chain_number, head_address, is_same, chain_head, chain_of, chain_cause, cause_of}
+use Rattle.dbtrace.specs.Causes.{cell_key, leaf_at, top_key, top_before, first_leaf, chain_number, head_address, is_same, chain_head, chain_of, chain_cause, is_from_zeros, cause_of}
 use Rattle.dbtrace.specs.Finding.{Finding, told_row, told_fault, told_by, told_at}
 use Rattle.dbtrace.specs.LookBack.{visits_up_to, CausesLookBack, FindingsLookBack}
 use Rattle.dbtrace.specs.declared.Cause.{Cause}
@@ -93,10 +92,10 @@ module _ (file : List ℕ) (U T : List Reference) (place : Address) (after : (t 
   head_front r e = ap (cond (chain_number r.address == 0) (Some r)) (none_after (λ u. is_same u.address (head_address r.address)) U T
       (λ t i. not_same t.address (head_address r.address) (begins_before (length r.address - chain_number r.address) r.address t.address (subst (λ a. IsBefore a t.address) (sym e) (after t i)))))
 
-  chain_front : (r : Reference) → r.address ≡ place → (left : Option ℕ) (more : ℕ) → chain_cause file (U ++ T) r left more ≡ chain_cause file U r left more
-  chain_front r e None more = refl
-  chain_front r e (Some left) more =
-      ap (λ head. option_map_or (λ head. cause.Chain (chain_of (usable_size file) head (chain_number r.address) left (chain_number r.address + more))) head cause.Itself) (head_front r e)
+  chain_front : (r : Reference) → r.address ≡ place → (left : Option ℕ) (more : ℕ) (in_zeros : Bool) → chain_cause file (U ++ T) r left more in_zeros ≡ chain_cause file U r left more in_zeros
+  chain_front r e None more in_zeros = refl
+  chain_front r e (Some left) more in_zeros =
+      ap (λ head. option_map_or (λ head. cause.Chain (chain_of file head (chain_number r.address) left (chain_number r.address + more) in_zeros)) head cause.Itself) (head_front r e)
 
   abbrev by_all : Event → FaultCode → Cause
   by_all e = cause_of file (U ++ T) e
@@ -118,7 +117,7 @@ module _ (file : List ℕ) (U T : List Reference) (place : Address) (after : (t 
       ap (told_by (by_all (at_page r))) (page_parts file U r)
       ∙ told_by-append (by_all (at_page r)) (page_faults file [] r) (depth_fault file U r)
       ∙ ap₂ (λ a b. a ++ b)
-      (page_same file (by_all (at_page r)) (by_front (at_page r)) (page_of_visits file (U ++ T) r) (page_of_visits file U r) refl (chain_front r e (bytes_left (role_of r)) 1) refl r)
+      (page_same file (by_all (at_page r)) (by_front (at_page r)) (page_of_visits file (U ++ T) r) (page_of_visits file U r) refl (chain_front r e (bytes_left (role_of r)) 1 false) refl r)
       (depth_front r i)
       ∙ sym (ap (told_by (by_front (at_page r))) (page_parts file U r) ∙ told_by-append (by_front (at_page r)) (page_faults file [] r) (depth_fault file U r))
 
@@ -130,7 +129,7 @@ module _ (file : List ℕ) (U T : List Reference) (place : Address) (after : (t 
       → told_by (by_all e) (event_faults file U e) ≡ told_by (by_front e) (event_faults file U e)
   event_front V (at_page r) h own = page_front r (sym h.1) (own r refl)
   event_front V (at_key r v x) h own = same_by (by_all (at_key r v x)) (by_front (at_key r v x)) (key_front r v x (sym h.3)) (event_faults file U (at_key r v x))
-  event_front V (at_refused r) h own = same_by (by_all (at_refused r)) (by_front (at_refused r)) (λ code. chain_front r (sym h) (bytes_left (role_of r)) 0) (event_faults file U (at_refused r))
+  event_front V (at_refused r) h own = same_by (by_all (at_refused r)) (by_front (at_refused r)) (λ code. chain_front r (sym h) (bytes_left (role_of r)) 0 (is_from_zeros file r)) (event_faults file U (at_refused r))
 
 -- at an event of all that is reported
 

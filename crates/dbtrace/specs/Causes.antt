@@ -1,15 +1,20 @@
 -- What a fault goes back to (own), by the pages that are visited up to it: a key out of order to the first cell with the greatest
 -- key before it, a leaf at another depth to the first leaf, a fault along an overflow chain to the cell of the chain, and a page
 -- of an unknown type to what it looks like.
-use Rattle.std.specs.Prelude.{ℕ, ◌+◌, ◌-◌, ◌/◌, not, Bool, ◌&&◌, ◌||◌, List, [], ◌∷◌, find, length, take, Option, Some, None, int_lt, if◌then◌else◌, ◌==◌}
+use Rattle.std.specs.Prelude.{ℕ, ◌+◌, ◌-◌, ◌/◌, not, Bool, false, ℤ, ◌&&◌, ◌||◌, List, [], ◌∷◌, find, length, take, Option, Some, None, int_lt, if◌then◌else◌, ◌==◌}
 use Rattle.std.specs.List.{list_any}
 use Rattle.std.specs.Option.{option_map_or}
+use Rattle.std.specs.Result.{result_ok}
 use Rattle.dbsurvey.specs.Address.{Address}
 use Rattle.dbsurvey.specs.InOrder.{is_before}
+use Rattle.dbformat.specs.Options.{◌>>=◌}
+use Rattle.dbformat.specs.File.{page_bytes}
+use Rattle.dbformat.specs.Head.{view}
+use Rattle.dbformat.specs.Cell.{cell}
 use Rattle.dbformat.specs.Header.{usable_size}
 use Rattle.dbformat.specs.Address.{start_of, depth, chain_place}
-use Rattle.dbformat.specs.Reference.{Reference, role_of, from_of, item_of, bytes_left}
-use Rattle.dbformat.specs.Looks.{look_at}
+use Rattle.dbformat.specs.Reference.{Role, later_overflow, Reference, role_of, from_of, item_of, bytes_left}
+use Rattle.dbformat.specs.Looks.{is_zeros, look_at}
 use Rattle.dbformat.specs.PageFaults.{is_leaf_of}
 use Rattle.dbformat.specs.KeyFaults.{Key, key_of, earlier_keys}
 use Rattle.dbformat.specs.Story.{Event, at_page, at_key, at_refused}
@@ -72,25 +77,47 @@ chain_head V r = if chain_number r.address == 0 then Some r else find (λ u. is_
 abbrev pub pages_for : ℕ → ℕ → ℕ
 pages_for usable left = (left + (usable - 5)) / (usable - 4)
 
+-- the rowid of a cell of a page, where it can be read and has one
+abbrev pub cell_rowid : List ℕ → ℕ → ℕ → Option ℤ
+cell_rowid file p i = do
+  v ← result_ok (view p (usable_size file) (page_bytes file p))
+  read ← result_ok (cell v i)
+  read.key
+
 -- The chain that begins with this head: `left` bytes remain at page `number` of it, and `found` pages were found.
-abbrev pub chain_of : ℕ → Reference → ℕ → ℕ → ℕ → CellChain
-chain_of usable head number left found = record { page = from_of head; item = item_of head; pages = number + pages_for usable left; found = found }
+abbrev pub chain_of : List ℕ → Reference → ℕ → ℕ → ℕ → Bool → CellChain
+chain_of file head number left found in_zeros = record {
+  page = from_of head;
+  item = item_of head;
+  rowid = cell_rowid file (from_of head) (item_of head);
+  pages = number + pages_for (usable_size file) left;
+  found = found;
+  is_in_zeros = in_zeros;
+}
 
 -- the cause of a fault at page `number` of a chain, where this many bytes are left; `more` is 1 where this page was found
-abbrev pub chain_cause : List ℕ → List Reference → Reference → Option ℕ → ℕ → Cause
-chain_cause file V r None more = cause.Itself
-chain_cause file V r (Some left) more =
-    option_map_or (λ head. cause.Chain (chain_of (usable_size file) head (chain_number r.address) left (chain_number r.address + more))) (chain_head V r) cause.Itself
+abbrev pub chain_cause : List ℕ → List Reference → Reference → Option ℕ → ℕ → Bool → Cause
+chain_cause file V r None more in_zeros = cause.Itself
+chain_cause file V r (Some left) more in_zeros =
+    option_map_or (λ head. cause.Chain (chain_of file head (chain_number r.address) left (chain_number r.address + more) in_zeros)) (chain_head V r) cause.Itself
+
+-- whether a reference is from an overflow page that is all zeros
+abbrev pub is_from_zeros : List ℕ → Reference → Bool
+is_from_zeros file r = of_role (role_of r)
+  where
+    of_role : Role → Bool
+    of_role (later_overflow left) = is_zeros (usable_size file) (page_bytes file (from_of r))
+    of_role _ = false
 
 -- the cause of the fault of a reference that is refused
 abbrev pub refusal_cause : List ℕ → List Reference → Reference → Cause
-refusal_cause file V r = chain_cause file V r (bytes_left (role_of r)) 0
+refusal_cause file V r = chain_cause file V r (bytes_left (role_of r)) 0 (is_from_zeros file r)
 
 -- The cause of a fault of this code that is reported at an event.
 abbrev pub cause_of : List ℕ → List Reference → Event → FaultCode → Cause
 cause_of file V (at_page r) P01 = cause.Look (look_at file r.page)
 cause_of file V (at_page r) T05 = option_map_or (λ l. cause.Leaf l.page) (first_leaf file V r) cause.Itself
-cause_of file V (at_page r) O01 = chain_cause file V r (bytes_left (role_of r)) 1
+cause_of file V (at_page r) O01 = chain_cause file V r (bytes_left (role_of r)) 1 false
 cause_of file V (at_page r) _ = cause.Itself
 cause_of file V (at_key r v cell) T06 = option_map_or (λ k. cause.Key (cell_key k)) (top_before file V (key_of r v cell)) cause.Itself
 cause_of file V (at_key r v cell) _ = cause.Itself

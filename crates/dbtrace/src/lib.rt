@@ -35,10 +35,14 @@ pub struct CellChain {
     pub page: u32,
     /// The number of the cell on its page, from 0.
     pub item: u32,
+    /// The rowid of the cell, in a leaf of a table.
+    pub rowid: Option<i64>,
     /// How many overflow pages the payload takes.
     pub pages: u32,
     /// How many of them were found.
     pub found: u32,
+    /// Whether the fault is of an overflow page, the reference to its next one, and this page is all zeros.
+    pub is_in_zeros: bool,
 }
 
 /// What a fault goes back to.

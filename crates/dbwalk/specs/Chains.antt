@@ -1,21 +1,25 @@
 -- Overflow chains as a program walks them, and what a sieve is fed on the way.
-use Rattle.std.specs.Prelude.{ℕ, ◌+◌, ◌≤◌, List, [], ◌∷◌, ◌++◌, flat_map, Option, Some, None, ◌≡◌, Result, Ok, Err, IfOk, OnOk}
+use Rattle.std.specs.Prelude.{ℕ, ◌+◌, ◌≤◌, Bool, List, [], ◌∷◌, ◌++◌, flat_map, Option, Some, None, ◌≡◌, Result, Ok, Err, IfOk, OnOk}
 use Rattle.dbsurvey.specs.Story.{Go}
 use Rattle.dbformat.specs.Reference.{Reference, first_overflow, later_overflow, bytes_left, role_of, from_of, item_of}
 use Rattle.dbformat.specs.Schema.{held_bytes}
 use Rattle.dbformat.specs.declared.Encoding.{Encoding}
 use Rattle.dbbytes.specs.Sieve.{HasTaken}
 use Rattle.dbbytes.specs.declared.sieve.RowSieve.{RowSieve}
-use Rattle.dbtrace.specs.Causes.{chain_head}
+use Rattle.dbtrace.specs.Causes.{cell_rowid, chain_head, is_from_zeros, pages_for}
+use Rattle.dbtrace.specs.declared.CellChain.{CellChain}
 use Rattle.dbtrace.specs.Finding.{visited_below, Finding, told_at}
 use Rattle.dbformat.specs.Address.{start_of, then_step, child_path, chain_place}
 use Rattle.dbformat.specs.File.{page_bytes}
 use Rattle.dbformat.specs.FixedPages.{IsPageNumber}
+use Rattle.dbformat.specs.Header.{usable_size}
+use Rattle.dbformat.specs.Looks.{is_zeros}
 use Rattle.dbformat.specs.Payload.{most_payload, overflow_next}
 use Rattle.dbformat.specs.Story.{at_page}
 use Rattle.dbsource.specs.declared.error.RunError.{RunError}
 use Rattle.dbwalk.specs.declared.chain.Chain.{Chain}
 use Rattle.dbwalk.specs.declared.chain.ChainPlace.{ChainPlace}
+use Rattle.dbwalk.specs.declared.overflow.NextPage.{NextPage}
 use Rattle.dbmarks.specs.declared.marks.Mark.{Mark}
 use Rattle.dbwalk.specs.Entered.{IsStepOf}
 use Rattle.dbwalk.specs.Done.{IsLeft, IsDone}
@@ -53,12 +57,24 @@ pub record IsOnChain (chain : Chain) (number : ℕ) (c : Reference) : Type 0 whe
   pub path : child_path c.address ≡ chain.path.now
   pub place : chain_place c.address ≡ Some (chain.cell, number)
 
+-- What is known of a chain at page `number` of it, where `left` bytes are left and `found` pages were found.
+abbrev pub walked_chain : Chain → ℕ → ℕ → ℕ → ℕ → Bool → CellChain
+walked_chain chain number usable left found in_zeros = record {
+  page = chain.page;
+  item = chain.cell;
+  rowid = chain.rowid;
+  pages = number + pages_for usable left;
+  found = found;
+  is_in_zeros = in_zeros;
+}
+
 -- the reference of a cell to the first page of its chain
-pub record IsChainOf (chain : Chain) (c : Reference) : Type 0 where
+pub record IsChainOf (file : List ℕ) (chain : Chain) (c : Reference) : Type 0 where
   pub page : c.page ≡ chain.first
   pub role : role_of c ≡ first_overflow chain.left
   pub from : from_of c ≡ chain.page
   pub item : item_of c ≡ chain.cell
+  pub rowid : cell_rowid file chain.page chain.cell ≡ chain.rowid
   pub place : IsOnChain chain 0 c
 
 -- the reference of an overflow page to the next one, where this many bytes are left after it
@@ -66,17 +82,23 @@ abbrev pub next_of : Reference → ℕ → ℕ → Reference
 next_of c left page = record { address = then_step c.address 0; page = page; role = record { role = later_overflow left; from = c.page; item = 0 } }
 
 -- By the visits of V, the chain of a reference begins with one from the cell that it belongs to.
-pub record HasHead (chain : Chain) (V : List Reference) (d : Reference) : Type 0 where
+pub record HasHead (file : List ℕ) (chain : Chain) (V : List Reference) (d : Reference) : Type 0 where
   pub head : Reference
   pub found : chain_head V d ≡ Some head
   pub from : from_of head ≡ chain.page
   pub item : item_of head ≡ chain.cell
+  pub rowid : cell_rowid file chain.page chain.cell ≡ chain.rowid
+
+-- what an overflow page says of the next one
+pub record IsNextPage (file : List ℕ) (page : ℕ) (next : NextPage) : Type 0 where
+  pub number : next.page ≡ overflow_next (page_bytes file page)
+  pub zeros : next.is_in_zeros ≡ is_zeros (usable_size file) (page_bytes file page)
 
 -- What the visit of a page of a chain leaves: the number of the next page, what was reported, and what a sieve was fed.
-pub record IsOverflowVisited {S : Type 0} (takes drops : S → Finding → S → Type 0) (file : List ℕ) (chain : Chain) (number page left : ℕ) (r : Result ℕ RunError) (old new : Option RowSieve) (before after : S) : Type 0 where
-  pub next : IfOk r (λ next. next ≡ overflow_next (page_bytes file page))
+pub record IsOverflowVisited {S : Type 0} (takes drops : S → Finding → S → Type 0) (file : List ℕ) (chain : Chain) (number page left : ℕ) (r : Result NextPage RunError) (old new : Option RowSieve) (before after : S) : Type 0 where
+  pub next : IfOk r (IsNextPage file page)
   pub told : (U : List Reference) (c : Reference) → c.page ≡ page → bytes_left (role_of c) ≡ Some left → IsOnChain chain number c
-      → HasHead chain U c → Tells takes drops r before (told_at file U (at_page c)) after
+      → HasHead file chain U c → Tells takes drops r before (told_at file U (at_page c)) after
   pub fed : OnOk r ((c : Reference) → c.page ≡ page → bytes_left (role_of c) ≡ Some left → Feeds old (held_bytes file c) new)
 
 -- Along the chain below c: the reference at this place is left, and a sieve was fed the pages so far.
@@ -89,7 +111,8 @@ pub record IsOnWay {S : Type 0} (takes : S → Finding → S → Type 0) (file :
   pub step : IsStepOf place.step d
   pub left : bytes_left (role_of d) ≡ Some place.left
   pub on : IsOnChain chain place.number d
-  pub head : HasHead chain visited d
+  pub head : HasHead file chain visited d
+  pub zeros : place.is_in_zeros ≡ is_from_zeros file d
   pub rest : IsLeft takes file W (Go c ∷ []) before visited (Go d ∷ []) (marks, now)
 
 -- after a turn: at the next place, or at the end, or stopped by an error

@@ -1,6 +1,6 @@
 -- The point of a walk at which a part of it begins, by the state that the program keeps. What the part leaves is stated for all
 -- visits and references at that point.
-use Rattle.std.specs.Prelude.{◌≡◌, ℕ, ◌<◌, true, false, List, [], ◌∷◌, ◌++◌, length, Option, Some}
+use Rattle.std.specs.Prelude.{◌≡◌, ℕ, ◌<◌, true, false, List, [], ◌∷◌, ◌++◌, length, Some}
 use Rattle.dbsurvey.specs.InOrder.{IsPast}
 use Rattle.dbsurvey.specs.Traverse.{is_followed}
 use Rattle.dbformat.specs.Address.{then_step, overflow_step}
@@ -11,6 +11,7 @@ use Rattle.dbformat.specs.Reference.{Reference, tree_view}
 use Rattle.dbformat.specs.Survey.{rules_of}
 use Rattle.dbformat.specs.declared.Geometry.{Geometry}
 use Rattle.dbwalk.specs.Entered.{IsNext}
+use Rattle.dbtrace.specs.Causes.{cell_rowid}
 use Rattle.dbtrace.specs.Item.{Item}
 use Rattle.dbtrace.specs.Walk.{Walk}
 use Rattle.dbwalk.specs.Found.{HasPageAt}
@@ -20,13 +21,14 @@ use Rattle.dbwalk.specs.Underway.{IsAt, IsWalkingOn}
 use Rattle.dbwalk.specs.Walking.{IsCandidate, IsLeafAt}
 use Rattle.dbwalk.specs.declared.steps.StackFrame.{StackFrame}
 use Rattle.dbmarks.specs.declared.marks.Mark.{Mark}
+use Rattle.dbwalk.specs.declared.cells.LeafCell.{LeafCell}
 use Rattle.dbwalk.specs.declared.state.Tree.{Tree}
 use Rattle.dbwalk.specs.declared.tree_walk.TreeWalk.{TreeWalk}
 
 -- at the overflow chain of cell i of a leaf
-abbrev pub AtOverflow : List ℕ → Tree → List (List ℕ) → ℕ → ℕ → Option (ℕ × ℕ) → List Mark → (List Reference → Reference → Type 0) → Type 0
-AtOverflow file tree levels page i overflow marks leaves = (U : List Reference) (c : Reference) → IsLeafAt file tree.kind tree.start tree.path.items c levels page
-    → IsPast U (overflow_errands c i overflow) → AreMarksOf file U marks → leaves U c
+abbrev pub AtOverflow : List ℕ → Tree → List (List ℕ) → ℕ → ℕ → LeafCell → List Mark → (List Reference → Reference → Type 0) → Type 0
+AtOverflow file tree levels page i read marks leaves = (U : List Reference) (c : Reference) → IsLeafAt file tree.kind tree.start tree.path.items c levels page
+    → cell_rowid file page i ≡ read.key → IsPast U (overflow_errands c i read.overflow) → AreMarksOf file U marks → leaves U c
 
 -- at cell i of an undamaged leaf
 abbrev pub AtCell : {A S K T : Type 0} → List ℕ → List (List ℕ) → ℕ → ℕ → TreeWalk A S K T → (Walk → Reference → View → Type 0) → Type 0

@@ -1,5 +1,5 @@
 -- What an undamaged interior page has at a step.
-use Rattle.std.specs.Prelude.{◌≡◌, ℕ, ◌<◌, ◌≤◌, List, Some, None, Ok, Err, ℤ, slice_get}
+use Rattle.std.specs.Prelude.{◌≡◌, ℕ, ◌<◌, ◌≤◌, List, Option, Some, None, Ok, Err, ℤ, slice_get}
 use Rattle.dbformat.specs.Address.{overflow_step, child_step, key_step}
 use Rattle.dbformat.specs.Cell.{Cell, cell, count, overflow_size, child_number}
 use Rattle.dbformat.specs.Head.{View, undamaged}
@@ -8,8 +8,8 @@ use Rattle.dbformat.specs.declared.TreeKind.{TreeKind}
 use Rattle.dbwalk.specs.declared.steps.Next.{Next}
 use Rattle.dbwalk.specs.declared.steps.Next.TheVariants.{End, Nothing, Key, Chain, Child}
 
--- the overflow chain of cell n: its first page, with the number of payload bytes on overflow pages
-pub record IsChainAt (v : View) (s first left : ℕ) : Type 0 where
+-- the overflow chain of cell n: its first page, with the number of payload bytes on overflow pages, and the cell's rowid
+pub record IsChainAt (v : View) (s first left : ℕ) (rowid : Option ℤ) : Type 0 where
   pub n : ℕ
   pub step : s ≡ overflow_step n
   pub low : n < count v
@@ -17,6 +17,7 @@ pub record IsChainAt (v : View) (s first left : ℕ) : Type 0 where
   pub read : cell v n ≡ Ok x
   pub page : x.overflow ≡ Some first
   pub rest : left ≡ overflow_size x
+  pub key : rowid ≡ x.key
 
 -- the page of child n
 pub record IsChildAt (v : View) (s page : ℕ) : Type 0 where
@@ -46,7 +47,7 @@ abbrev pub IsNextStep : View → ℕ → Next → Type 0
 IsNextStep v s End = child_step (count v) < s
 IsNextStep v s Nothing = IsEmptyAt v s
 IsNextStep v s (Key value) = IsKeyAt v s value
-IsNextStep v s (Chain first left) = IsChainAt v s first left
+IsNextStep v s (Chain first left rowid) = IsChainAt v s first left rowid
 IsNextStep v s (Child page) = IsChildAt v s page
 
 -- the same for the page at a level, which has at most 32768 cells

@@ -18,7 +18,9 @@ ghost use Rattle.dbsource.specs.Failures.{failures_after};
 ghost use Rattle.dbsource.specs.Sources.{HasLog};
 
 use crate::entering::{Step, enter};
-use crate::overflow::{chain_cause, feed_page, last_fault, next_page, overflow_row, tell};
+use crate::overflow::{
+    NextPage, chain_cause, feed_page, last_fault, next_page, overflow_row, tell,
+};
 use crate::{Mark, Marks, Sink};
 use dbbytes::RowSieve;
 use dbsource::{Bench, RunError, Source};
@@ -38,18 +40,22 @@ pub(crate) struct Chain<'a> {
     pub(crate) page: u32,
     /// The number of the cell, from 0.
     pub(crate) cell: u32,
+    /// Its rowid, in a leaf of a table.
+    pub(crate) rowid: Option<i64>,
     /// The first overflow page, as the cell names it.
     pub(crate) first: u32,
     /// The number of payload bytes on overflow pages.
     pub(crate) left: u32,
 }
 
-// A place along a chain: the number of the next page in it, the bytes that are left, and the reference to that page.
+// A place along a chain: the number of the next page in it, the bytes that are left, the reference to that page, and whether this
+// is in an overflow page of zeros.
 #[derive(Clone, Copy)]
 struct ChainPlace {
     number: u32,
     left: u32,
     step: Step,
+    is_in_zeros: bool,
 }
 
 // Reads a page of a chain, feeds its payload bytes to a sieve, reports its row and its fault, and answers the next page that it
@@ -63,7 +69,7 @@ fn visit_overflow<S: Source, K: Sink, A: Allocator>(
     left: u32,
     sieve: &mut Option<RowSieve>,
     sink: &mut K,
-) -> Result<u32, RunError>
+) -> Result<NextPage, RunError>
     requires page { 1 ≤ page }
     requires counted { number + left ≤ most_payload }
     ensures log { HasLog S.step (λ log. log ≡ page_range bench.old.geometry.page_size page ∷ []) (λ file. bench.old.geometry ≡ geometry file
@@ -77,11 +83,12 @@ fn visit_overflow<S: Source, K: Sink, A: Allocator>(
 {
     bench.load(CHAIN, source, page)?;
     let usable = bench.geometry().usable;
-    let next = next_page(bench.page(CHAIN));
+    let next = next_page(bench.page(CHAIN), usable);
     feed_page(bench.page(CHAIN), usable, left, sieve);
     let row = overflow_row(chain, number, page, usable, left);
-    let cause = chain_cause(chain, number, usable, left, number + 1);
-    tell(&row, last_fault(usable, left, page, next), &cause, sink)?;
+    let cause = chain_cause(chain, number, usable, left, number + 1, false);
+    let fault = last_fault(usable, left, page, next.page);
+    tell(&row, fault, &cause, sink)?;
     Ok(next)
 }
 
@@ -108,7 +115,14 @@ fn enter_overflow<S: Source, K: Sink, A: Allocator>(
     ensures next { IfOk result (λ o. IfSome o (λ next. IsPlace next × (next.left < place.left))) }
 {
     let usable = bench.geometry().usable;
-    let cause = chain_cause(chain, place.number, usable, place.left, place.number);
+    let cause = chain_cause(
+        chain,
+        place.number,
+        usable,
+        place.left,
+        place.number,
+        place.is_in_zeros,
+    );
     if !enter(marks, place.step, &cause, sink)? {
         return Ok(None);
     }
@@ -128,7 +142,7 @@ fn enter_overflow<S: Source, K: Sink, A: Allocator>(
         return Ok(None);
     }
     let step = Step {
-        page: next,
+        page: next.page,
         mark: Mark::LaterOverflow(page),
         from: page,
         item: 0,
@@ -138,6 +152,7 @@ fn enter_overflow<S: Source, K: Sink, A: Allocator>(
         number: place.number + 1,
         left: place.left - room,
         step,
+        is_in_zeros: next.is_in_zeros,
     }))
 }
 
@@ -159,7 +174,7 @@ pub(crate) fn walk_chain<S: Source, K: Sink, A: Allocator>(
     requires page { IsPageNumber chain.now.page }
     requires left { chain.now.left ≤ most_payload }
     ensures log { HasLog S.step (Reads bench.old.geometry.page_size marks.old marks.new) (λ file. bench.old.geometry ≡ geometry file
-        → (W : List Reference) (c : Reference) → IsChainOf chain.now c → IsNext W c → AreMarksOf file W marks.old
+        → (W : List Reference) (c : Reference) → IsChainOf file chain.now c → IsNext W c → AreMarksOf file W marks.old
         → IsDone K.takes K.drops file W (Go c ∷ []) result marks.new sink.old sink.new × OnOk result (FeedsChain file W c sieve.old sieve.new))
         (S.held source.old) (S.held source.new) }
     ensures reads { (S.held source.new).failures ≡ failures_after is_read_failed result (S.held source.old).failures }
@@ -179,6 +194,7 @@ pub(crate) fn walk_chain<S: Source, K: Sink, A: Allocator>(
         number: 0,
         left: chain.left,
         step,
+        is_in_zeros: false,
     };
     while let Some(next) = enter_overflow(source, bench, marks, chain, place, sieve, sink)? {
         place = next;
@@ -203,7 +219,7 @@ pub(crate) fn walk_unfed<S: Source, K: Sink, A: Allocator>(
     requires page { IsPageNumber chain.now.page }
     requires left { chain.now.left ≤ most_payload }
     ensures log { HasLog S.step (Reads bench.old.geometry.page_size marks.old marks.new) (λ file. bench.old.geometry ≡ geometry file
-        → (W : List Reference) (c : Reference) → IsChainOf chain.now c → IsNext W c → AreMarksOf file W marks.old
+        → (W : List Reference) (c : Reference) → IsChainOf file chain.now c → IsNext W c → AreMarksOf file W marks.old
         → IsDone K.takes K.drops file W (Go c ∷ []) result marks.new sink.old sink.new)
         (S.held source.old) (S.held source.new) }
     ensures reads { (S.held source.new).failures ≡ failures_after is_read_failed result (S.held source.old).failures }

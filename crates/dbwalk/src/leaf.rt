@@ -19,7 +19,7 @@ ghost use Rattle.dbmarks.specs.Reads.{Reads};
 ghost use Rattle.dbsource.specs.Errors.{is_read_failed, is_write_failed};
 ghost use Rattle.dbsource.specs.Failures.{failures_after};
 
-use crate::cells::{leaf_cell, leaf_cells, pass_cells};
+use crate::cells::{LeafCell, leaf_cell, leaf_cells, pass_cells};
 use crate::chain::{Chain, walk_chain};
 use crate::schema_row::{RowPlace, begin_row, tell_row};
 use crate::state::Tree;
@@ -91,7 +91,7 @@ impl<A: Allocator, S: Source, K: Sink, T: Taker> TreeWalk<'_, '_, '_, '_, A, S, 
             &self.tree,
             page,
             i,
-            cell.overflow,
+            cell,
             sieve,
             self.sink,
         )?;
@@ -115,21 +115,21 @@ pub(crate) fn walk_overflow<A: Allocator, S: Source, K: Sink>(
     tree: &Tree,
     page: u32,
     i: u32,
-    overflow: Option<(u32, u32)>,
+    cell: LeafCell,
     sieve: &mut Option<RowSieve>,
     sink: &mut K,
 ) -> Result<(), RunError>
-    requires { IsPageNumber page × IfSome overflow (λ o. o.1 ≤ most_payload) }
+    requires { IsPageNumber page × IfSome cell.overflow (λ o. o.1 ≤ most_payload) }
     ensures kept { (bench.new.geometry ≡ bench.old.geometry) × (bench.new.levels ≡ bench.old.levels) × (is_some sieve.new ≡ is_some sieve.old) }
     ensures reads { (S.held source.new).failures ≡ failures_after is_read_failed result (S.held source.old).failures }
     ensures writes { SinkAfter is_write_failed result (K.held sink.old) (K.held sink.new) }
     ensures log { HasLog S.step (Reads bench.old.geometry.page_size marks.old marks.new) (λ file. bench.old.geometry ≡ shape_of file
-        → AtOverflow file tree.now bench.old.levels page i overflow marks.old (λ U c.
-        IsDone K.takes K.drops file U (overflow_errands c i overflow) result marks.new sink.old sink.new
-        × OnOk result (FeedsPayload file U c i overflow sieve.old sieve.new))) (S.held source.old) (S.held source.new) }
+        → AtOverflow file tree.now bench.old.levels page i cell marks.old (λ U c.
+        IsDone K.takes K.drops file U (overflow_errands c i cell.overflow) result marks.new sink.old sink.new
+        × OnOk result (FeedsPayload file U c i cell.overflow sieve.old sieve.new))) (S.held source.old) (S.held source.new) }
     ensures only { IfErr result IsReadOrWrite }
 {
-    match overflow {
+    match cell.overflow {
         None => Ok(()),
         Some((first, left)) => {
             let chain = Chain {
@@ -137,6 +137,7 @@ pub(crate) fn walk_overflow<A: Allocator, S: Source, K: Sink>(
                 path: tree.path.as_slice(),
                 page,
                 cell: i,
+                rowid: cell.key,
                 first,
                 left,
             };

@@ -2,14 +2,14 @@
 ghost use Rattle.std.specs.Prelude.{◌≡◌, ◌+◌, ◌-◌, ◌≤◌, ◌&&◌, ◌==◌, ◌∷◌, length, map, not, nat_le, option_to_list, pos, Some, IfErr, is_some};
 ghost use Rattle.dbformat.specs.Counts.{overflow_counts};
 ghost use Rattle.dbformat.specs.Faults.{fault};
-ghost use Rattle.dbtrace.specs.Causes.{pages_for};
+ghost use Rattle.dbformat.specs.Looks.{is_zeros};
 ghost use Rattle.dbtrace.specs.declared.Cause.TheVariants as cause;
 ghost use Rattle.dbformat.specs.Payload.{most_payload, overflow_bytes, overflow_next};
 ghost use Rattle.dbformat.specs.Tests.{told_if};
 ghost use Rattle.dbformat.specs.declared.FaultCode.TheVariants as fault_code;
 ghost use Rattle.dbformat.specs.declared.PageType.TheVariants as page_type;
 ghost use Rattle.dbsource.specs.declared.error.RunError.TheVariants as run_error;
-ghost use Rattle.dbwalk.specs.Chains.{Feeds};
+ghost use Rattle.dbwalk.specs.Chains.{Feeds, walked_chain};
 ghost use Rattle.dbtrace.specs.Finding.{told_row, told_fault};
 ghost use Rattle.dbwalk.specs.Telling.{Tells, SinkAfter};
 ghost use Rattle.dbwalk.specs.Rows.{row_of};
@@ -19,14 +19,27 @@ use crate::chain::Chain;
 use crate::{Cause, CellChain, Fault, PageType, Row, Sink};
 use dbbytes::RowSieve;
 use dbformat::{Counts, FaultCode, u32_at};
+use dbpage::is_zeros;
 use dbsource::RunError;
 
-// The number of the next page, at the start of an overflow page.
-pub(crate) fn next_page(bytes: &[u8]) -> u32
-    requires { 4 ≤ length bytes.now }
-    ensures { result ≡ overflow_next bytes.now }
+/// The next page that an overflow page names, and whether this is in a page of zeros.
+#[derive(Clone, Copy)]
+pub(crate) struct NextPage {
+    pub(crate) page: u32,
+    pub(crate) is_in_zeros: bool,
+}
+
+// The number of the next page, at the start of an overflow page. A page that names one is not looked at further.
+pub(crate) fn next_page(bytes: &[u8], usable: u32) -> NextPage
+    requires { (4 ≤ usable) × (usable ≤ length bytes.now) }
+    ensures page { result.page ≡ overflow_next bytes.now }
+    ensures zeros { result.is_in_zeros ≡ is_zeros usable bytes.now }
 {
-    u32_at(bytes, 0)
+    let page = u32_at(bytes, 0);
+    NextPage {
+        page,
+        is_in_zeros: page == 0 && is_zeros(bytes, usable),
+    }
 }
 
 // The row of an overflow page in the statistics.
@@ -80,17 +93,20 @@ pub(crate) fn chain_cause(
     usable: u32,
     left: u32,
     found: u32,
+    is_in_zeros: bool,
 ) -> Cause
     requires usable { (480 ≤ usable) × (usable ≤ 65536) }
     requires counted { number + left ≤ most_payload }
-    ensures { result ≡ cause.Chain (record { page = chain.now.page; item = chain.now.cell; pages = number + pages_for usable left; found = found }) }
+    ensures { result ≡ cause.Chain (walked_chain chain.now number usable left found is_in_zeros) }
 {
     let room = usable - 4;
     Cause::Chain(CellChain {
         page: chain.page,
         item: chain.cell,
+        rowid: chain.rowid,
         pages: number + (left + (room - 1)) / room,
         found,
+        is_in_zeros,
     })
 }
 

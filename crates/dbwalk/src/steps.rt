@@ -41,8 +41,12 @@ pub(crate) enum Next {
     Nothing,
     /// The key of a cell.
     Key(i64),
-    /// The first page of the overflow chain of a cell, and the number of payload bytes on overflow pages.
-    Chain { first: u32, left: u32 },
+    /// The overflow chain of a cell: its first page, the number of payload bytes on overflow pages, and the cell's rowid.
+    Chain {
+        first: u32,
+        left: u32,
+        rowid: Option<i64>,
+    },
     /// The page of a child.
     Child(u32),
 }
@@ -115,6 +119,7 @@ fn chain_at(view: &PageView<'_>, cells: u32, i: u32) -> Next
             Some(first) => Next::Chain {
                 first,
                 left: cell.overflow_size(),
+                rowid: cell.key,
             },
             None => Next::Nothing,
         },

@@ -109,13 +109,14 @@ impl<A: Allocator, S: Source, K: Sink, T: Taker> TreeWalk<'_, '_, '_, '_, A, S, 
                     .tell_key(frame.page, frame.next / 3, key, false, self.sink)?;
                 Ok(())
             }
-            Next::Chain { first, left } => {
+            Next::Chain { first, left, rowid } => {
                 frames.push(frame.stepped());
                 let chain = Chain {
                     start: self.tree.start,
                     path: self.tree.path.as_slice(),
                     page: frame.page,
                     cell: frame.next / 3,
+                    rowid,
                     first,
                     left,
                 };

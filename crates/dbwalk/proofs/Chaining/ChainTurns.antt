@@ -8,7 +8,8 @@ use Rattle.dbsurvey.specs.InOrder.{AreQuiet}
 use Rattle.dbformat.specs.File.{page_bytes}
 use Rattle.dbformat.specs.Header.{usable_size}
 use Rattle.dbformat.specs.Payload.{overflow_next}
-use Rattle.dbformat.specs.Reference.{Reference, role_of, from_of, bytes_left, overflow_links}
+use Rattle.dbformat.specs.Looks.{is_zeros}
+use Rattle.dbformat.specs.Reference.{first_overflow, Reference, role_of, from_of, bytes_left, overflow_links}
 use Rattle.dbformat.specs.Story.{at_page, own_visit, story_of}
 use Rattle.dbformat.proofs.Looping.{by_chain, all_quiet}
 use Rattle.dbformat.specs.Schema.{held_bytes}
@@ -16,9 +17,11 @@ use Rattle.dbbytes.specs.declared.sieve.RowSieve.{RowSieve}
 use Rattle.dbsource.specs.declared.error.RunError.{RunError}
 use Rattle.dbwalk.specs.declared.chain.Chain.{Chain}
 use Rattle.dbwalk.specs.declared.chain.ChainPlace.{ChainPlace}
+use Rattle.dbwalk.specs.declared.overflow.NextPage.{NextPage}
 use Rattle.dbmarks.specs.declared.marks.Mark.{Mark}
 use Rattle.dbmarks.specs.declared.marks.Mark.TheVariants.{FirstOverflow, LaterOverflow}
-use Rattle.dbwalk.specs.Chains.{IsChainOf, IsOnWay, next_of, Feeds, FeedsChain}
+use Rattle.dbtrace.specs.Causes.{is_from_zeros}
+use Rattle.dbwalk.specs.Chains.{IsChainOf, IsNextPage, IsOnWay, next_of, Feeds, FeedsChain}
 use Rattle.dbwalk.specs.Done.{IsDone, IsLeft}
 use Rattle.dbwalk.specs.Entered.{IsNext, Enters}
 use Rattle.dbtrace.specs.Finding.{Finding, told_at, told_below}
@@ -75,13 +78,14 @@ module _ {S : Type 0} (takes drops : S → Finding → S → Type 0) (file : Lis
       )
 
   -- the next one is after it
-  pub turn_more : (marks' : List Mark) (m t : S) (next : ℕ) → Enters takes drops file on.visited on.d (Ok true) marks' s m
-      → Moves takes m (told_at file (on.visited ++ (on.d ∷ [])) (at_page on.d)) t → usable_size file - 4 < place.left → next ≡ overflow_next (page_bytes file place.step.page)
+  pub turn_more : (marks' : List Mark) (m t : S) (next : NextPage) → Enters takes drops file on.visited on.d (Ok true) marks' s m
+      → Moves takes m (told_at file (on.visited ++ (on.d ∷ [])) (at_page on.d)) t → usable_size file - 4 < place.left → IsNextPage file place.step.page next
       → (new : Option RowSieve) → Feeds old (held_bytes file on.d) new
       → IsOnWay takes file W c before chain (record {
         number = place.number + 1;
         left = place.left - (usable_size file - 4);
-        step = record { page = next; mark = LaterOverflow place.step.page; from = place.step.page; item = 0; is_too_deep = false };
+        step = record { page = next.page; mark = LaterOverflow place.step.page; from = place.step.page; item = 0; is_too_deep = false };
+        is_in_zeros = next.is_in_zeros;
       }) marks' t first new
   turn_more marks' m t next e h l n new f = record {
     pages = on.pages ++ on.d ∷ [];
@@ -89,30 +93,37 @@ module _ {S : Type 0} (takes drops : S → Finding → S → Type 0) (file : Lis
     visited = on.visited ++ (on.d ∷ []);
     since = since_more;
     d = next_of on.d (place.left - (usable_size file - 4)) (overflow_next (page_bytes file on.d.page));
-    step = record { page = ap (λ p. overflow_next (page_bytes file p)) on.step.page ∙ sym n; mark = ap LaterOverflow on.step.page; from = on.step.page; item = refl; deep = refl };
+    step = record { page = ap (λ p. overflow_next (page_bytes file p)) on.step.page ∙ sym n.number; mark = ap LaterOverflow on.step.page; from = on.step.page; item = refl; deep = refl };
     left = refl;
     on = next_on_chain chain place.number on.d (place.left - (usable_size file - 4)) (overflow_next (page_bytes file on.d.page)) on.on;
-    head = head_next chain on.visited place.number on.d on.on on.head on.rest.past (chain_few chain place.number on.d on.on) (place.left - (usable_size file - 4)) (overflow_next (page_bytes file on.d.page));
+    zeros = n.zeros ∙ ap (λ p. is_zeros (usable_size file) (page_bytes file p)) (sym on.step.page);
+    head = head_next file chain on.visited place.number on.d on.on on.head on.rest.past (chain_few chain place.number on.d on.on) (place.left - (usable_size file - 4)) (overflow_next (page_bytes file on.d.page));
     rest = subst (λ es. IsLeft takes file W (Go c ∷ []) before (on.visited ++ (on.d ∷ [])) es (marks', t)) (ap (λ es. es ++ []) (more_errands file on.d place.left on.left l)) (turn_visited marks' m t e h);
   }
 
-  pub turn_more_by : (marks' : List Mark) (m t : S) (next room : ℕ) → room ≡ usable_size file - 4 → Enters takes drops file on.visited on.d (Ok true) marks' s m
-      → Moves takes m (told_at file (on.visited ++ (on.d ∷ [])) (at_page on.d)) t → usable_size file - 4 < place.left → next ≡ overflow_next (page_bytes file place.step.page)
+  pub turn_more_by : (marks' : List Mark) (m t : S) (next : NextPage) (room : ℕ) → room ≡ usable_size file - 4 → Enters takes drops file on.visited on.d (Ok true) marks' s m
+      → Moves takes m (told_at file (on.visited ++ (on.d ∷ [])) (at_page on.d)) t → usable_size file - 4 < place.left → IsNextPage file place.step.page next
       → (new : Option RowSieve) → Feeds old (held_bytes file on.d) new
       → IsOnWay takes file W c before chain (record {
         number = place.number + 1;
         left = place.left - room;
-        step = record { page = next; mark = LaterOverflow place.step.page; from = place.step.page; item = 0; is_too_deep = false };
+        step = record { page = next.page; mark = LaterOverflow place.step.page; from = place.step.page; item = 0; is_too_deep = false };
+        is_in_zeros = next.is_in_zeros;
       }) marks' t first new
   turn_more_by marks' m t next room r e h l n new f = subst (λ k. IsOnWay takes file W c before chain (record {
     number = place.number + 1;
     left = place.left - k;
-    step = record { page = next; mark = LaterOverflow place.step.page; from = place.step.page; item = 0; is_too_deep = false };
+    step = record { page = next.page; mark = LaterOverflow place.step.page; from = place.step.page; item = 0; is_too_deep = false };
+    is_in_zeros = next.is_in_zeros;
   }) marks' t first new) (sym r) (turn_more marks' m t next e h l n new f)
 
+-- a cell is on no overflow page
+none_from : (file : List ℕ) (c : Reference) (left : ℕ) → role_of c ≡ first_overflow left → is_from_zeros file c ≡ false
+none_from file c left h = rw h refl
+
 -- at the first page all is left
-pub way_start : {S : Type 0} (takes : S → Finding → S → Type 0) (file : List ℕ) (W : List Reference) (c : Reference) (chain : Chain) (marks : List Mark) (s : S) (sieve : Option RowSieve) → IsChainOf chain c → IsNext W c → AreMarksOf file W marks
-    → IsOnWay takes file W c s chain (record { number = 0; left = chain.left; step = record { page = chain.first; mark = FirstOverflow chain.page; from = chain.page; item = chain.cell; is_too_deep = false } }) marks s sieve sieve
+pub way_start : {S : Type 0} (takes : S → Finding → S → Type 0) (file : List ℕ) (W : List Reference) (c : Reference) (chain : Chain) (marks : List Mark) (s : S) (sieve : Option RowSieve) → IsChainOf file chain c → IsNext W c → AreMarksOf file W marks
+    → IsOnWay takes file W c s chain (record { number = 0; left = chain.left; step = record { page = chain.first; mark = FirstOverflow chain.page; from = chain.page; item = chain.cell; is_too_deep = false }; is_in_zeros = false }) marks s sieve sieve
 way_start takes file W c chain marks s sieve h next m = record {
   pages = [];
   fed = feeds_none sieve;
@@ -128,6 +139,7 @@ way_start takes file W c chain marks s sieve h next m = record {
   };
   left = ap bytes_left h.role;
   on = h.place;
-  head = head_start chain W c h;
+  zeros = sym (none_from file c chain.left h.role);
+  head = head_start file chain W c h;
   rest = left_start takes file W (Go c ∷ []) s marks m next ((λ e i. absurd i), tt);
 }

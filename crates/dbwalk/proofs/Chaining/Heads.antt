@@ -1,5 +1,5 @@
 -- The cell that an overflow chain belongs to, by the visits so far.
-use Rattle.std.proofs.Common.{◌≡◌, ℕ, ◌+◌, ◌-◌, ◌≤◌, Bool, true, false, cond, not, ◌&&◌, inl, inr, List, [], ◌∷◌, ◌++◌, length, take, Option, Some, None, refl, sym, ap, ◌∙◌, arith}
+use Rattle.std.proofs.Common.{◌≡◌, ℕ, ◌+◌, ◌-◌, ◌≤◌, Bool, true, false, cond, not, ◌&&◌, inl, inr, List, [], ◌∷◌, ◌++◌, length, take, Option, Some, None, refl, sym, ap, ap₂, ◌∙◌, arith}
 use Rattle.std.specs.Prelude.{find, ◌==◌}
 use Rattle.std.specs.Option.{option_map_or, option_or}
 use Rattle.std.proofs.Math.Seq.{take-length}
@@ -14,10 +14,10 @@ use Rattle.dbsurvey.proofs.Ordering.{is_before-from, is_before-itself}
 use Rattle.dbformat.specs.Address.{then_step, chain_place, chain_on, is_child_step, cell_of_step}
 use Rattle.dbformat.specs.Header.{usable_size}
 use Rattle.dbformat.specs.Reference.{Reference, role_of, from_of, item_of, bytes_left}
-use Rattle.dbtrace.specs.Causes.{chain_number, head_address, is_same, chain_head, chain_of, chain_cause, refusal_cause, pages_for}
+use Rattle.dbtrace.specs.Causes.{cell_rowid, chain_number, head_address, is_same, chain_head, chain_of, chain_cause, is_from_zeros, refusal_cause, pages_for}
 use Rattle.dbtrace.specs.declared.Cause.{Cause}
 use Rattle.dbtrace.specs.declared.Cause.TheVariants as cause
-use Rattle.dbwalk.specs.Chains.{HasHead, IsChainOf, IsOnChain, next_of}
+use Rattle.dbwalk.specs.Chains.{HasHead, IsChainOf, IsOnChain, next_of, walked_chain}
 use Rattle.dbwalk.specs.Entered.{IsNext}
 use Rattle.dbwalk.specs.declared.chain.Chain.{Chain}
 use Rattle.dbwalk.proofs.Chaining.Overflows.{next_on_chain}
@@ -42,31 +42,36 @@ chain_few chain number d on = by_address d.address on.place
     by_address (x ∷ a) e = let l = few a chain.cell number e in omega arith
 
 -- the cause of a fault along the chain
-pub head_cause : (file : List ℕ) (V : List Reference) (chain : Chain) (number left more : ℕ) (d : Reference) → bytes_left (role_of d) ≡ Some left → IsOnChain chain number d → HasHead chain V d
-    → chain_cause file V d (bytes_left (role_of d)) more ≡ cause.Chain (record { page = chain.page; item = chain.cell; pages = number + pages_for (usable_size file) left; found = number + more })
-head_cause file V chain number left more d h on head =
-    ap (λ o. chain_cause file V d o more) h
-    ∙ ap (λ n. option_map_or (λ c. cause.Chain (chain_of (usable_size file) c n left (n + more))) (chain_head V d) cause.Itself) (number_is chain number d on)
-    ∙ ap (λ o. option_map_or (λ c. cause.Chain (chain_of (usable_size file) c number left (number + more))) o cause.Itself) head.found
-    ∙ ap (λ p. cause.Chain (record { page = p; item = item_of head.head; pages = number + pages_for (usable_size file) left; found = number + more })) head.from
-    ∙ ap (λ i. cause.Chain (record { page = chain.page; item = i; pages = number + pages_for (usable_size file) left; found = number + more })) head.item
+pub head_cause : (file : List ℕ) (V : List Reference) (chain : Chain) (number left more : ℕ) (zeros : Bool) (d : Reference) → bytes_left (role_of d) ≡ Some left → IsOnChain chain number d
+    → HasHead file chain V d → chain_cause file V d (bytes_left (role_of d)) more zeros ≡ cause.Chain (walked_chain chain number (usable_size file) left (number + more) zeros)
+head_cause file V chain number left more zeros d h on head =
+    ap (λ o. chain_cause file V d o more zeros) h
+    ∙ ap (λ n. option_map_or (λ c. cause.Chain (chain_of file c n left (n + more) zeros)) (chain_head V d) cause.Itself) (number_is chain number d on)
+    ∙ ap (λ o. option_map_or (λ c. cause.Chain (chain_of file c number left (number + more) zeros)) o cause.Itself) head.found
+    ∙ ap₂ of_cell head.from head.item
+    ∙ ap (λ k. cause.Chain (record (walked_chain chain number (usable_size file) left (number + more) zeros) { rowid = k })) head.rowid
+  where
+    of_cell : ℕ → ℕ → Cause
+    of_cell p i = cause.Chain (record { page = p; item = i; rowid = cell_rowid file p i; pages = number + pages_for (usable_size file) left; found = number + more; is_in_zeros = zeros })
 
 -- that of a reference that is refused, by the numbers that a program has
-pub refusal_here : (file : List ℕ) {usable : ℕ} → usable ≡ usable_size file → (chain : Chain) (number left : ℕ) (d : Reference) (V : List Reference) → bytes_left (role_of d) ≡ Some left → IsOnChain chain number d → HasHead chain V d
-    → {why : Cause} → why ≡ cause.Chain (record { page = chain.page; item = chain.cell; pages = number + pages_for usable left; found = number }) → refusal_cause file V d ≡ why
-refusal_here file u chain number left d V h on head e =
-    let z : number + 0 ≡ number = omega arith in
-    head_cause file V chain number left 0 d h on head
-    ∙ ap (λ n. cause.Chain (record { page = chain.page; item = chain.cell; pages = number + pages_for (usable_size file) left; found = n })) z
-    ∙ sym (e ∙ ap (λ x. cause.Chain (record { page = chain.page; item = chain.cell; pages = number + pages_for x left; found = number })) u)
+pub refusal_here : (file : List ℕ) {usable : ℕ} → usable ≡ usable_size file → (chain : Chain) (number left : ℕ) (d : Reference) (V : List Reference) {zeros : Bool} → zeros ≡ is_from_zeros file d
+    → bytes_left (role_of d) ≡ Some left → IsOnChain chain number d → HasHead file chain V d
+    → {why : Cause} → why ≡ cause.Chain (walked_chain chain number usable left number zeros) → refusal_cause file V d ≡ why
+refusal_here file u chain number left d V {zeros = zeros} z h on head e =
+    let n : number + 0 ≡ number = omega arith in
+    head_cause file V chain number left 0 (is_from_zeros file d) d h on head
+    ∙ ap (λ n. cause.Chain (walked_chain chain number (usable_size file) left n (is_from_zeros file d))) n
+    ∙ sym (e ∙ ap (λ x. cause.Chain (walked_chain chain number x left number zeros)) u ∙ ap (λ b. cause.Chain (walked_chain chain number (usable_size file) left number b)) z)
 
 -- at the first page
-pub head_start : (chain : Chain) (V : List Reference) (c : Reference) → IsChainOf chain c → HasHead chain V c
-head_start chain V c h = record {
+pub head_start : (file : List ℕ) (chain : Chain) (V : List Reference) (c : Reference) → IsChainOf file chain c → HasHead file chain V c
+head_start file chain V c h = record {
   head = c;
   found = ap (λ n. cond (n == 0) (Some c) (find (λ u. is_same u.address (head_address c.address)) V)) (number_is chain 0 c h.place);
   from = h.from;
   item = h.item;
+  rowid = h.rowid;
 }
 
 -- an address equals itself, and no address before it
@@ -81,7 +86,7 @@ none_same [] a h = refl
 none_same (u ∷ V) a h = ap (λ b. cond b (Some u) (find (λ u. is_same u.address a) V)) (same_before u.address a (h u (inl refl))) ∙ none_same V a (λ w i. h w (inr i))
 
 -- after the visit of the page
-module _ (chain : Chain) (V : List Reference) (number : ℕ) (d : Reference) (on : IsOnChain chain number d) (head : HasHead chain V d) where
+module _ (file : List ℕ) (chain : Chain) (V : List Reference) (number : ℕ) (d : Reference) (on : IsOnChain chain number d) (head : HasHead file chain V d) where
   abbrev searched : List Reference → Address → Option Reference
   searched W a = find (λ u. is_same u.address a) W
 
@@ -92,19 +97,21 @@ module _ (chain : Chain) (V : List Reference) (number : ℕ) (d : Reference) (on
   by_number : (n : ℕ) → (n == 0) ≡ false → chain_number d.address ≡ n → searched V (head_address d.address) ≡ Some head.head
   by_number n e h = sym (ap (λ b. cond b (Some d) (searched V (head_address d.address))) (ap (λ m. m == 0) h ∙ e)) ∙ head.found
 
-  pub head_visited : HasHead chain (V ++ d ∷ []) d
+  pub head_visited : HasHead file chain (V ++ d ∷ []) d
   head_visited = elim (cases_Bool (chain_number d.address == 0)) [
     | inl e ↦ record {
       head = head.head;
       found = ap (λ b. cond b (Some d) (searched (V ++ d ∷ []) (head_address d.address))) e ∙ sym (ap (λ b. cond b (Some d) (searched V (head_address d.address))) e) ∙ head.found;
       from = head.from;
       item = head.item;
+      rowid = head.rowid;
     }
     | inr e ↦ record {
       head = head.head;
       found = ap (λ b. cond b (Some d) (searched (V ++ d ∷ []) (head_address d.address))) e ∙ found_still (head_address d.address) head.head (by_number (chain_number d.address) e refl);
       from = head.from;
       item = head.item;
+      rowid = head.rowid;
     }
   ]
 
@@ -131,7 +138,7 @@ module _ (chain : Chain) (V : List Reference) (number : ℕ) (d : Reference) (on
         some : (n : ℕ) → ((n + 1) == 0) ≡ false
         some n = grind (arith, nat_tests)
 
-    pub head_next : HasHead chain (V ++ d ∷ []) (next_of d left page)
+    pub head_next : HasHead file chain (V ++ d ∷ []) (next_of d left page)
     head_next = elim (cases_Bool (chain_number d.address == 0)) [
       | inl e ↦ record {
         head = d;
@@ -140,12 +147,14 @@ module _ (chain : Chain) (V : List Reference) (number : ℕ) (d : Reference) (on
             ∙ ap (λ b. cond b (Some d) None) (same_itself d.address));
         from = ap from_of (self e) ∙ head.from;
         item = ap item_of (self e) ∙ head.item;
+        rowid = head.rowid;
       }
       | inr e ↦ record {
         head = head.head;
         found = later number next_number head.head (ap (searched (V ++ d ∷ [])) same_head ∙ found_still (head_address d.address) head.head (by_number (chain_number d.address) e refl));
         from = head.from;
         item = head.item;
+        rowid = head.rowid;
       }
     ]
       where

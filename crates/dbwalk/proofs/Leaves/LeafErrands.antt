@@ -1,5 +1,5 @@
 -- What a cell of a leaf leads to: its overflow chain, and then its own event.
-use Rattle.std.proofs.Common.{◌≡◌, ℕ, ◌+◌, ◌-◌, ◌*◌, ◌%◌, ◌/◌, ◌<◌, Bool, true, false, cond, inl, inr, List, [], ◌∷◌, ◌++◌, length, map, Option, Some, None, Result, Ok, Err, ℤ, refl, sym, ap, subst, arith, ◌∙◌}
+use Rattle.std.proofs.Common.{◌≡◌, ℕ, ◌+◌, ◌-◌, ◌*◌, ◌%◌, ◌/◌, ◌<◌, Bool, true, false, cond, inl, inr, List, [], ◌∷◌, ◌++◌, length, map, Option, Some, None, Result, Ok, Err, ℤ, refl, sym, ap, ap₂, subst, arith, ◌∙◌}
 use Rattle.std.specs.Prelude.{take, drop, nat_le, nat_lt, ok_or, option_map, option_and_then, option_to_list, slice_get, ◌==◌, ◌&&◌}
 use Rattle.std.specs.Option.{option_map_or}
 use Rattle.std.specs.Result.{result_ok}
@@ -13,7 +13,7 @@ use Rattle.dbformat.specs.Address.{start_of, then_step, overflow_step, child_ste
 use Rattle.dbformat.specs.Numbers.{u32_at}
 use Rattle.dbformat.specs.Varint.{varint, signed}
 use Rattle.dbformat.specs.Payload.{most_payload, local_len}
-use Rattle.dbformat.specs.Head.{View, content_start, is_interior, right_number, undamaged}
+use Rattle.dbformat.specs.Head.{View, content_start, if_of_tree, is_interior, is_same_tree, right_number, tree_of, undamaged, view}
 use Rattle.dbformat.specs.Cell.{Cell, bytes_from, payload_cell, cell_at, cell, cell_pointer, count, overflow_size}
 use Rattle.dbformat.specs.Errands.{go, tell_cell, errands_in, cell_errands, errands_before}
 use Rattle.dbformat.specs.File.{page_bytes}
@@ -23,11 +23,13 @@ use Rattle.dbformat.specs.Story.{Event, own_visit, story_of}
 use Rattle.dbformat.proofs.Looping.{by_cell}
 use Rattle.dbformat.specs.declared.CellFault.{CellFault}
 use Rattle.dbformat.specs.declared.CellFault.TheVariants.{Offset, Unreadable}
+use Rattle.dbformat.specs.declared.HeadFault.{HeadFault}
 use Rattle.dbformat.specs.declared.PageKind.{PageKind}
 use Rattle.dbformat.specs.declared.PageKind.TheVariants.{InteriorIndex, InteriorTable, LeafIndex, LeafTable}
 use Rattle.dbformat.specs.declared.PayloadKind.{PayloadKind}
 use Rattle.dbformat.specs.declared.PayloadKind.TheVariants.{TableLeaf, Index}
 use Rattle.dbformat.specs.declared.TreeKind.{TreeKind}
+use Rattle.dbtrace.specs.Causes.{cell_rowid}
 use Rattle.dbtrace.specs.Finding.{Finding}
 use Rattle.dbwalk.specs.Chains.{IsOnChain, IsChainOf}
 use Rattle.dbwalk.specs.Done.{IsDone}
@@ -154,13 +156,14 @@ none_done takes drops file U c i overflow marks s e m = subst (λ o. IsDone {A =
 
 -- the first reference of a chain
 pub chain_start : (chain : Chain) (file : List ℕ) (kind : TreeKind) (k : ℕ) (children : List ℕ) (c : Reference) (levels : List (List ℕ)) (p i first left : ℕ) → IsLeafAt file kind k children c levels p
-    → chain.start ≡ k → chain.path.now ≡ children → chain.page ≡ p → chain.cell ≡ i → chain.first ≡ first → chain.left ≡ left
-    → IsChainOf chain (record { address = then_step c.address (overflow_step i); page = first; role = record { role = first_overflow left; from = c.page; item = i } })
-chain_start chain file kind k children c levels p i first left at start path page item one rest = record {
+    → chain.start ≡ k → chain.path.now ≡ children → chain.page ≡ p → chain.cell ≡ i → chain.first ≡ first → chain.left ≡ left → cell_rowid file p i ≡ chain.rowid
+    → IsChainOf file chain (record { address = then_step c.address (overflow_step i); page = first; role = record { role = first_overflow left; from = c.page; item = i } })
+chain_start chain file kind k children c levels p i first left at start path page item one rest rowid = record {
   page = sym one;
   role = ap first_overflow (sym rest);
   from = at.page ∙ sym page;
   item = sym item;
+  rowid = ap₂ (cell_rowid file) page item ∙ rowid;
   place = by_address c.address at.start at.depth at.path at.chain;
 }
   where
@@ -172,10 +175,26 @@ chain_start chain file kind k children c levels p i first left at start path pag
         none m e = omega arith
     by_address (x ∷ a) s d q n = let f = chain_first a i n in record { start = s ∙ sym start; path = f.0 ∙ q ∙ sym path; place = f.1 ∙ ap (λ j. Some (j, 0)) (sym item) }
 
+-- the rowid of a cell of a page of a tree
+pub rowid_in : (file : List ℕ) (kind : TreeKind) (p : ℕ) (v : View) (i : ℕ) → undamaged kind p (usable_size file) (page_bytes file p) ≡ Some v → cell_rowid file p i ≡ option_and_then (λ c. c.key) (result_ok (cell v i))
+rowid_in file kind p v i h = by_view (view p (usable_size file) (page_bytes file p)) h
+  where
+    by_tree : (b : Bool) (u : View) → cond b (Some u) None ≡ Some v → option_and_then (λ c. c.key) (result_ok (cell u i)) ≡ option_and_then (λ c. c.key) (result_ok (cell v i))
+    by_tree true u e = let same : u ≡ v = cc in ap (λ v. option_and_then (λ c. c.key) (result_ok (cell v i))) same
+    by_tree false u e = cc
+
+    by_view : (w : Result View HeadFault) → if_of_tree kind w ≡ Some v
+        → option_and_then (λ v. option_and_then (λ c. c.key) (result_ok (cell v i))) (result_ok w) ≡ option_and_then (λ c. c.key) (result_ok (cell v i))
+    by_view (Err e) f = cc
+    by_view (Ok u) f = by_tree (is_same_tree (tree_of u.kind) kind) u f
+
 -- what a program reads of the leaf at its level: its page, the number of its cells, and a cell
 module _ (file : List ℕ) {kind : TreeKind} {k : ℕ} {children : List ℕ} {c : Reference} {levels : List (List ℕ)} {p : ℕ} {v : View} (at : IsLeafAt file kind k children c levels p) (viewed : tree_view file c ≡ Some v) {usable : ℕ} (usables : usable ≡ usable_size file) where
   pub seen_here : undamaged kind p usable (page_bytes file p) ≡ Some v
   seen_here = ap (λ u. undamaged kind p u (page_bytes file p)) usables ∙ ap (λ q. undamaged kind q (usable_size file) (page_bytes file q)) (sym at.page) ∙ sym (view_is file c kind at.kind_is) ∙ viewed
+
+  pub rowid_here : (i : ℕ) → cell_rowid file p i ≡ option_and_then (λ c. c.key) (result_ok (cell v i))
+  rowid_here i = rowid_in file kind p v i (ap (λ u. undamaged kind p u (page_bytes file p)) (sym usables) ∙ seen_here)
 
   pub cells_here : {level n : ℕ} → level ≡ length children → HasCells usable kind levels level p n → n ≡ count v
   cells_here deep has = has.count_is (page_bytes file p) v (ap (slice_get levels) deep ∙ at.bytes) seen_here

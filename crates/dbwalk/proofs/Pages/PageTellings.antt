@@ -57,7 +57,7 @@ pub page_causes : (file : List ℕ) (U : List Reference) (p : Progress) (c : Ref
     → told_by (cause_by file U p (at_page c)) (page_faults file [] c ++ depth_faults file p.leaf c) ≡ told_by (page_cause (look_at file c.page) p.leaf) (page_faults file [] c ++ depth_faults file p.leaf c)
 page_causes file U p c {kind} role =
     told_by-append why (page_faults file [] c) (depth_faults file p.leaf c)
-    ∙ ap (λ L. L ++ told_by why (depth_faults file p.leaf c)) (page_same file why (page_cause (look_at file c.page) p.leaf) (page_of_progress file U p c) (page_of_look (look_at file c.page) p.leaf) refl (ap (λ o. chain_cause file U c o 1) (no_chain (role_of c) role)) refl c)
+    ∙ ap (λ L. L ++ told_by why (depth_faults file p.leaf c)) (page_same file why (page_cause (look_at file c.page) p.leaf) (page_of_progress file U p c) (page_of_look (look_at file c.page) p.leaf) refl (ap (λ o. chain_cause file U c o 1 false) (no_chain (role_of c) role)) refl c)
     ∙ ap (λ L. told_by (page_cause (look_at file c.page) p.leaf) (page_faults file [] c) ++ L) (told_alike why (page_cause (look_at file c.page) p.leaf) _ _ refl)
     ∙ sym (told_by-append (page_cause (look_at file c.page) p.leaf) (page_faults file [] c) (depth_faults file p.leaf c))
   where

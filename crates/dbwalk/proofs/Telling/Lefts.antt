@@ -18,7 +18,7 @@ use Rattle.dbformat.proofs.Theory.{are_rules, is_story}
 use Rattle.dbsource.specs.declared.error.RunError.{RunError}
 use Rattle.dbmarks.specs.declared.marks.Mark.{Mark}
 use Rattle.dbmarks.specs.Marking.{AreMarksOf, visit_mark, page_mark, refusal_by}
-use Rattle.dbtrace.specs.Causes.{chain_cause, refusal_cause}
+use Rattle.dbtrace.specs.Causes.{chain_cause, is_from_zeros, refusal_cause}
 use Rattle.dbtrace.specs.declared.Cause.TheVariants.{Itself}
 use Rattle.dbwalk.specs.Walking.{IsCandidate, role_at}
 use Rattle.dbformat.specs.declared.TreeKind.{TreeKind}
@@ -150,7 +150,7 @@ refusal_none (Some (Child from)) false e = absurd (cc)
 
 -- a reference to a page of no chain goes back to nothing else
 pub no_chain_refusal : (file : List ℕ) (W : List Reference) (c : Reference) → bytes_left (role_of c) ≡ None → refusal_cause file W c ≡ Itself
-no_chain_refusal file W c h = ap (λ o. chain_cause file W c o 0) h
+no_chain_refusal file W c h = ap (λ o. chain_cause file W c o 0 (is_from_zeros file c)) h
 
 pub tree_refusal : {kind : TreeKind} {k : ℕ} {path : List ℕ} {p from item : ℕ} (file : List ℕ) (W : List Reference) (c : Reference) → IsCandidate kind k path p from item c → refusal_cause file W c ≡ Itself
 tree_refusal {kind} {path = path} file W c h = no_chain_refusal file W c (ap (λ (w : Way). bytes_left w.role) h.way ∙ by_path path)

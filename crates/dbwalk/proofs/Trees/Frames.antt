@@ -170,7 +170,7 @@ step_within v s Nothing other h = by_case h
     by_case (unreadable n f e l bad) = omega arith
     by_case (without_key n x e l read none) = omega arith
 step_within v s (Key value) other h = let e = h.step in let l = h.low in omega arith
-step_within v s (Chain first left) other h = let e = h.step in let l = h.low in omega arith
+step_within v s (Chain first left rowid) other h = let e = h.step in let l = h.low in omega arith
 step_within v s (Child page) other h = let e = h.step in let l = h.low in omega arith
 
 -- The last frame of a turn, on any source.

@@ -1,7 +1,8 @@
 -- One turn of the loop over the interior pages of a tree, by what the last frame's page has at its step.
-use Rattle.std.proofs.Common.{◌≡◌, ℕ, suc, ◌+◌, ◌-◌, ◌*◌, ◌/◌, ◌<◌, ◌≤◌, false, true, List, [], ◌∷◌, ◌++◌, map, length, Some, Ok, Err, Result, ℤ, refl, sym, ap, subst, arith, ◌∙◌, Bool}
-use Rattle.std.specs.Prelude.{slice_get, unwrap_or, OnOk, IfErr}
+use Rattle.std.proofs.Common.{◌≡◌, ℕ, suc, ◌+◌, ◌-◌, ◌*◌, ◌/◌, ◌<◌, ◌≤◌, false, true, List, [], ◌∷◌, ◌++◌, map, length, Option, Some, Ok, Err, Result, ℤ, refl, sym, ap, subst, arith, ◌∙◌, Bool}
+use Rattle.std.specs.Prelude.{option_and_then, slice_get, unwrap_or, OnOk, IfErr}
 use Rattle.std.specs.Option.{option_map_or}
+use Rattle.std.specs.Result.{result_ok}
 use Rattle.std.proofs.lemmas.List.{length-append}
 use Rattle.dbsurvey.specs.Moves.{Moves}
 use Rattle.dbsurvey.specs.Story.{Go}
@@ -29,7 +30,7 @@ use Rattle.dbwalk.specs.declared.state.Tree.{Tree}
 use Rattle.dbwalk.specs.declared.steps.Next.{Next}
 use Rattle.dbwalk.specs.declared.steps.Next.TheVariants.{End, Nothing}
 use Rattle.dbwalk.specs.declared.steps.Next.TheVariants as step
-use Rattle.dbwalk.proofs.Leaves.LeafErrands.{chain_start}
+use Rattle.dbwalk.proofs.Leaves.LeafErrands.{chain_start, rowid_in}
 use Rattle.dbwalk.proofs.Pages.PageTellings.{view_is}
 use Rattle.dbwalk.proofs.Pages.PageVisits.{kind_is}
 use Rattle.dbwalk.proofs.Trees.Frames.{path_length, read_last, step_within}
@@ -138,7 +139,7 @@ module _ {P : Type 0} {moves : P → Item → P → Type 0} {file : List ℕ} {W
           (subst (λ l. StopsAt moves stops e w (map found l) x) told_key k)
 
     -- an overflow chain
-    module _ (first left : ℕ) (h : IsChainAt v f.next first left) where
+    module _ (first left : ℕ) (rowid : Option ℤ) (h : IsChainAt v f.next first left rowid) where
       abbrev pub chained : Reference
       chained = record { address = then_step top.address (overflow_step h.n); page = first; role = record { role = first_overflow left; from = top.page; item = h.n } }
 
@@ -148,14 +149,15 @@ module _ {P : Type 0} {moves : P → Item → P → Type 0} {file : List ℕ} {W
           (step_chain file top tree.kind v role viewed h.n h.x first h.low h.read h.page))
 
       within_chain : suc f.next ≤ 3 * count v + 2
-      within_chain = step_within v f.next (step.Chain first left) (λ e. other e) h
+      within_chain = step_within v f.next (step.Chain first left rowid) (λ e. other e) h
         where
-          other : step.Chain first left ≡ End → ⊥
+          other : step.Chain first left rowid ≡ End → ⊥
           other e = cc
 
       -- it is the one that a call is given, and all visits so far are before it
-      pub chain_is : (chain : Chain) → chain.start ≡ tree.start → chain.path.now ≡ path_of fs → chain.page ≡ f.page → chain.cell ≡ f.next / 3 → chain.first ≡ first → chain.left ≡ left → IsChainOf chain chained
-      chain_is chain starts ways pages items ones rests = chain_start chain file tree.kind tree.start (path_of fs) top levels f.page h.n first left top_at starts ways pages (items ∙ ap (λ s. s / 3) h.step ∙ third h.n) ones rests
+      pub chain_is : (chain : Chain) → chain.start ≡ tree.start → chain.path.now ≡ path_of fs → chain.page ≡ f.page → chain.cell ≡ f.next / 3 → chain.first ≡ first → chain.left ≡ left → chain.rowid ≡ rowid → IsChainOf file chain chained
+      chain_is chain starts ways pages items ones rests keys = chain_start chain file tree.kind tree.start (path_of fs) top levels f.page h.n first left top_at starts ways pages (items ∙ ap (λ s. s / 3) h.step ∙ third h.n) ones rests
+          (rowid_in file tree.kind f.page v h.n (ap (λ p. undamaged tree.kind p (usable_size file) (page_bytes file p)) on_page ∙ sym (view_is file top tree.kind role) ∙ viewed) ∙ ap (λ r. option_and_then (λ c. c.key) (result_ok r)) h.read ∙ sym (keys ∙ h.key))
         where
           third : (n : ℕ) → (3 * n) / 3 ≡ n
           third n = omega arith

@@ -1,16 +1,17 @@
-use Rattle.std.proofs.Common.{ℕ, ◌+◌, Ok, Err, sym, ap, subst, ◌∙◌}
+use Rattle.std.proofs.Common.{◌+◌, false, Ok, Err, sym, ap, ap₂, subst, ◌∙◌}
 use Rattle.std.proofs.lemmas.Result.{err_from_is_err_and}
 use Rattle.dbsurvey.specs.Moves.{Moves}
 use Rattle.dbformat.specs.File.{page_bytes}
 use Rattle.dbformat.specs.Header.{usable_size}
+use Rattle.dbformat.specs.Looks.{is_zeros}
 use Rattle.dbformat.specs.Payload.{overflow_bytes, overflow_next}
 use Rattle.dbformat.specs.Story.{at_page}
 use Rattle.dbsource.proofs.Logs.{has_weaker}
-use Rattle.dbwalk.specs.Chains.{IsOverflowVisited, Feeds}
+use Rattle.dbwalk.specs.Chains.{IsOverflowVisited, Feeds, walked_chain}
+use Rattle.dbwalk.specs.declared.overflow.NextPage.{NextPage}
 use Rattle.dbwalk.proofs.Chaining.Feedings.{held_is}
 use Rattle.dbtrace.specs.Finding.{told_at}
 use Rattle.dbwalk.specs.Telling.{Tells}
-use Rattle.dbtrace.specs.Causes.{pages_for}
 use Rattle.dbtrace.specs.declared.Cause.TheVariants as cause
 use Rattle.dbwalk.proofs.Chaining.Heads.{head_cause}
 use Rattle.dbwalk.proofs.Chaining.Overflows.{page_read, told_is, moves_none}
@@ -34,17 +35,18 @@ returns-in_err-tell-clause-log g c =
     has_weaker _ _ (log_load c.args.bench.now.geometry.page_size c.args.page read.bytes (Ok tt) c.load.ensures.told read.size read.holds) (λ log l. l)
     (λ file h e.
     let k = page_read file read.bytes c.args.bench.now.geometry.page_size c.args.page read.size h (sym (ap (λ g. g.page_size) e)) in
-    let n = c.next_page-next.ensures ∙ ap overflow_next (c.page.ensures.bytes ∙ ap (λ b. b.chain) read.only ∙ k) in
+    let bytes = c.page.ensures.bytes ∙ ap (λ b. b.chain) read.only ∙ k in
+    let n = c.next_page-next.ensures.page ∙ ap overflow_next bytes in
     let u = ap (λ g. g.usable) (c.geometry-usable.ensures.value ∙ ap (λ b. b.geometry) read.only ∙ e) in
     let r = c.overflow_row-row.ensures in
     let q = err_from_is_err_and c.from_residual-in_err-tell.result c.from_residual-in_err-tell.ensures.1 in
     subst (λ r. IsOverflowVisited g.K.Sink.takes g.K.Sink.drops file c.args.chain.now c.args.number c.args.page c.args.left r c.args.sieve.now c.feed_page.new.sieve c.args.sink.now c.tell.new.sink) (sym (q.1 ∙ ap Err q.2)) (record {
       next = tt;
-      told = λ U d p l on head. subst (λ L. Tells {A = ℕ} g.K.Sink.takes g.K.Sink.drops (Err c.in_err-tell.field-0.0) c.args.sink.now L c.tell.new.sink)
-          (told_is file U d c.args.chain.now c.args.number c.args.page c.geometry-usable.result.usable c.args.left c.next_page-next.result c.overflow_row-row.result c.last_fault.result
-          u n p l on r.start r.path r.chain r.page.0 r.page.1 r.counts c.last_fault.ensures c.chain_cause-cause.result
-          (c.chain_cause-cause.ensures ∙ ap (λ x. cause.Chain (record { page = c.args.chain.now.page; item = c.args.chain.now.cell; pages = c.args.number + pages_for x c.args.left; found = c.args.number + 1 })) u
-          ∙ sym (head_cause file U c.args.chain.now c.args.number c.args.left 1 d l on head)))
+      told = λ U d p l on head. subst (λ L. Tells {A = NextPage} g.K.Sink.takes g.K.Sink.drops (Err c.in_err-tell.field-0.0) c.args.sink.now L c.tell.new.sink)
+          (told_is file U d c.args.chain.now c.args.number c.args.page c.geometry-usable.result.usable c.args.left c.next_page-next.result.page c.overflow_row-row.result c.last_fault-fault.result
+          u n p l on r.start r.path r.chain r.page.0 r.page.1 r.counts c.last_fault-fault.ensures c.chain_cause-cause.result
+          (c.chain_cause-cause.ensures ∙ ap (λ x. cause.Chain (walked_chain c.args.chain.now c.args.number x c.args.left (c.args.number + 1) false)) u
+          ∙ sym (head_cause file U c.args.chain.now c.args.number c.args.left 1 false d l on head)))
           c.in_err-tell.ensures.told;
       fed = tt;
     }))
@@ -55,16 +57,17 @@ returns-clause-log g c =
     has_weaker _ _ (log_load c.args.bench.now.geometry.page_size c.args.page read.bytes (Ok tt) c.load.ensures.told read.size read.holds) (λ log l. l)
     (λ file h e.
     let k = page_read file read.bytes c.args.bench.now.geometry.page_size c.args.page read.size h (sym (ap (λ g. g.page_size) e)) in
-    let n = c.next_page-next.ensures ∙ ap overflow_next (c.page.ensures.bytes ∙ ap (λ b. b.chain) read.only ∙ k) in
+    let bytes = c.page.ensures.bytes ∙ ap (λ b. b.chain) read.only ∙ k in
+    let n = c.next_page-next.ensures.page ∙ ap overflow_next bytes in
     let u = ap (λ g. g.usable) (c.geometry-usable.ensures.value ∙ ap (λ b. b.geometry) read.only ∙ e) in
     let r = c.overflow_row-row.ensures in
     record {
-      next = n;
+      next = record { number = n; zeros = c.next_page-next.ensures.zeros ∙ ap₂ is_zeros u bytes };
       told = λ U d p l on head. subst (λ L. Moves g.K.Sink.takes c.args.sink.now L c.tell.new.sink)
-          (told_is file U d c.args.chain.now c.args.number c.args.page c.geometry-usable.result.usable c.args.left c.next_page-next.result c.overflow_row-row.result c.last_fault.result
-          u n p l on r.start r.path r.chain r.page.0 r.page.1 r.counts c.last_fault.ensures c.chain_cause-cause.result
-          (c.chain_cause-cause.ensures ∙ ap (λ x. cause.Chain (record { page = c.args.chain.now.page; item = c.args.chain.now.cell; pages = c.args.number + pages_for x c.args.left; found = c.args.number + 1 })) u
-          ∙ sym (head_cause file U c.args.chain.now c.args.number c.args.left 1 d l on head)))
+          (told_is file U d c.args.chain.now c.args.number c.args.page c.geometry-usable.result.usable c.args.left c.next_page-next.result.page c.overflow_row-row.result c.last_fault-fault.result
+          u n p l on r.start r.path r.chain r.page.0 r.page.1 r.counts c.last_fault-fault.ensures c.chain_cause-cause.result
+          (c.chain_cause-cause.ensures ∙ ap (λ x. cause.Chain (walked_chain c.args.chain.now c.args.number x c.args.left (c.args.number + 1) false)) u
+          ∙ sym (head_cause file U c.args.chain.now c.args.number c.args.left 1 false d l on head)))
           c.in_ok-tell.ensures.told;
       fed = λ d p l.
           let b = c.page-2.ensures.bytes ∙ ap (λ b. b.chain) read.only ∙ k ∙ ap (page_bytes file) (sym p) in

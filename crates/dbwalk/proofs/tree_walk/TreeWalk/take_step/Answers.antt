@@ -112,11 +112,11 @@ returns-in-Chain-clause-log g c = has_weaker _ _ c.walk_unfed.ensures.log (λ lo
     let here = next_here c.args.frames.now.items c.args.frame walk candidate (ap (λ s. s.usable) e) (next_at refl c.in-Chain.is c.requires.step) in
     let n = c.walk_unfed.new in
     let r = c.walk_unfed.result in
-    let is = chain_is c.args.frames.now.items c.args.frame walk candidate c.stepped-in-Chain.result c.stepped-in-Chain.ensures.page c.stepped-in-Chain.ensures.next c.in-Chain.first c.in-Chain.left here _ refl (c.as_slice.ensures.value ∙ c.requires.path) refl refl refl refl in
-    let next = chain_next c.args.frames.now.items c.args.frame walk candidate c.stepped-in-Chain.result c.stepped-in-Chain.ensures.page c.stepped-in-Chain.ensures.next c.in-Chain.first c.in-Chain.left here in
-    let done = aside_done g.K.Sink.takes g.K.Sink.drops g.T.Taker.takes g.T.Taker.refuses file walk.now (chained c.args.frames.now.items c.args.frame walk candidate c.stepped-in-Chain.result c.stepped-in-Chain.ensures.page c.stepped-in-Chain.ensures.next c.in-Chain.first c.in-Chain.left here) refl r c.args.self.now.marks.now n.marks c.args.self.now.tree c.args.self.now.sink.now n.sink c.args.self.now.taker.now c.walk_unfed.ensures.only walk.under.at
+    let is = chain_is c.args.frames.now.items c.args.frame walk candidate c.stepped-in-Chain.result c.stepped-in-Chain.ensures.page c.stepped-in-Chain.ensures.next c.in-Chain.first c.in-Chain.left c.in-Chain.rowid here _ refl (c.as_slice.ensures.value ∙ c.requires.path) refl refl refl refl refl in
+    let next = chain_next c.args.frames.now.items c.args.frame walk candidate c.stepped-in-Chain.result c.stepped-in-Chain.ensures.page c.stepped-in-Chain.ensures.next c.in-Chain.first c.in-Chain.left c.in-Chain.rowid here in
+    let done = aside_done g.K.Sink.takes g.K.Sink.drops g.T.Taker.takes g.T.Taker.refuses file walk.now (chained c.args.frames.now.items c.args.frame walk candidate c.stepped-in-Chain.result c.stepped-in-Chain.ensures.page c.stepped-in-Chain.ensures.next c.in-Chain.first c.in-Chain.left c.in-Chain.rowid here) refl r c.args.self.now.marks.now n.marks c.args.self.now.tree c.args.self.now.sink.now n.sink c.args.self.now.taker.now c.walk_unfed.ensures.only walk.under.at
     (h e walk.now.visits _ is next walk.under.at.0) in
-    turned_chain c.args.frames.now.items c.args.frame walk candidate c.stepped-in-Chain.result c.stepped-in-Chain.ensures.page c.stepped-in-Chain.ensures.next c.in-Chain.first c.in-Chain.left here (fails g.K.Sink.takes g.K.Sink.drops g.T.Taker.takes g.T.Taker.refuses) n.marks (n.sink, c.args.self.now.taker.now) c.push-in-Chain.ensures.items (ap (λ (p : Pages). p.levels) c.walk_unfed.ensures.bench) r done)
+    turned_chain c.args.frames.now.items c.args.frame walk candidate c.stepped-in-Chain.result c.stepped-in-Chain.ensures.page c.stepped-in-Chain.ensures.next c.in-Chain.first c.in-Chain.left c.in-Chain.rowid here (fails g.K.Sink.takes g.K.Sink.drops g.T.Taker.takes g.T.Taker.refuses) n.marks (n.sink, c.args.self.now.taker.now) c.push-in-Chain.ensures.items (ap (λ (p : Pages). p.levels) c.walk_unfed.ensures.bench) r done)
 
 pub returns-in_err-tell_key-in-Key-clause-walked : goal.returns-in_err-tell_key-in-Key-clause-walked
 returns-in_err-tell_key-in-Key-clause-walked g c = walked_by g.S.Source.held g.K.Sink.held g.T.Taker.refusals (refl, refl, refl, refl, refl, c.tell_key.ensures.others.0, c.tell_key.ensures.others.1) refl (grind (arith, common_steps)) (grind (arith, common_steps)) (grind (arith, common_steps)) (grind (arith, common_steps)) (λ l. refl)

@@ -8,7 +8,7 @@ use Rattle.dbsource.specs.declared.error.RunError.TheVariants.{WriteFailed}
 use Rattle.dbsource.proofs.Logs.{has_weaker}
 use Rattle.dbsurvey.specs.Moves.{Moves, Stops}
 use Rattle.dbwalk.specs.LeafCells.{late_told, top_after}
-use Rattle.dbwalk.proofs.Leaves.LeafErrands.{past_cell, seen_here, cell_here}
+use Rattle.dbwalk.proofs.Leaves.LeafErrands.{past_cell, seen_here, rowid_here, cell_here}
 use Rattle.dbwalk.proofs.Underway.Handing.{stopped_as, found_moves, found_stops}
 use Rattle.dbwalk.proofs.Underway.LeafCellRuns.{chain_stops, row_told, row_stops, key_done}
 use Rattle.std.proofs.lemmas.Grind.{common_steps}
@@ -25,13 +25,13 @@ returns-in_err-walk_overflow-clause-log g c = has_weaker _ _ c.in_err-walk_overf
     let cell = cell_here file at viewed (ap (λ s. s.usable) e) c.len.ensures.value c.leaf_cell-cell.ensures low in
     stopped_as (q.1 ∙ ap Err q.2)
     (chain_stops file from d c.args.self.now.tree.kind v leaf c.args.i c.leaf_cell-cell.result.overflow cell.0 c.leaf_cell-cell.result.key cell.1 g.K.Sink.takes g.K.Sink.drops g.T.Taker.takes g.T.Taker.refuses c.in_err-walk_overflow.field-0.0 c.walk_overflow.new.marks (c.walk_overflow.new.marks, c.args.self.now.tree)
-    c.args.self.now.sink.now c.walk_overflow.new.sink c.args.self.now.taker.now c.in_err-walk_overflow.ensures.only c.args.self.now.tree isat.1 isat.2 (h e from.visits d at (past_cell from.visits d c.args.i c.leaf_cell-cell.result.overflow before) isat.0).0).handed)
+    c.args.self.now.sink.now c.walk_overflow.new.sink c.args.self.now.taker.now c.in_err-walk_overflow.ensures.only c.args.self.now.tree isat.1 isat.2 (h e from.visits d at (rowid_here file at viewed (ap (λ s. s.usable) e) c.args.i ∙ sym cell.1) (past_cell from.visits d c.args.i c.leaf_cell-cell.result.overflow before) isat.0).0).handed)
 
 pub returns-in_err-tell_row-clause-log : goal.returns-in_err-tell_row-clause-log
 returns-in_err-tell_row-clause-log g c = has_weaker _ _ c.in_ok-walk_overflow.ensures.log (λ log r. r) (λ file h e coded from d v at viewed leaf low before isat.
     let q = err_from_is_err_and c.from_residual-in_err-tell_row.result c.from_residual-in_err-tell_row.ensures.1 in
     let cell = cell_here file at viewed (ap (λ s. s.usable) e) c.len.ensures.value c.leaf_cell-cell.ensures low in
-    let done = h e from.visits d at (past_cell from.visits d c.args.i c.leaf_cell-cell.result.overflow before) isat.0 in
+    let done = h e from.visits d at (rowid_here file at viewed (ap (λ s. s.usable) e) c.args.i ∙ sym cell.1) (past_cell from.visits d c.args.i c.leaf_cell-cell.result.overflow before) isat.0 in
     stopped_as (q.1 ∙ ap Err q.2)
     (row_stops file from d c.args.self.now.tree.kind v leaf c.args.i c.leaf_cell-cell.result.overflow cell.0 c.leaf_cell-cell.result.key cell.1 g.K.Sink.takes g.K.Sink.drops g.T.Taker.takes g.T.Taker.refuses c.in_err-tell_row.field-0.0 c.walk_overflow.new.marks c.args.self.now.tree c.args.self.now.tree
     c.args.self.now.sink.now c.walk_overflow.new.sink c.args.self.now.taker.now (c.tell_row.new.sink, c.tell_row.new.taker) isat.1 isat.2 done.0
@@ -42,7 +42,7 @@ pub returns-in_err-tell_rowid-clause-log : goal.returns-in_err-tell_rowid-clause
 returns-in_err-tell_rowid-clause-log g c = has_weaker _ _ c.in_ok-walk_overflow.ensures.log (λ log r. r) (λ file h e coded from d v at viewed leaf low before isat.
     let q = err_from_is_err_and c.from_residual-in_err-tell_rowid.result c.from_residual-in_err-tell_rowid.ensures.1 in
     let cell = cell_here file at viewed (ap (λ s. s.usable) e) c.len.ensures.value c.leaf_cell-cell.ensures low in
-    let done = h e from.visits d at (past_cell from.visits d c.args.i c.leaf_cell-cell.result.overflow before) isat.0 in
+    let done = h e from.visits d at (rowid_here file at viewed (ap (λ s. s.usable) e) c.args.i ∙ sym cell.1) (past_cell from.visits d c.args.i c.leaf_cell-cell.result.overflow before) isat.0 in
     let late = ap (λ top. late_told top c.args.page c.args.i c.leaf_cell-cell.result.key) isat.1 ∙ ap (λ p. late_told from.state.greatest p c.args.i c.leaf_cell-cell.result.key) (sym at.page) in
     stopped_as (q.1 ∙ ap Err q.2)
     (key_done file from d c.args.self.now.tree.kind v leaf c.args.i c.leaf_cell-cell.result.overflow cell.0 c.leaf_cell-cell.result.key cell.1 g.K.Sink.takes g.K.Sink.drops g.T.Taker.takes g.T.Taker.refuses (Err WriteFailed) c.walk_overflow.new.marks c.args.self.now.tree c.tell_rowid.new.tree
@@ -54,7 +54,7 @@ returns-in_err-tell_rowid-clause-log g c = has_weaker _ _ c.in_ok-walk_overflow.
 pub returns-clause-log : goal.returns-clause-log
 returns-clause-log g c = has_weaker _ _ c.in_ok-walk_overflow.ensures.log (λ log r. r) (λ file h e coded from d v at viewed leaf low before isat.
     let cell = cell_here file at viewed (ap (λ s. s.usable) e) c.len.ensures.value c.leaf_cell-cell.ensures low in
-    let done = h e from.visits d at (past_cell from.visits d c.args.i c.leaf_cell-cell.result.overflow before) isat.0 in
+    let done = h e from.visits d at (rowid_here file at viewed (ap (λ s. s.usable) e) c.args.i ∙ sym cell.1) (past_cell from.visits d c.args.i c.leaf_cell-cell.result.overflow before) isat.0 in
     let late = ap (λ top. late_told top c.args.page c.args.i c.leaf_cell-cell.result.key) isat.1 ∙ ap (λ p. late_told from.state.greatest p c.args.i c.leaf_cell-cell.result.key) (sym at.page) in
     key_done file from d c.args.self.now.tree.kind v leaf c.args.i c.leaf_cell-cell.result.overflow cell.0 c.leaf_cell-cell.result.key cell.1 g.K.Sink.takes g.K.Sink.drops g.T.Taker.takes g.T.Taker.refuses (Ok tt) c.walk_overflow.new.marks c.args.self.now.tree c.tell_rowid.new.tree
     c.args.self.now.sink.now c.walk_overflow.new.sink c.tell_row.new.sink c.args.self.now.taker.now c.tell_row.new.taker (c.tell_rowid.new.sink, c.tell_row.new.taker) isat.1 isat.2 done.0
