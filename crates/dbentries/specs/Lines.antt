@@ -1,6 +1,6 @@
 -- What is written of an entry below its fault line (own), but for the lines that say where a page is: the cause, and the faults
 -- that belong to it.
-use Rattle.std.specs.Prelude.{ℕ, List, [], ◌∷◌, ◌++◌, codes, decimal, ◌==◌, if◌then◌else◌}
+use Rattle.std.specs.Prelude.{ℕ, ℤ, List, [], ◌∷◌, ◌++◌, codes, decimal, ◌==◌, if◌then◌else◌}
 use Rattle.std.specs.Fmt.{signed_decimal}
 use Rattle.std.specs.Option.{option_map_or}
 use Rattle.dbformat.specs.FirstBytes.{begins_with}
@@ -31,10 +31,15 @@ key_text k = indented (codes "not above key " ++ signed_decimal k.value ++ codes
 abbrev pub leaf_text : ℕ → List ℕ
 leaf_text page = indented (codes "the first leaf of the tree is page " ++ decimal page)
 
--- the overflow chain that is broken, and how much of it was found
+-- the rowid of a cell
+abbrev pub rowid_text : ℤ → List ℕ
+rowid_text rowid = codes ", rowid " ++ signed_decimal rowid
+
+-- The overflow chain that is broken, by its cell, and how much of it was found; below it whether the page with the fault is all zeros.
 abbrev pub broken_chain_text : CellChain → List ℕ
-broken_chain_text c = indented (codes "chain of page " ++ decimal c.page ++ codes " item " ++ decimal c.item ++ codes ": " ++ decimal c.found ++ codes " of "
-    ++ decimal c.pages ++ (if c.pages == 1 then codes " page" else codes " pages"))
+broken_chain_text c = indented (codes "chain of page " ++ decimal c.page ++ codes " item " ++ decimal c.item ++ option_map_or rowid_text c.rowid [] ++ codes ": "
+    ++ decimal c.found ++ codes " of " ++ decimal c.pages ++ (if c.pages == 1 then codes " page" else codes " pages"))
+    ++ (if c.is_in_zeros then indented (codes "all zeros") else [])
 
 -- the kind of a page of a tree
 abbrev pub page_kind_text : PageKind → List ℕ

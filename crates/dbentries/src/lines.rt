@@ -4,7 +4,7 @@ ghost use Rattle.std.specs.Prelude.{◌≡◌, ◌+◌, ◌≤◌, [], ◌++◌,
 ghost use Rattle.std.specs.Fmt.{signed_decimal};
 ghost use Rattle.std.specs.Option.{option_map_or};
 ghost use Rattle.dbsource.specs.Outs.{Puts};
-ghost use Rattle.dbentries.specs.Lines.{blank_text, cause_text, cells_text, broken_chain_text, key_text, leaf_text, look_text, page_kind_text, rowids_text, tree_look_text};
+ghost use Rattle.dbentries.specs.Lines.{blank_text, cause_text, cells_text, broken_chain_text, key_text, leaf_text, look_text, page_kind_text, rowid_text, rowids_text, tree_look_text};
 
 use crate::first_bytes::first_bytes_text;
 use arrayvec::ArrayVec;
@@ -58,6 +58,18 @@ fn leaf_text(page: u32) -> ArrayVec<u8, 64>
     line
 }
 
+// Adds the rowid of a cell, if it is known.
+fn append_rowid<const CAP: usize>(line: &mut ArrayVec<u8, CAP>, rowid: Option<i64>)
+    requires { array_vec_len line.old + 28 ≤ CAP }
+    ensures text { line.new.items ≡ line.old.items ++ option_map_or rowid_text rowid [] }
+    ensures short { array_vec_len line.new ≤ array_vec_len line.old + 28 }
+{
+    if let Some(rowid) = rowid {
+        append(line, ", rowid ");
+        append_signed(line, rowid);
+    }
+}
+
 fn chain_text(chain: CellChain) -> ArrayVec<u8, 160>
     ensures { result.items ≡ broken_chain_text chain }
 {
@@ -66,6 +78,7 @@ fn chain_text(chain: CellChain) -> ArrayVec<u8, 160>
     append_number(&mut line, u64::from(chain.page));
     append(&mut line, " item ");
     append_number(&mut line, u64::from(chain.item));
+    append_rowid(&mut line, chain.rowid);
     append(&mut line, ": ");
     append_number(&mut line, u64::from(chain.found));
     append(&mut line, " of ");
@@ -78,6 +91,9 @@ fn chain_text(chain: CellChain) -> ArrayVec<u8, 160>
             " pages\n"
         },
     );
+    if chain.is_in_zeros {
+        append(&mut line, "    all zeros\n");
+    }
     line
 }
 
