@@ -1,6 +1,6 @@
 -- What is written of an entry below its fault line (own), but for the lines that say where a page is: the cause, and the faults
 -- that belong to it.
-use Rattle.std.specs.Prelude.{ℕ, ℤ, List, [], ◌∷◌, ◌++◌, codes, decimal, ◌==◌, if◌then◌else◌}
+use Rattle.std.specs.Prelude.{ℕ, ℤ, Bool, List, [], ◌∷◌, ◌++◌, codes, decimal, ◌==◌, if◌then◌else◌}
 use Rattle.std.specs.Fmt.{signed_decimal}
 use Rattle.std.specs.Option.{option_map_or}
 use Rattle.dbformat.specs.FirstBytes.{begins_with}
@@ -35,11 +35,15 @@ leaf_text page = indented (codes "the first leaf of the tree is page " ++ decima
 abbrev pub rowid_text : ℤ → List ℕ
 rowid_text rowid = codes ", rowid " ++ signed_decimal rowid
 
+-- the line of a page of zeros, if it is one
+abbrev pub zeros_text : Bool → List ℕ
+zeros_text is_zeros = if is_zeros then indented (codes "all zeros") else []
+
 -- The overflow chain that is broken, by its cell, and how much of it was found; below it whether the page with the fault is all zeros.
 abbrev pub broken_chain_text : CellChain → List ℕ
 broken_chain_text c = indented (codes "chain of page " ++ decimal c.page ++ codes " item " ++ decimal c.item ++ option_map_or rowid_text c.rowid [] ++ codes ": "
     ++ decimal c.found ++ codes " of " ++ decimal c.pages ++ (if c.pages == 1 then codes " page" else codes " pages"))
-    ++ (if c.is_in_zeros then indented (codes "all zeros") else [])
+    ++ zeros_text c.is_in_zeros
 
 -- the kind of a page of a tree
 abbrev pub page_kind_text : PageKind → List ℕ

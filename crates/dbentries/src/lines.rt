@@ -4,7 +4,7 @@ ghost use Rattle.std.specs.Prelude.{◌≡◌, ◌+◌, ◌≤◌, [], ◌++◌,
 ghost use Rattle.std.specs.Fmt.{signed_decimal};
 ghost use Rattle.std.specs.Option.{option_map_or};
 ghost use Rattle.dbsource.specs.Outs.{Puts};
-ghost use Rattle.dbentries.specs.Lines.{blank_text, cause_text, cells_text, broken_chain_text, key_text, leaf_text, look_text, page_kind_text, rowid_text, rowids_text, tree_look_text};
+ghost use Rattle.dbentries.specs.Lines.{blank_text, cause_text, cells_text, broken_chain_text, key_text, leaf_text, look_text, page_kind_text, rowid_text, rowids_text, tree_look_text, zeros_text};
 
 use crate::first_bytes::first_bytes_text;
 use arrayvec::ArrayVec;
@@ -70,6 +70,16 @@ fn append_rowid<const CAP: usize>(line: &mut ArrayVec<u8, CAP>, rowid: Option<i6
     }
 }
 
+// Adds the line of a page of zeros, if it is one.
+fn append_zeros<const CAP: usize>(line: &mut ArrayVec<u8, CAP>, is_zeros: bool)
+    requires { array_vec_len line.old + 14 ≤ CAP }
+    ensures { line.new.items ≡ line.old.items ++ zeros_text is_zeros }
+{
+    if is_zeros {
+        append(line, "    all zeros\n");
+    }
+}
+
 fn chain_text(chain: CellChain) -> ArrayVec<u8, 160>
     ensures { result.items ≡ broken_chain_text chain }
 {
@@ -91,9 +101,7 @@ fn chain_text(chain: CellChain) -> ArrayVec<u8, 160>
             " pages\n"
         },
     );
-    if chain.is_in_zeros {
-        append(&mut line, "    all zeros\n");
-    }
+    append_zeros(&mut line, chain.is_in_zeros);
     line
 }
 

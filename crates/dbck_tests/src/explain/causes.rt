@@ -102,7 +102,7 @@ const CHAINS: [Explained; 7] = [
         "two-chains: 2 508 0000ffff",
         "R01 page 2 item 0 value 65535: page number out of range
     page 2 at byte 512: root of table t
-    chain of page 2 item 0: 0 of 1 page
+    chain of page 2 item 0, rowid 1: 0 of 1 page
 N01 page 5 item 0 value 0: page is not in use
     page 5 at byte 2048: in no tree, overflow chain or freelist
     all zeros
@@ -119,7 +119,8 @@ N01 page 5 item 0 value 0: page is not in use
         "two-chains: 3 0 00000000",
         "R01 page 3 item 0 value 0: page number out of range
     page 3 at byte 1024: in table t, overflow page of page 2
-    chain of page 2 item 1: 1 of 2 pages
+    chain of page 2 item 1, rowid 2: 1 of 2 pages
+    all zeros
 N01 page 4 item 0 value 0: page is not in use
     page 4 at byte 1536: in no tree, overflow chain or freelist
     all zeros
@@ -137,7 +138,7 @@ N01 page 4 item 0 value 0: page is not in use
         "O01 page 4 item 0 value 5: last overflow page names a next page
     page 4 at byte 1536: in table t, overflow page after page 3
     page 5 at byte 2048: in table t, overflow page of page 2
-    chain of page 2 item 1: 2 of 2 pages
+    chain of page 2 item 1, rowid 2: 2 of 2 pages
 1 fault
     1 O01 last overflow page names a next page
     1 in table t (root page 2), on 1 of its 4 pages
@@ -150,7 +151,7 @@ N01 page 4 item 0 value 0: page is not in use
         "R03 page 3 item 0 value 5: page is already in use
     page 3 at byte 1024: in table t, overflow page of page 2
     page 5 at byte 2048: in table t, overflow page of page 2
-    chain of page 2 item 1: 1 of 2 pages
+    chain of page 2 item 1, rowid 2: 1 of 2 pages
 N01 page 4 item 0 value 0: page is not in use
     page 4 at byte 1536: in no tree, overflow chain or freelist
     all zeros
@@ -168,7 +169,7 @@ N01 page 4 item 0 value 0: page is not in use
         "R03 page 3 item 0 value 3: page is already in use
     page 3 at byte 1024: in table t, overflow page of page 2
     page 3 at byte 1024: in table t, overflow page of page 2
-    chain of page 2 item 1: 1 of 2 pages
+    chain of page 2 item 1, rowid 2: 1 of 2 pages
 N01 page 4 item 0 value 0: page is not in use
     page 4 at byte 1536: in no tree, overflow chain or freelist
     all zeros
@@ -186,7 +187,7 @@ N01 page 4 item 0 value 0: page is not in use
         "R02 page 3 item 0 value 2: page is reserved for a fixed use
     page 3 at byte 1024: root of table t
     page 2 at byte 512: pointer map
-    chain of page 3 item 0: 0 of 1 page
+    chain of page 3 item 0, rowid 1: 0 of 1 page
 N01 page 4 item 0 value 0: page is not in use
     page 4 at byte 1536: in no tree, overflow chain or freelist
     all zeros
