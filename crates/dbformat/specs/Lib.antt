@@ -27,6 +27,7 @@ pub mod Reference
 pub mod ReferenceFaults
 pub mod Report
 pub mod Rows
+pub mod Runs
 pub mod Samples
 pub mod Schema
 pub mod SchemaRow

@@ -299,6 +299,17 @@ pub struct TreeLook {
     pub rowids: Option<Rowids>,
 }
 
+/// A run of one byte in a page.
+#[derive(Clone, Copy, Debug, PartialEq, Eq)]
+pub struct ByteRun {
+    /// Its first byte, from the start of the page.
+    pub start: u32,
+    /// How many bytes it has.
+    pub len: u32,
+    /// The byte.
+    pub byte: u8,
+}
+
 /// What a page looks like by its bytes alone, whatever refers to it.
 #[derive(Clone, Copy, Debug, PartialEq, Eq)]
 pub enum Look {

@@ -3,6 +3,7 @@ pub mod CellLemmas
 pub mod FreeblockLemmas
 pub mod Items
 pub mod Lanes
+pub mod LongRuns
 pub mod Overlaps
 pub mod PackedLemmas
 pub mod Ranges

@@ -1,4 +1,5 @@
 pub mod Beginning
+pub mod ByteRuns
 pub mod Freeblocks
 pub mod Head
 pub mod Marking

@@ -17,6 +17,7 @@
 //! ```
 #![tactic(auto)]
 
+mod byte_runs;
 mod cell;
 mod freeblocks;
 mod held_bytes;
@@ -27,8 +28,9 @@ mod packed;
 mod run;
 mod view;
 
+pub use byte_runs::usable_run;
 pub use cell::Cell;
-pub use dbformat::{CellFault, Coverage, HeadFault, Look, PageKind, Rowids, TreeLook};
+pub use dbformat::{ByteRun, CellFault, Coverage, HeadFault, Look, PageKind, Rowids, TreeLook};
 pub use freeblocks::{Freeblock, Freeblocks};
 pub use held_bytes::{coverage, uncounted_coverage};
 pub use looks::{is_zeros, look_of};
