@@ -29,7 +29,6 @@ use Rattle.dbtrace.specs.Steps.{AreAside}
 use Rattle.dbtrace.specs.Walk.{Walk, machine, advance}
 use Rattle.dbtrace.proofs.Depths.{page_parts, not_leaf, no_leaf}
 use Rattle.dbtrace.proofs.Causing.{page_same}
-use Rattle.dbtrace.proofs.Folding.{page_of_progress, page_of_visits}
 use Rattle.dbtrace.proofs.SchemaOrder.{parent_inside}
 use Rattle.dbtrace.proofs.Told.{visited, trace, part, tells, IsOf, told_as}
 
@@ -55,7 +54,7 @@ module _ (file : List ℕ) where
 
   faults_off : (U : List Reference) (p : Progress) (e : Event) → IsOff e → told_by (cause_by file U p e) (faults_at file U p e) ≡ told_by (cause_of file U e) (event_faults file U e)
   faults_off U p (at_page r) h = ap (λ l. told_by (cause_by file U p (at_page r)) (page_faults file [] r ++ l)) quiet ∙ ap (told_by (cause_by file U p (at_page r))) (append-nil (page_faults file [] r))
-      ∙ page_same file (cause_by file U p (at_page r)) (cause_of file U (at_page r)) (page_of_progress file U p r) (page_of_visits file U r) refl refl refl r
+      ∙ page_same (cause_by file U p (at_page r)) (cause_of file U (at_page r)) refl file refl refl r
       ∙ ap (told_by (cause_of file U (at_page r))) (sym (page_parts file U r ∙ ap (λ l. page_faults file [] r ++ l) (no_leaf file U r h) ∙ append-nil (page_faults file [] r)))
     where
       quiet : depth_faults file p.leaf r ≡ []

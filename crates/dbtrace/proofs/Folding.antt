@@ -39,7 +39,7 @@ use Rattle.dbtrace.specs.Item.{Item, found, given, given_cell, given_cells, root
 use Rattle.dbtrace.specs.Progress.{Progress, cause_by, rows_of, late_faults, depth_faults}
 use Rattle.dbtrace.specs.Starts.{IsOfEarlierStart, AreOfEarlierStarts}
 use Rattle.dbtrace.specs.Walk.{Walk, machine, begin, advance, run_below}
-use Rattle.dbtrace.proofs.Causing.{IsOfPage, IsOfRow, told_by-append, page_same, rows_alone}
+use Rattle.dbtrace.proofs.Causing.{AgreeOn, alone, row_codes, told_by-append, page_same, rows_alone}
 use Rattle.dbtrace.proofs.Depths.{leaf_from, told_same, depth_told, page_parts}
 use Rattle.dbtrace.proofs.Keys.{greatest_is, started, top_is, late_is}
 use Rattle.dbtrace.proofs.RowsTold.{rows_told, schema_told, rows_before}
@@ -47,16 +47,10 @@ use Rattle.dbtrace.proofs.Told.{visited, trace, tells, IsOf, told_as, below_star
 
 -- which codes have a cause at an event
 
-pub page_of_progress : (file : List ℕ) (U : List Reference) (p : Progress) (r : Reference) → IsOfPage (cause_by file U p (at_page r))
-page_of_progress file U p r = refl
-
-pub page_of_visits : (file : List ℕ) (U : List Reference) (r : Reference) → IsOfPage (cause_of file U (at_page r))
-page_of_visits file U r = refl
-
-pub row_of_progress : (file : List ℕ) (U : List Reference) (p : Progress) (r : Reference) (v : View) (x : ℕ × Cell) → IsOfRow (cause_by file U p (at_key r v x))
+pub row_of_progress : (file : List ℕ) (U : List Reference) (p : Progress) (r : Reference) (v : View) (x : ℕ × Cell) → AgreeOn row_codes (cause_by file U p (at_key r v x)) alone
 row_of_progress file U p r v x = refl
 
-pub row_of_visits : (file : List ℕ) (U : List Reference) (r : Reference) (v : View) (x : ℕ × Cell) → IsOfRow (cause_of file U (at_key r v x))
+pub row_of_visits : (file : List ℕ) (U : List Reference) (r : Reference) (v : View) (x : ℕ × Cell) → AgreeOn row_codes (cause_of file U (at_key r v x)) alone
 row_of_visits file U r v x = refl
 
 -- items, by what they are for
@@ -201,7 +195,7 @@ module _ (file : List ℕ) (k : ℕ) (W : List Reference) (c : Reference) (at : 
     page r i =
         told_by-append (cause_by file (at_event (at_page r)) (after A).state (at_page r)) (page_faults file [] r) (depth_faults file (after A).state.leaf r)
         ∙ ap (λ l. l ++ by_progress (at_page r) (depth_faults file (after A).state.leaf r))
-        (page_same file (cause_by file (at_event (at_page r)) (after A).state (at_page r)) (cause_of file (at_event (at_page r)) (at_page r)) (page_of_progress file (at_event (at_page r)) (after A).state r) (page_of_visits file (at_event (at_page r)) r) refl refl refl r)
+        (page_same (cause_by file (at_event (at_page r)) (after A).state (at_page r)) (cause_of file (at_event (at_page r)) (at_page r)) refl file refl refl r)
         ∙ ap (λ l. by_visits (at_page r) (page_faults file [] r) ++ l) depths
         ∙ sym (told_by-append (cause_of file (at_event (at_page r)) (at_page r)) (page_faults file [] r) (depth_fault file (at_event (at_page r)) r))
         ∙ ap (by_visits (at_page r)) (sym (page_parts file (at_event (at_page r)) r))

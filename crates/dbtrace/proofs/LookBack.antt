@@ -31,7 +31,6 @@ use Rattle.dbtrace.specs.declared.Cause.{Cause}
 use Rattle.dbtrace.specs.declared.Cause.TheVariants as cause
 use Rattle.dbtrace.proofs.Causing.{told_by-append, page_same}
 use Rattle.dbtrace.proofs.Depths.{told_same, page_parts}
-use Rattle.dbtrace.proofs.Folding.{page_of_visits}
 use Rattle.dbtrace.proofs.Told.{IsOf, told_of}
 
 -- lists
@@ -117,7 +116,7 @@ module _ (file : List ℕ) (U T : List Reference) (place : Address) (after : (t 
       ap (told_by (by_all (at_page r))) (page_parts file U r)
       ∙ told_by-append (by_all (at_page r)) (page_faults file [] r) (depth_fault file U r)
       ∙ ap₂ (λ a b. a ++ b)
-      (page_same file (by_all (at_page r)) (by_front (at_page r)) (page_of_visits file (U ++ T) r) (page_of_visits file U r) refl (chain_front r e (bytes_left (role_of r)) 1 false) refl r)
+      (page_same (by_all (at_page r)) (by_front (at_page r)) refl file (chain_front r e (bytes_left (role_of r)) 1 false) refl r)
       (depth_front r i)
       ∙ sym (ap (told_by (by_front (at_page r))) (page_parts file U r) ∙ told_by-append (by_front (at_page r)) (page_faults file [] r) (depth_fault file U r))
 

@@ -1,7 +1,7 @@
 -- What a fault goes back to (own), by the pages that are visited up to it: a key out of order to the first cell with the greatest
--- key before it, a leaf at another depth to the first leaf, a fault along an overflow chain to the cell of the chain, and a page
--- of an unknown type to what it looks like.
-use Rattle.std.specs.Prelude.{ℕ, ◌+◌, ◌-◌, ◌/◌, not, Bool, false, ℤ, ◌&&◌, ◌||◌, List, [], ◌∷◌, find, length, take, Option, Some, None, int_lt, if◌then◌else◌, ◌==◌}
+-- key before it, a leaf at another depth to the first leaf, a fault along an overflow chain to the cell of the chain, a page
+-- of an unknown type to what it looks like, and any other fault within a page to the page.
+use Rattle.std.specs.Prelude.{ℕ, ◌+◌, ◌-◌, ◌/◌, not, option_and_then, Bool, false, ℤ, ◌&&◌, ◌||◌, List, [], ◌∷◌, find, length, take, Option, Some, None, int_lt, if◌then◌else◌, ◌==◌}
 use Rattle.std.specs.List.{list_any}
 use Rattle.std.specs.Option.{option_map_or}
 use Rattle.std.specs.Result.{result_ok}
@@ -9,20 +9,25 @@ use Rattle.dbsurvey.specs.Address.{Address}
 use Rattle.dbsurvey.specs.InOrder.{is_before}
 use Rattle.dbformat.specs.Options.{◌>>=◌}
 use Rattle.dbformat.specs.File.{page_bytes}
-use Rattle.dbformat.specs.Head.{view}
+use Rattle.dbformat.specs.Head.{View, view}
 use Rattle.dbformat.specs.Cell.{cell}
 use Rattle.dbformat.specs.Header.{usable_size}
 use Rattle.dbformat.specs.Address.{start_of, depth, chain_place}
-use Rattle.dbformat.specs.Reference.{Role, later_overflow, Reference, role_of, from_of, item_of, bytes_left}
-use Rattle.dbformat.specs.Looks.{is_zeros, look_at}
+use Rattle.dbformat.specs.Reference.{Role, later_overflow, Reference, role_of, from_of, item_of, bytes_left, tree_view}
+use Rattle.dbformat.specs.Looks.{is_zeros, look_of}
+use Rattle.dbformat.specs.Runs.{content_run, usable_run}
 use Rattle.dbformat.specs.PageFaults.{is_leaf_of}
 use Rattle.dbformat.specs.KeyFaults.{Key, key_of, earlier_keys}
 use Rattle.dbformat.specs.Story.{Event, at_page, at_key, at_refused}
+use Rattle.dbformat.specs.declared.ByteRun.{ByteRun}
 use Rattle.dbformat.specs.declared.FaultCode.{FaultCode}
-use Rattle.dbformat.specs.declared.FaultCode.TheVariants.{P01, T05, T06, O01}
+use Rattle.dbformat.specs.declared.FaultCode.TheVariants.{P01, P02, P03, P04, P05, P06, P07, P08, P09, T05, T06, O01}
+use Rattle.dbformat.specs.declared.Look.{Look}
+use Rattle.dbformat.specs.declared.Look.TheVariants as look
 use Rattle.dbtrace.specs.declared.CellKey.{CellKey}
 use Rattle.dbtrace.specs.declared.TreeLeaf.{TreeLeaf}
 use Rattle.dbtrace.specs.declared.CellChain.{CellChain}
+use Rattle.dbtrace.specs.declared.PageFacts.{PageFacts}
 use Rattle.dbtrace.specs.declared.Cause.{Cause}
 use Rattle.dbtrace.specs.declared.Cause.TheVariants as cause
 
@@ -113,12 +118,38 @@ is_from_zeros file r = of_role (role_of r)
 abbrev pub refusal_cause : List ℕ → List Reference → Reference → Cause
 refusal_cause file V r = chain_cause file V r (bytes_left (role_of r)) 0 (is_from_zeros file r)
 
+-- Pages.
+
+-- the longest run of a page that looks like this: none of a blank page, of which it says nothing new
+abbrev pub run_beside : Look → ℕ → List ℕ → Option ByteRun
+run_beside (look.Blank byte) usable page = None
+run_beside look usable page = usable_run usable page
+
+abbrev pub with_run : Option ByteRun → PageFacts
+with_run run = record { run = run }
+
+-- The cause of a fault of this code within page p of a tree: by its bytes, and by its view where it is undamaged.
+abbrev pub page_cause : ℕ → ℕ → List ℕ → Option View → FaultCode → Cause
+page_cause p usable page v P01 = cause.Look (look_of p usable page) (with_run (run_beside (look_of p usable page) usable page))
+page_cause p usable page v P02 = cause.Page p (with_run None)
+page_cause p usable page v P03 = cause.Page p (with_run (usable_run usable page))
+page_cause p usable page v P04 = cause.Page p (with_run (option_and_then content_run v))
+page_cause p usable page v P05 = cause.Page p (with_run (option_and_then content_run v))
+page_cause p usable page v P06 = cause.Page p (with_run (option_and_then content_run v))
+page_cause p usable page v P07 = cause.Page p (with_run (option_and_then content_run v))
+page_cause p usable page v P08 = cause.Page p (with_run (option_and_then content_run v))
+page_cause p usable page v P09 = cause.Page p (with_run (option_and_then content_run v))
+page_cause p usable page v _ = cause.Itself
+
+-- that of a visited page
+abbrev pub visit_cause : List ℕ → Reference → FaultCode → Cause
+visit_cause file r code = page_cause r.page (usable_size file) (page_bytes file r.page) (tree_view file r) code
+
 -- The cause of a fault of this code that is reported at an event.
 abbrev pub cause_of : List ℕ → List Reference → Event → FaultCode → Cause
-cause_of file V (at_page r) P01 = cause.Look (look_at file r.page)
 cause_of file V (at_page r) T05 = option_map_or (λ l. cause.Leaf l.page) (first_leaf file V r) cause.Itself
 cause_of file V (at_page r) O01 = chain_cause file V r (bytes_left (role_of r)) 1 false
-cause_of file V (at_page r) _ = cause.Itself
+cause_of file V (at_page r) code = visit_cause file r code
 cause_of file V (at_key r v cell) T06 = option_map_or (λ k. cause.Key (cell_key k)) (top_before file V (key_of r v cell)) cause.Itself
 cause_of file V (at_key r v cell) _ = cause.Itself
 cause_of file V (at_refused r) _ = refusal_cause file V r

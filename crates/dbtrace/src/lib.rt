@@ -8,7 +8,7 @@ ghost use Rattle.dbtrace.specs.Fold.{IsFold};
 ghost use Rattle.dbtrace.specs.LookBack.{CausesLookBack, FindingsLookBack};
 ghost use Rattle.dbtrace.specs.Steps.{AreAside, HasSteps};
 
-pub use dbformat::{Fault, Look};
+pub use dbformat::{ByteRun, Fault, Look};
 
 /// A key of a cell: its place, and its value.
 #[derive(Clone, Copy, Debug, PartialEq, Eq)]
@@ -45,6 +45,19 @@ pub struct CellChain {
     pub is_in_zeros: bool,
 }
 
+/// What is known of a page with faults. Two causes are compared without it.
+#[derive(Clone, Copy, Debug, PartialEq, Eq)]
+pub struct PageFacts {
+    /// The longest run of one byte, where it has 64 bytes or more: of its usable bytes, or of its content area, and then only if a
+    /// cell begins in it.
+    pub run: Option<ByteRun>,
+}
+
+impl PageFacts {
+    /// Nothing is known.
+    pub const NONE: PageFacts = PageFacts { run: None };
+}
+
 /// What a fault goes back to.
 #[derive(Clone, Copy, Debug, PartialEq, Eq)]
 pub enum Cause {
@@ -56,8 +69,10 @@ pub enum Cause {
     Leaf(u32),
     /// The chain that it breaks.
     Chain(CellChain),
+    /// The page itself, which has it with other faults of its code.
+    Page(u32, PageFacts),
     /// What the page looks like.
-    Look(Look),
+    Look(Look, PageFacts),
 }
 
 /// A part of a report: the header of a file, what is found from a start on, and what is found when all pages have been visited.

@@ -2,8 +2,6 @@
 use Rattle.std.specs.Prelude.{◌≡◌, ℕ, false, pos, List, Option, Some, None, slice_get, IfSome, Bool, [], ◌∷◌, ◌++◌, map, option_to_list, if◌then◌else◌}
 use Rattle.dbformat.specs.Faults.{fault}
 use Rattle.dbformat.specs.Head.{View, undamaged, is_interior, content_start, type_byte}
-use Rattle.dbformat.specs.Looks.{look_at}
-use Rattle.dbformat.specs.declared.Look.{Look}
 use Rattle.dbformat.specs.declared.TreeKind.{TreeKind}
 use Rattle.dbwalk.specs.LeafCells.{HasSpan}
 use Rattle.dbwalk.specs.Walking.{IsOpen}
@@ -20,15 +18,15 @@ use Rattle.dbformat.specs.Story.{at_page}
 use Rattle.dbformat.specs.Rows.{StatRow}
 use Rattle.dbformat.specs.declared.Fault.{Fault}
 use Rattle.dbformat.specs.declared.PageType.TheVariants.{Internal, Leaf, Damaged}
+use Rattle.dbtrace.specs.Causes.{page_cause, visit_cause}
 use Rattle.dbtrace.specs.Finding.{Finding, told_row, told_by}
 use Rattle.dbtrace.specs.Progress.{depth_faults}
 use Rattle.dbtrace.specs.declared.TreeLeaf.{TreeLeaf}
 use Rattle.dbtrace.specs.declared.Cause.{Cause}
 use Rattle.dbtrace.specs.declared.Cause.TheVariants as cause
 use Rattle.dbformat.specs.declared.FaultCode.{FaultCode}
-use Rattle.dbformat.specs.declared.FaultCode.TheVariants.{P01, P02, P03, T05}
+use Rattle.dbformat.specs.declared.FaultCode.TheVariants.{P01, P02, P03, P10, T05}
 use Rattle.dbwalk.specs.LeafCells.{leaf_cause}
-use Rattle.dbwalk.specs.Telling.{findings}
 
 -- the bytes at a level are those of a page
 abbrev pub HasPageAt : List (List ℕ) → ℕ → List ℕ → Type 0
@@ -80,15 +78,22 @@ damaged_row start path page = record {
   counts = no_counts;
 }
 
+-- the cause of a fault within an undamaged page; and the same where the page's is known: only that it has no cells goes back to nothing
+abbrev pub view_cause : View → FaultCode → Cause
+view_cause v = page_cause v.number v.usable v.bytes (Some v)
+
+abbrev pub inner_cause : Cause → FaultCode → Cause
+inner_cause page P10 = cause.Itself
+inner_cause page _ = page
+
 -- what is reported of an undamaged page: its row, and then the faults within it
 abbrev pub undamaged_findings : ℕ → List ℕ → View → Bool → List Finding
-undamaged_findings start path v is_child = told_row (view_row start path v) ∷ findings (inner_faults v is_child)
+undamaged_findings start path v is_child = told_row (view_row start path v) ∷ told_by (view_cause v) (inner_faults v is_child)
 
--- the cause of a fault of a page of a tree, by what it looks like and by the first leaf before it
-abbrev pub page_cause : Look → Option TreeLeaf → FaultCode → Cause
-page_cause look leaf P01 = cause.Look look
-page_cause look leaf T05 = leaf_cause leaf
-page_cause look leaf _ = cause.Itself
+-- the causes of a page, and that of a leaf at another depth, by the first leaf before it
+abbrev pub with_leaf : (FaultCode → Cause) → Option TreeLeaf → FaultCode → Cause
+with_leaf why leaf T05 = leaf_cause leaf
+with_leaf why leaf code = why code
 
 -- the one fault of page p, which is damaged
 abbrev pub damage_fault : ℕ → List ℕ → Damage → Fault
@@ -96,11 +101,11 @@ damage_fault p page damage.UnknownType = fault P01 p 0 (pos (type_byte p page))
 damage_fault p page damage.OtherTree = fault P02 p 0 (pos (type_byte p page))
 damage_fault p page damage.ContentStart = fault P03 p 0 (pos (content_start p page))
 
--- what is reported of a damaged page: its row, and its one fault, by what it looks like
-abbrev pub damaged_findings : ℕ → List ℕ → ℕ → Look → Fault → List Finding
-damaged_findings start path page look damage = told_row (damaged_row start path page) ∷ told_by (page_cause look None) (damage ∷ [])
+-- what is reported of a damaged page: its row, and its one fault, by its bytes
+abbrev pub damaged_findings : ℕ → List ℕ → ℕ → ℕ → List ℕ → Fault → List Finding
+damaged_findings start path page usable bytes damage = told_row (damaged_row start path page) ∷ told_by (page_cause page usable bytes None) (damage ∷ [])
 
 -- what is reported of the visit of a page of a tree: its row, and its faults, by the first leaf before it
 abbrev pub page_findings : List ℕ → Option TreeLeaf → Reference → List Finding
 page_findings file leaf c = map told_row (option_to_list (event_row file (at_page c)))
-    ++ told_by (page_cause (look_at file c.page) leaf) (page_faults file [] c ++ depth_faults file leaf c)
+    ++ told_by (with_leaf (visit_cause file c) leaf) (page_faults file [] c ++ depth_faults file leaf c)

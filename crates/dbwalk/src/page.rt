@@ -1,19 +1,22 @@
 // The faults within one page of a tree (Database File Format, 1.6).
-ghost use Rattle.std.specs.Prelude.{◌≡◌, ℕ, ◌≤◌, ◌<◌, ◌==◌, length, None, Some, [], ◌∷◌, Bool, IsOk, IfOk, MatchResult};
-ghost use Rattle.std.specs.List.{flat_map};
+ghost use Rattle.std.specs.Prelude.{◌≡◌, ℕ, ◌≤◌, ◌<◌, ◌==◌, length, None, Some, [], ◌∷◌, Bool, IsOk, IfOk, IsTrue, MatchResult, is_some};
+ghost use Rattle.std.specs.List.{flat_map, list_any};
 ghost use Rattle.std.specs.Option.{option_to_list};
 ghost use Rattle.dbformat.specs.Cell.{cell, count};
 ghost use Rattle.dbformat.specs.Coverage.{coverage};
 ghost use Rattle.dbformat.specs.Head.{tree_of, is_same_tree, undamaged};
 ghost use Rattle.dbformat.specs.PageFaults.{fragment_fault, cell_fault, cell_faults, freeblock_fault};
 ghost use Rattle.dbformat.specs.PageFaults.{coverage_fault, empty_fault, inner_faults, tree_page_faults};
-ghost use Rattle.dbwalk.specs.Found.{damage_fault, page_cause};
-ghost use Rattle.dbformat.specs.Looks.{look_of};
-ghost use Rattle.dbwalk.specs.Telling.{IsReportedTo, findings};
+ghost use Rattle.dbformat.specs.Runs.{content_run};
+ghost use Rattle.dbtrace.specs.Causes.{page_cause, with_run};
+ghost use Rattle.dbtrace.specs.Finding.{told_by};
+ghost use Rattle.dbtrace.specs.declared.Cause.TheVariants as cause;
+ghost use Rattle.dbwalk.specs.Found.{damage_fault, inner_cause, view_cause};
+ghost use Rattle.dbwalk.specs.Telling.{IsReportedTo};
 
-use crate::{Cause, Sink};
-use dbformat::{CellFault, Coverage, Fault, FaultCode, HeadFault, PageKind, TreeKind};
-use dbpage::{PageView, content_start, look_of, type_byte, uncounted_coverage};
+use crate::{Cause, PageFacts, Sink};
+use dbformat::{CellFault, Coverage, Fault, FaultCode, HeadFault, Look, PageKind, TreeKind};
+use dbpage::{PageView, content_start, look_of, type_byte, uncounted_coverage, usable_run};
 use dbsource::WriteFailed;
 
 /// Why a page of a tree is damaged.
@@ -81,16 +84,57 @@ pub(crate) fn damage_fault(page: &[u8], number: u32, damage: Damage) -> Fault
     }
 }
 
-/// What this fault goes back to: for a page of an unknown type it is what the page looks like.
+/// What this fault goes back to: the page, or for a page of an unknown type what it looks like; and the longest run of one byte.
 pub(crate) fn damage_cause(page: &[u8], number: u32, usable: u32, damage: Damage) -> Cause
     requires whole { usable ≤ length page.now }
     requires least { 480 ≤ usable }
     requires most { usable ≤ 65536 }
-    ensures { result ≡ page_cause (look_of number usable page.now) None (damage_fault number page.now damage).code }
+    ensures { result ≡ page_cause number usable page.now None (damage_fault number page.now damage).code }
 {
-    match damage {
-        Damage::UnknownType => Cause::Look(look_of(page, number, usable)),
-        Damage::OtherTree | Damage::ContentStart => Cause::Itself,
+    let run = match damage {
+        Damage::UnknownType => return look_cause(page, number, usable),
+        Damage::OtherTree => None,
+        Damage::ContentStart => usable_run(page, usable),
+    };
+    Cause::Page(number, PageFacts { run })
+}
+
+// What a page of an unknown type goes back to.
+fn look_cause(page: &[u8], number: u32, usable: u32) -> Cause
+    requires whole { usable ≤ length page.now }
+    requires least { 480 ≤ usable }
+    requires most { usable ≤ 65536 }
+    ensures { result ≡ page_cause number usable page.now None FaultCode.P01 }
+{
+    let look = look_of(page, number, usable);
+    let run = match look {
+        Look::Blank(_) => None,
+        Look::Tree(_) | Look::Other(_) => usable_run(page, usable),
+    };
+    Cause::Look(look, PageFacts { run })
+}
+
+// What the faults within an undamaged page go back to: the page, and its longest run of one byte in which a cell begins.
+fn cause_within(view: &PageView<'_>, number: u32) -> Cause
+    requires most { view.now.usable ≤ 65536 }
+    ensures { result ≡ cause.Page number (with_run (content_run view.now)) }
+{
+    Cause::Page(
+        number,
+        PageFacts {
+            run: view.content_run(),
+        },
+    )
+}
+
+// The same, where one of these faults was found. A sound page is not looked at.
+fn cause_found(view: &PageView<'_>, number: u32, found: &[Option<Fault>; 3]) -> Cause
+    requires most { view.now.usable ≤ 65536 }
+    ensures { IsTrue (list_any is_some found.now) → result ≡ cause.Page number (with_run (content_run view.now)) }
+{
+    match found {
+        [None, None, None] => Cause::Itself,
+        _ => cause_within(view, number),
     }
 }
 
@@ -119,16 +163,18 @@ pub(crate) fn tell_inner<K: Sink>(
     sink: &mut K,
 ) -> Result<(), WriteFailed>
     requires number { number ≡ view.now.number }
+    requires most { view.now.usable ≤ 65536 }
     requires room { view.now.usable ≤ length uses.old }
-    ensures { IsReportedTo K.takes K.drops K.held result sink.old (findings (inner_faults view.now is_child)) sink.new }
+    ensures { IsReportedTo K.takes K.drops K.held result sink.old (told_by (view_cause view.now) (inner_faults view.now is_child)) sink.new }
 {
-    tell_found(fragment_fault(view, number), sink)?;
-    let are_cells_good = tell_cells(view, number, sink)?;
+    let cause = cause_within(view, number);
+    tell_found(fragment_fault(view, number), &cause, sink)?;
+    let are_cells_good = tell_cells(view, number, &cause, sink)?;
     let freeblock = freeblock_fault(view, number);
     let is_good = are_cells_good & freeblock.is_none();
     let coverage = coverage_fault(view, number, is_good, uses);
     let empty = empty_fault(view, number, is_child);
-    tell_each(&[freeblock, coverage, empty], sink)
+    tell_each(&[freeblock, coverage, empty], &cause, sink)
 }
 
 /// Reports the faults within an undamaged page whose cells are all readable and of which no byte is held twice. `unheld` is the
@@ -147,34 +193,45 @@ pub(crate) fn tell_readable<K: Sink>(
     requires number { number ≡ view.now.number }
     requires cells { (i : ℕ) → i < count view.now → IsOk (cell view.now i) }
     requires unheld { coverage view.now ≡ Coverage.Unheld unheld }
-    ensures { IsReportedTo K.takes K.drops K.held result sink.old (findings (inner_faults view.now is_child)) sink.new }
+    requires most { view.now.usable ≤ 65536 }
+    ensures { IsReportedTo K.takes K.drops K.held result sink.old (told_by (view_cause view.now) (inner_faults view.now is_child)) sink.new }
 {
+    let fragments = fragment_fault(view, number);
     let freeblock = freeblock_fault(view, number);
     let coverage = unheld_fault(view, number, freeblock.is_none(), unheld);
     let empty = empty_fault(view, number, is_child);
-    tell_each(
-        &[fragment_fault(view, number), freeblock, coverage, empty],
-        sink,
-    )
+    let cause = cause_found(view, number, &[fragments, freeblock, coverage]);
+    tell_each(&[fragments, freeblock, coverage, empty], &cause, sink)
 }
 
 // Reports those of these faults that are there.
-fn tell_each<K: Sink>(faults: &[Option<Fault>], sink: &mut K) -> Result<(), WriteFailed>
-    ensures { IsReportedTo K.takes K.drops K.held result sink.old (findings (flat_map option_to_list faults.now)) sink.new }
+fn tell_each<K: Sink>(
+    faults: &[Option<Fault>],
+    cause: &Cause,
+    sink: &mut K,
+) -> Result<(), WriteFailed>
+    ensures { IsReportedTo K.takes K.drops K.held result sink.old (told_by (inner_cause cause.now) (flat_map option_to_list faults.now)) sink.new }
 {
     for found in faults {
-        tell_found(*found, sink)?;
+        tell_found(*found, cause, sink)?;
     }
     Ok(())
 }
 
-// Reports a fault, if there is one.
-fn tell_found<K: Sink>(found: Option<Fault>, sink: &mut K) -> Result<(), WriteFailed>
-    ensures { IsReportedTo K.takes K.drops K.held result sink.old (findings (option_to_list found)) sink.new }
+// Reports a fault within a page, if there is one. That there are no cells goes back to nothing else.
+fn tell_found<K: Sink>(
+    found: Option<Fault>,
+    cause: &Cause,
+    sink: &mut K,
+) -> Result<(), WriteFailed>
+    ensures { IsReportedTo K.takes K.drops K.held result sink.old (told_by (inner_cause cause.now) (option_to_list found)) sink.new }
 {
-    match found {
-        Some(fault) => sink.fault(&fault, &Cause::Itself),
-        None => Ok(()),
+    let Some(fault) = found else {
+        return Ok(());
+    };
+    match fault.code {
+        FaultCode::P10 => sink.fault(&fault, &Cause::Itself),
+        _ => sink.fault(&fault, cause),
     }
 }
 
@@ -191,14 +248,19 @@ fn fragment_fault(view: &PageView<'_>, number: u32) -> Option<Fault>
 }
 
 // Reports each cell that is not readable; true if all are.
-fn tell_cells<K: Sink>(view: &PageView<'_>, number: u32, sink: &mut K) -> Result<bool, WriteFailed>
+fn tell_cells<K: Sink>(
+    view: &PageView<'_>,
+    number: u32,
+    cause: &Cause,
+    sink: &mut K,
+) -> Result<bool, WriteFailed>
     requires { number ≡ view.now.number }
-    ensures told { IsReportedTo K.takes K.drops K.held result sink.old (findings (cell_faults view.now)) sink.new }
+    ensures told { IsReportedTo K.takes K.drops K.held result sink.old (told_by (inner_cause cause.now) (cell_faults view.now)) sink.new }
     ensures good { IfOk result (λ good. good ≡ (length (cell_faults view.now) == 0)) }
 {
     let mut good = true;
     for i in 0..view.cells() {
-        good &= tell_cell(view, number, i, sink)?;
+        good &= tell_cell(view, number, i, cause, sink)?;
     }
     Ok(good)
 }
@@ -208,11 +270,12 @@ fn tell_cell<K: Sink>(
     view: &PageView<'_>,
     number: u32,
     i: u32,
+    cause: &Cause,
     sink: &mut K,
 ) -> Result<bool, WriteFailed>
     requires number { number ≡ view.now.number }
     requires cell { i < count view.now }
-    ensures told { IsReportedTo K.takes K.drops K.held result sink.old (findings (cell_fault view.now i)) sink.new }
+    ensures told { IsReportedTo K.takes K.drops K.held result sink.old (told_by (inner_cause cause.now) (cell_fault view.now i)) sink.new }
     ensures good { IfOk result (λ good. good ≡ (length (cell_fault view.now i) == 0)) }
 {
     let code = match view.cell(i) {
@@ -220,10 +283,8 @@ fn tell_cell<K: Sink>(
         Err(CellFault::Offset) => FaultCode::P05,
         Err(CellFault::Unreadable) => FaultCode::P06,
     };
-    sink.fault(
-        &Fault::new(code, number, i, view.pointer(i)),
-        &Cause::Itself,
-    )?;
+    let fault = Fault::new(code, number, i, view.pointer(i));
+    tell_found(Some(fault), cause, sink)?;
     Ok(false)
 }
 

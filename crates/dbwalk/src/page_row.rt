@@ -2,7 +2,6 @@
 ghost use Rattle.std.specs.Prelude.{◌≡◌, ◌≤◌, length, IfOk, IfSome};
 ghost use Rattle.dbwalk.specs.LeafCells.{HasSpan};
 ghost use Rattle.dbwalk.specs.Found.{damage_fault, undamaged_findings, damaged_findings};
-ghost use Rattle.dbformat.specs.Looks.{look_of};
 ghost use Rattle.dbwalk.specs.Telling.{IsReportedTo};
 ghost use Rattle.dbformat.specs.Cell.{cells};
 ghost use Rattle.dbpage.specs.Packed.{payload_of, greatest_of};
@@ -98,7 +97,7 @@ pub(crate) fn tell_damaged<K: Sink>(
     requires least { 480 ≤ usable }
     requires most { usable ≤ 65536 }
     ensures { IsReportedTo K.takes K.drops K.held result sink.old (damaged_findings place.now.start place.now.path.now place.now.page
-        (look_of place.now.page usable bytes.now) (damage_fault place.now.page bytes.now damage)) sink.new }
+        usable bytes.now (damage_fault place.now.page bytes.now damage)) sink.new }
 {
     sink.row(&Row {
         start: place.start,

@@ -1,7 +1,6 @@
 -- What is reported of a page, as the program reports it.
 use Rattle.std.proofs.Common.{◌≡◌, ℕ, Bool, true, false, List, [], ◌∷◌, ◌++◌, map, Option, Some, None, refl, ap, ◌∙◌, zero, suc, ◌+◌, ◌-◌, ◌<◌, ◌&&◌, length, Result, Ok, Err, sym, subst, arith, append_assoc, inl, inr, max, fold, sum_by, cond, append-nil, Less, Equal, Greater, ◌≤◌}
 use Rattle.std.specs.Prelude.{option_to_list, option_and_then, flat_map, ◌==◌, filter_map, option_map, IsSomeAnd, IfSome, IsOk}
-use Rattle.std.proofs.lemmas.List.{map-append}
 use Rattle.dbformat.specs.Header.{usable_size}
 use Rattle.dbformat.specs.File.{page_bytes}
 use Rattle.dbformat.specs.Address.{start_of, child_path, chain_place}
@@ -11,22 +10,21 @@ use Rattle.dbformat.specs.PageFaults.{tree_page_faults, depth_fault, role_faults
 use Rattle.dbformat.specs.Rows.{tree_page_row, row_in}
 use Rattle.dbformat.specs.declared.Fault.{Fault}
 use Rattle.dbformat.specs.declared.TreeKind.{TreeKind}
-use Rattle.dbtrace.specs.Causes.{chain_cause}
-use Rattle.dbtrace.specs.Finding.{told_row, told_alone, told_by, Finding}
+use Rattle.dbtrace.specs.Causes.{chain_cause, page_cause, visit_cause, with_run}
+use Rattle.dbformat.specs.Runs.{content_run}
+use Rattle.dbtrace.specs.Finding.{told_row, told_by, Finding}
 use Rattle.dbtrace.specs.Progress.{Progress, cause_by, depth_faults}
 use Rattle.dbtrace.specs.declared.Cause.{Cause}
+use Rattle.dbtrace.specs.declared.Cause.TheVariants as cause
 use Rattle.dbtrace.specs.declared.TreeLeaf.{TreeLeaf}
 use Rattle.dbformat.specs.declared.FaultCode.{FaultCode}
 use Rattle.dbformat.specs.Story.{at_page}
-use Rattle.dbformat.specs.Looks.{look_at}
-use Rattle.dbformat.specs.declared.Look.{Look}
-use Rattle.dbtrace.proofs.Causing.{IsOfPage, told_by-append, tree_same, page_same}
+use Rattle.dbtrace.proofs.Causing.{inner_codes, inner_same, told_by-append, tree_same, page_same}
 use Rattle.dbtrace.proofs.Depths.{no_depth, told_same as told_alike}
-use Rattle.dbtrace.proofs.Folding.{page_of_progress}
-use Rattle.dbwalk.specs.Found.{view_row, damaged_row, page_cause, page_findings}
-use Rattle.dbwalk.specs.Telling.{findings, IsReportedTo, HasFailed, SinkState}
-use Rattle.std.specs.List.{range_with_len, cons_option}
-use Rattle.std.specs.Option.{is_none}
+use Rattle.dbwalk.specs.Found.{view_row, damaged_row, inner_cause, view_cause, with_leaf, page_findings}
+use Rattle.dbwalk.specs.Telling.{IsReportedTo, HasFailed, SinkState}
+use Rattle.std.specs.List.{range_with_len, cons_option, list_any}
+use Rattle.std.specs.Option.{is_none, is_some}
 use Rattle.std.proofs.lemmas.Grind.{common_steps, flat_map-append}
 use Rattle.std.proofs.lemmas.Bool.Decides.{nat_tests}
 use Rattle.dbsurvey.proofs.Moving.{Moves-append, stops_first, stops_after}
@@ -50,19 +48,19 @@ is_child (child kind) = true
 is_child _ = false
 
 -- by the progress of a walk the faults of the page have the same causes
-pub page_of_look : (look : Look) (leaf : Option TreeLeaf) → IsOfPage (page_cause look leaf)
-page_of_look look leaf = refl
-
 pub page_causes : (file : List ℕ) (U : List Reference) (p : Progress) (c : Reference) {kind : TreeKind} → tree_kind (role_of c) ≡ Some kind
-    → told_by (cause_by file U p (at_page c)) (page_faults file [] c ++ depth_faults file p.leaf c) ≡ told_by (page_cause (look_at file c.page) p.leaf) (page_faults file [] c ++ depth_faults file p.leaf c)
+    → told_by (cause_by file U p (at_page c)) (page_faults file [] c ++ depth_faults file p.leaf c) ≡ told_by (with_leaf (visit_cause file c) p.leaf) (page_faults file [] c ++ depth_faults file p.leaf c)
 page_causes file U p c {kind} role =
     told_by-append why (page_faults file [] c) (depth_faults file p.leaf c)
-    ∙ ap (λ L. L ++ told_by why (depth_faults file p.leaf c)) (page_same file why (page_cause (look_at file c.page) p.leaf) (page_of_progress file U p c) (page_of_look (look_at file c.page) p.leaf) refl (ap (λ o. chain_cause file U c o 1 false) (no_chain (role_of c) role)) refl c)
-    ∙ ap (λ L. told_by (page_cause (look_at file c.page) p.leaf) (page_faults file [] c) ++ L) (told_alike why (page_cause (look_at file c.page) p.leaf) _ _ refl)
-    ∙ sym (told_by-append (page_cause (look_at file c.page) p.leaf) (page_faults file [] c) (depth_faults file p.leaf c))
+    ∙ ap (λ L. L ++ told_by why (depth_faults file p.leaf c)) (page_same why other refl file (ap (λ o. chain_cause file U c o 1 false) (no_chain (role_of c) role)) refl c)
+    ∙ ap (λ L. told_by other (page_faults file [] c) ++ L) (told_alike why other _ _ refl)
+    ∙ sym (told_by-append other (page_faults file [] c) (depth_faults file p.leaf c))
   where
     why : FaultCode → Cause
     why = cause_by file U p (at_page c)
+
+    other : FaultCode → Cause
+    other = with_leaf (visit_cause file c) p.leaf
 
     no_chain : (r : Role) → tree_kind r ≡ Some kind → bytes_left r ≡ None
     no_chain (root k) e = refl
@@ -109,16 +107,17 @@ module _ (file : List ℕ) (c : Reference) (kind : TreeKind) (role : tree_kind (
 
   -- its row first, and then its faults: those within it, and that of its depth
   pub page_told : (leaf : Option TreeLeaf) (o : Option View) → tree_view file c ≡ o
-      → page_findings file leaf c ≡ (told_row (tree_page_row c o) ∷ told_by (page_cause (look_at file c.page) None) (tree_page_faults kind (is_child (role_of c)) c.page (usable_size file) (page_bytes file c.page))) ++ told_by (page_cause (look_at file c.page) leaf) (depth_faults file leaf c)
+      → page_findings file leaf c ≡ (told_row (tree_page_row c o) ∷ told_by (page_cause c.page (usable_size file) (page_bytes file c.page) o) (tree_page_faults kind (is_child (role_of c)) c.page (usable_size file) (page_bytes file c.page)))
+      ++ told_by (with_leaf (visit_cause file c) leaf) (depth_faults file leaf c)
   page_told leaf o f =
-      let look = look_at file c.page in
-      let why = page_cause look leaf in
+      let why = with_leaf (visit_cause file c) leaf in
       let fs = tree_page_faults kind (is_child (role_of c)) c.page (usable_size file) (page_bytes file c.page) in
+      let last = told_by why (depth_faults file leaf c) in
       ap (λ r. map told_row (option_to_list r) ++ told_by why (page_faults file [] c ++ depth_faults file leaf c)) (row_is o f)
       ∙ ap (λ fs. told_row (tree_page_row c o) ∷ told_by why (fs ++ depth_faults file leaf c)) faults_are
       ∙ ap (λ L. told_row (tree_page_row c o) ∷ L) (told_by-append why fs (depth_faults file leaf c))
-      ∙ ap (λ L. told_row (tree_page_row c o) ∷ (L ++ told_by why (depth_faults file leaf c)))
-      (tree_same why (page_cause look None) (page_of_look look leaf) (page_of_look look None) refl kind (is_child (role_of c)) c.page (usable_size file) (page_bytes file c.page))
+      ∙ ap (λ L. told_row (tree_page_row c o) ∷ (L ++ last)) (tree_same why (visit_cause file c) refl kind (is_child (role_of c)) c.page (usable_size file) (page_bytes file c.page))
+      ∙ ap (λ o'. told_row (tree_page_row c o) ∷ (told_by (page_cause c.page (usable_size file) (page_bytes file c.page) o') fs ++ last)) f
 
 -- the rows, where the address has no chain
 pub row_of_view : (c : Reference) (v : View) (start : ℕ) (path : List ℕ) → start_of c.address ≡ start → child_path c.address ≡ path → chain_place c.address ≡ None → v.number ≡ c.page → view_row start path v ≡ tree_page_row c (Some v)
@@ -153,11 +152,11 @@ told_ok b (Ok a) e h = record { items = h.items; count = h.count }
 told_ok b (Err a) e h = cc
 
 -- the same of faults
-pub faults_then : {S A B E : Type 0} {takes drops : S → Finding → S → Type 0} {held : S → SinkState} {a : A} (r0 : Result A E) (r : Result B E) {s m t : S} (L M : List Fault) → r0 ≡ Ok a → IsReportedTo takes drops held r0 s (findings L) m → IsReportedTo takes drops held r m (findings M) t → IsReportedTo takes drops held r s (findings (L ++ M)) t
-faults_then {takes = takes} {drops = drops} {held = held} r0 r {s} {m} {t} L M e h k = subst (λ l. IsReportedTo takes drops held r s l t) (sym (map-append told_alone L M)) (told_then r0 r (findings L) (findings M) e h k)
+pub faults_then : (why : FaultCode → Cause) {S A B E : Type 0} {takes drops : S → Finding → S → Type 0} {held : S → SinkState} {a : A} (r0 : Result A E) (r : Result B E) {s m t : S} (L M : List Fault) → r0 ≡ Ok a → IsReportedTo takes drops held r0 s (told_by why L) m → IsReportedTo takes drops held r m (told_by why M) t → IsReportedTo takes drops held r s (told_by why (L ++ M)) t
+faults_then why {takes = takes} {drops = drops} {held = held} r0 r {s} {m} {t} L M e h k = subst (λ l. IsReportedTo takes drops held r s l t) (sym (told_by-append why L M)) (told_then r0 r (told_by why L) (told_by why M) e h k)
 
-pub faults_stop : {S A B E F : Type 0} {takes drops : S → Finding → S → Type 0} {held : S → SinkState} {e : E} {f : F} (r0 : Result A E) (r : Result B F) {s t : S} (L rest fs : List Fault) → L ++ rest ≡ fs → r0 ≡ Err e → r ≡ Err f → IsReportedTo takes drops held r0 s (findings L) t → IsReportedTo takes drops held r s (findings fs) t
-faults_stop {takes = takes} {drops = drops} {held = held} r0 r {s} {t} L rest fs whole e f h = subst (λ l. IsReportedTo takes drops held r s l t) (sym (map-append told_alone L rest) ∙ ap findings whole) (told_stop r0 r (findings L) (findings rest) e f h)
+pub faults_stop : (why : FaultCode → Cause) {S A B E F : Type 0} {takes drops : S → Finding → S → Type 0} {held : S → SinkState} {e : E} {f : F} (r0 : Result A E) (r : Result B F) {s t : S} (L rest fs : List Fault) → L ++ rest ≡ fs → r0 ≡ Err e → r ≡ Err f → IsReportedTo takes drops held r0 s (told_by why L) t → IsReportedTo takes drops held r s (told_by why fs) t
+faults_stop why {takes = takes} {drops = drops} {held = held} r0 r {s} {t} L rest fs whole e f h = subst (λ l. IsReportedTo takes drops held r s l t) (sym (told_by-append why L rest) ∙ ap (told_by why) whole) (told_stop r0 r (told_by why L) (told_by why rest) e f h)
 
 -- one element more of a range
 
@@ -188,6 +187,25 @@ none_more (f ∷ fs) gs = some (length (fs ++ gs)) ∙ ap (λ b. b && (length gs
 pub none_found : (found : Option Fault) (fs : List Fault) → option_to_list found ≡ fs → is_none found ≡ (length fs == 0)
 none_found None fs e = ap (λ l. length l == 0) e
 none_found (Some f) fs e = let some : false ≡ (1 == 0) = grind (arith, nat_tests) in some ∙ ap (λ l. length l == 0) e
+
+-- What is reported of the faults within a page, where their cause is that of the page.
+pub inner_told : (v : View) (number : ℕ) (is_child : Bool) → number ≡ v.number → (why : Cause) → why ≡ cause.Page number (with_run (content_run v))
+    → told_by (inner_cause why) (inner_faults v is_child) ≡ told_by (view_cause v) (inner_faults v is_child)
+inner_told v number is_child n why e =
+    inner_same (inner_cause why) (view_cause v) (ap (λ w. map (inner_cause w) inner_codes) (e ∙ ap (λ q. cause.Page q (with_run (content_run v))) n)) v is_child
+
+-- that a page has no cells goes back to nothing
+pub empty_told : (v : View) (is_child : Bool) (empty : Option Fault) → option_to_list empty ≡ empty_fault v is_child → (x y : Cause)
+    → told_by (inner_cause x) (option_to_list empty) ≡ told_by (inner_cause y) (option_to_list empty)
+empty_told v is_child empty e x y = ap (told_by (inner_cause x)) e ∙ told_alike (inner_cause x) (inner_cause y) _ _ refl ∙ sym (ap (told_by (inner_cause y)) e)
+
+-- The cause of a page without other faults does not matter.
+pub cause_unused : (x y : Cause) (a b c d : Option Fault) → ((list_any is_some (a ∷ b ∷ c ∷ [])) ≡ true → x ≡ y) → told_by (inner_cause x) (option_to_list d) ≡ told_by (inner_cause y) (option_to_list d)
+    → told_by (inner_cause x) (flat_map option_to_list (a ∷ b ∷ c ∷ d ∷ [])) ≡ told_by (inner_cause y) (flat_map option_to_list (a ∷ b ∷ c ∷ d ∷ []))
+cause_unused x y None None None d h k = ap (told_by (inner_cause x)) (append-nil (option_to_list d)) ∙ k ∙ sym (ap (told_by (inner_cause y)) (append-nil (option_to_list d)))
+cause_unused x y None None (Some c) d h k = ap (λ z. told_by (inner_cause z) (c ∷ (option_to_list d ++ []))) (h refl)
+cause_unused x y None (Some b) c d h k = ap (λ z. told_by (inner_cause z) (b ∷ (option_to_list c ++ (option_to_list d ++ [])))) (h refl)
+cause_unused x y (Some a) b c d h k = ap (λ z. told_by (inner_cause z) (a ∷ (option_to_list b ++ (option_to_list c ++ (option_to_list d ++ []))))) (h refl)
 
 -- What was found of a page whose cells have the faults cs: it is all of them.
 pub inner_found : (v : View) (is_child good : Bool) (fragments freeblock coverage empty : Option Fault) (cs : List Fault) → cell_faults v ≡ cs

@@ -1,5 +1,5 @@
 -- What is reported of a page, by what a program finds of it.
-use Rattle.std.proofs.Common.{◌≡◌, ℕ, ◌+◌, true, false, not, ◌&&◌, cond, List, [], ◌∷◌, ◌++◌, length, Option, Some, None, refl, sym, ap, arith, ◌∙◌, Bool, Result, Ok, Err, subst, ◌-◌}
+use Rattle.std.proofs.Common.{◌≡◌, ℕ, ◌+◌, true, false, not, ◌&&◌, cond, List, [], ◌∷◌, ◌++◌, length, map, Option, Some, None, refl, sym, ap, arith, ◌∙◌, Bool, Result, Ok, Err, subst, ◌-◌}
 use Rattle.std.specs.Prelude.{nat_lt, pos, ◌==◌, OnOk, slice_get}
 use Rattle.std.specs.Option.{option_map_or}
 use Rattle.std.proofs.lemmas.List.{append-nil}
@@ -9,8 +9,6 @@ use Rattle.dbformat.specs.File.{page_bytes}
 use Rattle.dbformat.specs.Address.{start_of, depth}
 use Rattle.dbformat.specs.Head.{View, undamaged, is_interior}
 use Rattle.dbformat.specs.Faults.{fault}
-use Rattle.dbformat.specs.Looks.{look_at, look_of}
-use Rattle.dbformat.specs.declared.Look.{Look}
 use Rattle.dbformat.specs.Tests.{told_if}
 use Rattle.dbformat.specs.Reference.{Reference, role_of, tree_kind, tree_view}
 use Rattle.dbformat.specs.PageFaults.{inner_faults, tree_page_faults, is_leaf_of}
@@ -18,18 +16,18 @@ use Rattle.dbformat.specs.Rows.{tree_page_row}
 use Rattle.dbformat.specs.declared.Fault.{Fault}
 use Rattle.dbformat.specs.declared.FaultCode.TheVariants.{T05}
 use Rattle.dbformat.specs.declared.TreeKind.{TreeKind}
-use Rattle.dbtrace.specs.Causes.{leaf_at}
+use Rattle.dbtrace.specs.Causes.{leaf_at, page_cause, visit_cause}
 use Rattle.dbtrace.specs.Finding.{told_row, told_fault, told_by, Finding}
 use Rattle.dbtrace.specs.declared.Cause.{Cause}
 use Rattle.dbtrace.specs.declared.TreeLeaf.{TreeLeaf}
 use Rattle.dbformat.specs.declared.FaultCode.{FaultCode}
 use Rattle.dbtrace.specs.Progress.{leaf_after, depth_faults, depth_of}
 use Rattle.dbwalk.specs.LeafCells.{first_of, depth_told}
-use Rattle.dbwalk.specs.Found.{undamaged_findings, page_cause, page_findings, damaged_findings, HasPageAt, IsDamagedAt, IsOpenLeaf}
-use Rattle.dbwalk.specs.Telling.{findings, IsReportedTo, SinkState}
+use Rattle.dbwalk.specs.Found.{undamaged_findings, damaged_row, view_cause, with_leaf, page_findings, damaged_findings, HasPageAt, IsDamagedAt, IsOpenLeaf}
+use Rattle.dbwalk.specs.Telling.{IsReportedTo, SinkState}
 use Rattle.dbwalk.specs.Walking.{IsCandidate, role_at, IsOpen, IsLeafAt}
-use Rattle.dbtrace.proofs.Causing.{inner_alone}
-use Rattle.dbwalk.proofs.Pages.PageTellings.{is_child, page_of_look, page_told, view_is, row_of_view, row_of_damage, told_then, told_stop, told_same, told_ok}
+use Rattle.dbtrace.proofs.Causing.{inner_codes, inner_same}
+use Rattle.dbwalk.proofs.Pages.PageTellings.{is_child, page_told, view_is, row_of_view, row_of_damage, told_then, told_stop, told_same, told_ok}
 use Rattle.dbsurvey.specs.Traverse.{is_followed}
 use Rattle.dbformat.specs.Survey.{rules_of}
 use Rattle.dbtrace.specs.Walk.{Walk}
@@ -49,13 +47,13 @@ told_once why true f = refl
 told_once why false f = refl
 
 -- a leaf has one if its depth is not that of the first leaf; if there is none yet, it is the first itself
-at_leaf : (file : List ℕ) (look : Look) (leaf : Option TreeLeaf) (c : Reference) (n : ℕ) → is_leaf_of file (start_of c.address) c ≡ true → depth c.address ≡ n
-    → (told_by (page_cause look leaf) (depth_faults file leaf c) ≡ depth_told leaf c.page n) × (leaf_after file leaf c ≡ Some (first_of leaf c.page n))
-at_leaf file look leaf c n e d = by_first leaf
+at_leaf : (file : List ℕ) (why : FaultCode → Cause) (leaf : Option TreeLeaf) (c : Reference) (n : ℕ) → is_leaf_of file (start_of c.address) c ≡ true → depth c.address ≡ n
+    → (told_by (with_leaf why leaf) (depth_faults file leaf c) ≡ depth_told leaf c.page n) × (leaf_after file leaf c ≡ Some (first_of leaf c.page n))
+at_leaf file why leaf c n e d = by_first leaf
   where
-    by_first : (leaf : Option TreeLeaf) → (told_by (page_cause look leaf) (depth_faults file leaf c) ≡ depth_told leaf c.page n) × (leaf_after file leaf c ≡ Some (first_of leaf c.page n))
-    by_first (Some m) = (told_once (page_cause look (Some m)) _ _ ∙ rw (e, d) refl, refl)
-    by_first None = (told_once (page_cause look None) _ _ ∙ rw (e, d) refl, rw (e, d) refl)
+    by_first : (leaf : Option TreeLeaf) → (told_by (with_leaf why leaf) (depth_faults file leaf c) ≡ depth_told leaf c.page n) × (leaf_after file leaf c ≡ Some (first_of leaf c.page n))
+    by_first (Some m) = (told_once (with_leaf why (Some m)) _ _ ∙ rw (e, d) refl, refl)
+    by_first None = (told_once (with_leaf why None) _ _ ∙ rw (e, d) refl, rw (e, d) refl)
 
 module _ (file : List ℕ) (kind : TreeKind) (k : ℕ) (path : List ℕ) (p from item : ℕ) (c : Reference) (candidate : IsCandidate kind k path p from item c) where
   role_is : role_of c ≡ role_at kind path
@@ -102,35 +100,38 @@ module _ (file : List ℕ) (kind : TreeKind) (k : ℕ) (path : List ℕ) (p from
   module _ (leaf : Option TreeLeaf) where
     -- a damaged page: its row, and its one fault
     pub told_damaged : (f : Fault) → undamaged kind p (usable_size file) bytes ≡ None → tree_page_faults kind (nat_lt 1 (length path + 1)) p (usable_size file) bytes ≡ f ∷ []
-        → page_findings file leaf c ≡ damaged_findings k path p (look_at file p) f
+        → page_findings file leaf c ≡ damaged_findings k path p (usable_size file) bytes f
     told_damaged f e g =
-        let why = page_cause (look_at file c.page) None in
+        let why = page_cause c.page (usable_size file) (page_bytes file c.page) None in
         page_told file c kind kind_is leaf None (viewed_as None e)
-        ∙ ap (λ fs. (told_row (tree_page_row c None) ∷ told_by why fs) ++ told_by (page_cause (look_at file c.page) leaf) (depth_faults file leaf c)) (faults_as (f ∷ []) g)
-        ∙ ap (λ fs. (told_row (tree_page_row c None) ∷ told_by why (f ∷ [])) ++ told_by (page_cause (look_at file c.page) leaf) fs) (no_leaf file leaf c (leaf_is None e)).0
+        ∙ ap (λ fs. (told_row (tree_page_row c None) ∷ told_by why fs) ++ told_by (with_leaf (visit_cause file c) leaf) (depth_faults file leaf c)) (faults_as (f ∷ []) g)
+        ∙ ap (λ fs. (told_row (tree_page_row c None) ∷ told_by why (f ∷ [])) ++ told_by (with_leaf (visit_cause file c) leaf) fs) (no_leaf file leaf c (leaf_is None e)).0
         ∙ append-nil (told_row (tree_page_row c None) ∷ told_by why (f ∷ []))
         ∙ ap (λ r. told_row r ∷ told_by why (f ∷ [])) (sym (row_of_damage c p k path candidate.start candidate.path candidate.chain candidate.page))
-        ∙ ap (λ q. damaged_findings k path p (look_at file q) f) candidate.page
+        ∙ ap (λ q. told_row (damaged_row k path p) ∷ told_by (page_cause q (usable_size file) (page_bytes file q) None) (f ∷ [])) candidate.page
 
     -- it is no leaf
     pub leaf_after_damaged : undamaged kind p (usable_size file) bytes ≡ None → leaf_after file leaf c ≡ leaf
     leaf_after_damaged e = (no_leaf file leaf c (leaf_is None e)).1
 
     module _ (v : View) (viewed : undamaged kind p (usable_size file) bytes ≡ Some v) (number : v.number ≡ p) (within : tree_page_faults kind (nat_lt 1 (length path + 1)) p (usable_size file) bytes ≡ inner_faults v (nat_lt 1 (length path + 1))) where
-      pub row_and_faults : page_findings file leaf c ≡ undamaged_findings k path v (nat_lt 1 (length path + 1)) ++ told_by (page_cause (look_at file c.page) leaf) (depth_faults file leaf c)
+      pub row_and_faults : page_findings file leaf c ≡ undamaged_findings k path v (nat_lt 1 (length path + 1)) ++ told_by (with_leaf (visit_cause file c) leaf) (depth_faults file leaf c)
       row_and_faults =
-          let look = look_at file c.page in
-          let last = told_by (page_cause look leaf) (depth_faults file leaf c) in
+          let why = page_cause c.page (usable_size file) (page_bytes file c.page) (Some v) in
+          let last = told_by (with_leaf (visit_cause file c) leaf) (depth_faults file leaf c) in
           let child = nat_lt 1 (length path + 1) in
           page_told file c kind kind_is leaf (Some v) (viewed_as (Some v) viewed)
-          ∙ ap (λ fs. (told_row (tree_page_row c (Some v)) ∷ told_by (page_cause look None) fs) ++ last) (faults_as (inner_faults v child) within)
-          ∙ ap (λ L. (told_row (tree_page_row c (Some v)) ∷ L) ++ last) (inner_alone (page_cause look None) (page_of_look look None) v child)
-          ∙ ap (λ r. (told_row r ∷ findings (inner_faults v child)) ++ last) (sym (row_of_view c v k path candidate.start candidate.path candidate.chain (number ∙ sym candidate.page)))
+          ∙ ap (λ fs. (told_row (tree_page_row c (Some v)) ∷ told_by why fs) ++ last) (faults_as (inner_faults v child) within)
+          ∙ ap (λ L. (told_row (tree_page_row c (Some v)) ∷ L) ++ last) (inner_same why (view_cause v) (ap of_page (candidate.page ∙ sym number)) v child)
+          ∙ ap (λ r. (told_row r ∷ told_by (view_cause v) (inner_faults v child)) ++ last) (sym (row_of_view c v k path candidate.start candidate.path candidate.chain (number ∙ sym candidate.page)))
+        where
+          of_page : ℕ → List Cause
+          of_page q = map (page_cause q (usable_size file) (page_bytes file c.page) (Some v)) inner_codes
 
       -- an interior page: its row, and the faults within it
       pub told_interior : is_interior v.kind ≡ true → page_findings file leaf c ≡ undamaged_findings k path v (nat_lt 1 (length path + 1))
       told_interior e = row_and_faults
-          ∙ ap (λ fs. undamaged_findings k path v (nat_lt 1 (length path + 1)) ++ told_by (page_cause (look_at file c.page) leaf) fs) (no_leaf file leaf c (leaf_is (Some v) viewed ∙ ap not e)).0
+          ∙ ap (λ fs. undamaged_findings k path v (nat_lt 1 (length path + 1)) ++ told_by (with_leaf (visit_cause file c) leaf) fs) (no_leaf file leaf c (leaf_is (Some v) viewed ∙ ap not e)).0
           ∙ append-nil (undamaged_findings k path v (nat_lt 1 (length path + 1)))
 
       pub leaf_after_interior : is_interior v.kind ≡ true → leaf_after file leaf c ≡ leaf
@@ -140,10 +141,10 @@ module _ (file : List ℕ) (kind : TreeKind) (k : ℕ) (path : List ℕ) (p from
       pub told_leaf : is_interior v.kind ≡ false → page_findings file leaf c ≡ undamaged_findings k path v (nat_lt 1 (length path + 1)) ++ depth_told leaf p (length path + 1)
       told_leaf e = row_and_faults
           ∙ ap (λ L. undamaged_findings k path v (nat_lt 1 (length path + 1)) ++ L)
-          ((at_leaf file (look_at file c.page) leaf c (length path + 1) (leaf_is (Some v) viewed ∙ ap not e) candidate.depth).0 ∙ ap (λ q. depth_told leaf q (length path + 1)) candidate.page)
+          ((at_leaf file (visit_cause file c) leaf c (length path + 1) (leaf_is (Some v) viewed ∙ ap not e) candidate.depth).0 ∙ ap (λ q. depth_told leaf q (length path + 1)) candidate.page)
 
       pub leaf_after_leaf : is_interior v.kind ≡ false → leaf_after file leaf c ≡ Some (first_of leaf p (length path + 1))
-      leaf_after_leaf e = (at_leaf file (look_at file c.page) leaf c (length path + 1) (leaf_is (Some v) viewed ∙ ap not e) candidate.depth).1 ∙ ap (λ q. Some (first_of leaf q (length path + 1))) candidate.page
+      leaf_after_leaf e = (at_leaf file (visit_cause file c) leaf c (length path + 1) (leaf_is (Some v) viewed ∙ ap not e) candidate.depth).1 ∙ ap (λ q. Some (first_of leaf q (length path + 1))) candidate.page
 
 -- How the report of a page ends.
 
@@ -164,14 +165,12 @@ module _ {S : Type 0} (A E : Type 0) (takes drops : S → Finding → S → Type
   read_faults b fs e = ap (λ u. tree_page_faults kind b p u (page_bytes file p)) (sym usable_is) ∙ ap (λ y. tree_page_faults kind b p usable y) (sym bytes_are) ∙ e
 
   module _ (f : Fault) (none : undamaged kind p usable bytes ≡ None) (one : (b : Bool) → tree_page_faults kind b p usable bytes ≡ f ∷ []) {B : Type 0} (r0 : Result B E) (t : S)
-      (told : IsReportedTo takes drops held r0 s (damaged_findings k path' p (look_of p usable bytes) f) t) where
-    all_told : page_findings file leaf c ≡ damaged_findings k path' p (look_of p usable bytes) f
+      (told : IsReportedTo takes drops held r0 s (damaged_findings k path' p usable bytes f) t) where
+    all_told : page_findings file leaf c ≡ damaged_findings k path' p usable bytes f
     all_told = told_damaged file kind k path p from item c candidate leaf f (seen_as None none) (read_faults (nat_lt 1 (length path + 1)) (f ∷ []) (one (nat_lt 1 (length path + 1))))
-        ∙ ap (λ q. damaged_findings k q p (look_at file p) f) (sym path_is)
-        ∙ ap (λ look. damaged_findings k path' p look f) (sym seen)
-      where
-        seen : look_of p usable bytes ≡ look_at file p
-        seen = ap (λ u. look_of p u bytes) usable_is ∙ ap (look_of p (usable_size file)) bytes_are
+        ∙ ap (λ q. damaged_findings k q p (usable_size file) (page_bytes file p) f) (sym path_is)
+        ∙ ap (λ u. damaged_findings k path' p u (page_bytes file p) f) (sym usable_is)
+        ∙ ap (λ b. damaged_findings k path' p usable b f) (sym bytes_are)
 
     pub exit_damaged : (a : A) {b : B} → r0 ≡ Ok b → Exit (Ok a) t leaf
     exit_damaged a e = (
@@ -200,7 +199,7 @@ module _ {S : Type 0} (A E : Type 0) (takes drops : S → Finding → S → Type
     pub exit_stop : (new : Option TreeLeaf) (r : Result A E) {e x : E} → r0 ≡ Err e → r ≡ Err x → Exit r t new
     exit_stop new r e f = (
       subst (λ L. IsReportedTo takes drops held r s L t) (sym (row_and_faults file kind k path p from item c candidate leaf v there number inner))
-          (told_stop r0 r first_told (told_by (page_cause (look_at file c.page) leaf) (depth_faults file leaf c)) e f told_first),
+          (told_stop r0 r first_told (told_by (with_leaf (visit_cause file c) leaf) (depth_faults file leaf c)) e f told_first),
       on_err _ r f,
     )
 
