@@ -305,7 +305,7 @@ text_is c xs x o is e = by_cause c
         ∙ ap₂ (last_text (counted (length xs))) p.0 p.1
 
     by_cause : (c : Cause) → kept_text c o ≡ belonging_text c xs x
-    by_cause (cause.Look l) =
+    by_cause (cause.Look l facts) =
         ap₂ (λ n m. alike_text l n m ++ shown_runs_text (take o.runs.count o.runs.kept) (o.runs.count - 10)) is.count is.cells
         ∙ ap₂ (λ rs n. alike_text l (counted (length xs)) (counted (cells_in xs)) ++ shown_runs_text rs (n - 10)) is.runs.kept is.runs.count
     by_cause _ = by_place

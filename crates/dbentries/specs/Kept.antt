@@ -43,7 +43,7 @@ run_added r page =
 
 -- how many cells a page has that looks like one of a tree
 abbrev pub look_cells : Cause → ℕ
-look_cells (cause.Look (look.Tree t)) = t.cells
+look_cells (cause.Look (look.Tree t) _) = t.cells
 look_cells _ = 0
 
 -- of one fault alone

@@ -85,4 +85,5 @@ cause_text cause.Itself = []
 cause_text (cause.Key k) = key_text k
 cause_text (cause.Leaf page) = leaf_text page
 cause_text (cause.Chain c) = broken_chain_text c
-cause_text (cause.Look l) = look_text l
+cause_text (cause.Page page facts) = []
+cause_text (cause.Look l facts) = look_text l

@@ -1,11 +1,12 @@
 -- What is listed of the faults of a file with survey V (own): first all that are of no lost page, in their order, and then those of lost
 -- pages, in theirs, which go back to what their pages look like.
-use Rattle.std.specs.Prelude.{◌≡◌, ℕ, not, Bool, true, false, ◌&&◌, List, ◌++◌, map, filter}
+use Rattle.std.specs.Prelude.{◌≡◌, ℕ, not, None, Bool, true, false, ◌&&◌, List, ◌++◌, map, filter}
 use Rattle.dbformat.specs.Looks.{look_at}
 use Rattle.dbformat.specs.Reference.{Reference}
 use Rattle.dbformat.specs.declared.FaultCode.{FaultCode}
 use Rattle.dbformat.specs.declared.FaultCode.TheVariants.{N01}
 use Rattle.dbtrace.specs.declared.Cause.TheVariants as cause
+use Rattle.dbtrace.specs.declared.PageFacts.{PageFacts}
 use Rattle.dbtrace.specs.declared.Part.{Part}
 use Rattle.dbtrace.specs.declared.Part.TheVariants as part
 use Rattle.dbtrace.specs.declared.Reported.{Reported}
@@ -28,9 +29,12 @@ is_lost_code _ = false
 abbrev pub is_lost : Reported → Bool
 is_lost x = is_end x.part && is_lost_code x.fault.code
 
--- it goes back to what the page looks like
+-- it goes back to what the page looks like, and nothing else is known of it
+abbrev pub no_facts : PageFacts
+no_facts = record { run = None }
+
 abbrev pub looked_at : List ℕ → Reported → Reported
-looked_at file x = record x { cause = cause.Look (look_at file x.fault.page) }
+looked_at file x = record x { cause = cause.Look (look_at file x.fault.page) no_facts }
 
 -- ---- all faults
 

@@ -37,10 +37,12 @@ same_look (look.Tree a) (look.Tree b) = same_kind a.kind b.kind
 same_look (look.Other a) (look.Other b) = true
 same_look _ _ = false
 
--- whether two causes are the same: the same cell, or pages that look alike
+-- whether two causes are the same: the same cell or page, or pages that look alike
 abbrev pub same_cause : Cause → Cause → Bool
 same_cause (cause.Key a) (cause.Key b) = (a.page == b.page) && (a.item == b.item)
-same_cause (cause.Look a) (cause.Look b) = same_look a b
+same_cause (cause.Leaf a) (cause.Leaf b) = a == b
+same_cause (cause.Page a _) (cause.Page b _) = a == b
+same_cause (cause.Look a _) (cause.Look b _) = same_look a b
 same_cause _ _ = false
 
 -- how many faults of a code lead in one part, at most

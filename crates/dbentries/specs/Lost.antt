@@ -10,6 +10,7 @@ use Rattle.dbformat.specs.declared.FaultCode.TheVariants.{N01}
 use Rattle.dbtrace.specs.declared.Cause.TheVariants as cause
 use Rattle.dbtrace.specs.declared.Part.TheVariants as part
 use Rattle.dbtrace.specs.declared.Reported.{Reported}
+use Rattle.dbentries.specs.Listed.{no_facts}
 use Rattle.dbentries.specs.Lists.{HoldsFaults, ListsAll, ListsFirst}
 use Rattle.dbentries.specs.Store.{Stored}
 
@@ -19,7 +20,7 @@ is_unreached file V p = not (is_fixed (geometry file) p) && not (is_some (visit_
 
 -- the fault of a lost page
 abbrev pub lost_page : List ℕ → ℕ → Reported
-lost_page file p = record { part = part.End; fault = fault N01 p 0 (pos 0); cause = cause.Look (look_at file p) }
+lost_page file p = record { part = part.End; fault = fault N01 p 0 (pos 0); cause = cause.Look (look_at file p) no_facts }
 
 -- that of page p, if p is lost
 abbrev pub lost_at : List ℕ → List Reference → ℕ → List Reported

@@ -69,7 +69,7 @@ alike_pages_text l others =
 
 -- the faults that belong to one with this cause, and the last of them
 abbrev pub belonging_text : Cause → List Reported → Reported → List ℕ
-belonging_text (cause.Look l) others last = alike_pages_text l others
+belonging_text (cause.Look l facts) others last = alike_pages_text l others
 belonging_text _ others last = last_text (counted (length others)) last.fault.page last.fault.item
 
 -- the faults that belong to an entry, if there are any
@@ -84,7 +84,7 @@ next_run_text i r = if i == 0 then run_text r else codes ", " ++ run_text r
 
 -- the faults that belong to one with this cause
 abbrev pub kept_text : Cause → Others → List ℕ
-kept_text (cause.Look l) o = alike_text l o.count o.cells ++ shown_runs_text (take o.runs.count o.runs.kept) (o.runs.count - 10)
+kept_text (cause.Look l facts) o = alike_text l o.count o.cells ++ shown_runs_text (take o.runs.count o.runs.kept) (o.runs.count - 10)
 kept_text _ o = last_text o.count o.page o.item
 
 -- if there are any

@@ -6,13 +6,15 @@ ghost use Rattle.dbentries.specs.Listing.{most, same_cause, same_kind, same_look
 use dbformat::{FaultCode, Look, PageKind};
 use dbtrace::Cause;
 
-// Whether two causes are the same: the same cell, or pages that look alike.
+// Whether two causes are the same: the same cell or page, or pages that look alike.
 pub(crate) fn same_cause(one: Cause, other: Cause) -> bool
     ensures { result ≡ same_cause one other }
 {
     match (one, other) {
         (Cause::Key(a), Cause::Key(b)) => a.page == b.page && a.item == b.item,
-        (Cause::Look(a), Cause::Look(b)) => same_look(a, b),
+        (Cause::Leaf(a), Cause::Leaf(b)) => a == b,
+        (Cause::Page(a, _), Cause::Page(b, _)) => a == b,
+        (Cause::Look(a, _), Cause::Look(b, _)) => same_look(a, b),
         _ => false,
     }
 }
@@ -46,7 +48,7 @@ pub(crate) fn cells_of(cause: Cause) -> u64
     ensures { result ≡ look_cells cause }
 {
     match cause {
-        Cause::Look(Look::Tree(look)) => u64::from(look.cells),
+        Cause::Look(Look::Tree(look), _) => u64::from(look.cells),
         _ => 0,
     }
 }

@@ -179,10 +179,10 @@ pub fn put_cause<O: Out>(out: &mut O, cause: &Cause) -> Result<(), WriteFailed>
     ensures { Puts result (O.held out.old) (O.held out.new) (cause_text cause.now) }
 {
     match *cause {
-        Cause::Itself => Ok(()),
+        Cause::Itself | Cause::Page(_, _) => Ok(()),
         Cause::Key(key) => out.put(key_text(key).as_slice()),
         Cause::Leaf(page) => out.put(leaf_text(page).as_slice()),
         Cause::Chain(chain) => out.put(chain_text(chain).as_slice()),
-        Cause::Look(look) => put_look(out, look),
+        Cause::Look(look, _) => put_look(out, look),
     }
 }

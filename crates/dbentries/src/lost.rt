@@ -19,7 +19,7 @@ use crate::entries::Entries;
 use dbformat::{Fault, FaultCode};
 use dbscan::Desk;
 use dbsource::{ReadFailed, Source};
-use dbtrace::{Cause, Part, Reported};
+use dbtrace::{Cause, PageFacts, Part, Reported};
 use dbwalk::Mark;
 use std::alloc::Allocator;
 
@@ -84,7 +84,7 @@ impl<A: Allocator> Entries<A> {
         self.add(&Reported {
             part: Part::End,
             fault: lost_fault(page),
-            cause: Cause::Look(look),
+            cause: Cause::Look(look, PageFacts::NONE),
         });
         Ok(())
     }

@@ -6,6 +6,7 @@ ghost use Rattle.dbsource.specs.Failures.{failures_after, is_any};
 ghost use Rattle.dbsource.specs.Outs.{Puts, Writes};
 ghost use Rattle.dbentries.specs.Kept.{kept_of};
 ghost use Rattle.dbentries.specs.Lines.{indented};
+ghost use Rattle.dbentries.specs.Listed.{no_facts};
 ghost use Rattle.dbentries.specs.Listing as listing;
 ghost use Rattle.dbtrace.specs.declared.Cause.TheVariants as cause;
 ghost use Rattle.dbentries.specs.Others.{all_cells_text, alike_text, kept_faults_line, kept_text, last_text, more_pages_text};
@@ -125,7 +126,7 @@ fn alike_text(look: Look, count: u64, cells: u64) -> ArrayVec<u8, 640>
 
 // The pages that look like this one.
 fn pages_text(look: Look, others: &Others) -> ArrayVec<u8, 640>
-    ensures { result.items ≡ indented (kept_text (cause.Look look) others.now) }
+    ensures { result.items ≡ indented (kept_text (cause.Look look no_facts) others.now) }
 {
     let mut line = alike_text(look, others.count, others.cells);
     append_shown_runs(&mut line, &others.runs);
@@ -156,7 +157,7 @@ fn put_kept<O: Out>(out: &mut O, cause: &Cause, others: &Others) -> Result<(), W
         return Ok(());
     }
     match *cause {
-        Cause::Look(look) => out.put(pages_text(look, others).as_slice()),
+        Cause::Look(look, _) => out.put(pages_text(look, others).as_slice()),
         _ => out.put(last_text(others).as_slice()),
     }
 }

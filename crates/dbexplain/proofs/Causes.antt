@@ -12,14 +12,16 @@ use Rattle.dbexplain.specs.Explained.{cause_lines}
 -- what comes after the line of the cause
 abbrev pub after_cause : List ℕ → List Reference → Cause → List ℕ
 after_cause file V (cause.Key k) = place_line file V k.page
+after_cause file V (cause.Leaf page) = place_line file V page
 after_cause file V _ = []
 
 pub cause_parts : (file : List ℕ) (V : List Reference) (c : Cause) → cause_text c ++ after_cause file V c ≡ cause_lines file V c
 cause_parts file V (cause.Key k) = refl
 cause_parts file V cause.Itself = refl
-cause_parts file V (cause.Leaf page) = append-nil (cause_text (cause.Leaf page))
+cause_parts file V (cause.Leaf page) = refl
 cause_parts file V (cause.Chain c) = append-nil (cause_text (cause.Chain c))
-cause_parts file V (cause.Look l) = append-nil (cause_text (cause.Look l))
+cause_parts file V (cause.Page page facts) = refl
+cause_parts file V (cause.Look l facts) = append-nil (cause_text (cause.Look l facts))
 
 -- a put, by what was written and how often the Out failed
 pub put_by : {A E : Type 0} (r : Result A E) (o n : OutState) (text : List ℕ) → Writes r o.bytes n.bytes text → n.failures ≡ failures_after is_any r o.failures → Puts r o n text

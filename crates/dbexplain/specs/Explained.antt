@@ -14,7 +14,7 @@ use Rattle.dbformat.specs.declared.FaultCode.TheVariants.{H06}
 use Rattle.dbtrace.specs.declared.Cause.{Cause}
 use Rattle.dbtrace.specs.declared.Cause.TheVariants as cause
 use Rattle.dbtrace.specs.declared.Reported.{Reported}
-use Rattle.dbentries.specs.Lines.{cause_text, indented, key_text}
+use Rattle.dbentries.specs.Lines.{cause_text, indented, key_text, leaf_text}
 use Rattle.dbentries.specs.Listing.{Entry, entries, size}
 use Rattle.dbentries.specs.Others.{others_text}
 use Rattle.dbentries.specs.Listed.{IsBeginning, listed_entries, listed_faults}
@@ -34,9 +34,10 @@ abbrev pub missing_line : List ℕ → FaultCode → List ℕ
 missing_line file H06 = indented (missing_text ((geometry file).pages + 1) (stated_pages file))
 missing_line file _ = []
 
--- what a fault goes back to; of a key also where its page is
+-- what a fault goes back to; of a key and a leaf also where its page is
 abbrev pub cause_lines : List ℕ → List Reference → Cause → List ℕ
 cause_lines file V (cause.Key k) = key_text k ++ place_line file V k.page
+cause_lines file V (cause.Leaf page) = leaf_text page ++ place_line file V page
 cause_lines file V c = cause_text c
 
 -- the fault line, where the fault is, and the missing pages

@@ -36,7 +36,7 @@ fn put_front<A: Allocator, O: Out>(
     put_missing(out, owners.header, fault.code)
 }
 
-// Puts what a fault goes back to, and of a key where its page is.
+// Puts what a fault goes back to, and of a key and a leaf where its page is.
 fn put_cause_lines<A: Allocator, O: Out>(
     owners: &Owners<'_, A>,
     trees: &mut PageTrees<A>,
@@ -51,6 +51,7 @@ fn put_cause_lines<A: Allocator, O: Out>(
     put_cause(out, cause)?;
     match cause {
         Cause::Key(key) => owners.put_page(trees, out, key.page),
+        Cause::Leaf(page) => owners.put_page(trees, out, *page),
         _ => Ok(()),
     }
 }

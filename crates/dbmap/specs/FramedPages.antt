@@ -33,7 +33,8 @@ cause_page (cause.Key k) = k.page
 cause_page (cause.Leaf page) = page
 cause_page (cause.Chain c) = c.page
 cause_page cause.Itself = 0
-cause_page (cause.Look l) = 0
+cause_page (cause.Page page facts) = 0
+cause_page (cause.Look l facts) = 0
 
 -- the pages of a fault that leads, each with its code: its own, the one that its value names, and that of its cause
 abbrev pub framed_of : Reported → List (ℕ × FaultCode)

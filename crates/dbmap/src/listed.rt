@@ -40,7 +40,7 @@ fn cause_page(cause: Cause) -> u32
         Cause::Key(key) => key.page,
         Cause::Leaf(page) => page,
         Cause::Chain(chain) => chain.page,
-        Cause::Itself | Cause::Look(_) => 0,
+        Cause::Itself | Cause::Page(_, _) | Cause::Look(_, _) => 0,
     }
 }
 

@@ -29,3 +29,15 @@ returns-in-Key-clause-lines g c = λ file V o t.
     subst P (sym c.in-Key.is)
     (puts_then r line (place_line file V key.page) c.in_ok-put_cause.was first
     (put_by r (held c.put_cause.new.out) (held c.put_page.new.out) (place_line file V key.page) (c.put_page.ensures.line file V o t) c.put_page.ensures.count)).held
+
+pub returns-in-Leaf-clause-lines : goal.returns-in-Leaf-clause-lines
+returns-in-Leaf-clause-lines g c = λ file V o t.
+    let held = g.O.Out.held in
+    let page = c.in-Leaf.page.now in
+    let r = c.put_page-in-Leaf.result in
+    let line = cause_text (cause.Leaf page) in
+    let P : Cause → Type 0 = λ why. Writes r (held c.args.out.now).bytes (held c.put_page-in-Leaf.new.out).bytes (cause_lines file V why) in
+    let first : Puts c.put_cause.result (held c.args.out.now) (held c.put_cause.new.out) line = subst (λ why. Puts c.put_cause.result (held c.args.out.now) (held c.put_cause.new.out) (cause_text why)) c.in-Leaf.is c.put_cause.ensures in
+    subst P (sym c.in-Leaf.is)
+    (puts_then r line (place_line file V page) c.in_ok-put_cause.was first
+    (put_by r (held c.put_cause.new.out) (held c.put_page-in-Leaf.new.out) (place_line file V page) (c.put_page-in-Leaf.ensures.line file V o t) c.put_page-in-Leaf.ensures.count)).held

@@ -10,6 +10,7 @@ use Rattle.dbtrace.specs.declared.Part.TheVariants as part
 use Rattle.dbtrace.specs.declared.Reported.{Reported}
 use Rattle.dbsource.proofs.Logs.{asks_weaker, has_none}
 use Rattle.dbentries.specs.Store.{AreEntriesOf}
+use Rattle.dbentries.specs.Listed.{no_facts}
 use Rattle.dbentries.specs.Lists.{HoldsFaults}
 use Rattle.dbentries.specs.Lost.{lost_at}
 use Rattle.dbentries.proofs.LostPages.{lost_here, not_lost, unmarked_nowhere}
@@ -36,7 +37,7 @@ returns-clause-asks g c =
     let yes = sym c.is_page_lost.ensures.mark ∙ c.if-not-is_page_lost.false in
     asks_weaker _ _ (Ok _) (λ n. refl) c.in_ok-look.ensures.asks (λ log l. inr (l, yes)) (λ file w V d low high.
     let some = lost_here file V p (sym (unmarked_nowhere file V c.args.desk.now.marks p d.marks low high) ∙ yes) in
-    let told : Fault → Look → List Reported = λ f look. record { part = part.End; fault = f; cause = cause.Look look } ∷ [] in
+    let told : Fault → Look → List Reported = λ f look. record { part = part.End; fault = f; cause = cause.Look look no_facts } ∷ [] in
     let same : told c.lost_fault.result c.in_ok-look.look ≡ lost_at file V p = ap (λ f. told f c.in_ok-look.look) c.lost_fault.ensures ∙ ap (told (fault N01 p 0 (pos 0))) (w d.header) ∙ sym some in
     λ limit xs a. record {
       entries = subst (λ l. AreEntriesOf (xs ++ l) c.add.new.self) same (c.add.ensures.entries xs a.entries c.add.ensures.last);
