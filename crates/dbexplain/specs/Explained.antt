@@ -14,12 +14,13 @@ use Rattle.dbformat.specs.declared.FaultCode.TheVariants.{H06}
 use Rattle.dbtrace.specs.declared.Cause.{Cause}
 use Rattle.dbtrace.specs.declared.Cause.TheVariants as cause
 use Rattle.dbtrace.specs.declared.Reported.{Reported}
-use Rattle.dbentries.specs.Lines.{cause_text, indented, key_text, leaf_text}
+use Rattle.dbentries.specs.Lines.{cause_text, indented, key_text, leaf_text, look_text}
 use Rattle.dbentries.specs.Listing.{Entry, entries, size}
 use Rattle.dbentries.specs.Others.{others_text}
 use Rattle.dbentries.specs.Listed.{IsBeginning, listed_entries, listed_faults}
 use Rattle.dbexplain.specs.Below.{lines_below, place_line}
 use Rattle.dbscan.specs.Placed.{told_faults}
+use Rattle.dbexplain.specs.Facts.{facts_text}
 use Rattle.dbexplain.specs.Summary.{summary}
 
 -- ---- what is written of an entry
@@ -34,11 +35,13 @@ abbrev pub missing_line : List ℕ → FaultCode → List ℕ
 missing_line file H06 = indented (missing_text ((geometry file).pages + 1) (stated_pages file))
 missing_line file _ = []
 
--- what a fault goes back to; of a key and a leaf also where its page is
-abbrev pub cause_lines : List ℕ → List Reference → Cause → List ℕ
-cause_lines file V (cause.Key k) = key_text k ++ place_line file V k.page
-cause_lines file V (cause.Leaf page) = leaf_text page ++ place_line file V page
-cause_lines file V c = cause_text c
+-- what a fault of page p goes back to; of a key and a leaf also where its page is, and of a page what is known of it
+abbrev pub cause_lines : List ℕ → List Reference → ℕ → Cause → List ℕ
+cause_lines file V p (cause.Key k) = key_text k ++ place_line file V k.page
+cause_lines file V p (cause.Leaf page) = leaf_text page ++ place_line file V page
+cause_lines file V p (cause.Page page facts) = facts_text (geometry file).page_size page facts
+cause_lines file V p (cause.Look l facts) = look_text l ++ facts_text (geometry file).page_size p facts
+cause_lines file V p c = cause_text c
 
 -- the fault line, where the fault is, and the missing pages
 abbrev pub front_text : List ℕ → List Reference → Fault → List ℕ
@@ -46,7 +49,7 @@ front_text file V f = fault_line f ++ (lines_below file V f f.code ++ missing_li
 
 -- and what the fault goes back to, and the faults that belong to it
 abbrev pub entry_text : List ℕ → List Reference → Entry → List ℕ
-entry_text file V e = front_text file V e.first.fault ++ (cause_lines file V e.first.cause ++ others_text e)
+entry_text file V e = front_text file V e.first.fault ++ (cause_lines file V e.first.fault.page e.first.cause ++ others_text e)
 
 -- ---- the report
 

@@ -1,6 +1,7 @@
 pub mod Below
 pub mod Explained
 pub mod ExplainJobs
+pub mod Facts
 pub mod Keeping
 pub mod Notes
 pub mod Reporting

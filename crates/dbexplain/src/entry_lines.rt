@@ -10,6 +10,7 @@ ghost use Rattle.dbexplain.specs.Notes.{AreOwnersOf};
 ghost use Rattle.dbexplain.specs.Explained.{cause_lines, entry_text, front_text};
 ghost use Rattle.dbexplain.specs.Keeping.{lines_of};
 
+use crate::facts::put_facts;
 use crate::missing::put_missing;
 use crate::owners::Owners;
 use dbentries::{Cause, Entry, put_cause, put_others};
@@ -36,22 +37,25 @@ fn put_front<A: Allocator, O: Out>(
     put_missing(out, owners.header, fault.code)
 }
 
-// Puts what a fault goes back to, and of a key and a leaf where its page is.
+// Puts what a fault of a page goes back to; of a key and a leaf also where its page is, and of a page what is known of it.
 fn put_cause_lines<A: Allocator, O: Out>(
     owners: &Owners<'_, A>,
     trees: &mut PageTrees<A>,
     out: &mut O,
+    page: u32,
     cause: &Cause,
 ) -> Result<(), WriteFailed>
     ensures lines { (file : List ℕ) (V : List Reference) → AreOwnersOf owners.now file V → AreTrees file V trees.old.known
-        → Writes result (O.held out.old).bytes (O.held out.new).bytes (cause_lines file V cause.now) }
+        → Writes result (O.held out.old).bytes (O.held out.new).bytes (cause_lines file V page cause.now) }
     ensures trees { (file : List ℕ) (V : List Reference) → AreOwnersOf owners.now file V → AreTrees file V trees.old.known → AreTrees file V trees.new.known }
     ensures count { (O.held out.new).failures ≡ failures_after is_any result (O.held out.old).failures }
 {
     put_cause(out, cause)?;
     match cause {
         Cause::Key(key) => owners.put_page(trees, out, key.page),
-        Cause::Leaf(page) => owners.put_page(trees, out, *page),
+        Cause::Leaf(leaf) => owners.put_page(trees, out, *leaf),
+        Cause::Page(page, facts) => put_facts(out, owners.header.geometry(), *page, facts),
+        Cause::Look(_, facts) => put_facts(out, owners.header.geometry(), page, facts),
         _ => Ok(()),
     }
 }
@@ -69,7 +73,8 @@ fn put_entry<A: Allocator, O: Out>(
     ensures count { (O.held out.new).failures ≡ failures_after is_any result (O.held out.old).failures }
 {
     put_front(owners, trees, out, &entry.first.fault)?;
-    put_cause_lines(owners, trees, out, &entry.first.cause)?;
+    let first = &entry.first;
+    put_cause_lines(owners, trees, out, first.fault.page, &first.cause)?;
     put_others(out, entry)
 }
 

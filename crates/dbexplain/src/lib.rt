@@ -11,6 +11,7 @@
 #![tactic(auto)]
 
 mod entry_lines;
+mod facts;
 mod kept;
 mod laws;
 mod missing;

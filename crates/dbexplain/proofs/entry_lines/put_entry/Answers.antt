@@ -12,7 +12,7 @@ use Rattle.dbexplain.proofs.entry_lines.put_entry.Goals as goal
 
 -- the text of an entry with this first fault and these last lines
 abbrev text_by : List ℕ → List Reference → List ℕ → Reported → List ℕ
-text_by file V last x = front_text file V x.fault ++ (cause_lines file V x.cause ++ last)
+text_by file V last x = front_text file V x.fault ++ (cause_lines file V x.fault.page x.cause ++ last)
 
 pub returns-in_err-put_front-clause-lines : goal.returns-in_err-put_front-clause-lines
 returns-in_err-put_front-clause-lines g c = λ file V e o t is.
@@ -21,7 +21,7 @@ returns-in_err-put_front-clause-lines g c = λ file V e o t is.
     let r = c.from_residual.result in
     let p = err_from_is_err_and r c.from_residual.ensures.1 in
     subst (λ (x : Reported). Writes r (g.O.Out.held c.args.out.now).bytes (g.O.Out.held c.put_front.new.out).bytes (text_by file V (others_text e) x)) (first_of c.args.entry.now e is)
-    (puts_stop (front_text file V x.fault) (cause_lines file V x.cause ++ others_text e) c.in_err-put_front.was p.1
+    (puts_stop (front_text file V x.fault) (cause_lines file V x.fault.page x.cause ++ others_text e) c.in_err-put_front.was p.1
     (put_by c.put_front.result (held c.args.out.now) (held c.put_front.new.out) (front_text file V x.fault) (c.put_front.ensures.lines file V o t) c.put_front.ensures.count)).held
 
 pub returns-in_err-put_cause_lines-clause-lines : goal.returns-in_err-put_cause_lines-clause-lines
@@ -31,7 +31,7 @@ returns-in_err-put_cause_lines-clause-lines g c = λ file V e o t is.
     let r = c.from_residual-in_err-put_cause_lines.result in
     let p = err_from_is_err_and r c.from_residual-in_err-put_cause_lines.ensures.1 in
     let first = front_text file V x.fault in
-    let why = cause_lines file V x.cause in
+    let why = cause_lines file V x.fault.page x.cause in
     let last = others_text e in
     subst (λ (x : Reported). Writes r (g.O.Out.held c.args.out.now).bytes (g.O.Out.held c.put_cause_lines.new.out).bytes (text_by file V last x)) (first_of c.args.entry.now e is)
     (puts_then r first (why ++ last) c.in_ok-put_front.was (put_by c.put_front.result (held c.args.out.now) (held c.put_front.new.out) (front_text file V x.fault) (c.put_front.ensures.lines file V o t) c.put_front.ensures.count)
@@ -44,7 +44,7 @@ returns-clause-lines g c = λ file V e o t is.
     let x = c.args.entry.now.first in
     let r = c.put_others.result in
     let first = front_text file V x.fault in
-    let why = cause_lines file V x.cause in
+    let why = cause_lines file V x.fault.page x.cause in
     let last = others_text e in
     subst (λ (x : Reported). Writes r (g.O.Out.held c.args.out.now).bytes (g.O.Out.held c.put_others.new.out).bytes (text_by file V last x)) (first_of c.args.entry.now e is)
     (puts_then r first (why ++ last) c.in_ok-put_front.was (put_by c.put_front.result (held c.args.out.now) (held c.put_front.new.out) (front_text file V x.fault) (c.put_front.ensures.lines file V o t) c.put_front.ensures.count)

@@ -1,0 +1,24 @@
+-- What is written of what is known of a page with faults (own).
+use Rattle.std.specs.Prelude.{ℕ, ◌+◌, ◌-◌, ◌*◌, List, [], ◌++◌, codes, decimal, ◌==◌, if◌then◌else◌}
+use Rattle.std.specs.Option.{option_map_or}
+use Rattle.dbformat.specs.Text.{hex_text}
+use Rattle.dbformat.specs.declared.ByteRun.{ByteRun}
+use Rattle.dbtrace.specs.declared.PageFacts.{PageFacts}
+use Rattle.dbentries.specs.Lines.{indented}
+
+-- where a page begins in a file with pages of this size
+abbrev pub page_begin : ℕ → ℕ → ℕ
+page_begin page_size p = (p - 1) * page_size
+
+-- from one byte of a file to another
+abbrev pub bytes_text : ℕ → ℕ → List ℕ
+bytes_text first last = codes "bytes " ++ decimal first ++ codes " to " ++ decimal last
+
+-- a run of one byte in page p, by offsets in the file
+abbrev pub run_line : ℕ → ℕ → ByteRun → List ℕ
+run_line page_size p run = indented (bytes_text (page_begin page_size p + run.start) (page_begin page_size p + run.start + (run.len - 1))
+    ++ (if run.byte == 0 then codes " are zeros" else codes " are all " ++ hex_text 2 run.byte))
+
+-- what is known of page p: its longest run of one byte
+abbrev pub facts_text : ℕ → ℕ → PageFacts → List ℕ
+facts_text page_size p facts = option_map_or (run_line page_size p) facts.run []

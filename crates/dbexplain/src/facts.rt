@@ -1,0 +1,53 @@
+// What is known of a page with faults.
+ghost use Rattle.std.specs.Prelude.{◌≡◌, ◌≤◌};
+ghost use Rattle.dbformat.specs.FixedPages.{IsInRange};
+ghost use Rattle.dbsource.specs.Outs.{Puts};
+ghost use Rattle.dbexplain.specs.Facts.{facts_text, run_line};
+
+use arrayvec::ArrayVec;
+use dbformat::{ByteRun, Geometry, hex_byte};
+use dblines::{append, append_number};
+use dbsource::{Out, WriteFailed};
+use dbwalk::PageFacts;
+
+// The line of a run of one byte in a page, by offsets in the file.
+fn run_line(shape: Geometry, page: u32, run: ByteRun) -> ArrayVec<u8, 96>
+    requires { IsInRange shape }
+    ensures { result.items ≡ run_line shape.page_size page run }
+{
+    let begin = u64::from(page.saturating_sub(1)) * u64::from(shape.page_size);
+    let first = begin + u64::from(run.start);
+    let mut line = ArrayVec::new();
+    append(&mut line, "    bytes ");
+    append_number(&mut line, first);
+    append(&mut line, " to ");
+    append_number(&mut line, first + u64::from(run.len.saturating_sub(1)));
+    if run.byte == 0 {
+        append(&mut line, " are zeros");
+    } else {
+        append(&mut line, " are all ");
+        let _ = line.try_extend_from_slice(&hex_byte(run.byte));
+    }
+    append(&mut line, "\n");
+    line
+}
+
+/// Puts what is known of a page with faults: its longest run of one byte.
+///
+/// # Errors
+///
+/// [`WriteFailed`] where the Out failed: it took a beginning of the lines.
+pub(crate) fn put_facts<O: Out>(
+    out: &mut O,
+    shape: Geometry,
+    page: u32,
+    facts: &PageFacts,
+) -> Result<(), WriteFailed>
+    requires { IsInRange shape }
+    ensures { Puts result (O.held out.old) (O.held out.new) (facts_text shape.page_size page facts.now) }
+{
+    match facts.run {
+        Some(run) => out.put(run_line(shape, page, run).as_slice()),
+        None => Ok(()),
+    }
+}
