@@ -1,6 +1,6 @@
 -- The summary by the counts of a tally is that of a file.
-use Rattle.std.proofs.Common.{◌≡◌, ℕ, zero, suc, ◌+◌, ◌<◌, ◌≤◌, inl, inr, Bool, true, false, cond, not, ◌&&◌, List, [], ◌∷◌, ◌++◌, length, map, take, Option, Some, None, refl, sym, ap, ap₂, subst, ◌∙◌, arith, append-nil, append_assoc}
-use Rattle.std.specs.Prelude.{codes, decimal, count_by, slice_get, ◌==◌}
+use Rattle.std.proofs.Common.{◌≡◌, ℕ, zero, suc, ◌+◌, ◌-◌, ◌<◌, ◌≤◌, inl, inr, Bool, true, false, cond, not, ◌&&◌, List, [], ◌∷◌, ◌++◌, length, map, take, Option, Some, None, refl, sym, ap, ap₂, subst, ◌∙◌, arith, append-nil, append_assoc}
+use Rattle.std.specs.Prelude.{codes, decimal, count_by, slice_get, slice_index_or, ◌==◌}
 use Rattle.std.specs.List.{enumerate_from, flat_map, range_with_len}
 use Rattle.std.specs.Option.{option_map_or}
 use Rattle.std.proofs.lemmas.Bool.{and_parts, and_from, eqb-true, eq-eqb}
@@ -40,10 +40,12 @@ use Rattle.dbformat.proofs.BelowStarts.{length_taken, rows_start}
 use Rattle.dbscan.specs.Placed.{told_faults}
 use Rattle.dbscan.proofs.Reached.{of_starts}
 use Rattle.dbentries.specs.Lines.{indented}
-use Rattle.dbexplain.specs.Summary.{aligned, code_count, code_line, count_text, faulty_pages_at, is_faulty_at, is_reached, is_part_of_start, is_whole, faulty_pages_text, reached_pages, start_count, start_sum_line, start_name, sum_line, summary, tree_count, trees_text, whole_count, whole_line, whole_trees}
-use Rattle.dbexplain.specs.Sums.{code_sum, freelist_start_count, numbered_sum, start_sum, summary_by, tree_counts, without_fault}
+use Rattle.dbentries.proofs.Numbers.{get-take}
+use Rattle.dbexplain.specs.Summary.{aligned, code_count, code_line, count_text, faulty_pages_at, is_faulty_at, is_of_kind, is_reached, is_part_of_start, is_whole, faulty_pages_text, reached_pages, start_count, start_sum_line, start_name, sum_line, summary, trees_text, whole_count, whole_line, whole_trees}
+use Rattle.dbexplain.specs.Sums.{code_sum, freelist_start_count, numbered_sum, start_sum, summary_by, tree_counts, trees_by, trees_sum}
 use Rattle.dbexplain.specs.Tallies.{Tallied, IsTallyTo, counted_code, counted_start, is_told, no_count}
 use Rattle.dbexplain.specs.declared.tally.StartCount.{StartCount}
+use Rattle.dbexplain.specs.declared.trees.TreeSum.{TreeSum}
 
 -- ---- counts that stop
 
@@ -76,10 +78,6 @@ same_counts : {X : Type 0} (f g : X → Bool) (xs : List X) → ((x : X) → IsI
 same_counts f g [] h = refl
 same_counts f g (x ∷ xs) h =
     count_more f x xs ∙ ap₂ (λ b n. cond b 1 0 + n) (h x (inl refl)) (same_counts f g xs (λ y i. h y (inr i))) ∙ sym (count_more g x xs)
-
-count_mapped : {X Y : Type 0} (q : Y → Bool) (f : X → Y) (xs : List X) → count_by q (map f xs) ≡ count_by (λ x. q (f x)) xs
-count_mapped q f [] = refl
-count_mapped q f (x ∷ xs) = count_more q (f x) (map f xs) ∙ ap (λ n. cond (q (f x)) 1 0 + n) (count_mapped q f xs) ∙ sym (count_more (λ x. q (f x)) x xs)
 
 -- the first of a list, by what each is
 points : {X : Type 0} (f : ℕ → X) (a n : ℕ) (xs : List X) → ((k : ℕ) → k < n → slice_get xs k ≡ Some (f (a + k))) → take n xs ≡ map f (range_with_len a n)
@@ -208,24 +206,39 @@ module _ (file : List ℕ) (V : List Reference) (s : Survey file V) where
       ∙ ap (flat_map f) (sym (starts_are file V s rows refl))
 
   module _ (t : Tallied) (is : IsTallyTo V ts n t) where
-    trees_are : tree_counts rows t ≡ map (counted_start V ts n) (range_with_len 0 (tree_count rows))
-    trees_are = points (counted_start V ts n) 0 (tree_count rows) t.starts
+    trees_are : tree_counts rows t ≡ map (counted_start V ts n) (range_with_len 0 (suc (length rows)))
+    trees_are = points (counted_start V ts n) 0 (suc (length rows)) t.starts
         (λ k l. is.starts k (let w = few in omega (arith, l, w)) ∙ ap (λ i. Some (counted_start V ts n i)) (let e : k ≡ 0 + k = omega arith in e))
 
     free_is : freelist_start_count t ≡ counted_start V ts n freelist_start
     free_is = get_or_from_slice_get t.starts freelist_start (counted_start V ts n freelist_start) no_count (is.starts freelist_start (omega arith))
 
-    whole_is : without_fault (tree_counts rows t) ≡ whole_trees rows ts
-    whole_is =
-        ap without_fault trees_are
-        ∙ count_mapped (λ (c : StartCount). c.faults == 0) (counted_start V ts n) (range_with_len 0 (tree_count rows))
-        ∙ same_counts (λ k. counted (start_count ts k) == 0) (λ k. start_count ts k == 0) (range_with_len 0 (tree_count rows)) (λ k i. is_zero (start_count ts k))
+    count_at : (k : ℕ) → k ≤ length rows → slice_index_or (tree_counts rows t) k no_count ≡ counted_start V ts n k
+    count_at k l =
+        let w = few in
+        get_or_from_slice_get (tree_counts rows t) k (counted_start V ts n k) no_count (get-take (suc (length rows)) k t.starts (omega (arith, l)) ∙ is.starts k (omega (arith, l, w)))
 
-    all_are : length (tree_counts rows t) ≡ tree_count rows
-    all_are = ap length trees_are ∙ length-map-range_with_len (counted_start V ts n) 0 (tree_count rows)
+    abbrev sum : ℕ → ℕ → TreeSum
+    sum whole all = record { whole = whole; all = all }
+
+    trees_whole : (index : Bool) → trees_by index rows (tree_counts rows t) ≡ whole_trees index rows ts
+    trees_whole index =
+        let by_count : ℕ → Bool = λ k. is_of_kind index rows k && ((slice_index_or (tree_counts rows t) k no_count).faults == 0) in
+        let all : length (tree_counts rows t) ≡ suc (length rows) = ap length trees_are ∙ length-map-range_with_len (counted_start V ts n) 0 (suc (length rows)) in
+        let rest : length (tree_counts rows t) - 1 ≡ length rows = omega (arith, all) in
+        ap₂ sum
+        (ap (λ m. count_by by_count (range_with_len 1 m)) rest
+        ∙ same_counts by_count (λ k. is_of_kind index rows k && (start_count ts k == 0)) (range_with_len 1 (length rows))
+        (λ k i. let l = IsIn-from_range 1 (length rows) k i in
+        ap (λ (c : StartCount). is_of_kind index rows k && (c.faults == 0)) (count_at k (omega (arith, l.1)))
+        ∙ ap (λ b. is_of_kind index rows k && b) (is_zero (start_count ts k))))
+        (ap (λ m. count_by (is_of_kind index rows) (range_with_len 1 m)) rest)
+
+    last_part : trees_sum rows (tree_counts rows t) ≡ trees_text (whole_trees false rows ts) (whole_trees true rows ts)
+    last_part = ap₂ trees_text (trees_whole false) (trees_whole true)
 
     first_part : flat_map (numbered_sum t.all name) (enumerate_from 0 (tree_counts rows t)) ≡ start_sum_line file V ts 0 ++ flat_map (start_sum_line file V ts) (range_with_len 1 (length rows))
-    first_part = ap₂ (λ n cs. flat_map (numbered_sum n name) (enumerate_from 0 cs)) is.all trees_are ∙ lines_same (tree_count rows) 0
+    first_part = ap₂ (λ n cs. flat_map (numbered_sum n name) (enumerate_from 0 cs)) is.all trees_are ∙ lines_same (suc (length rows)) 0
 
     free_part : start_sum t.all (name freelist_start) (freelist_start_count t) ≡ start_sum_line file V ts freelist_start
     free_part = ap₂ (λ n c. start_sum n (name freelist_start) c) is.all free_is ∙ line_same freelist_start
@@ -238,10 +251,10 @@ module _ (file : List ℕ) (V : List Reference) (s : Survey file V) where
         joined
         (ap count_text is.all ∙ count_same (length ts))
         (ap₂ (λ n cs. flat_map (code_sum n) cs) is.all is.codes ∙ codes_same ts all_codes)
-        first_part free_part whole_part (ap₂ trees_text whole_is all_are)
+        first_part free_part whole_part last_part
         ∙ parts (count_text (length ts)) (flat_map (code_line ts) all_codes) (start_sum_line file V ts 0) (flat_map (start_sum_line file V ts) (range_with_len 1 (length rows)))
-        (start_sum_line file V ts freelist_start) (whole_line ts) (trees_text (whole_trees rows ts) (tree_count rows))
-        ∙ ap (λ w. count_text (length ts) ++ flat_map (code_line ts) all_codes ++ w ++ whole_line ts ++ trees_text (whole_trees rows ts) (tree_count rows)) start_lines
+        (start_sum_line file V ts freelist_start) (whole_line ts) (trees_text (whole_trees false rows ts) (whole_trees true rows ts))
+        ∙ ap (λ w. count_text (length ts) ++ flat_map (code_line ts) all_codes ++ w ++ whole_line ts ++ trees_text (whole_trees false rows ts) (whole_trees true rows ts)) start_lines
       where
         joined : {a b c d e f a' b' c' d' e' f' : List ℕ} → a ≡ a' → b ≡ b' → c ≡ c' → d ≡ d' → e ≡ e' → f ≡ f'
             → a ++ (b ++ (c ++ (d ++ (e ++ f)))) ≡ a' ++ (b' ++ (c' ++ (d' ++ (e' ++ f'))))

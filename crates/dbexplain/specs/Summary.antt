@@ -1,6 +1,6 @@
 -- The summary of `explain` (own): how many faults a file has, with each code and reported at each start, on how many of the pages that were
--- reached from there, and how many of the trees have no fault.
-use Rattle.std.specs.Prelude.{◌≡◌, ℕ, suc, ◌+◌, ◌-◌, Bool, true, false, ◌&&◌, List, [], ◌∷◌, ◌++◌, length, replicate, flat_map, count_by, sum_by, codes, decimal, ◌==◌, if◌then◌else◌}
+-- reached from there, and how many of the tables and indexes have no fault.
+use Rattle.std.specs.Prelude.{◌≡◌, ℕ, ◌+◌, ◌-◌, not, Bool, true, false, ◌&&◌, List, [], ◌∷◌, ◌++◌, length, replicate, flat_map, count_by, slice_get, sum_by, codes, decimal, ◌==◌, if◌then◌else◌}
 use Rattle.std.specs.List.{list_any, range_with_len}
 use Rattle.std.specs.Option.{option_map_or}
 use Rattle.dbformat.specs.Address.{freelist_start}
@@ -14,6 +14,8 @@ use Rattle.dbformat.specs.Schema.{starts}
 use Rattle.dbformat.specs.SchemaRow.{SchemaRow}
 use Rattle.dbformat.specs.declared.Encoding.{Encoding}
 use Rattle.dbformat.specs.declared.FaultCode.{FaultCode}
+use Rattle.dbformat.specs.declared.RowKind.{RowKind}
+use Rattle.dbformat.specs.declared.RowKind.TheVariants as row
 use Rattle.dbentries.specs.Lines.{indented}
 use Rattle.dbtrace.specs.declared.Part.{Part}
 use Rattle.dbtrace.specs.declared.Part.TheVariants as part
@@ -22,6 +24,7 @@ use Rattle.dbowner.specs.Texts.{tree_of_row}
 use Rattle.dbformat.specs.Starts.{start_at}
 use Rattle.dbscan.specs.Placed.{told_faults}
 use Rattle.dbscan.specs.Roots.{listed_rows, root_page}
+use Rattle.dbexplain.specs.declared.trees.TreeSum.{TreeSum}
 
 -- Faults.
 
@@ -72,13 +75,24 @@ abbrev pub start_name : Encoding → List SchemaRow → ℕ → List ℕ
 start_name e rows k =
     if k == freelist_start then codes "the freelist" else tree_of_row e rows k ++ codes " (root page " ++ decimal (root_page rows k) ++ codes ")"
 
--- how many trees a file has: the schema, and those of the rows
-abbrev pub tree_count : List SchemaRow → ℕ
-tree_count rows = suc (length rows)
+-- whether a row is of an index, and not of a table
+abbrev pub is_index : SchemaRow → Bool
+is_index r = is_index_kind r.kind
+  where
+    is_index_kind : RowKind → Bool
+    is_index_kind row.Index = true
+    is_index_kind _ = false
 
--- how many of them have no fault
-abbrev pub whole_trees : List SchemaRow → List Reported → ℕ
-whole_trees rows ts = count_by (λ k. start_count ts k == 0) (range_with_len 0 (tree_count rows))
+-- whether start k is of a row of this kind: of an index, or of a table
+abbrev pub is_of_kind : Bool → List SchemaRow → ℕ → Bool
+is_of_kind index rows k = option_map_or (λ r. if index then is_index r else not (is_index r)) (slice_get rows (k - 1)) false
+
+-- how many trees of this kind the rows name, and how many of them have no fault
+abbrev pub whole_trees : Bool → List SchemaRow → List Reported → TreeSum
+whole_trees index rows ts = record {
+  whole = count_by (λ k. is_of_kind index rows k && (start_count ts k == 0)) (range_with_len 1 (length rows));
+  all = count_by (is_of_kind index rows) (range_with_len 1 (length rows));
+}
 
 -- Lines.
 
@@ -113,15 +127,20 @@ start_sum_line file V ts k = sum_line (length ts) (start_count ts k)
 abbrev pub whole_line : List Reported → List ℕ
 whole_line ts = sum_line (length ts) (whole_count ts) (codes "in the whole file")
 
--- how many of the trees have none
-abbrev pub trees_text : ℕ → ℕ → List ℕ
-trees_text whole all = indented (decimal whole ++ codes " of " ++ decimal all ++ (if all == 1 then codes " tree" else codes " trees") ++ codes " without a fault")
+-- how many of some trees have none
+abbrev pub share_text : TreeSum → List ℕ → List ℕ → List ℕ
+share_text t one more = decimal t.whole ++ codes " of " ++ decimal t.all ++ (if t.all == 1 then one else more)
 
--- the summary of these faults of a file with survey V: their number, by code, by start in the order of the starts, and the trees
+-- how many of the tables, and of the indexes
+abbrev pub trees_text : TreeSum → TreeSum → List ℕ
+trees_text tables indexes =
+    indented (share_text tables (codes " table") (codes " tables") ++ codes " and " ++ share_text indexes (codes " index") (codes " indexes") ++ codes " without a fault")
+
+-- the summary of these faults of a file with survey V: their number, by code, by start in the order of the starts, and the tables and indexes
 abbrev pub summary : List ℕ → List Reference → List Reported → List ℕ
 summary file V ts =
     count_text (length ts) ++ flat_map (code_line ts) all_codes ++ flat_map (λ l. start_sum_line file V ts l.step) (starts file V) ++ whole_line ts
-    ++ trees_text (whole_trees (listed_rows file V) ts) (tree_count (listed_rows file V))
+    ++ trees_text (whole_trees false (listed_rows file V) ts) (whole_trees true (listed_rows file V) ts)
 
 -- Laws.
 

@@ -1,14 +1,15 @@
 -- The summary by the counts of a tally.
-use Rattle.std.specs.Prelude.{ℕ, List, ◌++◌, take, length, count_by, codes, slice_index_or, ◌==◌}
-use Rattle.std.specs.List.{enumerate_from, flat_map}
+use Rattle.std.specs.Prelude.{ℕ, suc, ◌-◌, Bool, true, false, ◌&&◌, List, ◌++◌, take, length, count_by, codes, slice_index_or, ◌==◌}
+use Rattle.std.specs.List.{enumerate_from, flat_map, range_with_len}
 use Rattle.dbformat.specs.Address.{freelist_start}
 use Rattle.dbformat.specs.Lines.{code_text, code_words}
 use Rattle.dbformat.specs.SchemaRow.{SchemaRow}
 use Rattle.dbformat.specs.declared.Encoding.{Encoding}
-use Rattle.dbexplain.specs.Summary.{aligned, count_text, faulty_pages_text, start_name, sum_line, tree_count, trees_text}
+use Rattle.dbexplain.specs.Summary.{aligned, count_text, faulty_pages_text, is_of_kind, start_name, sum_line, trees_text}
 use Rattle.dbexplain.specs.Tallies.{Tallied, no_count}
 use Rattle.dbexplain.specs.declared.tally.CodeCount.{CodeCount}
 use Rattle.dbexplain.specs.declared.tally.StartCount.{StartCount}
+use Rattle.dbexplain.specs.declared.trees.TreeSum.{TreeSum}
 
 -- the beginning of the line of a count
 abbrev pub sum_front : ℕ → ℕ → List ℕ
@@ -26,13 +27,20 @@ start_sum all name c = sum_line all c.faults (codes "in " ++ name ++ faulty_page
 abbrev pub numbered_sum : ℕ → (ℕ → List ℕ) → ℕ × StartCount → List ℕ
 numbered_sum all name x = start_sum all (name x.0) x.1
 
--- how many starts have no fault
-abbrev pub without_fault : List StartCount → ℕ
-without_fault cs = count_by (λ c. c.faults == 0) cs
-
 -- the counts of the trees: those of the starts but for the freelist's, as many as there are rows, and the schema's
 abbrev pub tree_counts : List SchemaRow → Tallied → List StartCount
-tree_counts rows t = take (tree_count rows) t.starts
+tree_counts rows t = take (suc (length rows)) t.starts
+
+-- how many of the trees of this kind have no fault, by the counts of the schema's and of those of the first rows
+abbrev pub trees_by : Bool → List SchemaRow → List StartCount → TreeSum
+trees_by index rows cs = record {
+  whole = count_by (λ k. is_of_kind index rows k && ((slice_index_or cs k no_count).faults == 0)) (range_with_len 1 (length cs - 1));
+  all = count_by (is_of_kind index rows) (range_with_len 1 (length cs - 1));
+}
+
+-- the line of both kinds
+abbrev pub trees_sum : List SchemaRow → List StartCount → List ℕ
+trees_sum rows cs = trees_text (trees_by false rows cs) (trees_by true rows cs)
 
 -- that of the freelist
 abbrev pub freelist_start_count : Tallied → StartCount
@@ -43,4 +51,4 @@ abbrev pub summary_by : Encoding → List SchemaRow → Tallied → List ℕ
 summary_by e rows t =
     count_text t.all ++ (flat_map (code_sum t.all) t.codes ++ (flat_map (numbered_sum t.all (start_name e rows)) (enumerate_from 0 (tree_counts rows t))
     ++ (start_sum t.all (start_name e rows freelist_start) (freelist_start_count t) ++ (sum_line t.all t.whole (codes "in the whole file")
-    ++ trees_text (without_fault (tree_counts rows t)) (length (tree_counts rows t))))))
+    ++ trees_sum rows (tree_counts rows t)))))

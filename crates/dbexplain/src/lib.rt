@@ -26,6 +26,7 @@ mod starts;
 mod summary;
 mod sums;
 mod tally;
+mod trees;
 
 pub use dbformat::Verdict;
 pub use dbsource::{Out, RunError, Source};

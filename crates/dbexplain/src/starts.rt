@@ -5,7 +5,7 @@ ghost use Rattle.std.specs.List.{enumerate_from, flat_map};
 ghost use Rattle.dbformat.specs.Lines.{line_feed};
 ghost use Rattle.dbsource.specs.Outs.{Puts};
 ghost use Rattle.dbexplain.specs.Summary.{faulty_pages_text, start_name};
-ghost use Rattle.dbexplain.specs.Sums.{numbered_sum, start_sum, sum_front, without_fault};
+ghost use Rattle.dbexplain.specs.Sums.{numbered_sum, start_sum, sum_front};
 
 use crate::sums::sum_front;
 use crate::tally::StartCount;
@@ -101,18 +101,4 @@ pub(crate) fn put_start_sums<A: Allocator, O: Out>(
         put_start_sum(out, names, all, index as u32, &counts[index])?;
     }
     Ok(())
-}
-
-// How many trees have no fault.
-pub(crate) fn without_fault(counts: &[StartCount]) -> u32
-    requires { length counts.now ≤ 65537 }
-    ensures { result ≡ without_fault counts.now }
-{
-    let mut count = 0u32;
-    for index in 0..counts.len() {
-        if counts[index].faults == 0 {
-            count += 1;
-        }
-    }
-    count
 }

@@ -13,9 +13,10 @@ ghost use Rattle.dbexplain.specs.Tallies.{HasPageBit, IsTallyOf};
 
 use crate::owners::Owners;
 use crate::reached::count_pages;
-use crate::starts::{put_start_sum, put_start_sums, without_fault};
-use crate::sums::{put_code_sums, put_count, put_sum, put_trees};
+use crate::starts::{put_start_sum, put_start_sums};
+use crate::sums::{put_code_sums, put_count, put_sum};
 use crate::tally::Tally;
+use crate::trees::put_trees;
 use dbformat::FREELIST_START;
 use dbowner::{PageTrees, TreeNames};
 use dbsource::{Out, WriteFailed};
@@ -36,11 +37,11 @@ fn put_counts<A: Allocator, O: Out>(
     put_start_sums(out, names, all, trees)?;
     put_start_sum(out, names, all, FREELIST_START, tally.freelist())?;
     put_sum(out, all, tally.whole(), "in the whole file")?;
-    put_trees(out, without_fault(trees), trees.len() as u32)
+    put_trees(out, names.roots, trees)
 }
 
 /// Puts the summary of all faults of a file: how many there are, with each code, at each start and of the whole file, on how many of
-/// the pages that were reached from a start, and how many trees have none. Each page is counted here, in one pass over the marks.
+/// the pages that were reached from a start, and how many of the tables and indexes have none. Each page is counted here, in one pass over the marks.
 ///
 /// # Errors
 ///

@@ -4,7 +4,7 @@ ghost use Rattle.std.specs.Prelude.{◌≡◌, ◌+◌, ◌≤◌, [], ◌∷◌
 ghost use Rattle.std.specs.List.{flat_map};
 ghost use Rattle.dbformat.specs.Lines.{code_text, code_words, line_feed};
 ghost use Rattle.dbsource.specs.Outs.{Puts};
-ghost use Rattle.dbexplain.specs.Summary.{aligned, count_text, sum_line, trees_text};
+ghost use Rattle.dbexplain.specs.Summary.{aligned, count_text, sum_line};
 ghost use Rattle.dbexplain.specs.Sums.{code_sum, sum_front};
 
 use crate::tally::CodeCount;
@@ -138,27 +138,5 @@ pub(crate) fn put_count<O: Out>(out: &mut O, all: u64) -> Result<(), WriteFailed
     ensures { Puts result (O.held out.old) (O.held out.new) (count_text all) }
 {
     let line = count_text(all);
-    out.put(line.as_slice())
-}
-
-// The line of how many of the trees have no fault.
-fn trees_text(whole: u32, all: u32) -> ArrayVec<u8, 160>
-    ensures { result.items ≡ trees_text whole all }
-{
-    let mut line = ArrayVec::new();
-    append(&mut line, "    ");
-    append_number(&mut line, u64::from(whole));
-    append(&mut line, " of ");
-    append_number(&mut line, u64::from(all));
-    append(&mut line, if all == 1 { " tree" } else { " trees" });
-    append(&mut line, " without a fault\n");
-    line
-}
-
-// Puts how many of the trees have no fault.
-pub(crate) fn put_trees<O: Out>(out: &mut O, whole: u32, all: u32) -> Result<(), WriteFailed>
-    ensures { Puts result (O.held out.old) (O.held out.new) (trees_text whole all) }
-{
-    let line = trees_text(whole, all);
     out.put(line.as_slice())
 }

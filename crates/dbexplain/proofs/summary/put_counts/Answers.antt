@@ -1,12 +1,12 @@
-use Rattle.std.proofs.Common.{◌≡◌, ◌++◌, suc, length, take, ap, ap₂, subst, ◌∙◌}
+use Rattle.std.proofs.Common.{◌≡◌, ◌++◌, suc, take, ap, ap₂, subst, ◌∙◌}
 use Rattle.std.specs.Prelude.{codes}
 use Rattle.std.specs.List.{enumerate_from, flat_map}
 use Rattle.std.proofs.lemmas.Result.{err_from_is_err_and}
 use Rattle.dbformat.specs.Address.{freelist_start}
 use Rattle.dbsource.specs.Outs.{Puts}
 use Rattle.dbsource.proofs.Puts.{puts_then, puts_stop}
-use Rattle.dbexplain.specs.Summary.{count_text, start_name, sum_line, trees_text}
-use Rattle.dbexplain.specs.Sums.{code_sum, freelist_start_count, numbered_sum, start_sum, tree_counts, without_fault}
+use Rattle.dbexplain.specs.Summary.{count_text, start_name, sum_line}
+use Rattle.dbexplain.specs.Sums.{code_sum, freelist_start_count, numbered_sum, start_sum, tree_counts, trees_sum}
 use Rattle.dbexplain.proofs.summary.put_counts.Goals as goal
 
 pub returns-in_err-put_count : goal.returns-in_err-put_count
@@ -19,7 +19,7 @@ returns-in_err-put_count g c =
     let by_tree = flat_map (numbered_sum t.all name) (enumerate_from 0 (tree_counts rows t)) in
     let free = start_sum t.all (name freelist_start) (freelist_start_count t) in
     let whole = sum_line t.all t.whole (codes "in the whole file") in
-    let last = trees_text (without_fault (tree_counts rows t)) (length (tree_counts rows t)) in
+    let last = trees_sum rows (tree_counts rows t) in
     let put_first : Puts c.put_count.result (g.O.Out.held c.args.out.now) (g.O.Out.held c.put_count.new.out) first =
     subst (λ text. Puts c.put_count.result (g.O.Out.held c.args.out.now) (g.O.Out.held c.put_count.new.out) text) (ap count_text c.all-all.ensures) c.put_count.ensures in
     let r = c.from_residual.result in
@@ -36,7 +36,7 @@ returns-in_err-put_code_sums g c =
     let by_tree = flat_map (numbered_sum t.all name) (enumerate_from 0 (tree_counts rows t)) in
     let free = start_sum t.all (name freelist_start) (freelist_start_count t) in
     let whole = sum_line t.all t.whole (codes "in the whole file") in
-    let last = trees_text (without_fault (tree_counts rows t)) (length (tree_counts rows t)) in
+    let last = trees_sum rows (tree_counts rows t) in
     let put_first : Puts c.put_count.result (g.O.Out.held c.args.out.now) (g.O.Out.held c.put_count.new.out) first =
     subst (λ text. Puts c.put_count.result (g.O.Out.held c.args.out.now) (g.O.Out.held c.put_count.new.out) text) (ap count_text c.all-all.ensures) c.put_count.ensures in
     let put_by_code : Puts c.put_code_sums.result (g.O.Out.held c.put_count.new.out) (g.O.Out.held c.put_code_sums.new.out) by_code =
@@ -56,7 +56,7 @@ returns-in_err-put_start_sums g c =
     let by_tree = flat_map (numbered_sum t.all name) (enumerate_from 0 (tree_counts rows t)) in
     let free = start_sum t.all (name freelist_start) (freelist_start_count t) in
     let whole = sum_line t.all t.whole (codes "in the whole file") in
-    let last = trees_text (without_fault (tree_counts rows t)) (length (tree_counts rows t)) in
+    let last = trees_sum rows (tree_counts rows t) in
     let trees : c.trees-trees.result.now ≡ tree_counts rows t = c.trees-trees.ensures.counts ∙ ap (λ n. take (suc n) t.starts) c.len.ensures.count in
     let put_first : Puts c.put_count.result (g.O.Out.held c.args.out.now) (g.O.Out.held c.put_count.new.out) first =
     subst (λ text. Puts c.put_count.result (g.O.Out.held c.args.out.now) (g.O.Out.held c.put_count.new.out) text) (ap count_text c.all-all.ensures) c.put_count.ensures in
@@ -80,7 +80,7 @@ returns-in_err-put_start_sum g c =
     let by_tree = flat_map (numbered_sum t.all name) (enumerate_from 0 (tree_counts rows t)) in
     let free = start_sum t.all (name freelist_start) (freelist_start_count t) in
     let whole = sum_line t.all t.whole (codes "in the whole file") in
-    let last = trees_text (without_fault (tree_counts rows t)) (length (tree_counts rows t)) in
+    let last = trees_sum rows (tree_counts rows t) in
     let trees : c.trees-trees.result.now ≡ tree_counts rows t = c.trees-trees.ensures.counts ∙ ap (λ n. take (suc n) t.starts) c.len.ensures.count in
     let put_first : Puts c.put_count.result (g.O.Out.held c.args.out.now) (g.O.Out.held c.put_count.new.out) first =
     subst (λ text. Puts c.put_count.result (g.O.Out.held c.args.out.now) (g.O.Out.held c.put_count.new.out) text) (ap count_text c.all-all.ensures) c.put_count.ensures in
@@ -107,7 +107,7 @@ returns-in_err-put_sum g c =
     let by_tree = flat_map (numbered_sum t.all name) (enumerate_from 0 (tree_counts rows t)) in
     let free = start_sum t.all (name freelist_start) (freelist_start_count t) in
     let whole = sum_line t.all t.whole (codes "in the whole file") in
-    let last = trees_text (without_fault (tree_counts rows t)) (length (tree_counts rows t)) in
+    let last = trees_sum rows (tree_counts rows t) in
     let trees : c.trees-trees.result.now ≡ tree_counts rows t = c.trees-trees.ensures.counts ∙ ap (λ n. take (suc n) t.starts) c.len.ensures.count in
     let put_first : Puts c.put_count.result (g.O.Out.held c.args.out.now) (g.O.Out.held c.put_count.new.out) first =
     subst (λ text. Puts c.put_count.result (g.O.Out.held c.args.out.now) (g.O.Out.held c.put_count.new.out) text) (ap count_text c.all-all.ensures) c.put_count.ensures in
@@ -137,7 +137,7 @@ returns g c =
     let by_tree = flat_map (numbered_sum t.all name) (enumerate_from 0 (tree_counts rows t)) in
     let free = start_sum t.all (name freelist_start) (freelist_start_count t) in
     let whole = sum_line t.all t.whole (codes "in the whole file") in
-    let last = trees_text (without_fault (tree_counts rows t)) (length (tree_counts rows t)) in
+    let last = trees_sum rows (tree_counts rows t) in
     let trees : c.trees-trees.result.now ≡ tree_counts rows t = c.trees-trees.ensures.counts ∙ ap (λ n. take (suc n) t.starts) c.len.ensures.count in
     let put_first : Puts c.put_count.result (g.O.Out.held c.args.out.now) (g.O.Out.held c.put_count.new.out) first =
     subst (λ text. Puts c.put_count.result (g.O.Out.held c.args.out.now) (g.O.Out.held c.put_count.new.out) text) (ap count_text c.all-all.ensures) c.put_count.ensures in
@@ -150,7 +150,7 @@ returns g c =
     let put_whole : Puts c.put_sum.result (g.O.Out.held c.put_start_sum.new.out) (g.O.Out.held c.put_sum.new.out) whole =
     subst (λ text. Puts c.put_sum.result (g.O.Out.held c.put_start_sum.new.out) (g.O.Out.held c.put_sum.new.out) text) (ap₂ (λ n w. sum_line n w (codes "in the whole file")) c.all-all.ensures c.whole.ensures) c.put_sum.ensures in
     let put_last : Puts c.put_trees.result (g.O.Out.held c.put_sum.new.out) (g.O.Out.held c.put_trees.new.out) last =
-    subst (λ text. Puts c.put_trees.result (g.O.Out.held c.put_sum.new.out) (g.O.Out.held c.put_trees.new.out) text) (ap₂ trees_text (c.without_fault.ensures ∙ ap without_fault trees) (ap length trees)) c.put_trees.ensures in
+    subst (λ text. Puts c.put_trees.result (g.O.Out.held c.put_sum.new.out) (g.O.Out.held c.put_trees.new.out) text) (ap (trees_sum rows) trees) c.put_trees.ensures in
     let r = c.put_trees.result in
     puts_then r first (by_code ++ (by_tree ++ (free ++ (whole ++ last)))) c.in_ok-put_count.was put_first
     (puts_then r by_code (by_tree ++ (free ++ (whole ++ last))) c.in_ok-put_code_sums.was put_by_code

@@ -1,0 +1,94 @@
+// How many of the tables and of the indexes have no fault.
+ghost use Rattle.arrayvec.specs.ArrayVec.{array_vec_len};
+ghost use Rattle.std.specs.Prelude.{◌≡◌, ◌+◌, ◌≤◌, ◌++◌, length};
+ghost use Rattle.dbsource.specs.Outs.{Puts};
+ghost use Rattle.dbexplain.specs.Summary.{is_of_kind, share_text, trees_text};
+ghost use Rattle.dbexplain.specs.Sums.{trees_by, trees_sum};
+
+use crate::tally::StartCount;
+use arrayvec::ArrayVec;
+use dbformat::RowKind;
+use dblines::{append, append_number};
+use dbowner::RootList;
+use dbsource::{Out, WriteFailed};
+use std::alloc::Allocator;
+
+/// How many trees of a kind there are, and how many of them have no fault.
+#[derive(Clone, Copy, Debug, PartialEq, Eq)]
+pub struct TreeSum {
+    pub whole: u32,
+    pub all: u32,
+}
+
+// Whether a start is of a row of this kind: of an index, or of a table.
+fn is_of_kind<A: Allocator>(roots: &RootList<A>, start: u32, index: bool) -> bool
+    requires { 1 ≤ start }
+    ensures { result ≡ is_of_kind index roots.now.rows start }
+{
+    match roots.get(start) {
+        Some(row) => matches!(row.kind, RowKind::Index) == index,
+        None => false,
+    }
+}
+
+// How many trees of a kind there are, by the counts of the schema's tree and those of the rows.
+fn trees_by<A: Allocator>(roots: &RootList<A>, counts: &[StartCount], index: bool) -> TreeSum
+    requires { (1 ≤ length counts.now) × (length counts.now ≤ 65537) }
+    ensures { result ≡ trees_by index roots.now.rows counts.now }
+{
+    let mut sum = TreeSum { whole: 0, all: 0 };
+    for start in 1..counts.len() {
+        if is_of_kind(roots, start as u32, index) {
+            sum.all += 1;
+            if counts[start].faults == 0 {
+                sum.whole += 1;
+            }
+        }
+    }
+    sum
+}
+
+// Adds how many of some trees have no fault.
+fn append_share<const CAP: usize>(line: &mut ArrayVec<u8, CAP>, sum: TreeSum, one: &str, more: &str)
+    requires room { array_vec_len line.old + 54 ≤ CAP }
+    requires one { length one.now ≤ 10 }
+    requires more { length more.now ≤ 10 }
+    ensures text { line.new.items ≡ line.old.items ++ share_text sum one.now more.now }
+    ensures short { array_vec_len line.new ≤ array_vec_len line.old + 54 }
+{
+    append_number(line, u64::from(sum.whole));
+    append(line, " of ");
+    append_number(line, u64::from(sum.all));
+    append(line, if sum.all == 1 { one } else { more });
+}
+
+// The line of how many of the tables and of the indexes have no fault.
+fn trees_text(tables: TreeSum, indexes: TreeSum) -> ArrayVec<u8, 160>
+    ensures { result.items ≡ trees_text tables indexes }
+{
+    let mut line = ArrayVec::new();
+    append(&mut line, "    ");
+    append_share(&mut line, tables, " table", " tables");
+    append(&mut line, " and ");
+    append_share(&mut line, indexes, " index", " indexes");
+    append(&mut line, " without a fault\n");
+    line
+}
+
+/// Puts how many of the tables and of the indexes have no fault, by the counts of the schema's tree and those of the rows.
+///
+/// # Errors
+///
+/// [`WriteFailed`] where the Out failed: it took a beginning of the line.
+pub(crate) fn put_trees<A: Allocator, O: Out>(
+    out: &mut O,
+    roots: &RootList<A>,
+    counts: &[StartCount],
+) -> Result<(), WriteFailed>
+    requires { (1 ≤ length counts.now) × (length counts.now ≤ 65537) }
+    ensures { Puts result (O.held out.old) (O.held out.new) (trees_sum roots.now.rows counts.now) }
+{
+    let tables = trees_by(roots, counts, false);
+    let indexes = trees_by(roots, counts, true);
+    out.put(trees_text(tables, indexes).as_slice())
+}
