@@ -1,7 +1,7 @@
 -- What is kept of some entries, one after another.
-use Rattle.std.proofs.Common.{◌≡◌, ℕ, ◌+◌, ◌<◌, ◌≤◌, List, [], ◌∷◌, ◌++◌, length, take, map, get_or, ap, ◌∙◌, arith}
+use Rattle.std.proofs.Common.{◌≡◌, ℕ, ◌<◌, ◌≤◌, List, [], length, map, get_or, ap, ◌∙◌, arith}
 use Rattle.std.specs.Prelude.{pos}
-use Rattle.std.proofs.lemmas.List.{get_or-map, length-map, take_all, take_more}
+use Rattle.std.proofs.lemmas.List.{get_or-map, length-map}
 use Rattle.dbformat.specs.Faults.{fault}
 use Rattle.dbformat.specs.declared.FaultCode.TheVariants.{H01}
 use Rattle.dbtrace.specs.declared.Cause.TheVariants as cause
@@ -26,9 +26,3 @@ module _ (listed : List Entry) (es : List listing.Entry) (is : listed ≡ map ke
   pub kept_here : (i : ℕ) (none : Entry) → i < length listed → get_or listed i none ≡ kept_of (get_or es i no_entry)
   kept_here i none h =
       ap (λ l. get_or l i none) is ∙ get_or-map kept_of es i no_entry none (within i h)
-
-  pub taken_here : (i : ℕ) → i < length listed → take (i + 1) es ≡ take i es ++ get_or es i no_entry ∷ []
-  taken_here i h = take_more es i no_entry (within i h)
-
-  pub taken_all : (i : ℕ) → length listed ≤ i → take i es ≡ es
-  taken_all i h = take_all i es (beyond i h)

@@ -36,7 +36,8 @@ one_listed limit ts x old new most h a = record {
 }
 
 -- the first faults of a file were heard
-pub heard_first : (limit : ℕ) (file : List ℕ) (V : List Reference) (s : Stored) (us : List Reported) → IsBeginning us (told_faults file V) → HasListed limit us s → ListsFirst limit file V s
+pub heard_first : (limit : ℕ) (file : List ℕ) (V : List Reference) (s : Stored) (us : List Reported) → IsBeginning us (told_faults file V)
+    → HasListed limit us s → ListsFirst limit file V s
 heard_first limit file V s us first h = record {
   told = others_of us;
   first = (

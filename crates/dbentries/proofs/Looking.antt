@@ -2,7 +2,7 @@
 use Rattle.std.proofs.Common.{◌≡◌, ℕ, suc, ◌+◌, ◌<◌, ◌≤◌, true, false, cond, List, [], ◌∷◌, ◌++◌, length, take, drop, get_or, Option, Some, None, refl, sym, ap, ap₂, ◌∙◌, arith, drop-cons, append-nil}
 use Rattle.std.specs.Prelude.{find, nat_lt}
 use Rattle.std.specs.Option.{option_map_or, option_or}
-use Rattle.std.proofs.lemmas.List.{drop-append-le, drop_all, length-append, length-drop, length-take, take-append-drop, take_all, take_more}
+use Rattle.std.proofs.lemmas.List.{drop-append-le, length-append, length-drop, length-take, take-append-drop, take_all, take_more}
 use Rattle.std.proofs.lemmas.List.Folds.{find-append}
 use Rattle.std.proofs.lemmas.Option.{slice_get-get_or}
 use Rattle.dbtrace.specs.declared.Reported.{Reported}
@@ -19,16 +19,6 @@ pub record HasLookedAt (x : Reported) (begins : ℕ) (listed : List Entry) (n co
   pub within : count ≤ n
 
 module _ (x : Reported) (b : ℕ) (listed : List Entry) where
-  -- at the first none was
-  pub at_first : HasLookedAt x b listed b 0 None
-  at_first =
-      let none : drop b (take b listed) ≡ [] = let l = length-take b listed in drop_all b (take b listed) (omega (arith, l)) in record {
-        none = ap (λ es. find (is_listed_cause x listed) (entry_numbers_from (is_beside x) b es)) none;
-        as_many = ap (λ es. length (entry_numbers_from (is_beside x) b es)) (sym none);
-        latest = ap (λ es. last_of (entry_numbers_from (is_beside x) b es)) (sym none);
-        within = omega arith;
-      }
-
   module _ (n : ℕ) (e d : Entry) (from : b ≤ n) (within : n < length listed) (here : get_or listed n d ≡ e) where
     size : b ≤ length (take n listed)
     size = let l = length-take n listed in omega (arith, l, from, within)
@@ -52,7 +42,8 @@ module _ (x : Reported) (b : ℕ) (listed : List Entry) where
 
     pub looked_past : (count : ℕ) (last : Option ℕ) → is_beside x e ≡ false → HasLookedAt x b listed n count last → HasLookedAt x b listed (n + 1) count last
     looked_past count last off h =
-        let same : beside_before x b listed (n + 1) ≡ beside_before x b listed n = next ∙ ap (λ t. beside_before x b listed n ++ cond t (n ∷ []) []) off ∙ append-nil _ in record {
+        let same : beside_before x b listed (n + 1) ≡ beside_before x b listed n =
+        next ∙ ap (λ t. beside_before x b listed n ++ cond t (n ∷ []) []) off ∙ append-nil _ in record {
           none = ap (find (is_listed_cause x listed)) same ∙ h.none;
           as_many = h.as_many ∙ ap length (sym same);
           latest = h.latest ∙ ap last_of (sym same);
@@ -62,7 +53,8 @@ module _ (x : Reported) (b : ℕ) (listed : List Entry) where
     pub looked_at : (count : ℕ) (last : Option ℕ) → is_beside x e ≡ true → same_cause x.cause e.first.cause ≡ false → HasLookedAt x b listed n count last
         → HasLookedAt x b listed (n + 1) (count + 1) (Some n)
     looked_at count last on other h =
-        let same : beside_before x b listed (n + 1) ≡ beside_before x b listed n ++ n ∷ [] = next ∙ ap (λ t. beside_before x b listed n ++ cond t (n ∷ []) []) on in record {
+        let same : beside_before x b listed (n + 1) ≡ beside_before x b listed n ++ n ∷ [] =
+        next ∙ ap (λ t. beside_before x b listed n ++ cond t (n ∷ []) []) on in record {
           none =
               ap (find (is_listed_cause x listed)) same
               ∙ find-append (is_listed_cause x listed) (beside_before x b listed n) (n ∷ [])
@@ -99,7 +91,8 @@ module _ (x : Reported) (b : ℕ) (listed : List Entry) where
             ∙ ap (λ t. beside_before x b listed n ++ cond t (n ∷ rest) rest) on
 
 -- what is found is where the fault goes
-pub is_home : (x : Reported) (s : Stored) (n : ℕ) → find (is_listed_cause x s.listed) (beside_before x s.begins s.listed (length s.listed)) ≡ Some n → home_kept x s ≡ Some n
+pub is_home : (x : Reported) (s : Stored) (n : ℕ)
+    → find (is_listed_cause x s.listed) (beside_before x s.begins s.listed (length s.listed)) ≡ Some n → home_kept x s ≡ Some n
 is_home x s n e =
     let is = beside_before x s.begins s.listed (length s.listed) in
     ap (λ o. option_or o (cond (nat_lt (length is) (most x.fault.code)) None (last_of is))) e

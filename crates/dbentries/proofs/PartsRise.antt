@@ -78,7 +78,8 @@ found_rises (ended at ∷ ns) h a = found_rises ns h.1 a
 found_rises (heard_row at r ∷ ns) h a = found_rises ns h.1 a
 found_rises (heard_fault x ∷ ns) h a =
     let s = a x (inl refl) in
-    let r : EachPair (λ j k. j ≤ k) (s.0 ∷ filter_map number_of ns) = subst (λ p. EachPair (λ j k. j ≤ k) (cons_option (part_number p) (filter_map number_of ns))) s.1 h in (
+    let r : EachPair (λ j k. j ≤ k) (s.0 ∷ filter_map number_of ns) =
+    subst (λ p. EachPair (λ j k. j ≤ k) (cons_option (part_number p) (filter_map number_of ns))) s.1 h in (
       (λ y i.
           let t = a y (inr i) in
           let l = r.0 t.0 (numbered ns y t.0 i t.1) in
@@ -95,7 +96,9 @@ parts_rise file V s =
     let hs = map (of_file part.Header) (header_faults file (length file)) in
     let es = map (of_file part.End) (end_faults file V) in
     let R : Reported → Reported → Type 0 = λ x y. rank x.part ≤ rank y.part in
-    let walk : PartsRise (walk_told file V) = subst PartsRise (starts_told file V s) (found_rises ns (starts_rise file V) (λ x i. at_starts file V x (subst (λ l. IsIn x l) (starts_told file V s) i))) in
+    let walk : PartsRise (walk_told file V) =
+    subst PartsRise (starts_told file V s)
+    (found_rises ns (starts_rise file V) (λ x i. at_starts file V x (subst (λ l. IsIn x l) (starts_told file V s) i))) in
     let most : (x : Reported) → IsIn x (walk_told file V) → rank x.part ≤ 65538 = λ x i.
     let t = at_starts file V x i in
     let l = are_starts file V t.0 (numbered ns x t.0 (subst (λ l. IsIn x l) (sym (starts_told file V s)) i) t.1) in

@@ -60,7 +60,8 @@ module _ (es : List listing.Entry) (x : Reported) (s : Stored) (is : KeepsEntrie
       off e m = let l = is.earlier e m in by_code e (code_index e.first.fault.code == code_index x.fault.code) (grind (arith, nat_tests, l, here))
 
       same_test : (e : listing.Entry) → is_beside x (kept_of e) ≡ test e
-      same_test e = ap (λ (f : Reported). (code_index f.fault.code == code_index x.fault.code) && (rank f.part == rank x.part)) (first_kept e.others (lone_entry e.first))
+      same_test e =
+          ap (λ (f : Reported). (code_index f.fault.code == code_index x.fault.code) && (rank f.part == rank x.part)) (first_kept e.others (lone_entry e.first))
 
   -- numbers of either are those of entries
   in_kept : (k : ℕ) → IsIn k kept → k < s.limit
@@ -168,14 +169,16 @@ module _ (es : List listing.Entry) (x : Reported) (s : Stored) (is : KeepsEntrie
   same_found = find-same (is_listed_cause x s.listed) (is_cause x es) kept (λ k m. same k (in_kept k m))
     where
       by_entry : (o : Option listing.Entry)
-          → option_map_or (λ (e : Entry). same_cause x.cause e.first.cause) (option_map kept_of o) false ≡ option_map_or (λ (e : listing.Entry). same_cause x.cause e.first.cause) o false
+          → option_map_or (λ (e : Entry). same_cause x.cause e.first.cause) (option_map kept_of o) false
+          ≡ option_map_or (λ (e : listing.Entry). same_cause x.cause e.first.cause) o false
       by_entry None = refl
       by_entry (Some e) = ap (λ (f : Reported). same_cause x.cause f.cause) (first_kept e.others (lone_entry e.first))
 
       same : (k : ℕ) → k < s.limit → is_listed_cause x s.listed k ≡ is_cause x es k
       same k l =
           ap (λ listed. is_listed_cause x listed k) is.listed
-          ∙ ap (λ o. option_map_or (λ (e : Entry). same_cause x.cause e.first.cause) o false) (slice_get-map kept_of (take s.limit es) k ∙ ap (option_map kept_of) (get-take s.limit k es l))
+          ∙ ap (λ o. option_map_or (λ (e : Entry). same_cause x.cause e.first.cause) o false)
+          (slice_get-map kept_of (take s.limit es) k ∙ ap (option_map kept_of) (get-take s.limit k es l))
           ∙ by_entry (slice_get es k)
 
   -- its home, by the entries that are kept, and by all
@@ -192,7 +195,9 @@ module _ (es : List listing.Entry) (x : Reported) (s : Stored) (is : KeepsEntrie
   all_home = ap (home_among x.fault.code (is_cause x es)) parts ∙ ap (λ o. option_or o (else_home (kept ++ others))) (find-append (is_cause x es) kept others)
 
   to_kept : (i : ℕ) → home_kept x s ≡ Some i → home x es ≡ Some i → i < s.limit → goal
-  to_kept i e f l = subst (λ h. KeepsEntries (with_fault es x) (put_at h x s)) (sym e) (subst (λ now. KeepsEntries now (put_kept i x s)) (sym (with_home es x i f)) (joined_kept i l))
+  to_kept i e f l =
+      subst (λ h. KeepsEntries (with_fault es x) (put_at h x s)) (sym e)
+      (subst (λ now. KeepsEntries now (put_kept i x s)) (sym (with_home es x i f)) (joined_kept i l))
 
   -- none that is kept
   module _ (none : home_kept x s ≡ None) where
@@ -246,7 +251,8 @@ module _ (es : List listing.Entry) (x : Reported) (s : Stored) (is : KeepsEntrie
 
   -- it has as many as it may have, and all are kept
   with_most : find (is_cause x es) kept ≡ None → nat_lt (length kept) (most x.fault.code) ≡ false → goal
-  with_most none full = to_kept last.0 (kept_home ∙ ap₂ (λ o b. option_or o (cond b None (last_of kept))) none full ∙ last.1) all (in_kept last.0 (last-in kept last.0 last.1))
+  with_most none full = to_kept last.0 (kept_home ∙ ap₂ (λ o b. option_or o (cond b None (last_of kept))) none full ∙ last.1)
+      all (in_kept last.0 (last-in kept last.0 last.1))
     where
       enough : most x.fault.code ≤ length kept
       enough = ltb-false _ _ full

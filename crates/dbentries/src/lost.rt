@@ -1,4 +1,4 @@
-// The faults of a file, as they are heard, and those of the pages to which nothing refers, when these are looked at.
+// The pages to which nothing refers, and what they look like.
 ghost use Rattle.std.specs.Prelude.{◌≡◌, ◌≤◌, ℕ, List, pos, true};
 ghost use Rattle.dbformat.specs.Faults.{fault};
 ghost use Rattle.dbformat.specs.File.{geometry};
@@ -11,8 +11,7 @@ ghost use Rattle.dbscan.specs.Desks.{shape_of};
 ghost use Rattle.dbscan.specs.Finishes.{IsDeskOf};
 ghost use Rattle.dbscan.specs.Looks.{IsUnmarked, ReadsOrNot, ReadsRising};
 ghost use Rattle.dbscan.specs.Placed.{told_faults};
-ghost use Rattle.dbentries.specs.Listed.{is_lost};
-ghost use Rattle.dbentries.specs.Lists.{HasListed, ListsFault};
+ghost use Rattle.dbentries.specs.Lists.{HasListed};
 ghost use Rattle.dbentries.specs.Lost.{AddsLost, HasLooked};
 
 use crate::entries::Entries;
@@ -35,13 +34,6 @@ fn lost_fault(page: u32) -> Fault
     }
 }
 
-// Whether a fault is that of a lost page.
-fn is_lost(told: &Reported) -> bool
-    ensures { result ≡ is_lost told.now }
-{
-    matches!(told.part, Part::End) && matches!(told.fault.code, FaultCode::N01)
-}
-
 // Whether nothing refers to a page.
 fn is_page_lost<A: Allocator>(desk: &Desk<A>, page: u32) -> bool
     ensures mark { result ≡ is_unmarked desk.now.marks page }
@@ -55,16 +47,6 @@ fn is_page_lost<A: Allocator>(desk: &Desk<A>, page: u32) -> bool
 }
 
 impl<A: Allocator> Entries<A> {
-    /// Lists a fault, but for that of a lost page, which is listed when its page is looked at. It comes after those of earlier parts
-    /// and the earlier ones of its own part.
-    pub fn hear(&mut self, told: &Reported)
-        ensures { ListsFault told.now self.old self.new }
-    {
-        if !is_lost(told) {
-            self.add(told);
-        }
-    }
-
     // Looks at a page of the file, if nothing refers to it, and lists its fault.
     fn look_at_page<S: Source>(
         &mut self,

@@ -1,20 +1,10 @@
--- Which findings are faults, which are rows, and which show that the schema has one.
+-- Which findings are rows, and which show that the schema has one.
 use Rattle.std.specs.Prelude.{Bool, true, false, not, ◌&&◌, ◌==◌, List, filter_map, Option, Some, None}
 use Rattle.dbformat.specs.Address.{schema_start}
 use Rattle.dbformat.specs.Rows.{StatRow}
-use Rattle.dbformat.specs.declared.Fault.{Fault}
 use Rattle.dbformat.specs.declared.PageType.{PageType}
 use Rattle.dbformat.specs.declared.PageType.TheVariants.{Leaf}
 use Rattle.dbtrace.specs.Finding.{Finding, told_row, told_fault}
-
--- the fault of a finding, if it is one
-abbrev pub fault_in : Finding → Option Fault
-fault_in (told_row r) = None
-fault_in (told_fault f why) = Some f
-
--- the faults among findings
-abbrev pub faults_in : List Finding → List Fault
-faults_in items = filter_map fault_in items
 
 -- the row of a finding, if it is one
 abbrev pub found_row : Finding → Option StatRow

@@ -8,7 +8,8 @@ use Rattle.dbentries.proofs.entries.Entries.home.Goals as goal
 use Rattle.dbentries.proofs.entries.Entries.home.Goals.{then-is_beside+else-same_cause, else-is_beside}
 
 -- what is shown of some entries has the one that is read
-read : (items : List Entry) (shown n : ℕ) (e : Entry) → shown ≤ length items → n < shown → get_or items n e ≡ e → (n < length (take shown items)) × (get_or (take shown items) n e ≡ e)
+read : (items : List Entry) (shown n : ℕ) (e : Entry) → shown ≤ length items → n < shown → get_or items n e ≡ e
+    → (n < length (take shown items)) × (get_or (take shown items) n e ≡ e)
 read items shown n e all within is = let l = length-take shown items in (omega (arith, l, all, within), get_or-take shown items n e within ∙ is)
 
 abbrev At : Reported → ℕ → ℕ → Option ℕ → Stored → Type 0
@@ -36,9 +37,11 @@ loop-slot-preserved g c =
     let before = subst (At x n c.loop-slot.beside c.loop-slot.last) (sym c.self.view_is) c.loop-slot.invariant in
     subst (At x (n + 1) c.if-is_beside.beside c.if-is_beside.last) c.self.view_is (elim c.if-is_beside.branch [
       | then-is_beside+else-same_cause w ↦
-          rw (w.beside-is, w.last-is) (looked_at x s.begins (take s.shown s.listed.items) n e e c.loop-slot.auto.slot r.0 r.1 c.loop-slot.beside c.loop-slot.last
+          rw (w.beside-is, w.last-is) (looked_at x s.begins (take s.shown s.listed.items) n e e c.loop-slot.auto.slot r.0 r.1
+          c.loop-slot.beside c.loop-slot.last
           (sym c.is_beside.ensures ∙ w.if-is_beside.true) (sym w.same_cause.ensures ∙ w.if-same_cause.false) before)
       | else-is_beside w ↦
-          rw (w.beside-is, w.last-is) (looked_past x s.begins (take s.shown s.listed.items) n e e c.loop-slot.auto.slot r.0 r.1 c.loop-slot.beside c.loop-slot.last
+          rw (w.beside-is, w.last-is) (looked_past x s.begins (take s.shown s.listed.items) n e e c.loop-slot.auto.slot r.0 r.1
+          c.loop-slot.beside c.loop-slot.last
           (sym c.is_beside.ensures ∙ w.if-is_beside.false) before)
     ])
