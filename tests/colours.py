@@ -59,7 +59,7 @@ def distance(one, other, sight):
 
 def colours():
     source = Path(__file__).parent.parent / "crates/dbmap/src/colours.rt"
-    texts = re.findall(r'=> "(#[0-9A-F]{6})"', source.read_text())
+    texts = re.findall(r"\.[to]\d+\{fill:(#[0-9A-F]{6})\}", source.read_text())
     names = TREES + [name + ", overflow" for name in TREES]
     all = {name: linear(text) for name, text in zip(names, texts)}
     for name, text in OTHERS.items():

@@ -48,7 +48,7 @@ if command -v sqlite3 > /dev/null && sqlite3 "$large" "PRAGMA page_size = 512;
     if [ "$squares" -le 8192 ] || [ "$squares" -gt 16384 ]; then
         bad "$large" "it has $squares squares"
     fi
-    grep -q '<g><title>pages [0-9]* to [0-9]*: .* in table &lt;b&gt;&amp;&#39;.*<rect x="[0-9]*" y="[1-5]" ' "$picture" ||
+    grep -q '<g><title>pages [0-9]* to [0-9]*: .* in table &lt;b&gt;&amp;&#39;.*<rect class="[to][0-9]*" x="[0-9]*" y="[1-5]" ' "$picture" ||
         bad "$large" 'no square is in bands'
     # Three leaves of one table become zeros. The first leads: its frame lies above the bands of its square, and the others' below.
     for page in $("$dbck" stat "$large" | awk -F '\t' '$1 == "plain" && $4 == "leaf" && ++n % 1000 == 0 && n <= 3000 { print $3 }'); do

@@ -355,8 +355,8 @@ put_at "$work/mixed.db" 1024 '\0\0\0\0\0\0\0\02\0\0\0\05\0\0\0\07'
 truncate -s $((512 * 16386)) "$work/mixed.db"
 run map "$work/mixed.db"
 for x in 7 14 21; do
-    free="<rect x=\"$x\" y=\"0\" width=\"6\" height=\"3\" fill=\"#DBDBDB\"/>"
-    lost="<rect x=\"$x\" y=\"3\" width=\"6\" height=\"3\" fill=\"url(#unowned)\"/>"
+    free="<rect class=\"t13\" x=\"$x\" y=\"0\" width=\"6\" height=\"3\"/>"
+    lost="<rect class=\"t15\" x=\"$x\" y=\"3\" width=\"6\" height=\"3\"/>"
     count "the bands of the square at $x" grep -qF "$free$lost" "$work/out"
 done
 

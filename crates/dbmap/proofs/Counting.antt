@@ -25,13 +25,15 @@ use Rattle.dbscan.proofs.AllTold.{all_told}
 use Rattle.dbentries.specs.Lists.{HasListed, ListsAll}
 use Rattle.dbentries.specs.Store.{Stored}
 use Rattle.dbentries.proofs.Heard.{never_stops}
-use Rattle.dbmap.specs.FaultyPages.{coded}
-use Rattle.dbmap.specs.KeptFaults.{HasFaults, HasTreeRoom, HearsNone, IsUnnoted}
-use Rattle.dbmap.specs.Maps.{DrawsMap}
+use Rattle.dbmap.specs.FaultNotes.{AreNoted}
+use Rattle.dbmap.specs.Faults.{coded}
+use Rattle.dbmap.specs.KeptFaults.{HasFaults, HasTreeRoom, HearsNone}
+use Rattle.dbmap.specs.MapPictures.{map_picture}
+use Rattle.dbmap.specs.Maps.{PutsMap}
 use Rattle.dbmap.specs.MapReporter.{Hears, LeavesMap}
-use Rattle.dbmap.specs.PageSets.{AreNoted}
 use Rattle.dbmap.specs.declared.map_reporter.MapReporter.{MapReporter}
 use Rattle.dbmap.specs.declared.draw_state.DrawState.{DrawState}
+use Rattle.dbmap.proofs.MapAnswers.{nothing_begun}
 use Rattle.dbmap.proofs.Heard.{HasNotedFaults, all_heard, codes_told, some_untouched}
 
 -- the pages and codes of faults that were reported
@@ -65,9 +67,8 @@ module _ {A O : Type 0} (file : List ℕ) (V : List Reference) (survey : Survey 
     pub map_keeps : (l : Stored) → ListsAll 100 file V l → HasFaults file V (record t.kept.now { listing = l })
     map_keeps l listed = record {
       room = subst (λ (w : DrawState A). HasTreeRoom (geometry file).pages w.trees.known) (sym all.state) empty.room;
-      faulty = subst (λ (fs : List (ℕ × FaultCode)). AreNoted fs t.kept.now.faulty) (coded_told (told_faults file V) ∙ ap (map coded) (all_told file V)) all.faulty;
-      pages = all.pages ∙ empty.faulty.pages;
-      strong = subst (IsUnnoted (geometry file).pages) (sym all.strong) empty.strong;
+      notes = subst (λ (fs : List (ℕ × FaultCode)). AreNoted fs [] t.kept.now.notes) (coded_told (told_faults file V) ∙ ap (map coded) (all_told file V)) all.notes;
+      pages = record { pages = all.room.pages ∙ empty.pages.pages; run = all.room.run ∙ empty.pages.run; squares = all.room.squares ∙ empty.pages.squares };
       listing = listed;
     }
 
@@ -82,17 +83,17 @@ module _ {A O : Type 0} (file : List ℕ) (V : List Reference) (survey : Survey 
   stopped WriteFailed h = absurd (never_stops Hears (run_notices file V) s t h)
 
   -- a picture was not begun where nothing was put
-  unbegun : (e : RunError) (old new : Option (List ℕ)) → Keeps old new → DrawsMap {A = Verdict} (Err e) old new s.name.now file V
+  unbegun : (e : RunError) (old new : Option (List ℕ)) → Keeps old new → PutsMap {A = Verdict} (Err e) old new (map_picture file V s.name.now)
   unbegun (Refused r) old new kept = kept
   unbegun ReadFailed old new kept = kept
   unbegun OutOfMemory old new kept = kept
-  unbegun WriteFailed old new kept = inl kept
+  unbegun WriteFailed old new kept = nothing_begun old new (map_picture file V s.name.now) kept
 
   -- a run that came to its end, or not
   pub map_left : (held : O → OutState) (r : Result Verdict RunError) → Leaves Hears CutsNever (LeavesMap held) file V r s t
-      → IfOk r (λ v. v ≡ verdict (faults file V)) × DrawsMap r (held s.out.now).bytes (held t.out.now).bytes s.name.now file V
+      → IfOk r (λ v. v ≡ verdict (faults file V)) × PutsMap r (held s.out.now).bytes (held t.out.now).bytes (map_picture file V s.name.now)
   map_left held r (inl h) = h none empty
   map_left held r (inr (e, is, k)) =
       let kept : Keeps (held s.out.now).bytes (held t.out.now).bytes =
       subst (λ (o : O). Keeps (held s.out.now).bytes (held o).bytes) (sym (stopped e k)) (keeps_same (held s.out.now).bytes) in
-      subst (λ (r : Result Verdict RunError). IfOk r (λ v. v ≡ verdict (faults file V)) × DrawsMap r (held s.out.now).bytes (held t.out.now).bytes s.name.now file V) (sym is) (tt, unbegun e (held s.out.now).bytes (held t.out.now).bytes kept)
+      subst (λ (r : Result Verdict RunError). IfOk r (λ v. v ≡ verdict (faults file V)) × PutsMap r (held s.out.now).bytes (held t.out.now).bytes (map_picture file V s.name.now)) (sym is) (tt, unbegun e (held s.out.now).bytes (held t.out.now).bytes kept)

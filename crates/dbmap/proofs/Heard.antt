@@ -1,6 +1,5 @@
 -- What a reporter keeps that has heard all of a file, or a beginning of it.
 use Rattle.std.proofs.Common.{◌≡◌, ℕ, ◌≤◌, List, [], ◌∷◌, ◌++◌, length, map, refl, ap, subst, ◌∙◌, arith, length-append}
-use Rattle.std.specs.Prelude.{vec_len}
 use Rattle.dbsurvey.specs.Moves.{Moves, MovesBySome}
 use Rattle.dbformat.specs.File.{geometry}
 use Rattle.dbformat.specs.Lines.{counted}
@@ -15,10 +14,10 @@ use Rattle.dbentries.specs.Lists.{HasListed}
 use Rattle.dbentries.specs.Store.{Stored}
 use Rattle.dbentries.proofs.Heard.{file_begun, file_heard}
 use Rattle.dbentries.proofs.ListedFaults.{one_listed}
-use Rattle.dbmap.specs.FaultyPages.{coded}
+use Rattle.dbmap.specs.FaultNotes.{AreNoted, HasSameRoom}
+use Rattle.dbmap.specs.Faults.{coded}
 use Rattle.dbmap.specs.KeptFaults.{HearsNone}
 use Rattle.dbmap.specs.MapReporter.{Adds, Hears}
-use Rattle.dbmap.specs.PageSets.{AreNoted}
 use Rattle.dbmap.specs.declared.map_reporter.MapReporter.{MapReporter}
 
 -- the pages and codes of some faults
@@ -33,10 +32,9 @@ module _ {A O : Type 0} where
   -- These faults were counted, noted and listed; nothing else changed.
   pub record HasNotedFaults (ts : List Reported) (first now : MapReporter A O) : Type 0 where
     pub count : now.faults ≡ counted (length ts)
-    pub faulty : AreNoted (codes_told ts) now.kept.now.faulty
-    pub pages : vec_len now.kept.now.faulty.noted ≡ vec_len first.kept.now.faulty.noted
+    pub notes : AreNoted (codes_told ts) [] now.kept.now.notes
+    pub room : HasSameRoom first.kept.now.notes now.kept.now.notes
     pub listing : HasListed 100 ts now.kept.now.listing
-    pub strong : now.kept.now.strong ≡ first.kept.now.strong
     pub state : now.kept.now.state ≡ first.kept.now.state
     pub out : now.out.now ≡ first.out.now
 
@@ -47,10 +45,9 @@ module _ {A O : Type 0} where
       → HasNotedFaults (ts ++ x ∷ []) first t
   one_heard first x ts s t most h a = record {
     count = let e = a.count in let n = h.count in let l = length-append ts (x ∷ []) in omega (arith, e, n, l);
-    faulty = subst (λ (l : List (ℕ × FaultCode)). AreNoted l t.kept.now.faulty) (told_more ts x) (a.kept.faulty (codes_told ts) h.faulty);
-    pages = a.kept.pages ∙ h.pages;
+    notes = subst (λ (l : List (ℕ × FaultCode)). AreNoted l [] t.kept.now.notes) (told_more ts x) (a.kept.notes (codes_told ts) [] h.notes);
+    room = record { pages = a.kept.room.pages ∙ h.room.pages; run = a.kept.room.run ∙ h.room.run; squares = a.kept.room.squares ∙ h.room.squares };
     listing = one_listed 100 ts x (listing s) (listing t) most h.listing a.kept.listing;
-    strong = a.kept.strong ∙ h.strong;
     state = a.kept.state ∙ h.state;
     out = a.out ∙ h.out;
   }
@@ -58,7 +55,7 @@ module _ {A O : Type 0} where
 module _ {A O : Type 0} (file : List ℕ) (V : List Reference) (survey : Survey file V) (first now : MapReporter A O)
     (none : first.faults ≡ 0) (empty : HearsNone (geometry file).pages first.kept.now) where
   nothing_noted : HasNotedFaults [] first first
-  nothing_noted = record { count = none; faulty = empty.faulty.none; pages = refl; listing = empty.listing.none; strong = refl; state = refl; out = refl }
+  nothing_noted = record { count = none; notes = empty.notes; room = record { pages = refl; run = refl; squares = refl }; listing = empty.listing.none; state = refl; out = refl }
 
   -- all of it
   pub all_heard : Moves Hears first (run_notices file V) now → HasNotedFaults (told_faults file V) first now

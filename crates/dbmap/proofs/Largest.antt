@@ -1,111 +1,89 @@
 -- The largest trees, one after another.
-use Rattle.std.proofs.Common.{◌≡◌, ℕ, ◌<◌, ◌≤◌, ◌⊎◌, inl, inr, List, [], ◌∷◌, ◌++◌, length, Option, Some, None, refl, sym, ◌∙◌, arith}
-use Rattle.dbsurvey.specs.Address.{EachPair, IsIn}
-use Rattle.dbmap.specs.Tallies.{AreLargest, IsAfter, IsBeforeStart, IsNextStart}
+use Rattle.std.proofs.Common.{◌≡◌, ℕ, zero, suc, ◌+◌, ◌<◌, ◌≤◌, ◌⊎◌, inl, inr, Bool, true, false, cond, List, [], ◌∷◌, ◌++◌, Some, None, refl, sym, ap, ap₂, ◌∙◌, arith}
+use Rattle.std.specs.Prelude.{◌==◌}
+use Rattle.dbsurvey.specs.Address.{IsIn}
+use Rattle.dbmap.specs.Owners.{rank_of}
+use Rattle.dbmap.specs.Tallies.{largest_trees, left_pages, next_start, next_tree, one_tree_more, pages_at, tree_at}
+use Rattle.dbmap.specs.declared.owner_shares.Share.{Share}
+use Rattle.dbmap.specs.declared.tally.RankedTree.{RankedTree}
+use Rattle.dbmap.proofs.FirstMost.{most_rest, most_same, most_within}
 
--- ---- one start more at the end
-
-pub in_push : (x : ℕ) (ks : List ℕ) (k : ℕ) → IsIn x (ks ++ k ∷ []) → IsIn x ks ⊎ (x ≡ k)
+in_push : (x : ℕ) (ks : List ℕ) (k : ℕ) → IsIn x (ks ++ k ∷ []) → IsIn x ks ⊎ (x ≡ k)
 in_push x [] k (inl e) = inr e
 in_push x [] k (inr i) = absurd i
 in_push x (j ∷ ks) k (inl e) = inl (inl e)
 in_push x (j ∷ ks) k (inr i) = elim (in_push x ks k i) [ inl a ↦ inl (inr a) | inr e ↦ inr e ]
 
-pub in_front : (x : ℕ) (ks : List ℕ) (k : ℕ) → IsIn x ks → IsIn x (ks ++ k ∷ [])
-in_front x [] k i = absurd i
-in_front x (j ∷ ks) k (inl e) = inl e
-in_front x (j ∷ ks) k (inr i) = inr (in_front x ks k i)
+-- by counts that are the same, where starts from n on have no page
+module _ (n d : ℕ) (f g : ℕ → ℕ) (same : (k : ℕ) → k ≤ n + d → f k ≡ g k) (none : (k : ℕ) → n ≤ k → k < n + d → f k ≡ 0) where
+  left_same : (taken : List ℕ) (k : ℕ) → k ≤ n + d → left_pages f taken k ≡ left_pages g taken k
+  left_same taken k l = ap (λ m. cond (rank_of taken (Some k) == 12) m 0) (same k l)
 
-pub in_last : (ks : List ℕ) (k : ℕ) → IsIn k (ks ++ k ∷ [])
-in_last [] k = inl refl
-in_last (j ∷ ks) k = inr (in_last ks k)
-
-pairs_push : (rel : ℕ → ℕ → Type 0) (ks : List ℕ) (k : ℕ) → EachPair rel ks → ((j : ℕ) → IsIn j ks → rel j k) → EachPair rel (ks ++ k ∷ [])
-pairs_push rel [] k h all = ((λ y i. absurd i), tt)
-pairs_push rel (j ∷ ks) k h all =
-    ((λ y i. elim (in_push y ks k i) [ inl a ↦ h.0 y a | inr e ↦ rw e (all j (inl refl)) ]), pairs_push rel ks k h.1 (λ i a. all i (inr a)))
-
--- ---- one tree after another
-
-before_then : (pages : ℕ → ℕ) (i j k : ℕ) → IsBeforeStart pages i j → IsBeforeStart pages j k → IsBeforeStart pages i k
-before_then pages i j k (inl h) (inl l) = inl (omega arith)
-before_then pages i j k (inl h) (inr l) = inl (omega arith)
-before_then pages i j k (inr h) (inl l) = inl (omega arith)
-before_then pages i j k (inr h) (inr l) = inr (omega arith, omega arith)
-
--- some of the largest are known, the last of which is this one
-pub record AreFirst (trees : ℕ) (pages : ℕ → ℕ) (ks : List ℕ) (last : Option ℕ) : Type 0 where
-  pub some : (k : ℕ) → IsIn k ks → (k < trees) × (0 < pages k)
-  pub order : EachPair (IsBeforeStart pages) ks
-  pub none : last ≡ None → ks ≡ []
-  pub end : (l : ℕ) → last ≡ Some l → IsIn l ks × ((j : ℕ) → IsIn j ks → (j ≡ l) ⊎ IsBeforeStart pages j l)
-  pub others : (k : ℕ) → k < trees → 0 < pages k → (IsIn k ks → ⊥) → (j : ℕ) → IsIn j ks → IsBeforeStart pages j k
-
-module _ (trees : ℕ) (pages : ℕ → ℕ) (ks : List ℕ) (last : Option ℕ) (h : AreFirst trees pages ks last) where
-  -- a start that is not among them is after the last
-  is_after : (k : ℕ) → k < trees → 0 < pages k → (IsIn k ks → ⊥) → IsAfter pages last k
-  is_after k l p n = by_last last refl
+  next_same : (taken : List ℕ) → next_start f n taken ≡ next_start g (n + d) taken
+  next_same taken =
+      sym (most_rest (left_pages f taken) n d (λ k l m. ap (λ x. cond (rank_of taken (Some k) == 12) x 0) (none k l m) ∙ nothing (rank_of taken (Some k) == 12)))
+      ∙ most_same (left_pages f taken) (left_pages g taken) (n + d) (left_same taken)
     where
-      by_last : (o : Option ℕ) → last ≡ o → IsAfter pages o k
-      by_last None e = tt
-      by_last (Some j) e = h.others k l p n j (h.end j e).0
+      nothing : (b : Bool) → cond {A = ℕ} b 0 0 ≡ 0
+      nothing true = refl
+      nothing false = refl
 
-  -- they are before the next one
-  before_next : (t : ℕ) → IsAfter pages last t → (j : ℕ) → IsIn j ks → IsBeforeStart pages j t
-  before_next t a j i = by_last last refl a
-    where
-      by_last : (o : Option ℕ) → last ≡ o → IsAfter pages o t → IsBeforeStart pages j t
-      by_last None e b = absurd (let none : IsIn j [] = rw (h.none e) at i in none)
-      by_last (Some l) e b = elim ((h.end l e).1 j i) [ inl f ↦ rw f b | inr c ↦ before_then pages j l t c b ]
+  more_same : (taken : List ℕ) → one_tree_more f n taken ≡ one_tree_more g (n + d) taken
+  more_same taken =
+      let at = next_same taken in
+      let most = most_within (left_pages f taken) n (n + d) (omega arith) in
+      let pages : left_pages f taken (next_start f n taken) ≡ left_pages g taken (next_start g (n + d) taken) =
+      left_same taken (next_start f n taken) most ∙ ap (left_pages g taken) at in
+      ap₂ (λ x k. cond (x == 0) taken (taken ++ k ∷ [])) pages at
 
-  pub first_more : (t : ℕ) → IsNextStart trees pages last (Some t) → AreFirst trees pages (ks ++ t ∷ []) (Some t)
-  first_more t next =
-      let here = next.some t refl in record {
-        some = λ k i. elim (in_push k ks t i) [ inl a ↦ h.some k a | inr e ↦ rw e (here.0, here.1) ];
-        order = pairs_push (IsBeforeStart pages) ks t h.order (before_next t here.2);
-        none = λ e. cc;
-        end = λ l e. (let same : t ≡ l = cc in (rw (← same) (in_last ks t), λ j i. elim (in_push j ks t i) [ inl a ↦ inr (rw (← same) (before_next t here.2 j a)) | inr f ↦ inl (f ∙ same) ]));
-        others = λ k l p n j i. elim (in_push j ks t i) [ inl a ↦ h.others k l p (λ b. n (in_front k ks t b)) j a | inr e ↦ rw e (after k l p n) ];
-      }
-    where
-      after : (k : ℕ) → k < trees → 0 < pages k → (IsIn k (ks ++ t ∷ []) → ⊥) → IsBeforeStart pages t k
-      after k l p n =
-          let w = next.rest k l p (is_after k l p (λ b. n (in_front k ks t b))) in
-          let same : t ≡ w.0 = cc in
-          elim w.2 [ inl e ↦ absurd (n (rw (sym (same ∙ e)) (in_last ks t))) | inr b ↦ rw same b ]
+  pub largest_same : (count : ℕ) → largest_trees f n count ≡ largest_trees g (n + d) count
+  unfolding largest_trees
+  largest_same zero = refl
+  largest_same (suc count) = more_same (largest_trees f n count) ∙ ap (one_tree_more g (n + d)) (largest_same count)
 
-  -- there is no other
-  pub first_all : length ks ≤ 12 → IsNextStart trees pages last None → AreLargest trees pages ks
-  first_all most next = record {
-    some = h.some;
-    order = h.order;
-    most = most;
-    others = λ k l p n. (let w = next.rest k l p (is_after k l p n) in let no : None ≡ Some w.0 = w.1 in cc);
-  }
-
-  -- there are twelve
-  pub first_twelve : length ks ≡ 12 → AreLargest trees pages ks
-  first_twelve many = record {
-    some = h.some;
-    order = h.order;
-    most = omega arith;
-    others = λ k l p n. (many, h.others k l p n);
-  }
-
--- the same by other counts
-pub largest_by : (n m : ℕ) (f g : ℕ → ℕ) (ks : List ℕ) → ((k : ℕ) → k < m → f k ≡ g k) → n ≤ m → ((k : ℕ) → k < m → 0 < g k → k < n) → AreLargest n f ks → AreLargest m g ks
-largest_by n m f g ks same few all h = record {
-  some = λ k i. (let s = h.some k i in let l : k < m = omega (arith, s.0) in let e = same k l in (l, omega (arith, s.1, e)));
-  order = pairs ks (λ k i. (let s = h.some k i in let l : k < m = omega (arith, s.0) in l)) h.order;
-  most = h.most;
-  others = λ k l p no. (let e = same k l in let o = h.others k (all k l p) (omega (arith, p, e)) no in
-      (o.0, λ j i. (let s = h.some j i in let m : j < m = omega (arith, s.0) in move j k (same j m) e (o.1 j i))));
-}
+-- each is one of the starts
+pub largest_within : (pages : ℕ → ℕ) (n m count k : ℕ) → n ≤ suc m → IsIn k (largest_trees pages n count) → k ≤ m
+unfolding largest_trees
+largest_within pages n m zero k l i = absurd i
+largest_within pages n m (suc count) k l i = by_case (left_pages pages taken (next_start pages n taken) == 0) (λ j. largest_within pages n m count k l j) i
   where
-    move : (j k : ℕ) → f j ≡ g j → f k ≡ g k → IsBeforeStart f j k → IsBeforeStart g j k
-    move j k a b (inl l) = inl (omega arith)
-    move j k a b (inr l) = inr (omega arith, l.1)
+    taken : List ℕ
+    taken = largest_trees pages n count
 
-    pairs : (js : List ℕ) → ((k : ℕ) → IsIn k js → k < m) → EachPair (IsBeforeStart f) js → EachPair (IsBeforeStart g) js
-    pairs [] in' p = tt
-    pairs (j ∷ js) in' p = ((λ y i. move j y (same j (in' j (inl refl))) (same y (in' y (inr i))) (p.0 y i)), pairs js (λ k i. in' k (inr i)) p.1)
+    by_case : (b : Bool) → (IsIn k taken → k ≤ m) → IsIn k (cond b taken (taken ++ next_start pages n taken ∷ [])) → k ≤ m
+    by_case true before j = before j
+    by_case false before j = elim (in_push k taken (next_start pages n taken) j) [
+      | inl a ↦ before a
+      | inr e ↦ (let within = most_within (left_pages pages taken) n m l in let at : k ≤ m = omega (arith, e, within) in at)
+    ]
+
+-- where a next tree was found, it is one more
+module _ (starts : List Share) (taken : List ℕ) (n : ℕ) where
+  abbrev much : ℕ → ℕ
+  much = pages_at starts
+
+  pub found_one : (t : RankedTree) → next_tree starts taken n ≡ Some t → (one_tree_more much n taken ≡ taken ++ t.start ∷ []) × (t ≡ tree_at starts t.start)
+  found_one t e = by_case (left_pages much taken (next_start much n taken) == 0) e
+    where
+      by_case : (b : Bool) → cond b None (Some (tree_at starts (next_start much n taken))) ≡ Some t
+          → (cond b taken (taken ++ next_start much n taken ∷ []) ≡ taken ++ t.start ∷ []) × (t ≡ tree_at starts t.start)
+      by_case true e = absurd (let f : ⊥ = cc in f)
+      by_case false e =
+          let same : tree_at starts (next_start much n taken) ≡ t = cc in
+          (ap (λ (u : RankedTree). taken ++ u.start ∷ []) same, sym same ∙ ap (λ (u : RankedTree). tree_at starts u.start) same)
+
+  pub found_none : next_tree starts taken n ≡ None → one_tree_more much n taken ≡ taken
+  found_none none = by_case (left_pages much taken (next_start much n taken) == 0) none
+    where
+      by_case : (b : Bool) → cond b None (Some (tree_at starts (next_start much n taken))) ≡ None → cond b taken (taken ++ next_start much n taken ∷ []) ≡ taken
+      by_case true e = refl
+      by_case false e = absurd (let f : ⊥ = cc in f)
+
+pub no_trees : (pages : ℕ → ℕ) (n : ℕ) → [] ≡ largest_trees pages n 0
+unfolding largest_trees
+no_trees pages n = refl
+
+-- so many trees, and one more
+pub next_count : (pages : ℕ → ℕ) (n count : ℕ) → largest_trees pages n (count + 1) ≡ one_tree_more pages n (largest_trees pages n count)
+unfolding largest_trees
+next_count pages n count = let e : count + 1 ≡ suc count = omega arith in ap (largest_trees pages n) e

@@ -17,8 +17,7 @@ use Rattle.dbmap.specs.LegendLines.{file_share, is_other, legend_lines, line_if,
 use Rattle.dbmap.specs.Legends.{no_overflow}
 use Rattle.dbmap.specs.Owners.{rank_of, tree_starts}
 use Rattle.dbmap.specs.Shares.{capped_pages, share_sum}
-use Rattle.dbmap.specs.Tallies.{AreLargest, IsPageTallyOf, PagesTallied, fixed_count, lost_pages, pages_at, share_at, start_share}
-use Rattle.dbmap.specs.TreeLists.{tree_at}
+use Rattle.dbmap.specs.Tallies.{IsPageTallyOf, PagesTallied, fixed_count, lost_pages, share_at, start_share, tree_at}
 use Rattle.dbmap.specs.declared.owner_shares.Share.{Share}
 use Rattle.dbmap.specs.declared.legend.Label.TheVariants.{Fixed, Freelist, Nobody, Others, Strong, Tree, Weak}
 use Rattle.dbmap.specs.declared.legend.LegendLine.{LegendLine}
@@ -118,10 +117,10 @@ trees_same rows s t rank (k ∷ ks) h =
     ap₂ (λ x l. line_if (Tree rank (root_page rows k)) x ++ l) (h k (inl refl)) (trees_same rows s t (rank + 1) ks (λ j i. h j (inr i)))
 
 pub legend_is : (file : List ℕ) (V : List Reference) (t : PagesTallied) (rows : List SchemaRow) (ks : List ℕ) (strong weak : ℕ)
-    → IsPageTallyOf file V t → AreLargest t.trees (pages_at t.starts) ks → AreListed file V rows
+    → IsPageTallyOf file V t → ((k : ℕ) → IsIn k ks → k ≤ freelist_start) → AreListed file V rows
     → (owner_lines rows (share_at t.starts) ks t.trees t.fixed t.nobody ++ line_if Strong (no_overflow strong)) ++ line_if Weak (no_overflow weak)
     ≡ legend_lines file V ks strong weak
-legend_is file V t rows ks strong weak h largest listed =
+legend_is file V t rows ks strong weak h few listed =
     ap (λ (l : List LegendLine). (l ++ line_if Strong (no_overflow strong)) ++ line_if Weak (no_overflow weak)) (
     ap₂ (λ x y. x ++ y) trees (ap₂ (λ x y. x ++ y) others (ap₂ (λ x y. x ++ y) (ap (line_if Freelist) free)
     (ap₂ (λ x y. line_if Fixed (no_overflow x) ++ line_if Nobody (no_overflow y)) h.all.fixed h.all.nobody)))
@@ -138,9 +137,6 @@ legend_is file V t rows ks strong weak h largest listed =
 
     free : share_at t.starts freelist_start ≡ file_share file V freelist_start
     free = same freelist_start (omega arith)
-
-    few : (k : ℕ) → IsIn k ks → k ≤ freelist_start
-    few k i = let here = (largest.some k i).0 in let most = h.all.few in omega (arith, here, most)
 
     trees : tree_lines rows (share_at t.starts) 0 ks ≡ tree_lines rows (file_share file V) 0 ks
     trees = trees_same rows (share_at t.starts) (file_share file V) 0 ks (λ k i. same k (few k i))

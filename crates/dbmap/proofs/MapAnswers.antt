@@ -1,5 +1,6 @@
 -- What the answer of a map says.
-use Rattle.std.proofs.Common.{◌≡◌, ℕ, List, Option, Result, Ok, Err, None, inl}
+use Rattle.std.proofs.Common.{◌≡◌, ℕ, List, [], Option, Result, Ok, Err, None, refl}
+use Rattle.std.specs.Io.KnownBytes.{Keeps}
 use Rattle.std.specs.Prelude.{IfErr, IfOk, ◌↔◌}
 use Rattle.dbformat.specs.File.{refusal}
 use Rattle.dbformat.specs.Reference.{Reference}
@@ -11,18 +12,24 @@ use Rattle.dbformat.specs.declared.Verdict.{Verdict}
 use Rattle.dbformat.specs.declared.Verdict.TheVariants.{Clean}
 use Rattle.dbformat.proofs.Theory.{one_survey}
 use Rattle.dbsound.proofs.Soundness.{sound_by_verdict}
-use Rattle.dbsource.proofs.Puts.{keeps_same}
+use Rattle.dbsource.proofs.Puts.{appends_kept, appends_nothing, keeps_same}
+use Rattle.dbsource.specs.Outs.{Begins}
 use Rattle.dbsource.specs.declared.error.RunError.{RunError}
 use Rattle.dbsource.specs.declared.error.RunError.TheVariants.{OutOfMemory, ReadFailed, Refused, WriteFailed}
 use Rattle.dbwalk.specs.Telling.{IsReadWriteOrMemory}
 use Rattle.dbreport.specs.Runs.{IsAnswerOf}
 use Rattle.dbreport.proofs.RunAnswers.{read_answer}
 use Rattle.dbreport.proofs.RunReports.{check_answer}
-use Rattle.dbmap.specs.Maps.{DrawsMap, IsMapOf}
+use Rattle.dbmap.specs.MapPictures.{map_picture}
+use Rattle.dbmap.specs.Maps.{IsMapOf, PutsMap}
+
+-- nothing was put of some bytes
+pub nothing_begun : (old new : Option (List ℕ)) (bytes : List ℕ) → Keeps old new → Begins old new bytes
+nothing_begun old new bytes kept = record { part = []; rest = bytes; whole = refl; added = appends_kept old old new [] (appends_nothing old) kept }
 
 -- the file was read
 pub map_of : (name file : List ℕ) (r : Result Verdict RunError) → IfErr r IsReadWriteOrMemory → refusal file ≡ None
-    → (old new : Option (List ℕ)) → ((V : List Reference) → Survey file V → IfOk r (λ v. v ≡ verdict (faults file V)) × DrawsMap r old new name file V) → IsMapOf name file r old new
+    → (old new : Option (List ℕ)) → ((V : List Reference) → Survey file V → IfOk r (λ v. v ≡ verdict (faults file V)) × PutsMap r old new (map_picture file V name)) → IsMapOf name file r old new
 map_of name file r only read old new found = record {
   survey = (one_survey file).0;
   verdict = λ V s. (found V s).0;
@@ -45,8 +52,8 @@ no_map name file e old answer = record {
   sound = tt;
 }
   where
-    by_error : (e : RunError) (V : List Reference) → DrawsMap {A = Verdict} (Err e) old old name file V
+    by_error : (e : RunError) (V : List Reference) → PutsMap {A = Verdict} (Err e) old old (map_picture file V name)
     by_error (Refused r) V = keeps_same old
     by_error ReadFailed V = keeps_same old
     by_error OutOfMemory V = keeps_same old
-    by_error WriteFailed V = inl (keeps_same old)
+    by_error WriteFailed V = nothing_begun old old (map_picture file V name) (keeps_same old)

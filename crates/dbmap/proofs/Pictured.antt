@@ -1,85 +1,131 @@
 -- The picture of the file that a desk is of.
-use Rattle.std.proofs.Common.{◌≡◌, ℕ, List, length, count_by, Result, refl, sym, ap, ap₂, subst, ◌∙◌}
-use Rattle.std.specs.Int.{div_ceil}
-use Rattle.std.specs.List.{range_with_len}
+use Rattle.std.proofs.Common.{◌≡◌, ℕ, zero, suc, ◌+◌, ◌-◌, ◌*◌, ◌/◌, ◌%◌, ◌<◌, ◌≤◌, ◌⊎◌, inl, inr, max, Bool, true, false, cond, not, ◌&&◌, ◌||◌, List, [], ◌∷◌, length, get_or, count_by, refl, sym, ap, ap₂, subst, ◌∙◌, arith}
+use Rattle.std.specs.Prelude.{◌==◌}
+use Rattle.std.specs.Int.{bit_at}
+use Rattle.std.specs.List.{list_any, range_with_len}
+use Rattle.std.proofs.Math.ListN.{get_or-eq_default}
+use Rattle.std.proofs.lemmas.Nat.Bits.{bit_at-zero}
 use Rattle.dbsurvey.specs.Moves.{Moves}
+use Rattle.dbsurvey.proofs.Ranges.{count_push}
+use Rattle.dbformat.specs.Codes.{code_index}
+use Rattle.dbformat.specs.File.{geometry}
 use Rattle.dbformat.specs.Header.{encoding}
-use Rattle.dbformat.specs.Lines.{counted}
 use Rattle.dbformat.specs.Reference.{Reference}
-use Rattle.dbformat.specs.Report.{faults}
 use Rattle.dbformat.specs.SchemaRow.{SchemaRow}
-use Rattle.dbformat.specs.declared.Geometry.{Geometry}
 use Rattle.dbformat.proofs.HeaderPrefix.{encoding_within}
 use Rattle.dbsource.specs.HeaderBytes.{HeaderBytes}
 use Rattle.dbsource.specs.Headers.{IsHeaderOf}
-use Rattle.dbsource.specs.Outs.{OutState, Writes}
-use Rattle.dbmarks.specs.Marking.{page_mark}
-use Rattle.dbmarks.specs.declared.marks.Mark.{Mark}
-use Rattle.dbowner.specs.Climbs.{place_by}
 use Rattle.dbowner.specs.Texts.{tree_of_row, tree_text}
-use Rattle.dbowner.proofs.PageMarks.{place_is}
-use Rattle.dbscan.specs.Desks.{Things, shape_of}
-use Rattle.dbscan.specs.Finishes.{IsDeskOf}
 use Rattle.dbscan.specs.Notices.{Notice}
 use Rattle.dbscan.specs.Roots.{AreListed}
-use Rattle.dbxml.specs.Names.{short_text}
-use Rattle.dbmap.specs.Drawings.{PutsPicture, stated_of}
-use Rattle.dbmap.specs.FaultyPages.{is_weak}
-use Rattle.dbmap.specs.KeptFaults.{HasFaults, HasTreeRoom}
-use Rattle.dbmap.specs.Grids.{IsLeastRun}
-use Rattle.dbmap.specs.LegendLines.{legend_lines}
+use Rattle.dbmap.specs.Bits.{has_bit}
+use Rattle.dbmap.specs.FaultNotes.{AreNoted, IsOfPages, is_marked_faulty, is_marked_framed}
+use Rattle.dbmap.specs.Faults.{coded_faults, framed_pages, is_faulty, is_strong, is_weak, shown, square_faults, strong_pages, weak_pages}
+use Rattle.dbmap.specs.Grids.{is_of_square, run_for}
 use Rattle.dbmap.specs.MapReporter.{Hears}
-use Rattle.dbmap.specs.Maps.{HasPicture}
-use Rattle.dbmap.specs.Squares.{surveyed}
-use Rattle.dbmap.specs.declared.kept.KeptFaults.{KeptFaults}
+use Rattle.dbmap.specs.declared.fault_notes.FaultNotes.{FaultNotes}
 use Rattle.dbmap.specs.declared.map_reporter.MapReporter.{MapReporter}
+use Rattle.dbmap.proofs.FaultBits.{few_codes, no_square, unequal}
+use Rattle.dbmap.proofs.Runs.{square_within}
 use Rattle.dbmap.proofs.SameName.{same_name}
-use Rattle.dbmap.proofs.ShownFaults.{faults_shown, strong_counted, weak_counted}
-use Rattle.dbmap.proofs.SquareSteps.{same_picture}
 
 -- the names of trees are those of the file
-known_trees : (file : List ℕ) (V : List Reference) (h : HeaderBytes) (rows : List SchemaRow) → IsHeaderOf h file → AreListed file V rows
+pub known_trees : (file : List ℕ) (V : List Reference) (h : HeaderBytes) (rows : List SchemaRow) → IsHeaderOf h file → AreListed file V rows
     → tree_of_row (encoding h.bytes) rows ≡ tree_text file V
 known_trees file V h rows header listed =
     ap (λ e. tree_of_row e rows) (ap encoding header.begins ∙ encoding_within file) ∙ ap (tree_of_row (encoding file)) listed
 
--- the picture has the name that there was before anything was heard
-pub named : {A O : Type 0} {P : List ℕ → Type 0} (ns : List Notice) (first now : MapReporter A O) → Moves Hears first ns now
-    → (file : List ℕ) (V : List Reference) → HasPicture P now.name.now file V → HasPicture P first.name.now file V
-named {P = P} ns first now heard file V h = subst (λ (n : List ℕ). HasPicture P n file V) (ap (λ s. s.now) (same_name ns first now heard)) h
+-- the name is the one that there was before anything was heard
+pub named : {A O : Type 0} (P : List ℕ → Type 0) (ns : List Notice) (first now : MapReporter A O) → Moves Hears first ns now → P now.name.now → P first.name.now
+named P ns first now heard h = subst P (ap (λ s. s.now) (same_name ns first now heard)) h
 
-pub pictured : {A E K : Type 0} {r : Result A E} {old new : OutState} {d : Things} {k : KeptFaults K} {n : ℕ} {name : List ℕ} (file : List ℕ) (V : List Reference)
-    → PutsPicture r old new name d k n → IsDeskOf d file V → n ≡ counted (length (faults file V)) → HasFaults file V k → HasPicture (Writes r old.bytes new.bytes) name file V
-pictured {r = r} {old = old} {new = new} {d = d} {k = k} file V put desk count has =
-    let shape = desk.header.shape in
-    let faulty = faults_shown file V k has put.drawn.faults put.is.faulty in
-    let room : HasTreeRoom (shape_of d).pages k.state.trees.known = subst (λ (g : Geometry). HasTreeRoom g.pages k.state.trees.known) (sym shape) has.room in
-    record {
-      heading = put.heading;
-      drawn = surveyed put.drawn V;
-      all = put.all;
-      lines = put.lines;
-      is = record {
-        named = put.is.named;
-        shape = put.is.geometry ∙ shape;
-        found = put.is.found ∙ count;
-        pages = put.is.pages ∙ ap (λ (g : Geometry). g.pages) shape;
-        stated = put.is.stated ∙ ap stated_of desk.header.begins;
-        run = subst (λ (g : Geometry). IsLeastRun g.pages put.drawn.grid.run) shape put.is.run;
-        width = put.is.width;
-        squares = put.is.squares ∙ ap (λ (g : Geometry). div_ceil g.pages put.drawn.grid.run) shape;
-        many = put.is.many;
-        are = put.is.are file V desk room;
-        places = λ p. ap (λ (marks : List Mark). place_by (page_mark marks p)) (put.is.marks ∙ desk.marks) ∙ place_is file V desk.survey p;
-        faulty = faulty;
-        starts = λ p. refl;
-        largest = put.is.largest file V desk room;
-        fixed = put.is.shape ∙ shape;
-        trees = λ start. ap (λ (tree : ℕ → List ℕ). tree start) put.is.tree ∙ ap (λ (tree : ℕ → List ℕ). short_text (tree start)) (known_trees file V d.header d.roots.rows desk.header desk.rows);
-        names = put.is.names;
-      };
-      legend = subst (λ (g : Geometry). put.lines ≡ legend_lines file V put.drawn.owners.largest (count_by put.drawn.faults.strong (range_with_len 1 g.pages))
-          (count_by (is_weak put.drawn.faults.has put.drawn.faults.strong) (range_with_len 1 g.pages))) shape (put.legend file V desk room)
-          ∙ ap₂ (legend_lines file V put.drawn.owners.largest) (strong_counted faulty) (weak_counted faulty);
-      holds = subst (Writes r old.bytes new.bytes) (same_picture put.drawn V put.heading put.all put.lines) put.puts.held;
-    }
+-- ---- what is noted of a file's faults is what its squares show of them
+
+any_none : {X : Type 0} (t : X → Bool) (xs : List X) → ((x : X) → t x ≡ false) → false ≡ list_any t xs
+any_none t [] h = refl
+any_none t (x ∷ xs) h = any_none t xs h ∙ sym (ap (λ b. b || list_any t xs) (h x))
+
+module _ {A : Type 0} (file : List ℕ) (V : List Reference) (n : FaultNotes A) (are : AreNoted (coded_faults file V) (framed_pages file V) n) (of : IsOfPages (geometry file).pages n) where
+  abbrev pages : ℕ
+  pages = (geometry file).pages
+
+  abbrev words : List ℕ
+  words = n.squares.words.items
+
+  square_is : (index p : ℕ) → is_of_square n.pages n.run index p ≡ is_of_square pages (run_for pages) index p
+  square_is index p = ap₂ (λ m r. is_of_square m r index p) of.pages of.run
+
+  module _ (index : ℕ) where
+    module _ (here : index < length words) where
+      bit : (b : ℕ) → b < 64 → (bit_at (get_or words index 0) b == 1) ≡ has_bit words (index * 64 + b)
+      bit b l =
+          let i : index ≡ (index * 64 + b) / 64 = omega arith in
+          let k : b ≡ (index * 64 + b) % 64 = omega arith in
+          ap₂ (λ i k. bit_at (get_or words i 0) k == 1) i k
+
+      shown_here : shown (get_or words index 0) ≡ square_faults file V index
+      shown_here = λ i. record {
+        has = λ code. (bit (code_index code) (let l = few_codes code in omega (arith, l)) ∙ are.codes index code here
+            ∙ ap (λ (is : ℕ → Bool). list_any (λ f. is f.0 && (code_index f.1 == code_index code)) (coded_faults file V)) (λ j p. square_is index p j)) i;
+        any = (bit 62 (omega arith) ∙ are.any index here ∙ ap (λ (is : ℕ → Bool). list_any (λ f. is f.0) (coded_faults file V)) (λ j p. square_is index p j)) i;
+        strong = (bit 63 (omega arith) ∙ are.strong index here ∙ ap (λ (is : ℕ → Bool). list_any is (framed_pages file V)) (λ j p. square_is index p j)) i;
+      }
+
+    module _ (past : length words ≤ index) where
+      none : (p : ℕ) → is_of_square pages (run_for pages) index p ≡ false
+      none p = elim (in_file 1 p pages) [
+        | inl l ↦ (let w = square_within pages p l.0 l.1 in let m = of.squares in
+            let d : ((p - 1) / max (run_for pages) 1 == index) ≡ false = unequal _ _ (λ e. (let no : ⊥ = omega (arith, e, w, m, past) in no)) in
+            last_false _ _ d)
+        | inr beyond ↦ no_square pages (run_for pages) index p beyond
+      ]
+        where
+          in_file : (a p b : ℕ) → ((a ≤ p) × (p ≤ b)) ⊎ (a ≤ p → p ≤ b → ⊥)
+          in_file a p b = elim (order a p) [
+            | inl l ↦ elim (order p b) [ inl m ↦ inl (l, m) | inr m ↦ inr (λ x y. (let no : ⊥ = omega (arith, m, y) in no)) ]
+            | inr l ↦ inr (λ x y. (let no : ⊥ = omega (arith, l, x) in no))
+          ]
+            where
+              order : (x y : ℕ) → (x ≤ y) ⊎ (y < x)
+              order x y = grind arith
+
+          last_false : (x y : Bool) → y ≡ false → (x && y) ≡ false
+          last_false true y e = e
+          last_false false y e = refl
+
+      unset : (b : ℕ) → (bit_at (get_or words index 0) b == 1) ≡ false
+      unset b = ap (λ w. bit_at w b == 1) (get_or-eq_default words 0 past) ∙ ap (λ x. x == 1) (bit_at-zero b)
+
+      shown_past : shown (get_or words index 0) ≡ square_faults file V index
+      shown_past = λ i. record {
+        has = λ code. (unset (code_index code) ∙ any_none (λ f. is_of_square pages (run_for pages) index f.0 && (code_index f.1 == code_index code)) (coded_faults file V)
+            (λ f. ap (λ b. b && (code_index f.1 == code_index code)) (none f.0))) i;
+        any = (unset 62 ∙ any_none (λ f. is_of_square pages (run_for pages) index f.0) (coded_faults file V) (λ f. none f.0)) i;
+        strong = (unset 63 ∙ any_none (is_of_square pages (run_for pages) index) (framed_pages file V) none) i;
+      }
+
+    pub shown_is : shown (get_or words index 0) ≡ square_faults file V index
+    shown_is = elim (order index (length words)) [ inl l ↦ shown_here l | inr l ↦ shown_past l ]
+      where
+        order : (a b : ℕ) → (a < b) ⊎ (b ≤ a)
+        order a b = grind arith
+
+  -- ---- how many pages have each frame
+
+  same_count : (f g : ℕ → Bool) (m : ℕ) → ((p : ℕ) → 1 ≤ p → p ≤ m → f p ≡ g p) → count_by f (range_with_len 1 m) ≡ count_by g (range_with_len 1 m)
+  same_count f g zero h = refl
+  same_count f g (suc m) h =
+      let before = same_count f g m (λ p l k. h p l (omega (arith, k))) in
+      let here = h (m + 1) (omega arith) (omega arith) in
+      let next : suc m ≡ m + 1 = omega arith in
+      let at : 1 + m ≡ m + 1 = omega arith in
+      ap (λ k. count_by f (range_with_len 1 k)) next ∙ count_push f 1 m (m + 1) at
+      ∙ ap₂ (λ a (b : Bool). a + cond b 1 0) before here
+      ∙ sym (ap (λ k. count_by g (range_with_len 1 k)) next ∙ count_push g 1 m (m + 1) at)
+
+  pub strong_is : strong_pages (is_marked_framed n) pages ≡ strong_pages (is_strong file V) pages
+  strong_is = same_count (is_marked_framed n) (is_strong file V) pages (λ p l m. are.framed p l (let e = of.pages in omega (arith, e, m)))
+
+  pub weak_is : weak_pages (is_marked_faulty n) (is_marked_framed n) pages ≡ weak_pages (is_faulty file V) (is_strong file V) pages
+  weak_is = same_count (is_weak (is_marked_faulty n) (is_marked_framed n)) (is_weak (is_faulty file V) (is_strong file V)) pages
+      (λ p l m. (let e = of.pages in ap₂ (λ a b. not a && b) (are.framed p l (omega (arith, e, m))) (are.faulty p l (omega (arith, e, m)))))

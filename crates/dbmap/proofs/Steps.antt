@@ -11,7 +11,6 @@ use Rattle.dbmap.specs.Runs.{band_text, bands_from, owner_text, owners_from}
 use Rattle.dbmap.specs.declared.bands.Bands.{Bands}
 use Rattle.dbmap.specs.declared.owner_shares.OwnerShares.{OwnerShares}
 use Rattle.dbmap.specs.declared.legend.LegendLine.{LegendLine}
-use Rattle.dbmap.specs.declared.page_set.Codes.{Codes}
 use Rattle.dbmap.specs.declared.run.RunSquare.{RunSquare}
 
 -- one fewer is left
@@ -47,11 +46,11 @@ next_line names g lines i none h =
 pub no_line : (names : List (List ℕ)) (g : Geometry) (lines : List LegendLine) (i : ℕ) → length lines ≤ i → lines_from names g (i + 2) (drop i lines) ≡ []
 no_line names g lines i h = ap (lines_from names g (i + 2)) (drop_all i lines h)
 
-pub next_code : (known : Codes) (all : List FaultCode) (i : ℕ) (none : FaultCode) → i < length all
+pub next_code : (known : FaultCode → Bool) (all : List FaultCode) (i : ℕ) (none : FaultCode) → i < length all
     → flat_map (code_if known) (drop i all) ≡ code_if known (get_or all i none) ++ flat_map (code_if known) (drop (i + 1) all)
 next_code known all i none h =
     let cut : drop i all ≡ get_or all i none ∷ drop (i + 1) all = rw add-one (drop-cons all i none h) in
     ap (flat_map (code_if known)) cut
 
-pub no_code : (known : Codes) (all : List FaultCode) (i : ℕ) → length all ≤ i → flat_map (code_if known) (drop i all) ≡ []
+pub no_code : (known : FaultCode → Bool) (all : List FaultCode) (i : ℕ) → length all ≤ i → flat_map (code_if known) (drop i all) ≡ []
 no_code known all i h = ap (flat_map (code_if known)) (drop_all i all h)

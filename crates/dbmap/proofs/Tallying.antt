@@ -1,5 +1,5 @@
 -- A tally, page by page.
-use Rattle.std.proofs.Common.{◌≡◌, ℕ, ◌+◌, ◌<◌, ◌≤◌, ◌⊎◌, inl, inr, Bool, true, false, cond, not, ◌&&◌, List, max, count_by, nat_lt, Option, Some, None, option_map, refl, sym, ap, ap₂, subst, ◌∙◌, arith}
+use Rattle.std.proofs.Common.{◌≡◌, ℕ, ◌+◌, ◌-◌, ◌<◌, ◌≤◌, Bool, true, false, cond, not, ◌&&◌, List, max, count_by, nat_lt, Option, Some, None, option_map, refl, sym, ap, ap₂, subst, ◌∙◌, arith}
 use Rattle.std.specs.Prelude.{slice_get, ◌==◌}
 use Rattle.std.specs.List.{range_with_len}
 use Rattle.std.specs.Option.{option_map_or}
@@ -20,9 +20,9 @@ use Rattle.dbowner.proofs.Slots.{get_set, get_set_other}
 use Rattle.dbmap.specs.OwnerShares.{no_share}
 use Rattle.dbmap.specs.Owners.{is_overflow}
 use Rattle.dbmap.specs.Shares.{capped_pages, one_page, share_in}
-use Rattle.dbmap.specs.Tallies.{AreLargest, AreLargestOf, IsNone, IsPageTallyOf, IsPageTallyTo, PagesTallied, is_nowhere, is_of_start, page_counted, pages_at, share_at, start_counted, start_share, tree_pages, used_counted}
+use Rattle.dbmap.specs.Tallies.{IsNone, IsPageTallyOf, IsPageTallyTo, PagesTallied, is_nowhere, is_of_start, largest_of, largest_trees, page_counted, pages_at, share_at, start_counted, start_share, tree_pages, used_counted}
 use Rattle.dbmap.specs.declared.owner_shares.Share.{Share}
-use Rattle.dbmap.proofs.Largest.{largest_by}
+use Rattle.dbmap.proofs.Largest.{largest_same}
 use Rattle.dbsurvey.proofs.Ranges.{count_push, range_push}
 use Rattle.dbmap.proofs.Shares.{share_push}
 
@@ -173,8 +173,12 @@ none_counted file V t h = record {
 
 -- ---- the largest trees of a file
 
-pub largest_of : (file : List ℕ) (V : List Reference) (t : PagesTallied) (ks : List ℕ) → IsPageTallyOf file V t → AreLargest t.trees (pages_at t.starts) ks → AreLargestOf file V ks
-largest_of file V t ks h largest = largest_by t.trees freelist_start (pages_at t.starts) (tree_pages file V) ks same h.all.few all largest
+pub largest_are : (file : List ℕ) (V : List Reference) (t : PagesTallied) → IsPageTallyOf file V t → largest_trees (pages_at t.starts) t.trees 12 ≡ largest_of file V
+largest_are file V t h =
+    let few = h.all.few in
+    let all : t.trees + (freelist_start - t.trees) ≡ freelist_start = omega arith in
+    largest_same t.trees (freelist_start - t.trees) (pages_at t.starts) (tree_pages file V) (λ k l. same k (omega (arith, l, all))) (λ k l m. none k l (omega (arith, m, all))) 12
+    ∙ ap (λ n. largest_trees (tree_pages file V) n 12) all
   where
     uncapped : (k : ℕ) → capped_pages (tree_pages file V k) ≡ tree_pages file V k
     uncapped k =
@@ -182,16 +186,9 @@ largest_of file V t ks h largest = largest_by t.trees freelist_start (pages_at t
         let b = length-range_with_len 1 (geometry file).pages in
         omega (arith, a, b, h.most)
 
-    same : (k : ℕ) → k < freelist_start → pages_at t.starts k ≡ tree_pages file V k
+    same : (k : ℕ) → k ≤ freelist_start → pages_at t.starts k ≡ tree_pages file V k
     same k l =
-        ap (λ (s : Share). s.pages) (get_or_from_slice_get t.starts k (start_share file V (geometry file).pages k) no_share (h.all.starts k (omega arith))) ∙ uncapped k
+        ap (λ (s : Share). s.pages) (get_or_from_slice_get t.starts k (start_share file V (geometry file).pages k) no_share (h.all.starts k l)) ∙ uncapped k
 
-    all : (k : ℕ) → k < freelist_start → 0 < tree_pages file V k → k < t.trees
-    all k l some = by_order (below k t.trees)
-      where
-        below : (a b : ℕ) → (a < b) ⊎ (b ≤ a)
-        below a b = grind arith
-
-        by_order : (k < t.trees) ⊎ (t.trees ≤ k) → k < t.trees
-        by_order (inl m) = m
-        by_order (inr m) = let none = h.all.trees k l m in let u = uncapped k in absurd (let f : ⊥ = omega (arith, none, u, some) in f)
+    none : (k : ℕ) → t.trees ≤ k → k < freelist_start → pages_at t.starts k ≡ 0
+    none k l m = (let e = same k (omega arith) in let u = uncapped k in let z = h.all.trees k m l in let at : pages_at t.starts k ≡ 0 = omega (arith, e, u, z) in at)

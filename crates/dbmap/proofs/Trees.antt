@@ -3,8 +3,7 @@ use Rattle.std.proofs.Common.{◌≡◌, ℕ, zero, suc, ◌<◌, List, [], ◌�
 use Rattle.std.specs.Prelude.{IsOk, OnOk}
 use Rattle.std.proofs.lemmas.Bool.{false≢true}
 use Rattle.dbmap.specs.Owners.{tree_starts}
-use Rattle.dbmap.specs.Tallies.{share_at}
-use Rattle.dbmap.specs.TreeLists.{tree_at}
+use Rattle.dbmap.specs.Tallies.{share_at, tree_at}
 use Rattle.dbmap.specs.declared.owner_shares.Share.{Share}
 use Rattle.dbmap.specs.declared.tally.RankedTree.{RankedTree}
 

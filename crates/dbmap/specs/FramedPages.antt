@@ -36,12 +36,12 @@ cause_page cause.Itself = 0
 cause_page (cause.Page page facts) = 0
 cause_page (cause.Look l facts) = 0
 
--- the pages of a fault that leads, each with its code: its own, the one that its value names, and that of its cause
-abbrev pub framed_of : Reported → List (ℕ × FaultCode)
-framed_of x = (x.fault.page, x.fault.code) ∷ (fault_value_page x.fault, x.fault.code) ∷ (cause_page x.cause, x.fault.code) ∷ []
+-- the pages of a fault that leads: its own, the one that its value names, and that of its cause
+abbrev pub framed_of : Reported → List ℕ
+framed_of x = x.fault.page ∷ fault_value_page x.fault ∷ cause_page x.cause ∷ []
 
 -- those of some
-abbrev pub framed : List Reported → List (ℕ × FaultCode)
+abbrev pub framed : List Reported → List ℕ
 framed xs = flat_map framed_of xs
 
 -- the faults that lead some entries, and the same of what is kept of entries

@@ -1,21 +1,38 @@
 -- How the squares of a picture are laid out.
-use Rattle.std.specs.Prelude.{◌≡◌, ◌⊎◌, ℕ, ◌+◌, ◌*◌, ◌/◌, ◌%◌, ◌<◌, ◌-◌, ◌≤◌, min, max, nat_le, ◌==◌, if◌then◌else◌}
-use Rattle.std.specs.Int.{IsPowerOfTwo, div_ceil}
+use Rattle.std.specs.Prelude.{ℕ, zero, suc, ◌+◌, ◌*◌, ◌/◌, ◌%◌, ◌-◌, min, max, Bool, ◌&&◌, nat_le, ◌==◌, if◌then◌else◌}
+use Rattle.std.specs.Int.{div_ceil}
 use Rattle.dbformat.specs.Lines.{counted}
 use Rattle.dbmap.specs.Shares.{capped_pages}
 use Rattle.dbmap.specs.declared.grid.Grid.{Grid}
 use Rattle.dbmap.specs.declared.grid.Width.{Width}
 use Rattle.dbmap.specs.declared.grid.Width.TheVariants.{Narrow, Medium, Wide}
 
--- A square covers the smallest power of two of pages with which a file of this number of pages has at most 16384 squares.
-pub record IsLeastRun (pages run : ℕ) : Type 0 where
-  pub power : IsPowerOfTwo run
-  pub most : div_ceil pages run ≤ 16384
-  pub least : (run ≡ 1) ⊎ (16384 < div_ceil pages (run / 2))
+-- the smallest power of two of pages, from this one on, with which a file of so many pages has at most 16384 squares; it is doubled so often at most
+abbrev pub least_run : ℕ → ℕ → ℕ → ℕ
+least_run pages run zero = run
+least_run pages run (suc n) = if nat_le (div_ceil pages run) 16384 then run else least_run pages (2 * run) n
+
+-- how many pages a square covers: a file has fewer than 2 ^ 32
+unfoldable pub run_for : ℕ → ℕ
+run_for pages = least_run pages 1 18
 
 -- the width of the rows, by how many squares there are
 abbrev pub width_of : ℕ → Width
 width_of squares = if nat_le squares 512 then Narrow else (if nat_le squares 2048 then Medium else Wide)
+
+-- the grid of a file of so many pages whose header states so many
+abbrev pub grid_of : ℕ → ℕ → Grid
+grid_of pages stated = record {
+  pages = pages;
+  stated = stated;
+  run = run_for pages;
+  squares = div_ceil pages (run_for pages);
+  width = width_of (div_ceil pages (run_for pages));
+}
+
+-- whether page p, of so many, is one of a square, where a square covers `run` pages
+abbrev pub is_of_square : ℕ → ℕ → ℕ → ℕ → Bool
+is_of_square pages run index p = nat_le 1 p && nat_le p pages && ((p - 1) / max run 1 == index)
 
 -- how many squares are in a row
 abbrev pub columns_of : Width → ℕ

@@ -1,13 +1,11 @@
 -- The legend of a picture, line by line: what it is of, how many pages that are, and how they are drawn.
-use Rattle.std.specs.Prelude.{ℕ, ◌+◌, ◌-◌, ◌*◌, true, false, List, [], ◌∷◌, ◌++◌, length, Option, Some, None, codes, decimal, ◌==◌, if◌then◌else◌}
+use Rattle.std.specs.Prelude.{ℕ, ◌+◌, ◌-◌, ◌*◌, Bool, true, false, List, [], ◌∷◌, ◌++◌, length, Option, Some, None, codes, decimal, ◌==◌, if◌then◌else◌}
 use Rattle.std.specs.List.{concat}
 use Rattle.dbformat.specs.declared.Geometry.{Geometry}
 use Rattle.dbxml.specs.Pieces.{tenths_text}
-use Rattle.dbmap.specs.Colours.{fill}
+use Rattle.dbmap.specs.Colours.{shade_letter}
 use Rattle.dbmap.specs.Runs.{name_text}
 use Rattle.dbmap.specs.Sizes.{size_tenths, size_unit, tenths_of_percent}
-use Rattle.dbmap.specs.declared.owner_shares.Owner.{Owner}
-use Rattle.dbmap.specs.declared.owner_shares.Owner.TheVariants as owner
 use Rattle.dbmap.specs.declared.owner_shares.Share.{Share}
 use Rattle.dbmap.specs.declared.grid.Grid.{Grid}
 use Rattle.dbmap.specs.declared.legend.Label.{Label}
@@ -52,25 +50,25 @@ share_text share page_size y =
 unfoldable pub percent_text : ℕ → ℕ → ℕ → List ℕ
 percent_text pages all y = right_text 860 y (tenths_text (tenths_of_percent pages all)) [] ++ codes "\n"
 
--- a square of the legend
-abbrev pub box_text : ℕ → ℕ → List ℕ → List ℕ
-box_text x y colour =
-    concat (codes "<rect x=\"" ∷ decimal x ∷ codes "\" y=\"" ∷ decimal y ∷ codes "\" width=\"12\" height=\"12\" fill=\"" ∷ colour
-    ∷ codes "\" stroke=\"#888888\" stroke-width=\".5\"/>" ∷ [])
+-- a square of the legend, in the colour of the owner with a number, or in the shade of overflow pages
+abbrev pub box_text : ℕ → ℕ → ℕ → Bool → List ℕ
+box_text x y owner over =
+    concat (codes "<rect class=\"" ∷ shade_letter over ∷ decimal owner ∷ codes "\" x=\"" ∷ decimal x ∷ codes "\" y=\"" ∷ decimal y
+    ∷ codes "\" width=\"12\" height=\"12\" stroke=\"#888888\" stroke-width=\".5\"/>" ∷ [])
 
--- the owner of the pages of a line, if it is of one
-abbrev pub label_owner : Label → Option Owner
-label_owner (Tree rank root) = Some (owner.Tree rank)
-label_owner (Others count) = Some (owner.Tree 12)
-label_owner Freelist = Some owner.Freelist
-label_owner Fixed = Some owner.Fixed
-label_owner Nobody = Some owner.Nobody
+-- the number of the owner of the pages of a line, if it is of one
+abbrev pub label_owner : Label → Option ℕ
+label_owner (Tree rank root) = Some rank
+label_owner (Others count) = Some 12
+label_owner Freelist = Some 13
+label_owner Fixed = Some 14
+label_owner Nobody = Some 15
 label_owner Strong = None
 label_owner Weak = None
 
 -- the shade of an owner's overflow pages, if there are any
-abbrev pub shade_text : Owner → ℕ → ℕ → List ℕ
-shade_text owner overflow y = if overflow == 0 then [] else box_text 88 (y - 10) (fill owner true)
+abbrev pub shade_text : ℕ → ℕ → ℕ → List ℕ
+shade_text owner overflow y = if overflow == 0 then [] else box_text 88 (y - 10) owner true
 
 -- how the frame of a line ends, as those of squares do: the strong one covers its edge, and the weak one lies around it
 abbrev pub frame_end : Label → List ℕ
@@ -84,8 +82,8 @@ legend_frame_text label y =
     ∷ codes "\" width=\"10\" height=\"10\" fill=\"#FFFFFF\" stroke=\"#BE0700\" stroke-width=\"" ∷ frame_end label ∷ [])
 
 -- the colours of an owner, or that frame
-abbrev pub swatch_by : Option Owner → Label → Share → ℕ → List ℕ
-swatch_by (Some owner) label share y = shade_text owner share.overflow y ++ box_text 72 (y - 10) (fill owner false)
+abbrev pub swatch_by : Option ℕ → Label → Share → ℕ → List ℕ
+swatch_by (Some owner) label share y = shade_text owner share.overflow y ++ box_text 72 (y - 10) owner false
 swatch_by None label share y = legend_frame_text label y
 
 abbrev pub swatch_text : Label → Share → ℕ → List ℕ
@@ -130,7 +128,7 @@ lines_from names g at (line ∷ lines) = line_text names g line (at * 20) ++ lin
 -- the line of pages that the header states and the file does not have, if there are any
 unfoldable pub missing_legend_line : ℕ → Geometry → ℕ → List ℕ
 missing_legend_line missing g y =
-    box_text 72 (y - 10) (codes "#FFFFFF")
+    box_text 72 (y - 10) 16 false
     ++ (label_front y ++ (codes "stated in the header, not in the file</text>" ++ (share_text (no_overflow missing) g.page_size y ++ codes "\n")))
 
 abbrev pub missing_legend_text : ℕ → Geometry → ℕ → List ℕ

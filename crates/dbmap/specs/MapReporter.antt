@@ -12,7 +12,8 @@ use Rattle.dbwalk.specs.Telling.{SinkState, one_out}
 use Rattle.dbscan.specs.Notices.{Notice}
 use Rattle.dbentries.specs.Reported.{HearsReported}
 use Rattle.dbmap.specs.KeptFaults.{HearsNone, HasNoted}
-use Rattle.dbmap.specs.Maps.{DrawsMap}
+use Rattle.dbmap.specs.MapPictures.{map_picture}
+use Rattle.dbmap.specs.Maps.{PutsMap}
 use Rattle.dbmap.specs.declared.map_reporter.MapReporter.{MapReporter}
 
 module _ {A O : Type 0} where
@@ -35,4 +36,4 @@ map_held held s = one_out s.out.ghost_name (held s.out.now).failures
 abbrev pub LeavesMap : {A O : Type 0} → (O → OutState) → List ℕ → List Reference → Result Verdict RunError → MapReporter A O → MapReporter A O → Type 0
 LeavesMap held file V r s t =
     s.faults ≡ 0 → HearsNone (geometry file).pages s.kept.now
-    → IfOk r (λ v. v ≡ verdict (faults file V)) × DrawsMap r (held s.out.now).bytes (held t.out.now).bytes s.name.now file V
+    → IfOk r (λ v. v ≡ verdict (faults file V)) × PutsMap r (held s.out.now).bytes (held t.out.now).bytes (map_picture file V s.name.now)

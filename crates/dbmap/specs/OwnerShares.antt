@@ -1,5 +1,5 @@
 -- Whose the pages of a square are.
-use Rattle.std.specs.Prelude.{ℕ, ◌/◌, min, Bool, not, nat_lt, nat_le, get_or, ◌==◌, if◌then◌else◌}
+use Rattle.std.specs.Prelude.{ℕ, ◌/◌, min, Bool, not, nat_lt, get_or, ◌==◌}
 use Rattle.dbmap.specs.declared.owner_shares.OwnerShares.{OwnerShares}
 use Rattle.dbmap.specs.declared.owner_shares.Owner.{Owner}
 use Rattle.dbmap.specs.declared.owner_shares.Owner.TheVariants.{Fixed, Freelist, Nobody, Tree}
@@ -21,12 +21,7 @@ has_pages c number = not ((share_of c number).pages == 0)
 abbrev pub is_shaded : Share → Bool
 is_shaded s = nat_lt (s.pages / 2) s.overflow
 
--- the owner with a number: the twelve largest trees by their ranks, all others, the freelist, pages of fixed use, and nobody
-abbrev pub owner_numbered : ℕ → Owner
-owner_numbered number =
-    if nat_le number 12 then Tree number else (if number == 13 then Freelist else (if number == 14 then Fixed else Nobody))
-
--- the number of an owner
+-- the number of an owner: the twelve largest trees by their ranks, all others, the freelist, pages of fixed use, and nobody
 abbrev pub owner_number : Owner → ℕ
 owner_number (Tree rank) = min rank 12
 owner_number Freelist = 13

@@ -3,24 +3,14 @@
 use Rattle.std.specs.Prelude.{ℕ, ◌+◌, min, Bool, true, false, List, [], ◌∷◌, map, Option, Some, None, ◌==◌, if◌then◌else◌}
 use Rattle.dbformat.specs.Reference.{Reference}
 use Rattle.dbformat.specs.Survey.{Survey}
-use Rattle.dbmarks.specs.Marking.{AreMarksOf, page_mark}
+use Rattle.dbmarks.specs.Marking.{AreMarksOf}
 use Rattle.dbmarks.specs.declared.marks.Mark.{Mark}
-use Rattle.dbowner.specs.Climbs.{AreTrees, place_by}
-use Rattle.dbformat.specs.Starts.{start_at}
+use Rattle.dbowner.specs.Climbs.{AreTrees}
 use Rattle.dbowner.specs.declared.place.Place.{Place}
 use Rattle.dbowner.specs.declared.place.Place.TheVariants as place
 use Rattle.dbmap.specs.declared.owner_shares.Owner.{Owner}
 use Rattle.dbmap.specs.declared.owner_shares.Owner.TheVariants as owner
 use Rattle.dbmap.specs.declared.tally.RankedTree.{RankedTree}
-
--- What is known of owners: the start that each page belongs to, if it belongs to one, and the starts of the largest trees, by rank.
-pub record KnownOwners : Type 0 where
-  pub start : ℕ → Option ℕ
-  pub largest : List ℕ
-
--- what is known of them where V is the survey of a file: each page belongs to the start of its visit
-abbrev pub owners_by : List Reference → List ℕ → KnownOwners
-owners_by V largest = record { start = start_at V; largest = largest }
 
 -- the starts of some trees
 abbrev pub tree_starts : List RankedTree → List ℕ
@@ -51,18 +41,6 @@ owner_by largest place.Trunk start = owner.Freelist
 owner_by largest place.FreeLeaf start = owner.Freelist
 owner_by largest place.Fixed start = owner.Fixed
 owner_by largest place.Nowhere start = owner.Nobody
-
--- what page p is, by the marks
-abbrev pub place_at : List Mark → ℕ → Place
-place_at marks p = place_by (page_mark marks p)
-
--- whose page p is
-abbrev pub marked_owner : List Mark → KnownOwners → ℕ → Owner
-marked_owner marks o p = owner_by o.largest (place_at marks p) (o.start p)
-
--- what its square is filled for: its owner, in the shade of overflow pages where it is one
-abbrev pub shade_at : List Mark → KnownOwners → ℕ → Owner × Bool
-shade_at marks o p = (marked_owner marks o p, is_overflow (place_at marks p))
 
 -- ---- what is remembered of a file
 

@@ -3,10 +3,11 @@ use Rattle.std.specs.Prelude.{ℕ, zero, suc, ◌+◌, ◌-◌, ◌/◌, ◌%◌
 use Rattle.std.specs.List.{concat}
 use Rattle.dbformat.specs.declared.Geometry.{Geometry}
 use Rattle.dbxml.specs.Pieces.{shown_text, tenths_text}
+use Rattle.dbmap.specs.Colours.{other_colours, overflow_colours, tree_colours}
 use Rattle.dbmap.specs.Grids.{page_of_row, rows, side, top_of}
 use Rattle.dbmap.specs.Legends.{height, legend_text}
 use Rattle.dbmap.specs.Sizes.{size_tenths, size_unit}
-use Rattle.dbmap.specs.Squares.{DrawnFrom, Square, squares_rows_text}
+use Rattle.dbmap.specs.Squares.{Drawn, rows_text}
 use Rattle.dbmap.specs.declared.grid.Grid.{Grid}
 use Rattle.dbmap.specs.declared.legend.LegendLine.{LegendLine}
 use Rattle.dbmap.specs.declared.picture.Heading.{Heading}
@@ -18,7 +19,8 @@ head_text file height =
     ∷ codes "\" viewBox=\"0 0 " ∷ decimal 988 ∷ codes " " ∷ decimal height
     ∷ codes "\" font-family=\"sans-serif\" font-size=\"12\" role=\"img\" aria-label=\"Pages of " ∷ shown_text file 72
     ∷ codes "\">\n<title>Pages of " ∷ shown_text file 72
-    ∷ codes "</title>\n<defs><pattern id=\"unowned\" width=\"4\" height=\"4\" patternUnits=\"userSpaceOnUse\" patternTransform=\"rotate(45)\"><rect width=\"4\" height=\"4\" fill=\"#FFFFFF\"/><rect width=\"2\" height=\"4\" fill=\"#444444\"/></pattern></defs>\n"
+    ∷ codes "</title>\n<style>" ∷ tree_colours ∷ overflow_colours ∷ other_colours
+    ∷ codes "</style>\n<defs><pattern id=\"unowned\" width=\"4\" height=\"4\" patternUnits=\"userSpaceOnUse\" patternTransform=\"rotate(45)\"><rect width=\"4\" height=\"4\" fill=\"#FFFFFF\"/><rect width=\"2\" height=\"4\" fill=\"#444444\"/></pattern></defs>\n"
     ∷ codes "<rect width=\"100%\" height=\"100%\" fill=\"#FFFFFF\"/>\n" ∷ [])
 
 -- how many faults there are
@@ -67,9 +69,9 @@ names_from g row (suc count) = row_label_text g row ++ names_from g (row + 1) co
 unfoldable pub row_names : Grid → List ℕ
 row_names g = codes "<g font-size=\"10\" fill=\"#666666\" text-anchor=\"end\">\n" ++ (names_from g 0 (rows g) ++ codes "</g>\n")
 
--- the picture, by what is said above the squares, the squares row by row, and the lines of the legend
-unfoldable pub picture_text : Heading → DrawnFrom → List (List Square) → List LegendLine → List ℕ
-picture_text h g squares lines =
+-- the picture, by what is said above the squares, what these are drawn by, and the lines of the legend
+unfoldable pub picture_text : Heading → Drawn → List LegendLine → List ℕ
+picture_text h g lines =
     head_text h.file (top_of g.grid (rows g.grid) + height lines (g.grid.stated - g.grid.pages))
-    ++ (heading_text h g.grid.run ++ (row_names g.grid ++ (squares_rows_text g 0 squares
+    ++ (heading_text h g.grid.run ++ (row_names g.grid ++ (rows_text g
     ++ (legend_text lines g.names h.geometry g.grid (top_of g.grid (rows g.grid)) ++ codes "</svg>\n"))))

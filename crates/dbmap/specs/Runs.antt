@@ -1,28 +1,27 @@
 -- The square of a run of pages, by its pages, how many of them each owner has, and its faults.
-use Rattle.std.specs.Prelude.{ℕ, zero, suc, ◌+◌, min, Bool, true, false, ◌&&◌, not, nat_lt, List, [], ◌∷◌, ◌++◌, get_or, slice_get, codes, decimal, ◌==◌, if◌then◌else◌}
+use Rattle.std.specs.Prelude.{ℕ, zero, suc, ◌+◌, ◌-◌, Bool, true, false, ◌&&◌, not, nat_lt, List, [], ◌∷◌, ◌++◌, get_or, replicate, slice_get, codes, decimal, ◌==◌, if◌then◌else◌}
 use Rattle.std.specs.Option.{option_map_or}
 use Rattle.std.specs.List.{concat}
 use Rattle.dbxml.specs.Pieces.{shown_text}
-use Rattle.dbmap.specs.OwnerShares.{has_pages, is_shaded, owner_numbered, share_of}
-use Rattle.dbmap.specs.Colours.{fill}
-use Rattle.dbmap.specs.Faults.{faults_text}
+use Rattle.dbmap.specs.OwnerShares.{has_pages, is_shaded, share_of}
+use Rattle.dbmap.specs.Bands.{bands_of, next_owner}
+use Rattle.dbmap.specs.Colours.{shade_letter}
+use Rattle.dbmap.specs.Faults.{ShownFaults, faults_text, frame_of}
 use Rattle.dbmap.specs.Marks.{tail}
+use Rattle.dbmap.specs.Shares.{capped_pages}
 use Rattle.dbmap.specs.declared.bands.Bands.{Bands}
 use Rattle.dbmap.specs.declared.owner_shares.OwnerShares.{OwnerShares}
-use Rattle.dbmap.specs.declared.owner_shares.Owner.{Owner}
-use Rattle.dbmap.specs.declared.owner_shares.Owner.TheVariants.{Fixed, Freelist, Nobody, Tree}
 use Rattle.dbmap.specs.declared.frame.Frame.{Frame}
 use Rattle.dbmap.specs.declared.frame.Frame.TheVariants as frame
 use Rattle.dbmap.specs.declared.frame.Frame.TheVariants.{Weak, Strong}
 use Rattle.dbmap.specs.declared.grid.Width.{Width}
 use Rattle.dbmap.specs.declared.run.RunSquare.{RunSquare}
 
--- what comes after a number of pages of an owner
-abbrev pub words : Owner → List ℕ
-words (Tree rank) = if nat_lt rank 12 then codes " in " else codes " in other trees"
-words Freelist = codes " in the freelist"
-words Fixed = codes " of fixed use"
-words Nobody = codes " in no tree"
+-- what comes after a number of pages of the owner with a number
+abbrev pub words : ℕ → List ℕ
+words owner =
+    if nat_lt owner 12 then codes " in " else (if owner == 12 then codes " in other trees" else (if owner == 13 then codes " in the freelist" else
+    (if owner == 14 then codes " of fixed use" else codes " in no tree")))
 
 -- the name of the tree of a rank, as it is shown in at most `width` columns, if there is such a tree
 abbrev pub name_text : List (List ℕ) → ℕ → ℕ → List ℕ
@@ -37,7 +36,7 @@ owner_mark false = codes ", "
 abbrev pub owner_text : OwnerShares → List (List ℕ) → Bool → ℕ → List ℕ
 owner_text c names is_first number =
     if has_pages c number
-    then concat (owner_mark is_first ∷ decimal (share_of c number).pages ∷ words (owner_numbered number) ∷ name_text names number 72 ∷ [])
+    then concat (owner_mark is_first ∷ decimal (share_of c number).pages ∷ words number ∷ name_text names number 72 ∷ [])
     else []
 
 -- the same of `count` owners from a number on
@@ -47,28 +46,30 @@ owners_from c names is_first number (suc count) =
     owner_text c names is_first number ++ owners_from c names (is_first && not (has_pages c number)) (number + 1) count
 
 -- the title after its first word
-unfoldable pub title_text : RunSquare → List (List ℕ) → List ℕ
-title_text r names =
+unfoldable pub title_text : RunSquare → List (List ℕ) → ShownFaults → List ℕ
+title_text r names f =
     concat (codes "s " ∷ decimal r.first ∷ codes " to " ∷ decimal r.last ∷ [])
-    ++ (owners_from r.shares names true 0 16 ++ faults_text r.faulty)
+    ++ (owners_from r.shares names true 0 16 ++ faults_text f)
 
--- the square of pages that all have one owner
-unfoldable pub plain_text : RunSquare → Width → List (List ℕ) → List ℕ
-plain_text r width names =
-    concat (codes "<rect x=\"" ∷ decimal r.x ∷ tail width r.faulty.frame ∷ []) ++ (title_text r names ++ codes "</title></rect>\n")
+-- the square of pages that all have the owner with this number
+unfoldable pub plain_text : RunSquare → Width → List (List ℕ) → ShownFaults → ℕ → List ℕ
+plain_text r width names f owner =
+    concat (codes "<rect class=\"" ∷ shade_letter (is_shaded (share_of r.shares owner)) ∷ decimal owner ∷ codes "\" x=\"" ∷ decimal r.x ∷ tail width (frame_of f) ∷ [])
+    ++ (title_text r names f ++ codes "</title></rect>\n")
 
 -- the band of an owner, so high and so far below, if it has one
 abbrev pub band_text : RunSquare → ℕ → ℕ → ℕ → List ℕ
 band_text r number top height =
     if height == 0 then []
-    else concat (codes "<rect x=\"" ∷ decimal r.x ∷ codes "\" y=\"" ∷ decimal top ∷ codes "\" width=\"6\" height=\"" ∷ decimal height
-    ∷ codes "\" fill=\"" ∷ fill (owner_numbered number) (is_shaded (share_of r.shares number)) ∷ codes "\"/>" ∷ [])
+    else concat (codes "<rect class=\"" ∷ shade_letter (is_shaded (share_of r.shares number)) ∷ decimal number ∷ codes "\" x=\"" ∷ decimal r.x
+    ∷ codes "\" y=\"" ∷ decimal top ∷ codes "\" width=\"6\" height=\"" ∷ decimal height ∷ codes "\"/>" ∷ [])
 
 -- the bands of `count` owners from a number on, each below those before it
 unfoldable pub bands_from : RunSquare → Bands → ℕ → ℕ → ℕ → List ℕ
 bands_from r bands number zero top = []
 bands_from r bands number (suc count) top =
-    band_text r number top (get_or bands.heights number 0) ++ bands_from r bands (number + 1) count (min (top + get_or bands.heights number 0) 4294967295)
+    band_text r number top (get_or bands.heights number 0)
+    ++ bands_from r bands (number + 1) count (capped_pages (top + get_or bands.heights number 0))
 
 -- the frame of a square in bands that begins there
 abbrev pub band_frame : ℕ → List ℕ
@@ -87,7 +88,21 @@ frame_above Strong x = band_frame x
 frame_above frame.None x = []
 
 -- the square of pages of several owners, divided in bands
-unfoldable pub mixed_text : RunSquare → List (List ℕ) → Bands → List ℕ
-mixed_text r names bands =
-    codes "<g><title>page" ++ (title_text r names ++ (codes "</title>" ++ (frame_below r.faulty.frame r.x
-    ++ (bands_from r bands 0 16 0 ++ (frame_above r.faulty.frame r.x ++ codes "</g>\n")))))
+unfoldable pub mixed_text : RunSquare → List (List ℕ) → ShownFaults → Bands → List ℕ
+mixed_text r names f bands =
+    codes "<g><title>page" ++ (title_text r names f ++ (codes "</title>" ++ (frame_below (frame_of f) r.x
+    ++ (bands_from r bands 0 16 0 ++ (frame_above (frame_of f) r.x ++ codes "</g>\n")))))
+
+-- how many pages it has
+abbrev pub run_pages : RunSquare → ℕ
+run_pages r = capped_pages (r.last - r.first + 1)
+
+-- the owner of the first band: the one with the most pages
+abbrev pub first_owner : RunSquare → ℕ
+first_owner r = next_owner r.shares (run_pages r) (replicate 16 0)
+
+-- the square of a run of pages: in one fill where all of them have one owner, and else in bands
+unfoldable pub run_text : RunSquare → Width → List (List ℕ) → ShownFaults → List ℕ
+run_text r width names f =
+    if (share_of r.shares (first_owner r)).pages == run_pages r then plain_text r width names f (first_owner r)
+    else mixed_text r names f (bands_of r.shares (run_pages r))

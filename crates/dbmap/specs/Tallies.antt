@@ -1,8 +1,7 @@
 -- How many pages each start has, and which trees are the largest.
-use Rattle.std.specs.Prelude.{◌≡◌, ◌⊎◌, ℕ, ◌+◌, ◌<◌, ◌≤◌, Bool, true, false, not, ◌&&◌, nat_lt, List, length, max, count_by, vec_len, Option, Some, None, slice_get, slice_set, slice_index_or, ◌==◌, if◌then◌else◌}
+use Rattle.std.specs.Prelude.{◌≡◌, ℕ, zero, suc, ◌+◌, ◌<◌, ◌≤◌, Bool, true, false, not, ◌&&◌, nat_lt, List, [], ◌∷◌, ◌++◌, max, count_by, vec_len, Option, Some, None, slice_get, slice_set, slice_index_or, ◌==◌, if◌then◌else◌}
 use Rattle.std.specs.List.{range_with_len}
 use Rattle.std.specs.Option.{option_map_or}
-use Rattle.dbsurvey.specs.Address.{EachPair, IsIn}
 use Rattle.dbformat.specs.Address.{freelist_start}
 use Rattle.dbformat.specs.EndFaults.{page_numbers}
 use Rattle.dbformat.specs.File.{geometry}
@@ -12,11 +11,13 @@ use Rattle.dbformat.specs.Starts.{start_at}
 use Rattle.dbowner.specs.Owners.{place_of}
 use Rattle.dbowner.specs.declared.place.Place.{Place}
 use Rattle.dbowner.specs.declared.place.Place.TheVariants as place
+use Rattle.dbmap.specs.Bands.{first_most}
 use Rattle.dbmap.specs.OwnerShares.{no_share}
-use Rattle.dbmap.specs.Owners.{is_overflow}
+use Rattle.dbmap.specs.Owners.{is_overflow, rank_of}
 use Rattle.dbmap.specs.Shares.{capped_pages, one_page, share_in}
 use Rattle.dbmap.specs.declared.owner_shares.Share.{Share}
 use Rattle.dbmap.specs.declared.tally.PageTally.TheInside.{Inside}
+use Rattle.dbmap.specs.declared.tally.RankedTree.{RankedTree}
 
 -- ---- the pages of a file
 
@@ -46,21 +47,27 @@ tree_pages file V k = count_by (is_of_start file V k) (page_numbers (geometry fi
 
 -- ---- the largest trees
 
--- start j comes before start k: it has more pages, or as many and is the lesser number
-abbrev pub IsBeforeStart : (ℕ → ℕ) → ℕ → ℕ → Type 0
-IsBeforeStart pages j k = (pages k < pages j) ⊎ ((pages j ≡ pages k) × (j < k))
+-- how many pages a tree has that is not among some, and else 0
+abbrev pub left_pages : (ℕ → ℕ) → List ℕ → ℕ → ℕ
+left_pages pages taken k = if rank_of taken (Some k) == 12 then pages k else 0
 
--- The largest trees, of those with starts below a number: each has pages, each comes before the next, there are twelve at most, and of
--- twelve each comes before any other tree.
-pub record AreLargest (trees : ℕ) (pages : ℕ → ℕ) (largest : List ℕ) : Type 0 where
-  pub some : (k : ℕ) → IsIn k largest → (k < trees) × (0 < pages k)
-  pub order : EachPair (IsBeforeStart pages) largest
-  pub most : length largest ≤ 12
-  pub others : (k : ℕ) → k < trees → 0 < pages k → (IsIn k largest → ⊥) → (length largest ≡ 12) × ((j : ℕ) → IsIn j largest → IsBeforeStart pages j k)
+-- the one with the most pages of those below n that are not among some, the first of several
+abbrev pub next_start : (ℕ → ℕ) → ℕ → List ℕ → ℕ
+next_start pages n taken = first_most (left_pages pages taken) n
+
+-- these and that one, if it has a page
+abbrev pub one_tree_more : (ℕ → ℕ) → ℕ → List ℕ → List ℕ
+one_tree_more pages n taken =
+    if left_pages pages taken (next_start pages n taken) == 0 then taken else taken ++ next_start pages n taken ∷ []
+
+-- so many of the largest trees, of those with starts below n, by how many pages they have, and then by their starts
+unfoldable pub largest_trees : (ℕ → ℕ) → ℕ → ℕ → List ℕ
+largest_trees pages n zero = []
+largest_trees pages n (suc count) = one_tree_more pages n (largest_trees pages n count)
 
 -- those of a file: trees have the starts below the freelist's
-abbrev pub AreLargestOf : List ℕ → List Reference → List ℕ → Type 0
-AreLargestOf file V largest = AreLargest freelist_start (tree_pages file V) largest
+abbrev pub largest_of : List ℕ → List Reference → List ℕ
+largest_of file V = largest_trees (tree_pages file V) freelist_start 12
 
 -- ---- a tally
 
@@ -125,14 +132,14 @@ abbrev pub page_counted : Place → Option ℕ → PagesTallied → PagesTallied
 page_counted place.Fixed start t = record t { fixed = capped_pages (t.fixed + 1) }
 page_counted at start t = used_counted start (is_overflow at) t
 
--- ---- the next tree
+-- ---- trees, as a tally has them
 
--- a start comes after another one, if there is one
-abbrev pub IsAfter : (ℕ → ℕ) → Option ℕ → ℕ → Type 0
-IsAfter pages None k = Unit {0}
-IsAfter pages (Some j) k = IsBeforeStart pages j k
+-- the tree of start k
+abbrev pub tree_at : List Share → ℕ → RankedTree
+tree_at starts k = record { start = k; share = share_at starts k }
 
--- the first start that comes after another one, of those below n that have pages
-pub record IsNextStart (n : ℕ) (pages : ℕ → ℕ) (last next : Option ℕ) : Type 0 where
-  pub some : (k : ℕ) → next ≡ Some k → (k < n) × (0 < pages k) × IsAfter pages last k
-  pub rest : (k : ℕ) → k < n → 0 < pages k → IsAfter pages last k → (j : ℕ) × (next ≡ Some j) × ((j ≡ k) ⊎ IsBeforeStart pages j k)
+-- the next of the largest trees, if there is one
+abbrev pub next_tree : List Share → List ℕ → ℕ → Option RankedTree
+next_tree starts taken n =
+    if left_pages (pages_at starts) taken (next_start (pages_at starts) n taken) == 0 then None
+    else Some (tree_at starts (next_start (pages_at starts) n taken))

@@ -1,15 +1,11 @@
 // How a square of several owners is divided in bands.
-ghost use Rattle.std.specs.Prelude.{◌≡◌, ◌≤◌, ◌<◌, true, get_or};
-ghost use Rattle.dbmap.specs.OwnerShares.{has_pages};
-ghost use Rattle.dbmap.specs.Shares.{AreBands, HasTwo};
+ghost use Rattle.std.specs.Prelude.{◌≡◌, ◌≤◌, ◌<◌, get_or, replicate};
+ghost use Rattle.dbmap.specs.Bands.{bands_of, claim, claims, first_most};
 
 use crate::owner_shares::{OWNERS, OwnerShares};
 
 /// How many bands a square has, each of which is a pixel high.
 pub(crate) const BANDS: u32 = 6;
-
-// Where the credits begin, so that they can fall.
-const MIDDLE: u32 = 1 << 30;
 
 /// How many of a square's bands each owner has.
 #[derive(Clone, Copy)]
@@ -17,7 +13,31 @@ pub(crate) struct Bands {
     heights: [u32; OWNERS],
 }
 
+// What an owner of `pages` of a square's `all` pages claims that has so many bands: what its pages are worth beyond them, where a band is
+// worth a sixth of all pages. An owner without a band claims more than any that has one.
+fn claim(pages: u32, height: u32, all: u32) -> u64
+    ensures { result ≡ claim pages height all }
+{
+    let worth = u64::from(pages) * u64::from(BANDS);
+    if pages == 0 {
+        0
+    } else if height == 0 {
+        worth + u64::from(all) * u64::from(BANDS)
+    } else {
+        worth.saturating_sub(u64::from(height) * u64::from(all))
+    }
+}
+
 impl Bands {
+    /// No owner has a band.
+    pub(crate) fn none() -> Bands
+        ensures { result.heights ≡ replicate 16 0 }
+    {
+        Bands {
+            heights: [0; OWNERS],
+        }
+    }
+
     /// The bands of the owner with a number.
     pub(crate) fn height(&self, number: usize) -> u32
         requires { number < 16 }
@@ -25,57 +45,41 @@ impl Bands {
     {
         self.heights[number]
     }
-}
 
-/// What the owners have to their credit: each of their pages adds [`BANDS`], and a band costs as many as a square has pages. What
-/// is left goes over to the next square. So an owner with few pages in each of many squares has a band in some of them, and all
-/// together have as many as its pages are worth, up to one or two.
-#[derive(Clone, Copy)]
-pub(crate) struct Credits {
-    of: [u32; OWNERS],
-}
-
-impl Credits {
-    /// No owner has any.
-    pub(crate) fn new() -> Credits {
-        Credits {
-            of: [MIDDLE; OWNERS],
-        }
-    }
-
-    // Adds what the pages of a square are worth.
-    fn add(&mut self, shares: &OwnerShares) {
-        for number in 0..OWNERS {
-            let worth = shares.share(number).pages.saturating_mul(BANDS);
-            self.of[number] = self.of[number].saturating_add(worth);
-        }
-    }
-
-    // The owner of a page of the square with the most credit; of several the first.
-    fn most(&self, shares: &OwnerShares) -> usize
-        ensures most { result ≤ 15 }
-        ensures own { HasTwo shares.now → has_pages shares.now result ≡ true }
+    // What the owner with a number claims.
+    fn claim(&self, shares: &OwnerShares, all: u32, number: usize) -> u64
+        requires { number < 16 }
+        ensures { result ≡ claims shares.now all self.now.heights number }
     {
-        let mut most = OWNERS;
+        claim(shares.share(number).pages, self.height(number), all)
+    }
+
+    /// The owner that claims most; of several the first.
+    pub(crate) fn next(&self, shares: &OwnerShares, all: u32) -> usize
+        ensures next { result ≡ first_most (claims shares.now all self.now.heights) 16 }
+        ensures most { result ≤ 15 }
+    {
+        let mut next = 0;
+        let mut most = self.claim(shares, all, 0);
         for number in 0..OWNERS {
-            if shares.has(number) && (most == OWNERS || self.of[number] > self.of[most]) {
-                most = number;
+            let claim = self.claim(shares, all, number);
+            if claim > most {
+                next = number;
+                most = claim;
             }
         }
-        most.min(OWNERS - 1)
+        next
     }
 
-    /// Divides the square of a run of pages.
-    pub(crate) fn divide(&mut self, shares: &OwnerShares, run: u32) -> Bands
-        ensures { HasTwo shares.now → AreBands shares.now result }
+    /// Divides a square of so many pages: each band goes to the owner that claims most.
+    pub(crate) fn divide(shares: &OwnerShares, all: u32) -> Bands
+        ensures { result ≡ bands_of shares.now all }
     {
-        let mut heights = [0u32; OWNERS];
-        self.add(shares);
+        let mut bands = Bands::none();
         for _ in 0..BANDS {
-            let owner = self.most(shares);
-            self.of[owner] = self.of[owner].saturating_sub(run);
-            heights[owner] = heights[owner].saturating_add(1);
+            let next = bands.next(shares, all);
+            bands.heights[next] = bands.heights[next].saturating_add(1);
         }
-        Bands { heights }
+        bands
     }
 }

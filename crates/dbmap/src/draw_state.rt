@@ -6,21 +6,18 @@ ghost use Rattle.dbformat.specs.Survey.{Survey};
 ghost use Rattle.dbmarks.specs.Marking.{AreMarksOf};
 ghost use Rattle.dbowner.specs.Climbs.{AreTrees};
 ghost use Rattle.dbscan.specs.Roots.{AreListed};
-ghost use Rattle.dbmap.specs.TreeTexts.{shown_tree};
-ghost use Rattle.dbmap.specs.Squares.{HoldsTreeName};
+ghost use Rattle.dbmap.specs.TreeTexts.{HoldsTreeName, shown_tree};
 
-use crate::pen::Pen;
 use crate::tree_text::shown_tree;
 use dbowner::{PageTrees, RootList, TreeNames};
 use dbwalk::Marks;
 use dbxml::Shown;
 use std::alloc::{Allocator, Global};
 
-/// What changes from one square to the next: what is known of the trees of pages, the tree that was named last, and the pen.
+/// What changes from one square to the next: what is known of the trees of pages, and the tree that was named last.
 #[derive(Drop)]
 pub(crate) struct DrawState<A: Allocator = Global> {
     pub(crate) trees: PageTrees<A>,
-    pub(crate) pen: Pen,
     // The name of the tree of this start, or nothing.
     pub(crate) name: Shown,
     named: Option<u32>,
@@ -33,7 +30,6 @@ impl<A: Allocator> DrawState<A> {
     {
         DrawState {
             trees,
-            pen: Pen::new(),
             name: Shown::new(),
             named: None,
         }
@@ -45,24 +41,21 @@ impl<A: Allocator> DrawState<A> {
         marks: &Marks<B>,
         roots: &RootList<C>,
     )
-        ensures group { self.new.pen.group ≡ None }
         ensures name { self.new.name ≡ [] }
         ensures named { self.new.named ≡ None }
         ensures trees { (file : List ℕ) (V : List Reference) → Survey file V → AreMarksOf file V marks.now → AreListed file V roots.now.rows
             → length marks.now ≤ length self.old.trees.known → AreTrees file V self.new.trees.known }
     {
         self.trees.enter_roots(marks, roots);
-        self.pen = Pen::new();
         self.name = Shown::new();
         self.named = None;
     }
 
     /// Makes the name that of the tree of a start, or nothing. Pages that follow one another are mostly of one tree.
     pub(crate) fn name<B: Allocator>(&mut self, names: &TreeNames<'_, B>, start: Option<u32>)
-        requires { HoldsTreeName (shown_tree names.now.encoding names.now.roots.now.rows) self.old }
+        requires { HoldsTreeName names.now self.old }
         ensures name { self.new.name ≡ option_map_or (shown_tree names.now.encoding names.now.roots.now.rows) start [] }
         ensures named { self.new.named ≡ start }
-        ensures pen { self.new.pen ≡ self.old.pen }
         ensures trees { self.new.trees ≡ self.old.trees }
     {
         if start == self.named {

@@ -42,12 +42,7 @@ impl Grid {
     /// The grid of a file of `pages` pages whose header states `stated`. Each square covers the smallest power
     /// of two of pages that keeps the squares of the file within [`MOST_SQUARES`].
     pub(crate) fn new(pages: u32, stated: u32) -> Grid
-        ensures pages { result.pages ≡ pages }
-        ensures stated { result.stated ≡ stated }
-        ensures run { 1 ≤ result.run }
-        ensures least { grids.IsLeastRun pages result.run }
-        ensures width { result.width ≡ grids.width_of result.squares }
-        ensures squares { result.squares ≡ div_ceil pages result.run }
+        ensures { result ≡ grids.grid_of pages stated }
     {
         let run = pages.div_ceil(MOST_SQUARES).next_power_of_two();
         let squares = pages.div_ceil(run.max(1));

@@ -1,19 +1,19 @@
 // What a map keeps of a file beside what a check keeps.
-ghost use Rattle.std.specs.Prelude.{◌≡◌, ℕ, ◌++◌, List, IfOk, count_by, take, vec_len};
+ghost use Rattle.std.specs.Prelude.{◌≡◌, ℕ, [], List, IfOk, count_by, take};
 ghost use Rattle.std.specs.List.{range_with_len};
 ghost use Rattle.dbformat.specs.FixedPages.{IsInRange};
 ghost use Rattle.dbformat.specs.Reference.{Reference};
 ghost use Rattle.dbformat.specs.declared.FaultCode.{FaultCode};
 ghost use Rattle.dbentries.specs.Listed.{listed_entries};
 ghost use Rattle.dbentries.specs.Lists.{ListsAll};
-ghost use Rattle.dbmap.specs.FaultyPages.{is_weak};
+ghost use Rattle.dbmap.specs.FaultNotes.{AreNoted, is_marked_faulty, is_marked_framed, HasSameRoom};
+ghost use Rattle.dbmap.specs.Faults.{is_weak};
 ghost use Rattle.dbmap.specs.FramedPages.{first_faults, framed};
 ghost use Rattle.dbmap.specs.KeptFaults.{HasNoted, HearsNone};
-ghost use Rattle.dbmap.specs.PageSets.{AreNoted, has_page};
 
 use crate::draw_state::DrawState;
+use crate::fault_notes::FaultNotes;
 use crate::listed::note_listed;
-use crate::page_set::PageSet;
 use crate::tally::PageTally;
 use dbentries::{Entries, Reported};
 use dbowner::PageTrees;
@@ -30,30 +30,26 @@ pub(crate) struct KeptFaults<A: Allocator = Global> {
     pub(crate) state: DrawState<A>,
     /// The pages of each tree.
     pub(crate) tally: PageTally<A>,
-    /// The pages that faults are found at.
-    pub(crate) faulty: PageSet<A>,
-    /// The pages of the entries that are listed, and of their causes.
-    pub(crate) strong: PageSet<A>,
+    /// The pages that faults are found at, and those of the entries that are listed, and of their causes.
+    pub(crate) notes: FaultNotes<A>,
     /// What is listed of the faults.
     pub(crate) listing: Entries<A>,
 }
 
 impl<A: Allocator + Copy> KeptFaults<A> {
-    // That of a file of this shape, of which nothing else is known yet. Each part is one growth.
+    // What is kept of a file of this shape before its run. Each part is one growth, but for the notes, which are two.
     pub(crate) fn new_in(alloc: A, geometry: &Geometry) -> Result<KeptFaults<A>, AllocError>
         requires { IsInRange geometry.now }
         ensures { IfOk result (HearsNone geometry.now.pages) }
     {
         let trees = PageTrees::new_in(alloc, geometry)?;
         let tally = PageTally::new_in(alloc)?;
-        let faulty = PageSet::new_in(alloc, geometry.pages)?;
-        let strong = PageSet::new_in(alloc, geometry.pages)?;
+        let notes = FaultNotes::new_in(alloc, geometry.pages)?;
         let listing = Entries::new_in(alloc, ENTRIES)?;
         Ok(KeptFaults {
             state: DrawState::new(trees),
             tally,
-            faulty,
-            strong,
+            notes,
             listing,
         })
     }
@@ -64,32 +60,31 @@ impl<A: Allocator> KeptFaults<A> {
     pub(crate) fn note(&mut self, told: &Reported)
         ensures { HasNoted told.now self.old self.new }
     {
-        self.faulty.note(told.fault.page, told.fault.code);
+        self.notes.note(told.fault.page, told.fault.code);
         self.listing.hear(told);
     }
 
     /// Notes the pages of the entries that are listed, and of their causes.
     pub(crate) fn note_listed(&mut self)
-        ensures strong { (fs : List (ℕ × FaultCode)) (limit : ℕ) (file : List ℕ) (V : List Reference) → ListsAll limit file V self.old.listing
-            → AreNoted fs self.old.strong → AreNoted (fs ++ framed (first_faults (take limit (listed_entries file V)))) self.new.strong }
-        ensures pages { vec_len self.new.strong.noted ≡ vec_len self.old.strong.noted }
-        ensures faulty { self.new.faulty ≡ self.old.faulty }
+        ensures noted { (fs : List (ℕ × FaultCode)) (limit : ℕ) (file : List ℕ) (V : List Reference) → ListsAll limit file V self.old.listing
+            → AreNoted fs [] self.old.notes → AreNoted fs (framed (first_faults (take limit (listed_entries file V)))) self.new.notes }
+        ensures same { HasSameRoom self.old.notes self.new.notes }
         ensures state { self.new.state ≡ self.old.state }
     {
-        note_listed(&mut self.strong, self.listing.listed());
+        note_listed(&mut self.notes, self.listing.listed());
     }
 
     /// How many of the first `pages` pages have the strong frame, and how many the weak one.
     pub(crate) fn framed(&self, pages: u32) -> (u32, u32)
-        ensures strong { result.0 ≡ count_by (has_page self.now.strong) (range_with_len 1 pages) }
-        ensures weak { result.1 ≡ count_by (is_weak (has_page self.now.faulty) (has_page self.now.strong)) (range_with_len 1 pages) }
+        ensures strong { result.0 ≡ count_by (is_marked_framed self.now.notes) (range_with_len 1 pages) }
+        ensures weak { result.1 ≡ count_by (is_weak (is_marked_faulty self.now.notes) (is_marked_framed self.now.notes)) (range_with_len 1 pages) }
     {
         let mut strong = 0u32;
         let mut weak = 0u32;
         for index in 0..pages {
-            if self.strong.has(index + 1) {
+            if self.notes.is_framed(index + 1) {
                 strong += 1;
-            } else if self.faulty.has(index + 1) {
+            } else if self.notes.is_faulty(index + 1) {
                 weak += 1;
             }
         }

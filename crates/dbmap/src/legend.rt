@@ -4,8 +4,7 @@ ghost use Rattle.dbmap.specs.Canvas.{Draws};
 ghost use Rattle.dbmap.specs.LegendLines.{line_if, owner_lines};
 ghost use Rattle.dbmap.specs.Legends as legends;
 ghost use Rattle.dbmap.specs.Owners.{tree_starts};
-ghost use Rattle.dbmap.specs.Tallies.{share_at};
-ghost use Rattle.dbmap.specs.TreeLists.{tree_at};
+ghost use Rattle.dbmap.specs.Tallies.{share_at, tree_at};
 ghost use Rattle.dbmap.specs.declared.legend.Label.TheVariants.{Strong, Weak};
 
 use crate::canvas::Canvas;

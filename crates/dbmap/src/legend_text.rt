@@ -6,12 +6,11 @@ ghost use Rattle.dbmap.specs.Legends as legends;
 ghost use Rattle.dbmap.specs.Sizes.{tenths_of_percent};
 
 use crate::canvas::Canvas;
-use crate::colours::fill;
+use crate::colours::{MISSING, shade_letter};
 use crate::labels::Labels;
 use crate::legend::{LINE, Label, LegendLine, NAME_WIDTH, no_overflow};
-use crate::owner_shares::{Owner, Share};
+use crate::owner_shares::Share;
 use crate::size::size;
-use crate::tally::COLOURED;
 use dbsource::{Geometry, Out};
 use dbxml::Piece;
 
@@ -73,7 +72,7 @@ pub(crate) fn draw_missing<O: Out>(
 fn draw_some_missing<O: Out>(canvas: &mut Canvas<'_, O>, missing: u32, geometry: Geometry, y: u32)
     ensures { Draws O.held canvas.old (legends.missing_legend_line missing geometry y) canvas.new }
 {
-    draw_box(canvas, 72, y.saturating_sub(10), "#FFFFFF");
+    draw_box(canvas, 72, y.saturating_sub(10), MISSING, false);
     draw_label_front(canvas, y);
     canvas.draw(&[Piece::Markup("stated in the header, not in the file</text>")]);
     draw_share(canvas, no_overflow(missing), geometry, y);
@@ -174,31 +173,32 @@ fn tenths_of_percent(pages: u32, all: u32) -> u64
     (u64::from(pages) * 2000 + all) / (2 * all)
 }
 
-// Draws a square of the legend.
-fn draw_box<O: Out>(canvas: &mut Canvas<'_, O>, x: u32, y: u32, fill: &'static str)
-    ensures { Draws O.held canvas.old (legends.box_text x y fill.now) canvas.new }
+// Draws a square of the legend, in the colour of the owner with a number, or in the shade of overflow pages.
+fn draw_box<O: Out>(canvas: &mut Canvas<'_, O>, x: u32, y: u32, owner: usize, is_overflow: bool)
+    ensures { Draws O.held canvas.old (legends.box_text x y owner is_overflow) canvas.new }
 {
     canvas.draw(&[
-        Piece::Markup("<rect x=\""),
+        Piece::Markup("<rect class=\""),
+        Piece::Markup(shade_letter(is_overflow)),
+        Piece::Number(owner as u64),
+        Piece::Markup("\" x=\""),
         Piece::Number(u64::from(x)),
         Piece::Markup("\" y=\""),
         Piece::Number(u64::from(y)),
-        Piece::Markup("\" width=\"12\" height=\"12\" fill=\""),
-        Piece::Markup(fill),
-        Piece::Markup("\" stroke=\"#888888\" stroke-width=\".5\"/>"),
+        Piece::Markup("\" width=\"12\" height=\"12\" stroke=\"#888888\" stroke-width=\".5\"/>"),
     ]);
 }
 
-// The owner that a line is of, if it is of one.
-fn owner_of(label: Label) -> Option<Owner>
+// The number of the owner that a line is of, if it is of one.
+fn owner_of(label: Label) -> Option<usize>
     ensures { result ≡ legends.label_owner label }
 {
     match label {
-        Label::Tree(rank, _) => Some(Owner::Tree(rank)),
-        Label::Others(_) => Some(Owner::Tree(COLOURED)),
-        Label::Freelist => Some(Owner::Freelist),
-        Label::Fixed => Some(Owner::Fixed),
-        Label::Nobody => Some(Owner::Nobody),
+        Label::Tree(rank, _) => Some(rank),
+        Label::Others(_) => Some(12),
+        Label::Freelist => Some(13),
+        Label::Fixed => Some(14),
+        Label::Nobody => Some(15),
         Label::Strong | Label::Weak => None,
     }
 }
@@ -210,18 +210,18 @@ fn draw_swatch<O: Out>(canvas: &mut Canvas<'_, O>, label: Label, share: Share, y
     match owner_of(label) {
         Some(owner) => {
             draw_shade(canvas, owner, share.overflow, y);
-            draw_box(canvas, 72, y.saturating_sub(10), fill(owner, false));
+            draw_box(canvas, 72, y.saturating_sub(10), owner, false);
         }
         None => draw_frame(canvas, label, y),
     }
 }
 
 // Draws the shade of an owner's overflow pages, if there are any.
-fn draw_shade<O: Out>(canvas: &mut Canvas<'_, O>, owner: Owner, overflow: u32, y: u32)
+fn draw_shade<O: Out>(canvas: &mut Canvas<'_, O>, owner: usize, overflow: u32, y: u32)
     ensures { Draws O.held canvas.old (legends.shade_text owner overflow y) canvas.new }
 {
     if overflow != 0 {
-        draw_box(canvas, 88, y.saturating_sub(10), fill(owner, true));
+        draw_box(canvas, 88, y.saturating_sub(10), owner, true);
     }
 }
 

@@ -13,19 +13,21 @@
 //! squares. The faults that lead are kept as `explain` keeps them (`dbentries`): their pages, and those of their causes,
 //! have a stronger frame than other pages with a fault.
 //!
-//! What is proved is what is read of the file, that the verdict is the check's, and that a picture of the file is put
-//! (specs/Maps): its bytes are those of specs/Pictures, in which each page, or run of pages, has one square, in their order. The square of
-//! a page says what the page is and names its tree, each square is filled for the owners of its pages, and has the frame and the codes of
-//! the faults that the file's report has of its pages. The heading has the file's name, and the legend a line for each owner of pages and each
-//! frame, with how many pages it has. No text of the file or of the command line comes into it but escaped (`dbxml`). How many of the six bands
-//! of a square each of its owners has is tested.
+//! What is proved is what is read of the file, that the verdict is the check's, and that what is put is the picture of the file
+//! (specs/MapPictures), which is a function of the file, its survey and its name. Each page, or run of pages, has one square, in their
+//! order. The square of a page says what the page is and names its tree; that of a run of several owners is divided in six bands
+//! (specs/Bands); each has the frame and the codes of the faults that the file's report has of its pages. The heading has the file's name,
+//! and the legend a line for each owner of pages and each frame, with how many pages it has. No text of the file or of the command line
+//! comes into it but escaped (`dbxml`).
 #![tactic(auto)]
 
 mod bands;
+mod bits;
 mod canvas;
 mod colours;
 mod draw_state;
-mod faulty;
+mod fault_notes;
+mod faults;
 mod frame;
 mod grid;
 mod kept;
@@ -39,8 +41,6 @@ mod maps;
 mod outlines;
 mod owner_shares;
 mod page;
-mod page_set;
-mod pen;
 mod picture;
 mod run;
 mod size;

@@ -1,10 +1,10 @@
 // The pages of the entries that are listed, and of their causes.
-ghost use Rattle.std.specs.Prelude.{◌≡◌, ℕ, ◌++◌, List, vec_len};
+ghost use Rattle.std.specs.Prelude.{◌≡◌, ℕ, ◌++◌, List};
 ghost use Rattle.dbformat.specs.declared.FaultCode.{FaultCode};
-ghost use Rattle.dbmap.specs.FramedPages.{cause_page, framed, framed_of, leading, page_of_value, fault_value_page};
-ghost use Rattle.dbmap.specs.PageSets.{AreNoted};
+ghost use Rattle.dbmap.specs.FramedPages.{cause_page, fault_value_page, framed, framed_of, leading, page_of_value};
+ghost use Rattle.dbmap.specs.FaultNotes.{AreNoted, HasSameRoom};
 
-use crate::page_set::PageSet;
+use crate::fault_notes::FaultNotes;
 use dbentries::{Cause, Entry, Reported};
 use dbformat::{Fault, FaultCode};
 use std::alloc::Allocator;
@@ -45,22 +45,22 @@ fn cause_page(cause: Cause) -> u32
 }
 
 // Notes the pages of a fault that leads: its own, the page that its value names, and that of its cause.
-fn note_pages<A: Allocator>(pages: &mut PageSet<A>, first: &Reported)
-    ensures noted { (fs : List (ℕ × FaultCode)) → AreNoted fs pages.old → AreNoted (fs ++ framed_of first.now) pages.new }
-    ensures pages { vec_len pages.new.noted ≡ vec_len pages.old.noted }
+fn note_pages<A: Allocator>(notes: &mut FaultNotes<A>, first: &Reported)
+    ensures noted { (fs : List (ℕ × FaultCode)) (pages : List ℕ) → AreNoted fs pages notes.old → AreNoted fs (pages ++ framed_of first.now) notes.new }
+    ensures same { HasSameRoom notes.old notes.new }
 {
     let fault = &first.fault;
-    pages.note(fault.page, fault.code);
-    pages.note(value_page(fault), fault.code);
-    pages.note(cause_page(first.cause), fault.code);
+    notes.frame(fault.page);
+    notes.frame(value_page(fault));
+    notes.frame(cause_page(first.cause));
 }
 
 /// Notes the pages of some entries: that of the fault, the page that it names, and that of its cause.
-pub(crate) fn note_listed<A: Allocator>(pages: &mut PageSet<A>, listed: &[Entry])
-    ensures noted { (fs : List (ℕ × FaultCode)) → AreNoted fs pages.old → AreNoted (fs ++ framed (leading listed.now)) pages.new }
-    ensures pages { vec_len pages.new.noted ≡ vec_len pages.old.noted }
+pub(crate) fn note_listed<A: Allocator>(notes: &mut FaultNotes<A>, listed: &[Entry])
+    ensures noted { (fs : List (ℕ × FaultCode)) (pages : List ℕ) → AreNoted fs pages notes.old → AreNoted fs (pages ++ framed (leading listed.now)) notes.new }
+    ensures same { HasSameRoom notes.old notes.new }
 {
     for entry in listed {
-        note_pages(pages, &entry.first);
+        note_pages(notes, &entry.first);
     }
 }

@@ -2,7 +2,8 @@
 ghost use Rattle.std.specs.Prelude.{◌≡◌};
 ghost use Rattle.dbscan.specs.DeskSizes.{DeskFitsInMemory};
 ghost use Rattle.dbreport.specs.Runs.{FailsOnce, IsUntouched};
-ghost use Rattle.dbmap.specs.Drawings.{PutsPicture, stated_of};
+ghost use Rattle.dbmap.specs.Drawings.{PutsPicture};
+ghost use Rattle.dbmap.specs.MapPictures.{stated_of};
 ghost use Rattle.dbmap.specs.Maps.{HasMap, ToldFilesAreDrawn};
 
 use crate::canvas::Canvas;
@@ -71,8 +72,7 @@ pub(crate) fn put_map<A: Allocator, O: Out>(
         header: desk.header(),
         marks: desk.marks(),
         names,
-        faulty: &kept.faulty,
-        strong: &kept.strong,
+        notes: &kept.notes,
         largest,
     };
     let mut canvas = Canvas::new(out);
@@ -146,8 +146,8 @@ pub fn map_in<A: Allocator + Copy, S: Source, O: Out>(
 /// answers what was found, as a check does; no line of a fault is put. It reads what a check reads, and then each page to which nothing
 /// refers, once, for what it looks like.
 ///
-/// It keeps, beside what a check does, a number of four bytes and two notes of one byte for each page, the counts of 65538 starts,
-/// and 100 entries of faults. Each of these is one growth, before the first page is read.
+/// It keeps, beside what a check does, a number of four bytes and two bits for each page, eight bytes for each square, the counts of
+/// 65538 starts, and 100 entries of faults. Each of these is one growth, before the first page is read.
 ///
 /// # Errors
 ///
@@ -161,7 +161,7 @@ pub fn map<S: Source, O: Out>(
     out: &mut O,
 ) -> Result<Verdict, RunError>
     // Whatever the source answers: there is a file, of the length that it answered, that agrees with every byte that was used,
-    // and of each such file the verdict is that on its faults, and a picture of it was put.
+    // and of each such file the verdict is that on its faults, and its picture was put.
     ensures read { HasMap S.Source O.Out name.now result (source.old, out.old) (source.new, out.new) }
     ensures failed { FailsOnce S.Source O.Out result (source.old, out.old) (source.new, out.new) }
     ensures refused { IsUntouched S.Source O.Out result (source.old, out.old) (source.new, out.new) }

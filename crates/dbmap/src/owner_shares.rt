@@ -1,8 +1,8 @@
 // Whose the pages of a square are.
-ghost use Rattle.std.specs.Prelude.{◌≡◌, ◌≤◌, ◌<◌, ◌⊎◌, ◌==◌, ℕ, IfSome, if◌then◌else◌};
-ghost use Rattle.dbmap.specs.OwnerShares.{has_pages, is_shaded, no_share, owner_number, owner_numbered, share_of};
+ghost use Rattle.std.specs.Prelude.{◌≡◌, ◌≤◌, ◌<◌, ◌==◌, ℕ, length, if◌then◌else◌};
+ghost use Rattle.dbmap.specs.OwnerShares.{has_pages, is_shaded, no_share, owner_number, share_of};
 ghost use Rattle.dbmap.specs.Owners.{is_overflow};
-ghost use Rattle.dbmap.specs.Shares.{HasNone, HasTwo, IsOnly, share_sum, one_page};
+ghost use Rattle.dbmap.specs.Shares.{share_sum, one_page};
 
 use dbowner::Place;
 
@@ -31,18 +31,6 @@ impl Owner {
             Owner::Freelist => 13,
             Owner::Fixed => 14,
             Owner::Nobody => 15,
-        }
-    }
-
-    /// The owner with a number.
-    pub(crate) fn numbered(number: usize) -> Owner
-        ensures { result ≡ owner_numbered number }
-    {
-        match number {
-            0..=12 => Owner::Tree(number),
-            13 => Owner::Freelist,
-            14 => Owner::Fixed,
-            _ => Owner::Nobody,
         }
     }
 }
@@ -95,7 +83,8 @@ pub(crate) struct OwnerShares {
 impl OwnerShares {
     /// Shares of no page.
     pub(crate) fn new() -> OwnerShares
-        ensures { (number : ℕ) → number < 16 → share_of result number ≡ no_share }
+        ensures none { (number : ℕ) → number < 16 → share_of result number ≡ no_share }
+        ensures many { length result.shares ≡ 16 }
     {
         OwnerShares {
             shares: [Share::default(); OWNERS],
@@ -104,8 +93,9 @@ impl OwnerShares {
 
     /// Counts a page.
     pub(crate) fn add(&mut self, owner: Owner, is_overflow: bool)
-        ensures { (number : ℕ) → number < 16
+        ensures counted { (number : ℕ) → number < 16
             → share_of self.new number ≡ (if owner_number owner == number then one_page is_overflow (share_of self.old number) else share_of self.old number) }
+        ensures many { length self.old.shares ≡ 16 → length self.new.shares ≡ 16 }
     {
         let share = &mut self.shares[owner.number()];
         share.add(is_overflow);
@@ -125,22 +115,5 @@ impl OwnerShares {
         ensures { result ≡ has_pages self.now number }
     {
         self.share(number).pages != 0
-    }
-
-    /// The first owner, if all pages are its own.
-    pub(crate) fn only(&self) -> Option<usize>
-        ensures one { IfSome result (IsOnly self.now) }
-        ensures several { result ≡ None → HasTwo self.now ⊎ HasNone self.now }
-    {
-        let mut only = None;
-        for number in 0..OWNERS {
-            if self.has(number) {
-                if only.is_some() {
-                    return None;
-                }
-                only = Some(number);
-            }
-        }
-        only
     }
 }

@@ -2,12 +2,15 @@
 ghost use Rattle.std.specs.Prelude.{◌≡◌, ◌≤◌};
 ghost use Rattle.dbxml.specs.Pieces.{piece_text};
 ghost use Rattle.dbmap.specs.Canvas.{Draws};
+ghost use Rattle.dbmap.specs.Faults.{shown};
 ghost use Rattle.dbmap.specs.Pages.{from_text, page_text};
 
 use crate::canvas::Canvas;
-use crate::faulty::Faulty;
+use crate::colours::shade_letter;
+use crate::faults::SquareFaults;
 use crate::frame::{inset, tail};
 use crate::grid::Width;
+use crate::owner_shares::is_overflow;
 use crate::squares::NAME_WIDTH;
 use dbformat::Fixed;
 use dbowner::{Place, place_from, place_front, place_words};
@@ -20,10 +23,11 @@ pub(crate) struct PageSquare {
     /// Where its place in the row begins, in pixels.
     pub(crate) x: u32,
     pub(crate) page: u32,
+    /// The number of its owner.
+    pub(crate) owner: usize,
     pub(crate) place: Place,
     /// Its fixed use, if it has one.
     pub(crate) fixed: Option<Fixed>,
-    pub(crate) faulty: Faulty,
 }
 
 // The page that a page is reached from, where it is no root.
@@ -38,14 +42,23 @@ fn from_piece(place: Place) -> Piece<'static>
 
 impl PageSquare {
     /// Draws it, by the name of the tree that the page is in: its title says what the page is by its number, what comes before its
-    /// tree, the tree, and the page that it is reached from.
-    pub(crate) fn draw<O: Out>(&self, canvas: &mut Canvas<'_, O>, width: Width, tree: &Shown)
+    /// tree, the tree, the page that it is reached from, and the codes of its faults.
+    pub(crate) fn draw<O: Out>(
+        &self,
+        canvas: &mut Canvas<'_, O>,
+        width: Width,
+        tree: &Shown,
+        faults: SquareFaults,
+    )
         requires { self.now.x ≤ 3556 }
-        ensures { Draws O.held canvas.old (page_text self.now width tree.now) canvas.new }
+        ensures { Draws O.held canvas.old (page_text self.now width tree.now (shown faults.bits)) canvas.new }
     {
-        let frame = self.faulty.frame;
+        let frame = faults.frame();
         canvas.draw(&[
-            Piece::Markup("<rect x=\""),
+            Piece::Markup("<rect class=\""),
+            Piece::Markup(shade_letter(is_overflow(self.place))),
+            Piece::Number(self.owner as u64),
+            Piece::Markup("\" x=\""),
             Piece::Number(u64::from(self.x + inset(width, frame))),
             Piece::Markup(tail(width, frame)),
             Piece::Markup(" "),
@@ -56,7 +69,7 @@ impl PageSquare {
             Piece::Markup(place_words(self.place)),
             from_piece(self.place),
         ]);
-        self.faulty.draw(canvas);
+        faults.draw(canvas);
         canvas.draw(&[Piece::Markup("</title></rect>\n")]);
     }
 }

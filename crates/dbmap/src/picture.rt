@@ -1,11 +1,13 @@
 // The picture as a whole.
-ghost use Rattle.std.specs.Prelude.{◌≡◌, ◌≤◌, None};
+ghost use Rattle.std.specs.Prelude.{◌≡◌};
 ghost use Rattle.dbmap.specs.Canvas.{Draws};
-ghost use Rattle.dbmap.specs.Drawings.{DrawsPicture};
+ghost use Rattle.dbmap.specs.Drawings.{DrawsAs, drawn_from};
 ghost use Rattle.dbmap.specs.Pictures as pictures;
-ghost use Rattle.dbmap.specs.Squares.{HoldsTreeName, drawn_from};
+ghost use Rattle.dbmap.specs.Pictures.{picture_text};
+ghost use Rattle.dbmap.specs.TreeTexts.{HoldsTreeName};
 
 use crate::canvas::Canvas;
+use crate::colours::{OTHERS, OVERFLOW, TREES};
 use crate::draw_state::DrawState;
 use crate::grid::Grid;
 use crate::layout::Layout;
@@ -50,8 +52,12 @@ fn draw_head<O: Out>(canvas: &mut Canvas<'_, O>, file: &Shown, height: u64)
         Piece::Shown(file, NAME_WIDTH),
         Piece::Markup("\">\n<title>Pages of "),
         Piece::Shown(file, NAME_WIDTH),
+        Piece::Markup("</title>\n<style>"),
+        Piece::Markup(TREES),
+        Piece::Markup(OVERFLOW),
+        Piece::Markup(OTHERS),
         Piece::Markup(
-            "</title>\n<defs><pattern id=\"unowned\" width=\"4\" height=\"4\" patternUnits=\"userSpaceOnUse\" patternTransform=\"rotate(45)\"><rect width=\"4\" height=\"4\" fill=\"#FFFFFF\"/><rect width=\"2\" height=\"4\" fill=\"#444444\"/></pattern></defs>\n",
+            "</style>\n<defs><pattern id=\"unowned\" width=\"4\" height=\"4\" patternUnits=\"userSpaceOnUse\" patternTransform=\"rotate(45)\"><rect width=\"4\" height=\"4\" fill=\"#FFFFFF\"/><rect width=\"2\" height=\"4\" fill=\"#444444\"/></pattern></defs>\n",
         ),
         Piece::Markup("<rect width=\"100%\" height=\"100%\" fill=\"#FFFFFF\"/>\n"),
     ]);
@@ -173,10 +179,9 @@ pub(crate) fn draw_picture<A: Allocator, O: Out>(
     state: &mut DrawState<A>,
     legend: &Legend,
 )
-    requires group { state.old.pen.group ≡ None }
-    requires run { 1 ≤ layout.now.grid.run }
-    requires named { HoldsTreeName (drawn_from squares.now layout.now).tree state.old }
-    ensures { DrawsPicture O.held heading.now (drawn_from squares.now layout.now) state.old.trees.known legend.now.lines.items canvas.old canvas.new }
+    requires { HoldsTreeName squares.now.names state.old }
+    ensures { DrawsAs O.held squares.now.marks.now state.old.trees.known (drawn_from squares.now layout.now)
+        (λ g. picture_text heading.now g legend.now.lines.items) canvas.old canvas.new }
 {
     let grid = &layout.grid;
     let bottom = grid.top_of(grid.rows());

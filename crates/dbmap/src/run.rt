@@ -1,19 +1,19 @@
 // The square of a run of pages.
 ghost use Rattle.std.specs.Prelude.{◌≡◌, ◌<◌, ◌&&◌, not, true};
 ghost use Rattle.dbmap.specs.Canvas.{Draws};
-ghost use Rattle.dbmap.specs.Runs.{band_frame, band_text, bands_from, frame_above, frame_below, mixed_text};
+ghost use Rattle.dbmap.specs.Faults.{frame_of, shown};
+ghost use Rattle.dbmap.specs.Runs.{band_frame, band_text, bands_from, frame_above, frame_below, mixed_text, run_pages, run_text};
 ghost use Rattle.dbmap.specs.Runs.{owner_mark, owner_text, owners_from, plain_text, title_text, words};
 
 use crate::bands::Bands;
 use crate::canvas::Canvas;
-use crate::colours::fill;
-use crate::faulty::Faulty;
+use crate::colours::shade_letter;
+use crate::faults::SquareFaults;
 use crate::frame::{BAND_FRAME, Frame, tail};
 use crate::grid::Width;
 use crate::labels::Labels;
-use crate::owner_shares::{OWNERS, Owner, OwnerShares};
+use crate::owner_shares::{OWNERS, OwnerShares};
 use crate::squares::NAME_WIDTH;
-use crate::tally::COLOURED;
 use dbsource::Out;
 use dbxml::Piece;
 
@@ -25,43 +25,76 @@ pub(crate) struct RunSquare {
     pub(crate) first: u32,
     pub(crate) last: u32,
     pub(crate) shares: OwnerShares,
-    pub(crate) faulty: Faulty,
 }
 
 impl RunSquare {
-    /// Draws the square of pages that all have one owner.
-    pub(crate) fn draw_plain<O: Out>(
+    // How many pages it has.
+    fn pages(&self) -> u32
+        ensures { result ≡ run_pages self.now }
+    {
+        self.last.saturating_sub(self.first).saturating_add(1)
+    }
+
+    /// Draws it: in one fill where all its pages have one owner, and else in bands.
+    pub(crate) fn draw<O: Out>(
         &self,
         canvas: &mut Canvas<'_, O>,
         width: Width,
         labels: &Labels,
+        faults: SquareFaults,
     )
-        ensures { Draws O.held canvas.old (plain_text self.now width labels.now.names.items) canvas.new }
+        ensures { Draws O.held canvas.old (run_text self.now width labels.now.names.items (shown faults.bits)) canvas.new }
+    {
+        let all = self.pages();
+        let first = Bands::none().next(&self.shares, all);
+        if self.shares.share(first).pages == all {
+            self.draw_plain(canvas, width, labels, faults, first);
+        } else {
+            self.draw_mixed(canvas, labels, faults, &Bands::divide(&self.shares, all));
+        }
+    }
+
+    // Draws the square of pages that all have the owner with this number.
+    fn draw_plain<O: Out>(
+        &self,
+        canvas: &mut Canvas<'_, O>,
+        width: Width,
+        labels: &Labels,
+        faults: SquareFaults,
+        owner: usize,
+    )
+        requires { owner < 16 }
+        ensures { Draws O.held canvas.old (plain_text self.now width labels.now.names.items (shown faults.bits) owner) canvas.new }
     {
         canvas.draw(&[
-            Piece::Markup("<rect x=\""),
+            Piece::Markup("<rect class=\""),
+            Piece::Markup(shade_letter(self.shares.share(owner).is_overflow())),
+            Piece::Number(owner as u64),
+            Piece::Markup("\" x=\""),
             Piece::Number(u64::from(self.x)),
-            Piece::Markup(tail(width, self.faulty.frame)),
+            Piece::Markup(tail(width, faults.frame())),
         ]);
-        self.draw_title(canvas, labels);
+        self.draw_title(canvas, labels, faults);
         canvas.draw(&[Piece::Markup("</title></rect>\n")]);
     }
 
-    /// Draws the square of pages of several owners, divided in bands.
-    pub(crate) fn draw_mixed<O: Out>(
+    // Draws the square of pages of several owners, divided in bands.
+    fn draw_mixed<O: Out>(
         &self,
         canvas: &mut Canvas<'_, O>,
         labels: &Labels,
+        faults: SquareFaults,
         bands: &Bands,
     )
-        ensures { Draws O.held canvas.old (mixed_text self.now labels.now.names.items bands.now) canvas.new }
+        ensures { Draws O.held canvas.old (mixed_text self.now labels.now.names.items (shown faults.bits) bands.now) canvas.new }
     {
+        let frame = faults.frame();
         canvas.draw(&[Piece::Markup("<g><title>page")]);
-        self.draw_title(canvas, labels);
+        self.draw_title(canvas, labels, faults);
         canvas.draw(&[Piece::Markup("</title>")]);
-        self.draw_frame_below(canvas);
+        self.draw_frame_below(canvas, frame);
         self.draw_bands(canvas, bands);
-        self.draw_frame_above(canvas);
+        self.draw_frame_above(canvas, frame);
         canvas.draw(&[Piece::Markup("</g>\n")]);
     }
 
@@ -77,20 +110,20 @@ impl RunSquare {
     }
 
     // Draws what lies below the bands: a weak frame, so that they cover its inner half.
-    fn draw_frame_below<O: Out>(&self, canvas: &mut Canvas<'_, O>)
-        ensures { Draws O.held canvas.old (frame_below self.now.faulty.frame self.now.x) canvas.new }
+    fn draw_frame_below<O: Out>(&self, canvas: &mut Canvas<'_, O>, frame: Frame)
+        ensures { Draws O.held canvas.old (frame_below frame self.now.x) canvas.new }
     {
-        match self.faulty.frame {
+        match frame {
             Frame::Weak => self.draw_frame(canvas),
             Frame::None | Frame::Strong => {}
         }
     }
 
     // Draws what lies above them: a strong frame.
-    fn draw_frame_above<O: Out>(&self, canvas: &mut Canvas<'_, O>)
-        ensures { Draws O.held canvas.old (frame_above self.now.faulty.frame self.now.x) canvas.new }
+    fn draw_frame_above<O: Out>(&self, canvas: &mut Canvas<'_, O>, frame: Frame)
+        ensures { Draws O.held canvas.old (frame_above frame self.now.x) canvas.new }
     {
-        match self.faulty.frame {
+        match frame {
             Frame::Strong => self.draw_frame(canvas),
             Frame::None | Frame::Weak => {}
         }
@@ -118,21 +151,22 @@ impl RunSquare {
         }
         let is_overflow = self.shares.share(number).is_overflow();
         canvas.draw(&[
-            Piece::Markup("<rect x=\""),
+            Piece::Markup("<rect class=\""),
+            Piece::Markup(shade_letter(is_overflow)),
+            Piece::Number(number as u64),
+            Piece::Markup("\" x=\""),
             Piece::Number(u64::from(self.x)),
             Piece::Markup("\" y=\""),
             Piece::Number(u64::from(top)),
             Piece::Markup("\" width=\"6\" height=\""),
             Piece::Number(u64::from(height)),
-            Piece::Markup("\" fill=\""),
-            Piece::Markup(fill(Owner::numbered(number), is_overflow)),
             Piece::Markup("\"/>"),
         ]);
     }
 
     // Draws the title after its first word: its pages, the number of each owner's, and the codes of their faults.
-    fn draw_title<O: Out>(&self, canvas: &mut Canvas<'_, O>, labels: &Labels)
-        ensures { Draws O.held canvas.old (title_text self.now labels.now.names.items) canvas.new }
+    fn draw_title<O: Out>(&self, canvas: &mut Canvas<'_, O>, labels: &Labels, faults: SquareFaults)
+        ensures { Draws O.held canvas.old (title_text self.now labels.now.names.items (shown faults.bits)) canvas.new }
     {
         canvas.draw(&[
             Piece::Markup("s "),
@@ -141,7 +175,7 @@ impl RunSquare {
             Piece::Number(u64::from(self.last)),
         ]);
         self.draw_owners(canvas, labels);
-        self.faulty.draw(canvas);
+        faults.draw(canvas);
     }
 
     // Draws the number of each owner's pages.
@@ -172,7 +206,7 @@ impl RunSquare {
         canvas.draw(&[
             Piece::Markup(owner_mark(is_first)),
             Piece::Number(u64::from(self.shares.share(number).pages)),
-            Piece::Markup(words(Owner::numbered(number))),
+            Piece::Markup(words(number)),
             labels.piece(number, NAME_WIDTH),
         ]);
     }
@@ -192,15 +226,15 @@ fn owner_mark(is_first: bool) -> &'static str
     if is_first { ": " } else { ", " }
 }
 
-// What comes after a number of pages of an owner: for one of the largest trees, all but its name.
-fn words(owner: Owner) -> &'static str
-    ensures { result.now ≡ words owner }
+// What comes after a number of pages of the owner with a number: for one of the largest trees, all but its name.
+fn words(number: usize) -> &'static str
+    ensures { result.now ≡ words number }
 {
-    match owner {
-        Owner::Tree(rank) if rank < COLOURED => " in ",
-        Owner::Tree(_) => " in other trees",
-        Owner::Freelist => " in the freelist",
-        Owner::Fixed => " of fixed use",
-        Owner::Nobody => " in no tree",
+    match number {
+        0..=11 => " in ",
+        12 => " in other trees",
+        13 => " in the freelist",
+        14 => " of fixed use",
+        _ => " in no tree",
     }
 }

@@ -1,25 +1,23 @@
 // The squares of the picture, row by row.
-ghost use Rattle.std.specs.Prelude.{◌≡◌, ◌-◌, ◌≤◌, ℕ, List, None};
+ghost use Rattle.std.specs.Prelude.{◌≡◌, ◌-◌, ◌≤◌, ℕ, List};
 ghost use Rattle.dbformat.specs.FixedPages.{geometry_of};
 ghost use Rattle.dbformat.specs.Reference.{Reference};
+ghost use Rattle.dbformat.specs.Starts.{start_at};
 ghost use Rattle.dbmap.specs.Canvas.{Draws};
-ghost use Rattle.dbmap.specs.Drawings.{DrawsRow, DrawsRows, DrawsSquare, DrawsSquares};
-ghost use Rattle.dbmap.specs.FaultyPages.{IsFaulty, frame_of};
-ghost use Rattle.dbmap.specs.Owners.{IsOf, StaysOf, owner_by, owners_by, tree_starts};
-ghost use Rattle.dbmap.specs.PageSets.{any_page, has_page, pages_between};
-ghost use Rattle.dbmap.specs.Shares.{AreShares};
-ghost use Rattle.dbmap.specs.Squares.{HoldsTreeName, known_faults, fixed_in, row_front_text, drawn_from};
+ghost use Rattle.dbmap.specs.Drawings.{DrawsAs, drawn_from, marked_place};
+ghost use Rattle.dbmap.specs.Owners.{IsOf, StaysOf, owner_by, tree_starts};
+ghost use Rattle.dbmap.specs.Shares.{shares_by};
+ghost use Rattle.dbmap.specs.Squares.{fixed_in, page_square_text, row_front_text, row_text, rows_text, run_square_text, square_text, squares_text};
+ghost use Rattle.dbmap.specs.TreeTexts.{HoldsTreeName};
 
 use crate::canvas::Canvas;
 use crate::draw_state::DrawState;
-use crate::faulty::Faulty;
-use crate::frame::Frame;
+use crate::fault_notes::FaultNotes;
 use crate::grid::Grid;
 use crate::layout::Layout;
 use crate::outlines::draw_outlines;
 use crate::owner_shares::{Owner, OwnerShares, is_overflow};
 use crate::page::PageSquare;
-use crate::page_set::PageSet;
 use crate::picture::LEFT;
 use crate::run::RunSquare;
 use crate::tally::{COLOURED, RankedTree, rank_of};
@@ -34,14 +32,13 @@ use std::alloc::Allocator;
 /// How many columns of a name are shown.
 pub(crate) const NAME_WIDTH: u32 = 72;
 
-/// What the squares are made of: what each page is, the pages with a fault, and those of the faults that are listed.
+/// What the squares are made of: what each page is, and what is noted of faults.
 #[derive(Drop)]
 pub(crate) struct Squares<'a, A: Allocator> {
     pub(crate) header: &'a Header,
     pub(crate) marks: &'a Marks<A>,
     pub(crate) names: TreeNames<'a, A>,
-    pub(crate) faulty: &'a PageSet<A>,
-    pub(crate) strong: &'a PageSet<A>,
+    pub(crate) notes: &'a FaultNotes<A>,
     pub(crate) largest: ArrayVec<RankedTree, COLOURED>,
 }
 
@@ -63,8 +60,7 @@ impl<'a, A: Allocator> Squares<'a, A> {
     // What each owner has of some pages.
     fn shares(&self, state: &mut DrawState<A>, first: u32, last: u32) -> OwnerShares
         ensures shares { (file : List ℕ) (V : List Reference) → IsOf self.now.marks.now state.old.trees.known file V
-            → AreShares self.now.marks.now (owners_by V (tree_starts self.now.largest.items)) (pages_between first last) result }
-        ensures pen { state.new.pen ≡ state.old.pen }
+            → result ≡ shares_by (tree_starts self.now.largest.items) (marked_place self.now.marks.now) (start_at V) first last }
         ensures named { (state.new.name ≡ state.old.name) × (state.new.named ≡ state.old.named) }
         ensures trees { StaysOf self.now.marks.now state.old.trees.known state.new.trees.known }
     {
@@ -77,31 +73,6 @@ impl<'a, A: Allocator> Squares<'a, A> {
         shares
     }
 
-    // The frame of some pages, one of which may have a fault.
-    fn frame(&self, first: u32, last: u32, has_fault: bool) -> Frame
-        ensures { result ≡ frame_of (any_page (has_page self.now.strong.now) first last) has_fault }
-    {
-        if self.strong.any(first, last) {
-            Frame::Strong
-        } else if has_fault {
-            Frame::Weak
-        } else {
-            Frame::None
-        }
-    }
-
-    // What is shown of the faults of some pages.
-    fn faulty(&self, first: u32, last: u32) -> Faulty
-        ensures { IsFaulty (known_faults self.now) first last result }
-    {
-        let has_fault = self.faulty.any(first, last);
-        Faulty {
-            frame: self.frame(first, last, has_fault),
-            has_fault,
-            codes: self.faulty.codes_of(first, last),
-        }
-    }
-
     /// Draws all squares.
     pub(crate) fn draw<O: Out>(
         &self,
@@ -109,17 +80,15 @@ impl<'a, A: Allocator> Squares<'a, A> {
         layout: &Layout,
         state: &mut DrawState<A>,
     )
-        requires group { state.old.pen.group ≡ None }
-        requires run { 1 ≤ layout.now.grid.run }
-        requires named { HoldsTreeName (drawn_from self.now layout.now).tree state.old }
-        ensures { DrawsRows O.held (drawn_from self.now layout.now) state.old.trees.known canvas.old canvas.new }
+        requires named { HoldsTreeName self.now.names state.old }
+        ensures { DrawsAs O.held self.now.marks.now state.old.trees.known (drawn_from self.now layout.now) rows_text canvas.old canvas.new }
     {
         for row in 0..layout.grid.rows() {
             self.draw_row(canvas, layout, state, row);
         }
     }
 
-    // Draws the squares of a row. Those of one fill that are side by side have it from their group.
+    // Draws the squares of a row.
     fn draw_row<O: Out>(
         &self,
         canvas: &mut Canvas<'_, O>,
@@ -127,19 +96,16 @@ impl<'a, A: Allocator> Squares<'a, A> {
         state: &mut DrawState<A>,
         row: u32,
     )
-        requires group { state.old.pen.group ≡ None }
-        requires run { 1 ≤ layout.now.grid.run }
-        requires named { HoldsTreeName (drawn_from self.now layout.now).tree state.old }
-        ensures draws { DrawsRow O.held (drawn_from self.now layout.now) state.old.trees.known row canvas.old canvas.new }
-        ensures group { state.new.pen.group ≡ None }
-        ensures named { HoldsTreeName (drawn_from self.now layout.now).tree state.new }
+        requires named { HoldsTreeName self.now.names state.old }
+        ensures draws { DrawsAs O.held self.now.marks.now state.old.trees.known (drawn_from self.now layout.now)
+            (λ g. row_text g row) canvas.old canvas.new }
+        ensures named { HoldsTreeName self.now.names state.new }
         ensures trees { StaysOf self.now.marks.now state.old.trees.known state.new.trees.known }
     {
         let grid = &layout.grid;
         draw_row_front(canvas, grid, row);
         let (first, end) = grid.squares_of_row(row);
         self.draw_squares(canvas, layout, state, first, end);
-        state.pen.end(canvas);
         draw_outlines(canvas, grid, row);
         canvas.draw(&[Piece::Markup("</g>\n")]);
     }
@@ -154,11 +120,10 @@ impl<'a, A: Allocator> Squares<'a, A> {
         end: u32,
     )
         requires order { first ≤ end }
-        requires run { 1 ≤ layout.now.grid.run }
-        requires named { HoldsTreeName (drawn_from self.now layout.now).tree state.old }
-        ensures draws { DrawsSquares O.held (drawn_from self.now layout.now) state.old.trees.known first (end - first)
-            state.old.pen.group state.new.pen.group canvas.old canvas.new }
-        ensures named { HoldsTreeName (drawn_from self.now layout.now).tree state.new }
+        requires named { HoldsTreeName self.now.names state.old }
+        ensures draws { DrawsAs O.held self.now.marks.now state.old.trees.known (drawn_from self.now layout.now)
+            (λ g. squares_text g first (end - first)) canvas.old canvas.new }
+        ensures named { HoldsTreeName self.now.names state.new }
         ensures trees { StaysOf self.now.marks.now state.old.trees.known state.new.trees.known }
     {
         for index in first..end {
@@ -174,11 +139,10 @@ impl<'a, A: Allocator> Squares<'a, A> {
         state: &mut DrawState<A>,
         index: u32,
     )
-        requires run { 1 ≤ layout.now.grid.run }
-        requires named { HoldsTreeName (drawn_from self.now layout.now).tree state.old }
-        ensures draws { DrawsSquare O.held (drawn_from self.now layout.now) state.old.trees.known index
-            state.old.pen.group state.new.pen.group canvas.old canvas.new }
-        ensures named { HoldsTreeName (drawn_from self.now layout.now).tree state.new }
+        requires named { HoldsTreeName self.now.names state.old }
+        ensures draws { DrawsAs O.held self.now.marks.now state.old.trees.known (drawn_from self.now layout.now)
+            (λ g. square_text g index) canvas.old canvas.new }
+        ensures named { HoldsTreeName self.now.names state.new }
         ensures trees { StaysOf self.now.marks.now state.old.trees.known state.new.trees.known }
     {
         if layout.grid.run == 1 {
@@ -196,11 +160,10 @@ impl<'a, A: Allocator> Squares<'a, A> {
         state: &mut DrawState<A>,
         index: u32,
     )
-        requires run { 2 ≤ layout.now.grid.run }
-        requires named { HoldsTreeName (drawn_from self.now layout.now).tree state.old }
-        ensures draws { DrawsSquare O.held (drawn_from self.now layout.now) state.old.trees.known index
-            state.old.pen.group state.new.pen.group canvas.old canvas.new }
-        ensures named { HoldsTreeName (drawn_from self.now layout.now).tree state.new }
+        requires named { HoldsTreeName self.now.names state.old }
+        ensures draws { DrawsAs O.held self.now.marks.now state.old.trees.known (drawn_from self.now layout.now)
+            (λ g. run_square_text g index) canvas.old canvas.new }
+        ensures named { HoldsTreeName self.now.names state.new }
         ensures trees { StaysOf self.now.marks.now state.old.trees.known state.new.trees.known }
     {
         let grid = &layout.grid;
@@ -210,22 +173,9 @@ impl<'a, A: Allocator> Squares<'a, A> {
             first,
             last,
             shares: self.shares(state, first, last),
-            faulty: self.faulty(first, last),
         };
-        match run.shares.only() {
-            Some(number) => {
-                let shade = (
-                    Owner::numbered(number),
-                    run.shares.share(number).is_overflow(),
-                );
-                state.pen.change(canvas, shade);
-                run.draw_plain(canvas, grid.width, &layout.labels);
-            }
-            None => {
-                let bands = state.pen.credits.divide(&run.shares, grid.run);
-                run.draw_mixed(canvas, &layout.labels, &bands);
-            }
-        }
+        let faults = self.notes.of_square(index);
+        run.draw(canvas, grid.width, &layout.labels, faults);
     }
 
     // Draws the square of a page.
@@ -236,11 +186,10 @@ impl<'a, A: Allocator> Squares<'a, A> {
         state: &mut DrawState<A>,
         index: u32,
     )
-        requires run { layout.now.grid.run ≡ 1 }
-        requires named { HoldsTreeName (drawn_from self.now layout.now).tree state.old }
-        ensures draws { DrawsSquare O.held (drawn_from self.now layout.now) state.old.trees.known index
-            state.old.pen.group state.new.pen.group canvas.old canvas.new }
-        ensures named { HoldsTreeName (drawn_from self.now layout.now).tree state.new }
+        requires named { HoldsTreeName self.now.names state.old }
+        ensures draws { DrawsAs O.held self.now.marks.now state.old.trees.known (drawn_from self.now layout.now)
+            (λ g. page_square_text g index) canvas.old canvas.new }
+        ensures named { HoldsTreeName self.now.names state.new }
         ensures trees { StaysOf self.now.marks.now state.old.trees.known state.new.trees.known }
     {
         let grid = &layout.grid;
@@ -250,15 +199,13 @@ impl<'a, A: Allocator> Squares<'a, A> {
         let square = PageSquare {
             x: grid.x_of(index),
             page,
+            owner: self.owner(place, start).number(),
             place,
             fixed: self.fixed(place, page),
-            faulty: self.faulty(page, page),
         };
         state.name(&self.names, place_tree(place, start));
-        state
-            .pen
-            .change(canvas, (self.owner(place, start), is_overflow(place)));
-        square.draw(canvas, grid.width, &state.name);
+        let faults = self.notes.of_square(index);
+        square.draw(canvas, grid.width, &state.name, faults);
     }
 
     // The fixed use of a page, if it has one.

@@ -1,11 +1,11 @@
 // How many pages each tree has.
-ghost use Rattle.std.specs.Prelude.{◌≡◌, ◌↔◌, ◌≤◌, ℕ, List, IfOk, IfSome, IsTrue, map, option_map, replicate, vec_len};
+ghost use Rattle.std.specs.Prelude.{◌≡◌, ◌≤◌, ℕ, List, map, replicate, vec_len};
 ghost use Rattle.dbformat.specs.Reference.{Reference};
 ghost use Rattle.dbmap.specs.OwnerShares.{no_share};
 ghost use Rattle.dbmap.specs.LegendLines.{other_trees, others_share};
 ghost use Rattle.dbmap.specs.Owners.{IsOf, StaysOf, rank_of, tree_starts};
-ghost use Rattle.dbmap.specs.Tallies.{AreLargest, IsNextStart, IsNone, IsPageTallyOf, page_counted, pages_at, share_at, start_counted, used_counted};
-ghost use Rattle.dbmap.specs.TreeLists.{IsAfterTree, IsBeforeTree, IsFirstTree, IsOfTally, tree_at};
+ghost use Rattle.dbmap.specs.Tallies.{IsNone, IsPageTallyOf, largest_trees, left_pages, next_tree, page_counted, pages_at, share_at};
+ghost use Rattle.dbmap.specs.Tallies.{start_counted, tree_at, used_counted};
 
 use crate::owner_shares::{Share, is_overflow};
 use arrayvec::ArrayVec;
@@ -24,36 +24,6 @@ pub(crate) const COLOURED: usize = 12;
 pub(crate) struct RankedTree {
     pub(crate) start: u32,
     pub(crate) share: Share,
-}
-
-impl RankedTree {
-    // Whether it comes before another: it has more pages, or as many and a lesser start.
-    fn is_before(&self, other: &RankedTree) -> bool
-        ensures { IsTrue result ↔ IsBeforeTree self.now other.now }
-    {
-        let (pages, others) = (self.share.pages, other.share.pages);
-        pages > others || (pages == others && self.start < other.start)
-    }
-}
-
-// Whether a tree comes after another one, if there is one.
-fn is_after(tree: &RankedTree, other: Option<RankedTree>) -> bool
-    ensures { IsTrue result ↔ IsAfterTree other tree.now }
-{
-    match other {
-        Some(other) => other.is_before(tree),
-        None => true,
-    }
-}
-
-// Whether a tree comes before another one, if there is one.
-fn is_first(tree: &RankedTree, other: Option<RankedTree>) -> bool
-    ensures { IsTrue result ↔ IsFirstTree tree.now other }
-{
-    match other {
-        Some(other) => tree.is_before(&other),
-        None => true,
-    }
 }
 
 /// How many pages each start has, how many have a fixed use, and how many are nobody's.
@@ -196,36 +166,49 @@ impl<A: Allocator> PageTally<A> {
         }
     }
 
-    // The tree that comes next after this one, or the first.
-    fn next(&self, last: Option<RankedTree>) -> Option<RankedTree>
-        requires { IsOfTally self.now.starts last }
-        ensures next { IsNextStart self.now.trees (pages_at self.now.starts) (option_map (λ t. t.start) last) (option_map (λ t. t.start) result) }
-        ensures share { IsOfTally self.now.starts result }
+    // How many pages a tree has that is not among some, and else 0.
+    fn left(&self, taken: &[RankedTree], start: u32) -> u32
+        ensures { result ≡ left_pages (pages_at self.now.starts) (tree_starts taken.now) start }
     {
-        let mut next: Option<RankedTree> = None;
+        if rank_of(taken, Some(start)) == COLOURED {
+            self.share(start).pages
+        } else {
+            0
+        }
+    }
+
+    // Of the trees that are not among some, the one with the most pages; of several the one with the least start.
+    fn next(&self, taken: &[RankedTree]) -> Option<RankedTree>
+        ensures { result ≡ next_tree self.now.starts (tree_starts taken.now) self.now.trees }
+    {
+        let mut next = 0;
+        let mut most = self.left(taken, 0);
         for start in 0..self.trees {
-            let tree = self.tree(start);
-            if tree.share.pages != 0 && is_after(&tree, last) && is_first(&tree, next) {
-                next = Some(tree);
+            let pages = self.left(taken, start);
+            if pages > most {
+                next = start;
+                most = pages;
             }
         }
-        next
+        if most == 0 {
+            None
+        } else {
+            Some(self.tree(next))
+        }
     }
 
     /// The largest trees, by how many pages they have, and then by their starts.
     pub(crate) fn largest(&self) -> ArrayVec<RankedTree, COLOURED>
-        ensures largest { AreLargest self.now.trees (pages_at self.now.starts) (tree_starts result.items) }
+        ensures largest { tree_starts result.items ≡ largest_trees (pages_at self.now.starts) self.now.trees 12 }
         ensures shares { result.items ≡ map (tree_at self.now.starts) (tree_starts result.items) }
     {
         let mut largest = ArrayVec::new();
-        let mut last = None;
         for _ in 0..COLOURED {
-            last = self.next(last);
-            match last {
+            match self.next(largest.as_slice()) {
                 Some(tree) => {
                     let _ = largest.try_push(tree);
                 }
-                None => return largest,
+                None => {}
             }
         }
         largest

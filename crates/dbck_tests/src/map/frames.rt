@@ -26,17 +26,17 @@ fn faulty(alloc: Global) -> Result<Vec<u8>, AllocError> {
 
 // What its picture has: a square with a wide frame begins a pixel further right and down.
 const FRAMES: [&str; 13] = [
-    "<rect x=\"0\" width=\"27\" height=\"27\"><title>page 1: root of sqlite_schema</title></rect>\n",
-    "<rect x=\"29\" y=\"1\" width=\"25\" height=\"25\" stroke=\"#BE0700\" stroke-width=\"4\"><title>page 2: root of table a</title></rect>\n",
-    "<rect x=\"57\" y=\"1\" width=\"25\" height=\"25\" stroke=\"#BE0700\" stroke-width=\"4\"><title>page 3: in table a, child of page 2</title></rect>\n",
-    "<rect x=\"85\" y=\"1\" width=\"25\" height=\"25\" stroke=\"#BE0700\" stroke-width=\"4\"><title>page 4: in table a, child of page 2, with T06</title></rect>\n",
-    "<rect x=\"113\" y=\"1\" width=\"25\" height=\"25\" stroke=\"#BE0700\" stroke-width=\"4\"><title>page 5: trunk of the freelist, with R03</title></rect>\n",
-    "<rect x=\"140\" width=\"27\" height=\"27\"><title>page 6: root of table b</title></rect>\n",
-    "<rect x=\"169\" y=\"1\" width=\"25\" height=\"25\" stroke=\"#BE0700\" stroke-width=\"4\"><title>page 7: in table b, child of page 6, with P10</title></rect>\n",
-    "<rect x=\"197\" y=\"1\" width=\"25\" height=\"25\" stroke=\"#BE0700\" stroke-width=\"4\"><title>page 8: in table b, child of page 6, with P10</title></rect>\n",
-    "<rect x=\"225\" y=\"1\" width=\"25\" height=\"25\" stroke=\"#BE0700\" stroke-width=\"4\"><title>page 9: in table b, child of page 6, with P10</title></rect>\n",
-    "<rect x=\"252\" width=\"27\" height=\"27\" stroke=\"#BE0700\" stroke-width=\"2\" paint-order=\"stroke\"><title>page 10: in table b, child of page 6, with P10</title></rect>\n",
-    "<rect x=\"281\" y=\"1\" width=\"25\" height=\"25\" stroke=\"#BE0700\" stroke-width=\"4\"><title>page 11: in no tree, overflow chain or freelist, with N01</title></rect>\n",
+    "<rect class=\"t2\" x=\"0\" width=\"27\" height=\"27\"><title>page 1: root of sqlite_schema</title></rect>\n",
+    "<rect class=\"t1\" x=\"29\" y=\"1\" width=\"25\" height=\"25\" stroke=\"#BE0700\" stroke-width=\"4\"><title>page 2: root of table a</title></rect>\n",
+    "<rect class=\"t1\" x=\"57\" y=\"1\" width=\"25\" height=\"25\" stroke=\"#BE0700\" stroke-width=\"4\"><title>page 3: in table a, child of page 2</title></rect>\n",
+    "<rect class=\"t1\" x=\"85\" y=\"1\" width=\"25\" height=\"25\" stroke=\"#BE0700\" stroke-width=\"4\"><title>page 4: in table a, child of page 2, with T06</title></rect>\n",
+    "<rect class=\"t13\" x=\"113\" y=\"1\" width=\"25\" height=\"25\" stroke=\"#BE0700\" stroke-width=\"4\"><title>page 5: trunk of the freelist, with R03</title></rect>\n",
+    "<rect class=\"t0\" x=\"140\" width=\"27\" height=\"27\"><title>page 6: root of table b</title></rect>\n",
+    "<rect class=\"t0\" x=\"169\" y=\"1\" width=\"25\" height=\"25\" stroke=\"#BE0700\" stroke-width=\"4\"><title>page 7: in table b, child of page 6, with P10</title></rect>\n",
+    "<rect class=\"t0\" x=\"197\" y=\"1\" width=\"25\" height=\"25\" stroke=\"#BE0700\" stroke-width=\"4\"><title>page 8: in table b, child of page 6, with P10</title></rect>\n",
+    "<rect class=\"t0\" x=\"225\" y=\"1\" width=\"25\" height=\"25\" stroke=\"#BE0700\" stroke-width=\"4\"><title>page 9: in table b, child of page 6, with P10</title></rect>\n",
+    "<rect class=\"t0\" x=\"252\" width=\"27\" height=\"27\" stroke=\"#BE0700\" stroke-width=\"2\" paint-order=\"stroke\"><title>page 10: in table b, child of page 6, with P10</title></rect>\n",
+    "<rect class=\"t15\" x=\"281\" y=\"1\" width=\"25\" height=\"25\" stroke=\"#BE0700\" stroke-width=\"4\"><title>page 11: in no tree, overflow chain or freelist, with N01</title></rect>\n",
     ">of the first 100 injuries of explain, of their causes, or named by them</text><text x=\"580\" y=\"140\" text-anchor=\"end\">8</text>",
     "<rect x=\"73\" y=\"151\" width=\"10\" height=\"10\" fill=\"#FFFFFF\" stroke=\"#BE0700\" stroke-width=\"2\" paint-order=\"stroke\"/><text x=\"108\" y=\"160\">other pages with a fault</text><text x=\"580\" y=\"160\" text-anchor=\"end\">1</text>",
 ];
@@ -50,19 +50,19 @@ fn faults_that_lead_have_wide_frames(rt: HostRuntime) -> Result<(), Fail> {
 
 // Of the pages that nothing refers to, pages 2, 4 and 6 are zeros, and 3 and 5 leaves of an index: two lead.
 const STRIPES: [&str; 5] = [
-    "<rect x=\"29\" y=\"1\" width=\"25\" height=\"25\" stroke=\"#BE0700\" stroke-width=\"4\"><title>page 2: in no tree, overflow chain or freelist, with N01</title></rect>\n",
-    "<rect x=\"57\" y=\"1\" width=\"25\" height=\"25\" stroke=\"#BE0700\" stroke-width=\"4\"><title>page 3: in no tree, overflow chain or freelist, with N01</title></rect>\n",
-    "<rect x=\"84\" width=\"27\" height=\"27\" stroke=\"#BE0700\" stroke-width=\"2\" paint-order=\"stroke\"><title>page 4: in no tree, overflow chain or freelist, with N01</title></rect>\n",
-    "<rect x=\"112\" width=\"27\" height=\"27\" stroke=\"#BE0700\" stroke-width=\"2\" paint-order=\"stroke\"><title>page 5: in no tree, overflow chain or freelist, with N01</title></rect>\n",
-    "<rect x=\"140\" width=\"27\" height=\"27\" stroke=\"#BE0700\" stroke-width=\"2\" paint-order=\"stroke\"><title>page 6: in no tree, overflow chain or freelist, with N01</title></rect>\n",
+    "<rect class=\"t15\" x=\"29\" y=\"1\" width=\"25\" height=\"25\" stroke=\"#BE0700\" stroke-width=\"4\"><title>page 2: in no tree, overflow chain or freelist, with N01</title></rect>\n",
+    "<rect class=\"t15\" x=\"57\" y=\"1\" width=\"25\" height=\"25\" stroke=\"#BE0700\" stroke-width=\"4\"><title>page 3: in no tree, overflow chain or freelist, with N01</title></rect>\n",
+    "<rect class=\"t15\" x=\"84\" width=\"27\" height=\"27\" stroke=\"#BE0700\" stroke-width=\"2\" paint-order=\"stroke\"><title>page 4: in no tree, overflow chain or freelist, with N01</title></rect>\n",
+    "<rect class=\"t15\" x=\"112\" width=\"27\" height=\"27\" stroke=\"#BE0700\" stroke-width=\"2\" paint-order=\"stroke\"><title>page 5: in no tree, overflow chain or freelist, with N01</title></rect>\n",
+    "<rect class=\"t15\" x=\"140\" width=\"27\" height=\"27\" stroke=\"#BE0700\" stroke-width=\"2\" paint-order=\"stroke\"><title>page 6: in no tree, overflow chain or freelist, with N01</title></rect>\n",
 ];
 
 // Each of the six looks twice: the pages 2 to 7, and 8 to 13.
 const LOOKS: [&str; 4] = [
-    "<rect x=\"29\" y=\"1\" width=\"25\" height=\"25\" stroke=\"#BE0700\" stroke-width=\"4\"><title>page 2: in no tree, overflow chain or freelist, with N01</title></rect>\n",
-    "<rect x=\"169\" y=\"1\" width=\"25\" height=\"25\" stroke=\"#BE0700\" stroke-width=\"4\"><title>page 7: in no tree, overflow chain or freelist, with N01</title></rect>\n",
-    "<rect x=\"196\" width=\"27\" height=\"27\" stroke=\"#BE0700\" stroke-width=\"2\" paint-order=\"stroke\"><title>page 8: in no tree, overflow chain or freelist, with N01</title></rect>\n",
-    "<rect x=\"336\" width=\"27\" height=\"27\" stroke=\"#BE0700\" stroke-width=\"2\" paint-order=\"stroke\"><title>page 13: in no tree, overflow chain or freelist, with N01</title></rect>\n",
+    "<rect class=\"t15\" x=\"29\" y=\"1\" width=\"25\" height=\"25\" stroke=\"#BE0700\" stroke-width=\"4\"><title>page 2: in no tree, overflow chain or freelist, with N01</title></rect>\n",
+    "<rect class=\"t15\" x=\"169\" y=\"1\" width=\"25\" height=\"25\" stroke=\"#BE0700\" stroke-width=\"4\"><title>page 7: in no tree, overflow chain or freelist, with N01</title></rect>\n",
+    "<rect class=\"t15\" x=\"196\" width=\"27\" height=\"27\" stroke=\"#BE0700\" stroke-width=\"2\" paint-order=\"stroke\"><title>page 8: in no tree, overflow chain or freelist, with N01</title></rect>\n",
+    "<rect class=\"t15\" x=\"336\" width=\"27\" height=\"27\" stroke=\"#BE0700\" stroke-width=\"2\" paint-order=\"stroke\"><title>page 13: in no tree, overflow chain or freelist, with N01</title></rect>\n",
 ];
 
 #[test]
@@ -97,8 +97,8 @@ fn many_entries(alloc: Global) -> Result<Vec<u8>, AllocError> {
 // The 100th entry is that of page 134, and no more are framed.
 const LAST_FRAMED: [&str; 3] = [
     ">135 pages of 4096 bytes (540.0 KiB), ",
-    "<rect x=\"141\" y=\"1\" width=\"25\" height=\"25\" stroke=\"#BE0700\" stroke-width=\"4\"><title>page 134: in no tree, overflow chain or freelist, with N01</title></rect>\n",
-    "<rect x=\"168\" width=\"27\" height=\"27\" stroke=\"#BE0700\" stroke-width=\"2\" paint-order=\"stroke\"><title>page 135: in no tree, overflow chain or freelist, with N01</title></rect>\n",
+    "<rect class=\"t15\" x=\"141\" y=\"1\" width=\"25\" height=\"25\" stroke=\"#BE0700\" stroke-width=\"4\"><title>page 134: in no tree, overflow chain or freelist, with N01</title></rect>\n",
+    "<rect class=\"t15\" x=\"168\" width=\"27\" height=\"27\" stroke=\"#BE0700\" stroke-width=\"2\" paint-order=\"stroke\"><title>page 135: in no tree, overflow chain or freelist, with N01</title></rect>\n",
 ];
 
 #[test]

@@ -24,20 +24,21 @@ pub(crate) fn small(alloc: Global) -> Result<Vec<u8>, AllocError> {
 }
 
 // Texts that the picture of this file has, in this order.
-const TEXTS: [&str; 20] = [
+const TEXTS: [&str; 21] = [
     "<svg xmlns=\"http://www.w3.org/2000/svg\" width=\"988\" height=\"252\" viewBox=\"0 0 988 252\"",
     " role=\"img\" aria-label=\"Pages of a&lt;b&gt;&amp;.db\">\n",
     "<title>Pages of a&lt;b&gt;&amp;.db</title>\n",
+    "<style>.t0{fill:#067CFF}.t1{fill:#E6B006}",
     ">7 pages of 512 bytes (3.5 KiB), 1 fault; a square is a page, in the order of the file</text>\n",
     "<text x=\"64\" y=\"81\">1</text>\n",
-    "<g transform=\"translate(72,64)\">\n<g fill=\"#E6B006\">\n<rect x=\"0\" width=\"27\" height=\"27\"><title>page 1: root of sqlite_schema</title></rect>\n</g>\n",
-    "<g fill=\"#067CFF\">\n<rect x=\"28\" width=\"27\" height=\"27\"><title>page 2: root of table a</title></rect>\n</g>\n",
-    "<g fill=\"#C6E1FF\">\n<rect x=\"56\" width=\"27\" height=\"27\"><title>page 3: in table a, overflow page of page 2</title></rect>\n</g>\n",
-    "<g fill=\"#A001C6\">\n<rect x=\"84\" width=\"27\" height=\"27\"><title>page 4: root of index &lt;&amp;&quot;\\x0a&#39;&gt;</title></rect>\n</g>\n",
-    "<g fill=\"#DBDBDB\">\n<rect x=\"112\" width=\"27\" height=\"27\"><title>page 5: trunk of the freelist</title></rect>\n",
-    "<rect x=\"140\" width=\"27\" height=\"27\"><title>page 6: leaf of the freelist</title></rect>\n</g>\n",
-    "<rect x=\"169\" y=\"1\" width=\"25\" height=\"25\" stroke=\"#BE0700\" stroke-width=\"4\"><title>page 7: in no tree, overflow chain or freelist, with N01</title></rect>\n",
-    "</g>\n</g>\n<g transform=\"translate(0 92)\">\n",
+    "<g transform=\"translate(72,64)\">\n<rect class=\"t1\" x=\"0\" width=\"27\" height=\"27\"><title>page 1: root of sqlite_schema</title></rect>\n",
+    "<rect class=\"t0\" x=\"28\" width=\"27\" height=\"27\"><title>page 2: root of table a</title></rect>\n",
+    "<rect class=\"o0\" x=\"56\" width=\"27\" height=\"27\"><title>page 3: in table a, overflow page of page 2</title></rect>\n",
+    "<rect class=\"t2\" x=\"84\" width=\"27\" height=\"27\"><title>page 4: root of index &lt;&amp;&quot;\\x0a&#39;&gt;</title></rect>\n",
+    "<rect class=\"t13\" x=\"112\" width=\"27\" height=\"27\"><title>page 5: trunk of the freelist</title></rect>\n",
+    "<rect class=\"t13\" x=\"140\" width=\"27\" height=\"27\"><title>page 6: leaf of the freelist</title></rect>\n",
+    "<rect class=\"t15\" x=\"169\" y=\"1\" width=\"25\" height=\"25\" stroke=\"#BE0700\" stroke-width=\"4\"><title>page 7: in no tree, overflow chain or freelist, with N01</title></rect>\n",
+    "</g>\n<g transform=\"translate(0 92)\">\n",
     ">table a (root page 2)</text><text x=\"580\" y=\"40\" text-anchor=\"end\">2</text><text x=\"710\" y=\"40\" text-anchor=\"end\">1</text>",
     "<text x=\"790\" y=\"40\" text-anchor=\"end\">1.0 KiB</text><text x=\"860\" y=\"40\" text-anchor=\"end\">28.6</text>",
     ">sqlite_schema (root page 1)</text>",
@@ -71,15 +72,15 @@ fn draws_each_kind_of_page(rt: HostRuntime) -> Result<(), Fail> {
     Ok(())
 }
 
-// What the picture of 40000 pages has: of them a square covers 4. The first has two pages of `a` and one of each of two others, which
-// bring 12, 6 and 6 to the credit of their owners, and a band takes 4.
+// What the picture of 40000 pages has: of them a square covers 4. The first has two pages of `a` and one of each of two others. Each of
+// the three has a band; then `a`, whose pages are worth 12 where a band costs 4, has two more, and the last goes to the first of the others.
 const OF_RUNS: [&str; 8] = [
     ">40000 pages of 512 bytes (19.5 MiB), 39994 faults",
     "; a square is 4 pages, in the order of the file</text>\n",
     "<g><title>pages 1 to 4: 2 in table a, 1 in sqlite_schema, 1 in index &lt;&amp;&quot;\\x0a&#39;&gt;</title>",
-    "<rect x=\"0\" y=\"0\" width=\"6\" height=\"3\" fill=\"#067CFF\"/>",
-    "<rect x=\"0\" y=\"3\" width=\"6\" height=\"2\" fill=\"#E6B006\"/>",
-    "<rect x=\"0\" y=\"5\" width=\"6\" height=\"1\" fill=\"#A001C6\"/></g>\n",
+    "<rect class=\"t0\" x=\"0\" y=\"0\" width=\"6\" height=\"3\"/>",
+    "<rect class=\"t1\" x=\"0\" y=\"3\" width=\"6\" height=\"2\"/>",
+    "<rect class=\"t2\" x=\"0\" y=\"5\" width=\"6\" height=\"1\"/></g>\n",
     "<g><title>pages 5 to 8: 2 in the freelist, 2 in no tree, with N01</title>",
     "<title>pages 39997 to 40000: 4 in no tree, with N01</title>",
 ];
@@ -102,6 +103,44 @@ fn squares_cover_runs(rt: HostRuntime) -> Result<(), Fail> {
     let verdict = map(rt.alloc(), "x", &mut source, &mut out);
     holds!(rt; verdict == Ok(Verdict::Faulty(39994)));
     has_runs(&rt, str::from_utf8(out.bytes()).unwrap_or(""));
+    Ok(())
+}
+
+// What the picture of 100000 pages has, of which a square covers 8: the first has a page of each of eight trees. Six have a band, those
+// that come first.
+const OF_EIGHT: [&str; 4] = [
+    "; a square is 8 pages, in the order of the file</text>\n",
+    "<g><title>pages 1 to 8: 1 in sqlite_schema, 1 in table a, 1 in table b, 1 in table c, 1 in table d, 1 in table e, 1 in table f, 1 in table g</title><rect class=\"t0\" x=\"0\" y=\"0\" width=\"6\" height=\"1\"/>",
+    "<rect class=\"t5\" x=\"0\" y=\"5\" width=\"6\" height=\"1\"/></g>\n",
+    "<rect class=\"t15\" x=\"7\" width=\"6\" height=\"6\" stroke=\"#BE0700\" stroke-width=\"2\"><title>pages 9 to 16: 8 in no tree, with N01</title></rect>\n",
+];
+
+// A square of more than six owners.
+#[test]
+fn six_owners_have_bands(rt: HostRuntime) -> Result<(), Fail> {
+    let mut file = TestFile::new(rt.alloc(), 512, 8)?;
+    file.schema(&[
+        schema_row(b"table", b"a", 2),
+        schema_row(b"table", b"b", 3),
+        schema_row(b"table", b"c", 4),
+        schema_row(b"table", b"d", 5),
+        schema_row(b"table", b"e", 6),
+        schema_row(b"table", b"f", 7),
+        schema_row(b"table", b"g", 8),
+    ]);
+    for page in 2..9u32 {
+        file.leaf_table(page);
+    }
+    let mut file = file.into_bytes();
+    patch(&mut file, 28, &100000u32.to_be_bytes());
+    let mut source = StatedSource::new(file.as_slice(), 51200000, u64::MAX);
+    let mut out = MemOut::new(rt.alloc());
+    let verdict = map(rt.alloc(), "x", &mut source, &mut out);
+    holds!(rt; verdict == Ok(Verdict::Faulty(99992)));
+    let picture = str::from_utf8(out.bytes()).unwrap_or("");
+    for text in OF_EIGHT {
+        holds!(rt; picture.contains(text), text);
+    }
     Ok(())
 }
 
@@ -145,7 +184,7 @@ pub(crate) fn drawn(rt: &impl Abort, alloc: Global, file: &[u8], texts: &[&str])
 const MISSING: [&str; 6] = [
     " height=\"272\" viewBox=",
     "<title>page 1: root of sqlite_schema, with H06</title>",
-    "</g>\n<g transform=\"translate(.5,.5)\" fill=\"#FFFFFF\" stroke=\"#AAAAAA\">\n<rect x=\"196\" width=\"26\" height=\"26\"><title>page 8: not in the file</title></rect>\n",
+    "</title></rect>\n<g transform=\"translate(.5,.5)\" fill=\"#FFFFFF\" stroke=\"#AAAAAA\">\n<rect x=\"196\" width=\"26\" height=\"26\"><title>page 8: not in the file</title></rect>\n",
     "<rect x=\"308\" width=\"26\" height=\"26\"><title>page 12: not in the file</title></rect>\n</g>\n</g>\n",
     ">stated in the header, not in the file</text><text x=\"580\" y=\"160\" text-anchor=\"end\">5</text>",
     ">2.5 KiB</text>\n",
@@ -200,12 +239,12 @@ fn names_are_told_apart(rt: HostRuntime) -> Result<(), Fail> {
 
 // What the picture has of a pointer map, and of five trees with a page each, in the order of their rows.
 const OWNERS: [&str; 7] = [
-    "<g fill=\"#067CFF\">\n<rect x=\"0\" width=\"27\" height=\"27\"><title>page 1: root of sqlite_schema</title></rect>\n</g>\n",
-    "<g fill=\"#000000\">\n<rect x=\"28\" width=\"27\" height=\"27\"><title>page 2: pointer map</title></rect>\n</g>\n",
-    "<g fill=\"#E6B006\">\n<rect x=\"56\" width=\"27\" height=\"27\"><title>page 3: root of table a</title></rect>\n</g>\n",
-    "<g fill=\"#A001C6\">\n<rect x=\"84\" width=\"27\" height=\"27\"><title>page 4: root of table b</title></rect>\n</g>\n",
-    "<g fill=\"#728551\">\n<rect x=\"112\" width=\"27\" height=\"27\"><title>page 5: root of table c</title></rect>\n</g>\n",
-    "<g fill=\"#F18740\">\n<rect x=\"140\" width=\"27\" height=\"27\"><title>page 6: root of table d</title></rect>\n</g>\n",
+    "<rect class=\"t0\" x=\"0\" width=\"27\" height=\"27\"><title>page 1: root of sqlite_schema</title></rect>\n",
+    "<rect class=\"t14\" x=\"28\" width=\"27\" height=\"27\"><title>page 2: pointer map</title></rect>\n",
+    "<rect class=\"t1\" x=\"56\" width=\"27\" height=\"27\"><title>page 3: root of table a</title></rect>\n",
+    "<rect class=\"t2\" x=\"84\" width=\"27\" height=\"27\"><title>page 4: root of table b</title></rect>\n",
+    "<rect class=\"t3\" x=\"112\" width=\"27\" height=\"27\"><title>page 5: root of table c</title></rect>\n",
+    "<rect class=\"t4\" x=\"140\" width=\"27\" height=\"27\"><title>page 6: root of table d</title></rect>\n",
     ">pointer map and lock-byte page</text>",
 ];
 

@@ -86,14 +86,14 @@ const TREES: usize = DESK + 32;
 // 8 bytes for each of 65538 starts.
 const TALLY: usize = TREES + 65538 * 8;
 
-// A byte a page for the faulty ones. The heap gives units of 16 bytes.
-const FAULTY: usize = TALLY + 16;
+// 8 bytes for each of 7 squares. The heap gives units of 16 bytes.
+const SQUARES: usize = TALLY + 64;
 
-// And one for those of entries.
-const STRONG: usize = FAULTY + 16;
+// And two bits a page.
+const MARKED: usize = SQUARES + 16;
 
 // 200 bytes for each of 100 entries.
-const ENTRIES: usize = STRONG + 100 * 200;
+const ENTRIES: usize = MARKED + 100 * 200;
 
 // As rows are read, the list of roots takes four rows of 20 bytes, and then 8 bytes of names.
 const ROOTS: usize = ENTRIES + 80;
@@ -108,8 +108,8 @@ fn each_growth_is_refused(rt: HostRuntime) -> Result<(), Fail> {
         DESK,
         TREES,
         TALLY,
-        FAULTY,
-        STRONG,
+        SQUARES,
+        MARKED,
         ENTRIES,
         ROOTS,
     ] {

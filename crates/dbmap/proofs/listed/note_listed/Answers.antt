@@ -1,9 +1,9 @@
 use Rattle.std.proofs.Common.{◌≡◌, ℕ, ◌+◌, ◌<◌, ◌++◌, [], ◌∷◌, List, length, take, get_or, refl, sym, ap, subst, ◌∙◌, append_assoc}
 use Rattle.std.proofs.lemmas.List.{take_all, take_more}
-use Rattle.dbformat.specs.declared.FaultCode.{FaultCode}
 use Rattle.dbentries.specs.declared.entry.Entry.{Entry}
 use Rattle.dbmap.specs.FramedPages.{framed, framed_of, leading}
-use Rattle.dbmap.specs.PageSets.{AreNoted}
+use Rattle.dbmap.specs.FaultNotes.{AreNoted}
+use Rattle.dbmap.proofs.FaultBits.{same_then}
 use Rattle.dbmap.proofs.listed.note_listed.Goals as goal
 
 framed_push : (xs : List Entry) (e : Entry) → framed (leading xs) ++ framed_of e.first ≡ framed (leading (xs ++ e ∷ []))
@@ -17,14 +17,14 @@ pub loop-entry-preserved : goal.loop-entry-preserved
 loop-entry-preserved g c =
     let es = c.args.listed.now in
     let i = c.loop-entry.entry-index in record {
-      noted = λ fs h.
-          subst (λ (l : List (ℕ × FaultCode)). AreNoted l c.note_pages.new.pages)
-          (append_assoc fs (framed (leading (take i es))) _ ∙ ap (λ (l : List (ℕ × FaultCode)). fs ++ l) (framed_next es i _ c.loop-entry-test.true))
-          (c.note_pages.ensures.noted (fs ++ framed (leading (take i es))) (c.loop-entry.invariant.noted fs h));
-      pages = c.note_pages.ensures.pages ∙ c.loop-entry.invariant.pages;
+      noted = λ fs pages h.
+          subst (λ (l : List ℕ). AreNoted fs l c.note_pages.new.notes)
+          (append_assoc pages (framed (leading (take i es))) _ ∙ ap (λ l. pages ++ l) (framed_next es i _ c.loop-entry-test.true))
+          (c.note_pages.ensures.noted fs (pages ++ framed (leading (take i es))) (c.loop-entry.invariant.noted fs pages h));
+      same = same_then c.loop-entry.invariant.same c.note_pages.ensures.same;
     }
 
 pub returns-clause-noted : goal.returns-clause-noted
-returns-clause-noted g c = λ fs h.
-    subst (λ (l : List Entry). AreNoted (fs ++ framed (leading l)) c.loop-entry.pages) (take_all c.loop-entry.entry-index c.args.listed.now c.loop-entry-test.false)
-    (c.loop-entry.invariant.noted fs h)
+returns-clause-noted g c = λ fs pages h.
+    subst (λ (l : List Entry). AreNoted fs (pages ++ framed (leading l)) c.loop-entry.notes) (take_all c.loop-entry.entry-index c.args.listed.now c.loop-entry-test.false)
+    (c.loop-entry.invariant.noted fs pages h)

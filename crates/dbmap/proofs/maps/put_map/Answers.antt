@@ -1,95 +1,95 @@
-use Rattle.std.proofs.Common.{rules, ◌≡◌, ℕ, List, [], None, length, map, refl, ap, ap₂, subst, ◌∙◌, arith}
-use Rattle.std.specs.Prelude.{count_by}
-use Rattle.std.specs.Int.{div_ceil}
-use Rattle.std.specs.List.{range_with_len}
+use Rattle.std.proofs.Common.{rules, ◌≡◌, ℕ, List, length, map, ap, ap₂, subst, ◌∙◌, arith}
+use Rattle.dbsurvey.specs.Address.{IsIn}
+use Rattle.dbformat.specs.Address.{freelist_start}
 use Rattle.dbformat.specs.File.{geometry}
-use Rattle.dbformat.specs.Reference.{Reference}
-use Rattle.dbformat.specs.declared.Geometry.{Geometry}
-use Rattle.dbmarks.proofs.Markings.{marks_of-length}
-use Rattle.dbscan.specs.Roots.{Listed}
-use Rattle.dbsource.specs.HeaderBytes.{HeaderBytes}
-use Rattle.dbscan.specs.Desks.{shape_of}
-use Rattle.dbscan.specs.Finishes.{IsDeskOf}
 use Rattle.dbformat.specs.FixedPages.{geometry_of}
 use Rattle.dbformat.specs.Header.{encoding}
+use Rattle.dbformat.specs.Starts.{start_at}
+use Rattle.dbformat.specs.declared.Geometry.{Geometry}
+use Rattle.dbmarks.proofs.Markings.{marks_of-length}
+use Rattle.dbowner.proofs.PageMarks.{place_is}
+use Rattle.dbscan.specs.Roots.{Listed}
+use Rattle.dbsource.specs.HeaderBytes.{HeaderBytes}
+use Rattle.dbowner.specs.Texts.{tree_of_row}
+use Rattle.dbxml.specs.Names.{short_text}
 use Rattle.dbmap.specs.TreeTexts.{shown_tree}
-use Rattle.dbmap.specs.Drawings.{stated_of}
-use Rattle.dbmap.specs.FaultyPages.{is_weak}
-use Rattle.dbmap.specs.KeptFaults.{HasTreeRoom}
-use Rattle.dbmap.specs.Grids.{IsLeastRun}
+use Rattle.dbmap.specs.Drawings.{marked_place}
+use Rattle.dbmap.specs.FaultNotes.{AreNoted, IsOfPages, is_marked_faulty, is_marked_framed}
+use Rattle.dbmap.specs.Faults.{coded_faults, framed_pages, strong_pages, weak_pages}
+use Rattle.dbmap.specs.Grids.{grid_of}
 use Rattle.dbmap.specs.LegendLines.{legend_lines}
+use Rattle.dbmap.specs.MapPictures.{map_picture, stated_of}
 use Rattle.dbmap.specs.Owners.{IsOf, tree_starts}
-use Rattle.dbmap.specs.PageSets.{has_page, shown_codes}
-use Rattle.dbmap.specs.declared.page_set.PageSet.{PageSet}
-use Rattle.dbmap.specs.declared.tally.RankedTree.{RankedTree}
+use Rattle.dbmap.specs.Pictures.{picture_text}
+use Rattle.dbmap.specs.Tallies.{largest_of, pages_at}
 use Rattle.dbmap.specs.declared.draw_state.DrawState.{DrawState}
-use Rattle.dbmap.proofs.LegendLines.{legend_is}
-use Rattle.dbmap.proofs.Tallying.{largest_of}
+use Rattle.dbmap.specs.declared.tally.RankedTree.{RankedTree}
 use Rattle.dbmap.proofs.Drawing.{put_drawn}
+use Rattle.dbmap.proofs.Largest.{largest_within}
+use Rattle.dbmap.proofs.LegendLines.{legend_is}
+use Rattle.dbmap.proofs.Pictured.{known_trees, shown_is, strong_is, weak_is}
+use Rattle.dbmap.proofs.Tallying.{largest_are}
 use Rattle.dbmap.proofs.maps.put_map.Goals as goal
 
 pub returns : goal.returns
+unfolding map_picture
 returns g c =
     let drawn = c.draw_picture.ensures.draws in
     let same = drawn.same_out in
-    let begun = λ (file : List ℕ) (V : List Reference) (d : IsDeskOf c.args.desk.now file V) (room : HasTreeRoom (shape_of c.args.desk.now).pages c.args.kept.now.state.trees.known). (
-    let marked = c.marks.ensures ∙ d.marks in
-    let all : length c.marks.result.now ≡ (geometry file).pages = ap length marked ∙ marks_of-length (geometry file) V in
-    let shape = ap (λ (g : Geometry). g.pages) d.header.shape in
-    let same = ap (λ (w : DrawState _). length w.trees.known) c.note_listed.ensures.state in
-    let is : IsOf c.marks-2.result.now c.begin.new.self.trees.known file V = record {
-      survey = d.survey;
-      marks = c.marks-2.ensures ∙ d.marks;
-      trees = c.begin.ensures.trees file V d.survey marked (ap (λ (l : Listed). l.rows) c.roots.ensures ∙ d.rows) (omega (arith, all, room, shape, same));
-    } in is) in
-    let known = λ (file : List ℕ) (V : List Reference) (d : IsDeskOf c.args.desk.now file V) (room : HasTreeRoom (shape_of c.args.desk.now).pages c.args.kept.now.state.trees.known). (
-    let of = c.count.ensures.trees file V (begun file V d room) in
-    let is : IsOf c.marks-3.result.now c.count.new.trees.known file V = record { survey = d.survey; marks = c.marks-3.ensures ∙ d.marks; trees = of.trees } in is) in
     let k : c.out-1.given.0 ≡ c.draw_picture.new.canvas.out.now = search (rules, same) in
     record {
-      heading = record { file = c.shown_file.result; geometry = c.geometry-geometry.result; faults = c.args.faults };
-      drawn = record {
-        grid = c.new.result;
-        names = c.new-2.result.names.items;
-        tree = shown_tree c.encoding.result c.roots-2.result.now.rows;
-        shape = geometry_of c.header-3.result.now.bytes c.header-3.result.now.file_len;
-        marks = c.marks-3.result.now;
-        faults = record { has = has_page c.note_listed.new.self.faulty; codes = shown_codes c.note_listed.new.self.faulty; strong = has_page c.note_listed.new.self.strong };
-        owners = record { start = λ p. None; largest = tree_starts c.largest-largest.result.items };
-      };
-      all = c.draw_picture.ensures.all;
-      lines = c.new-legend.result.lines.items;
-      is = record {
-        named = c.shown_file.ensures;
-        geometry = c.geometry-geometry.ensures.shape;
-        found = refl;
-        pages = c.new.ensures.pages ∙ ap (λ (g : Geometry). g.pages) c.geometry-geometry.ensures.shape;
-        stated = c.new.ensures.stated ∙ c.stated_pages.ensures ∙ ap (λ (h : HeaderBytes). stated_of h.bytes) c.header-2.ensures.value;
-        run = subst (λ (s : Geometry). IsLeastRun s.pages c.new.result.run) c.geometry-geometry.ensures.shape c.new.ensures.least;
-        width = c.new.ensures.width;
-        squares = c.new.ensures.squares ∙ ap (λ (s : Geometry). div_ceil s.pages c.new.result.run) c.geometry-geometry.ensures.shape;
-        marks = c.marks-3.ensures;
-        shape = ap (λ (h : HeaderBytes). geometry_of h.bytes h.file_len) c.header-3.ensures.value;
-        tree = ap₂ shown_tree (c.encoding.ensures ∙ ap (λ (h : HeaderBytes). encoding h.bytes) c.header.ensures.value) (ap (λ (l : Listed). l.rows) c.roots-2.ensures);
-        names = c.new-2.ensures ∙ ap (λ (ts : List RankedTree). map (shown_tree c.encoding.result c.roots-2.result.now.rows) (tree_starts ts)) c.as_slice.ensures.value;
-        many = c.draw_picture.ensures.many;
-        are = λ file V d room. c.draw_picture.ensures.are file V (known file V d room);
-        largest = λ file V d room. largest_of file V c.count.new.self (tree_starts c.largest-largest.result.items) (c.count.ensures.tally file V (begun file V d room)) c.largest-largest.ensures.largest;
-        faulty = record {
-          has = λ p. ap (λ (s : PageSet _). has_page s p) c.note_listed.ensures.faulty;
-          codes = λ p. ap (λ (s : PageSet _). shown_codes s p) c.note_listed.ensures.faulty;
-          strong = record { set = c.note_listed.new.self.strong; noted = λ file V all none. c.note_listed.ensures.strong [] 100 file V all none; pages = c.note_listed.ensures.pages; is = λ p. refl };
-        };
-      };
-      legend = λ file V d room.
-          let pages = ap (λ (g : Geometry). range_with_len 1 g.pages) c.geometry-geometry.ensures.shape in
-          let largest = tree_starts c.largest-largest.result.items in
-          let kept = c.note_listed.new.self in
-          (rw c.as_slice-2.ensures.value at c.new-legend.ensures)
-          ∙ legend_is file V c.count.new.self c.roots-3.result.now.rows largest c.framed-strong.result.0 c.framed-strong.result.1
-          (c.count.ensures.tally file V (begun file V d room)) c.largest-largest.ensures.largest (ap (λ (l : Listed). l.rows) c.roots-3.ensures ∙ d.rows)
-          ∙ ap₂ (legend_lines file V largest)
-          (c.framed-strong.ensures.strong ∙ ap (count_by (has_page kept.strong)) pages)
-          (c.framed-strong.ensures.weak ∙ ap (count_by (is_weak (has_page kept.faulty) (has_page kept.strong))) pages);
+      text = c.draw_picture.ensures.text;
+      is = λ file V desk has found.
+          let marked = c.marks.ensures ∙ desk.marks in
+          let all : length c.marks.result.now ≡ (geometry file).pages = ap length marked ∙ marks_of-length (geometry file) V in
+          let room = has.room in
+          let kept = ap (λ (w : DrawState _). length w.trees.known) c.note_listed.ensures.state in
+          let began : IsOf c.marks-2.result.now c.begin.new.self.trees.known file V = record {
+            survey = desk.survey;
+            marks = c.marks-2.ensures ∙ desk.marks;
+            trees = c.begin.ensures.trees file V desk.survey marked (ap (λ (l : Listed). l.rows) c.roots.ensures ∙ desk.rows) (omega (arith, all, room, kept));
+          } in
+          let tally = c.count.ensures.tally file V began in
+          let counted : IsOf c.marks-3.result.now c.count.new.trees.known file V =
+          record { survey = desk.survey; marks = c.marks-3.ensures ∙ desk.marks; trees = (c.count.ensures.trees file V began).trees } in
+          let shape = c.geometry-geometry.ensures.shape ∙ desk.header.shape in
+          let notes = c.note_listed.new.self.notes in
+          let noted : AreNoted (coded_faults file V) (framed_pages file V) notes = c.note_listed.ensures.noted (coded_faults file V) 100 file V has.listing has.notes in
+          let of : IsOfPages (geometry file).pages notes = (let s = c.note_listed.ensures.same in record {
+            pages = s.pages ∙ has.pages.pages;
+            run = s.run ∙ has.pages.run;
+            squares = s.squares ∙ has.pages.squares;
+          }) in
+          let starts = tree_starts c.largest-largest.result.items in
+          let largest : starts ≡ largest_of file V = c.largest-largest.ensures.largest ∙ largest_are file V c.count.new.self tally in
+          let grid = c.new.ensures ∙ ap₂ grid_of (ap (λ (s : Geometry). s.pages) shape)
+          (c.stated_pages.ensures ∙ ap (λ (h : HeaderBytes). stated_of h.bytes) c.header-2.ensures.value ∙ ap stated_of desk.header.begins) in
+          let shorten : (ℕ → List ℕ) → ℕ → List ℕ = λ names start. short_text (names start) in
+          let tree = ap shorten (ap₂ tree_of_row (c.encoding.ensures ∙ ap (λ (h : HeaderBytes). encoding h.bytes) c.header.ensures.value)
+          (ap (λ (l : Listed). l.rows) c.roots-2.ensures) ∙ known_trees file V c.args.desk.now.header c.args.desk.now.roots.rows desk.header desk.rows) in
+          let names = c.new-2.ensures ∙ ap (λ (ts : List RankedTree). map (shown_tree c.encoding.result c.roots-2.result.now.rows) (tree_starts ts)) c.as_slice.ensures.value ∙ ap₂ map tree largest in
+          let fixed = ap (λ (h : HeaderBytes). geometry_of h.bytes h.file_len) c.header-3.ensures.value ∙ desk.header.shape in
+          let marks = c.marks-3.ensures ∙ desk.marks in
+          let lines = (rw c.as_slice-2.ensures.value at c.new-legend.ensures)
+          ∙ legend_is file V c.count.new.self c.roots-3.result.now.rows starts c.framed-strong.result.0 c.framed-strong.result.1 tally
+          (λ k i. largest_within (pages_at c.count.new.self.starts) c.count.new.self.trees freelist_start 12 k (omega (arith, tally.all.few)) (subst (IsIn k) c.largest-largest.ensures.largest i))
+          (ap (λ (l : Listed). l.rows) c.roots-3.ensures ∙ desk.rows)
+          ∙ ap (λ ks. legend_lines file V ks c.framed-strong.result.0 c.framed-strong.result.1) largest
+          ∙ ap₂ (legend_lines file V (largest_of file V))
+          (c.framed-strong.ensures.strong ∙ ap (strong_pages (is_marked_framed notes)) (ap (λ (s : Geometry). s.pages) shape) ∙ strong_is file V notes noted of)
+          (c.framed-strong.ensures.weak ∙ ap (weak_pages (is_marked_faulty notes) (is_marked_framed notes)) (ap (λ (s : Geometry). s.pages) shape) ∙ weak_is file V notes noted of) in
+          c.draw_picture.ensures.same file V counted
+          ∙ (λ i. picture_text (record { file = c.shown_file.ensures i; geometry = shape i; faults = found i })
+          (record {
+            grid = grid i;
+            shape = fixed i;
+            place = λ p. (ap (λ m. marked_place m p) marks ∙ place_is file V desk.survey p) i;
+            start = start_at V;
+            largest = largest i;
+            names = names i;
+            tree = tree i;
+            faults = λ index. shown_is file V notes noted of index i;
+          })
+          (lines i));
       puts = rw k (put_drawn c.end.result _ _ _ _ _ c.new-canvas.ensures.fresh c.end.ensures (rw (ap g.O.Out.held c.new-canvas.ensures.out) at drawn.drawn));
     }

@@ -1,5 +1,5 @@
 use Rattle.std.proofs.Common.{sym, ◌∙◌}
-use Rattle.dbmap.proofs.Owning.{next_by}
+use Rattle.dbmap.proofs.Ranks.{next_by}
 use Rattle.dbmap.proofs.tally.rank_of.Goals as goal
 
 pub loop-rank-preserved : goal.loop-rank-preserved

@@ -1,6 +1,6 @@
 use Rattle.std.proofs.Common.{◌≡◌, drop}
 use Rattle.dbmap.specs.Owners.{rank_of, tree_starts}
-use Rattle.dbmap.proofs.Owning.{rank_after}
+use Rattle.dbmap.proofs.Ranks.{rank_after}
 use Rattle.dbmap.proofs.tally.rank_of.Given as goal
 
 abbrev pub invariant-loop-rank : goal.invariant-loop-rank

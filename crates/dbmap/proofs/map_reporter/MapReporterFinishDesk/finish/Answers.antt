@@ -1,14 +1,15 @@
 use Rattle.std.proofs.Common.{Ok, Err, ap, inl, inr, refl, subst, ◌∙◌}
 use Rattle.std.proofs.lemmas.Result.{err_from_is_err_and}
-use Rattle.dbformat.specs.declared.Verdict.{Verdict}
 use Rattle.dbsource.specs.declared.error.RunError.TheVariants.{ReadFailed, WriteFailed}
 use Rattle.dbsource.proofs.Logs.{asks_weaker}
 use Rattle.dbwalk.specs.Telling.{one_out}
 use Rattle.dbscan.specs.Notices.{run_notices}
+use Rattle.std.specs.Io.KnownBytes.{Appends}
+use Rattle.dbsource.specs.Outs.{Begins}
 use Rattle.dbentries.proofs.Desks.{desk_kept, looked_keeps}
-use Rattle.dbmap.specs.Maps.{DrawsMap}
+use Rattle.dbmap.specs.MapPictures.{map_picture}
 use Rattle.dbmap.proofs.Counting.{map_counts, map_finds, map_keeps, map_lists, map_unput, map_untouched}
-use Rattle.dbmap.proofs.Pictured.{named, pictured}
+use Rattle.dbmap.proofs.Pictured.{named}
 use Rattle.dbmap.proofs.map_reporter.MapReporterFinishDesk.finish.Goals as goal
 
 pub returns-in_err-look_at_lost : goal.returns-in_err-look_at_lost
@@ -33,10 +34,12 @@ returns-in_err-put_map g c =
           let here = desk_kept c.args.desk.now c.look_at_lost.new.desk file V look.desk heard.desk in
           let listed = way 100 V heard.desk (map_lists file V s first c.args.self.now none empty heard.heard) in (
             tt,
-            subst (λ (o : g.row.O.Denot). DrawsMap {A = Verdict} (Err WriteFailed) (held o).bytes (held c.put_map.new.out).bytes first.name.now file V)
+            subst (λ (o : g.row.O.Denot). Begins (held o).bytes (held c.put_map.new.out).bytes (map_picture file V first.name.now))
                 (map_untouched file V s first c.args.self.now none empty heard.heard)
-                (inr (named (run_notices file V) first c.args.self.now heard.heard file V
-                (pictured file V put here (map_counts file V s first c.args.self.now none empty heard.heard) (map_keeps file V s first c.args.self.now none empty heard.heard c.look_at_lost.new.self listed)))),
+                (named (λ name. Begins (held c.args.self.now.out.now).bytes (held c.put_map.new.out).bytes (map_picture file V name)) (run_notices file V) first c.args.self.now heard.heard
+                (subst (Begins (held c.args.self.now.out.now).bytes (held c.put_map.new.out).bytes)
+                (put.is file V here (map_keeps file V s first c.args.self.now none empty heard.heard c.look_at_lost.new.self listed) (map_counts file V s first c.args.self.now none empty heard.heard))
+                put.puts.held)),
           ));
       keeps = looked_keeps look.desk (record { lent = refl; failures = inl (put.puts.count, refl) }) (inr refl);
     }))
@@ -51,10 +54,12 @@ returns g c =
           let here = desk_kept c.args.desk.now c.look_at_lost.new.desk file V look.desk heard.desk in
           let listed = way 100 V heard.desk (map_lists file V s first c.args.self.now none empty heard.heard) in (
             c.verdict.ensures ∙ map_finds file V s first c.args.self.now none empty heard.heard,
-            subst (λ (o : g.row.O.Denot). DrawsMap {A = Verdict} (Ok c.verdict.result) (held o).bytes (held c.put_map.new.out).bytes first.name.now file V)
+            subst (λ (o : g.row.O.Denot). Appends (held o).bytes (held c.put_map.new.out).bytes (map_picture file V first.name.now))
                 (map_untouched file V s first c.args.self.now none empty heard.heard)
-                (named (run_notices file V) first c.args.self.now heard.heard file V
-                (pictured file V put here (map_counts file V s first c.args.self.now none empty heard.heard) (map_keeps file V s first c.args.self.now none empty heard.heard c.look_at_lost.new.self listed))),
+                (named (λ name. Appends (held c.args.self.now.out.now).bytes (held c.put_map.new.out).bytes (map_picture file V name)) (run_notices file V) first c.args.self.now heard.heard
+                (subst (Appends (held c.args.self.now.out.now).bytes (held c.put_map.new.out).bytes)
+                (put.is file V here (map_keeps file V s first c.args.self.now none empty heard.heard c.look_at_lost.new.self listed) (map_counts file V s first c.args.self.now none empty heard.heard))
+                put.puts.held)),
           ));
       keeps = looked_keeps look.desk (ap (one_out c.args.self.now.out.ghost_name) put.puts.count) tt;
     }

@@ -7,7 +7,8 @@ use Rattle.dbscan.proofs.AfterHeader.{after_weaker}
 use Rattle.dbscan.proofs.Tellers.{first}
 use Rattle.dbreport.proofs.ReporterStates.{lent_same, one_failed}
 use Rattle.dbmap.specs.KeptFaults.{HearsNone}
-use Rattle.dbmap.specs.Maps.{DrawsMap}
+use Rattle.dbmap.specs.MapPictures.{map_picture}
+use Rattle.dbmap.specs.Maps.{PutsMap}
 use Rattle.dbmap.proofs.Counting.{map_left}
 use Rattle.dbmap.proofs.MapAnswers.{map_of}
 use Rattle.dbmap.proofs.maps.MapJobJobDesk.run_on.Goals as goal
@@ -24,8 +25,8 @@ returns g c =
           let empty = subst (λ (g : Geometry). HearsNone g.pages c.args.kept.now) is.shape c.requires in
           let h = map_left file V s c.new-reporter.result c.run_over.new.reporter new.faults (subst (HearsNone (geometry file).pages) (sym new.kept) empty) held r (left V s) in (
             h.0,
-            subst (λ (o : g.row.O.Denot). DrawsMap r (held o).bytes here.bytes old.name.now file V) new.out
-                (subst (λ (n : List ℕ). DrawsMap r (held c.new-reporter.result.out.now).bytes here.bytes n file V) new.name h.1),
+            subst (λ (o : g.row.O.Denot). PutsMap r (held o).bytes here.bytes (map_picture file V old.name.now)) new.out
+                (subst (λ (n : List ℕ). PutsMap r (held c.new-reporter.result.out.now).bytes here.bytes (map_picture file V n)) new.name h.1),
           )));
       reads = ran.reads;
       ended = record { same_out = refl; writes = one_failed r _ _ _ _ ran.keeps.writes ∙ ap (λ o. failures_after is_write_failed r (held o).failures) new.out };

@@ -5,5 +5,7 @@ use Rattle.dbmap.proofs.run.RunSquare.draw_mixed.Goals as goal
 pub returns : goal.returns
 unfolding mixed_text
 returns g c =
+    let below = rw c.frame-frame.ensures at c.draw_frame_below.ensures in
+    let above = rw c.frame-frame.ensures at c.draw_frame_above.ensures in
     draws_then c.draw.ensures (draws_then c.draw_title.ensures (draws_then c.draw-2.ensures
-    (draws_then c.draw_frame_below.ensures (draws_then c.draw_bands.ensures (draws_then c.draw_frame_above.ensures c.draw-3.ensures)))))
+    (draws_then below (draws_then c.draw_bands.ensures (draws_then above c.draw-3.ensures)))))

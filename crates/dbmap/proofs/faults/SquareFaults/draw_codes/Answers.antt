@@ -1,0 +1,29 @@
+use Rattle.std.proofs.Common.{◌≡◌, ◌+◌, ◌<◌, ◌≤◌, List, length, drop, subst, ap, arith}
+use Rattle.std.specs.List.{flat_map}
+use Rattle.dbformat.specs.declared.FaultCode.{FaultCode}
+use Rattle.dbmap.specs.Canvas.{Draws}
+use Rattle.dbmap.specs.Faults.{code_if, shown}
+use Rattle.dbmap.proofs.Drawing.{drawn_all, drawn_more, drawn_none}
+use Rattle.dbmap.proofs.Steps.{next_code, no_code}
+use Rattle.dbmap.proofs.faults.SquareFaults.draw_codes.Goals as goal
+
+pub loop-code-init : goal.loop-code-init
+loop-code-init g c = drawn_none c.args.canvas.now _
+
+pub loop-code-preserved : goal.loop-code-preserved
+loop-code-preserved g c =
+    let all = c.all-code-items.result in
+    let count : length all ≡ 35 = ap length c.all-code-items.ensures in
+    let has = (shown c.args.self.bits).has in
+    let i = c.loop-code.code-index in
+    let within : i < length all = omega (arith, count) in
+    drawn_more _ (flat_map (code_if has) (drop (i + 1) all)) c.loop-code.invariant c.draw_code.ensures (next_code has all i _ within)
+
+pub returns : goal.returns
+returns g c =
+    let all = c.all-code-items.result in
+    let count : length all ≡ 35 = ap length c.all-code-items.ensures in
+    let has = (shown c.args.self.bits).has in
+    let end : length all ≤ c.loop-code.code-index = omega (arith, count) in
+    subst (λ (codes : List FaultCode). Draws g.O.Out.held c.args.canvas.now (flat_map (code_if has) codes) c.loop-code.canvas) c.all-code-items.ensures
+    (drawn_all c.loop-code.invariant (no_code has all c.loop-code.code-index end))

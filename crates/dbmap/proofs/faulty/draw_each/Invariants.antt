@@ -1,8 +1,0 @@
-use Rattle.std.proofs.Common.{drop}
-use Rattle.std.specs.List.{flat_map}
-use Rattle.dbmap.specs.Faults.{code_if}
-use Rattle.dbmap.proofs.Drawing.{HasDrawn}
-use Rattle.dbmap.proofs.faulty.draw_each.Given as goal
-
-abbrev pub invariant-loop-code : goal.invariant-loop-code
-invariant-loop-code g l = HasDrawn g.O.Out.held l.initial.canvas l.canvas (flat_map (code_if l.codes) (drop l.code-index l.code-items)) (flat_map (code_if l.codes) l.code-items)
