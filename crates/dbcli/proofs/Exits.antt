@@ -10,6 +10,7 @@ use Rattle.dbformat.specs.Report.{Report, faults, report, verdict}
 use Rattle.dbformat.specs.Sound.{Sound}
 use Rattle.dbformat.specs.Survey.{Survey, survey}
 use Rattle.dbformat.specs.declared.Command.{Command}
+use Rattle.dbformat.specs.declared.Command.TheVariants.{Check}
 use Rattle.dbformat.specs.declared.Refusal.{Refusal}
 use Rattle.dbexplain.specs.Explained.{explain_report}
 use Rattle.dbformat.specs.declared.Verdict.{Verdict}
@@ -17,7 +18,6 @@ use Rattle.dbformat.specs.declared.Verdict.TheVariants.{Clean, Faulty}
 use Rattle.dbreport.specs.Runs.{AsksHeaderAlone, IsAnswerOf, IsRunBy, IsUnwritten}
 use Rattle.dbreport.proofs.RunAnswers.{says_ok}
 use Rattle.dbsource.proofs.Beginnings.{all_begun}
-use Rattle.dbsource.proofs.Puts.{appends_kept, appends_nothing}
 use Rattle.dbsource.specs.Answers.{Step, Trail}
 use Rattle.dbsource.specs.Headers.{IsOpenLog}
 use Rattle.dbsource.specs.Outs.{Begins, OutState, Writes}
@@ -28,8 +28,11 @@ use Rattle.dbsource.specs.declared.error.RunError.TheVariants.{Refused, ReadFail
 use Rattle.dbcli.proofs.Explaining.{IsEndFor, IsExplainedTo, begun_not_at_4, explain_err, found_at_4, kept_writes, whole_text}
 use Rattle.dbcli.proofs.Failures.{FewFailed, none_failed, more_failures}
 use Rattle.dbcli.specs.ErrorLines.{error_line, exit_line, refused_line}
-use Rattle.dbmap.specs.Maps.{DrawsMap, HasPicture}
-use Rattle.dbcli.specs.Exit.{BeginsThenLine, EndsWithLine, IsExit, IsExitOf, IsExplainExit, IsFinishOf, IsKnown, IsMapExit, IsStatusOf, SaysOkFor, second_most}
+use Rattle.dbreport.proofs.RunReports.{check_answer}
+use Rattle.dbmap.specs.MapPictures.{map_picture}
+use Rattle.dbmap.specs.Maps.{IsMapOf, PutsMap}
+use Rattle.dbmap.proofs.MapAnswers.{nothing_begun}
+use Rattle.dbcli.specs.Exit.{BeginsThenLine, EndsWithLine, IsExit, IsExitOf, IsExplainExit, IsFinishOf, IsKnown, IsStatusOf, SaysOkFor, map_report, second_most}
 use Rattle.dbcli.specs.Requests.{WritesToFirst}
 use Rattle.dbcli.specs.Status.{exit_status}
 use Rattle.dbcli.specs.declared.request.Request.{Request}
@@ -85,13 +88,6 @@ begins_then_line most old mid new bytes line room b f l = record {
       (ap (λ n. n % 2 ^ 64) (sym e) ∙ more_failures old.failures mid.failures new.failures f.moved l.tried.failed f.count l.tried.count)
       (let x = f.bound in let y = l.tried.bound in omega (arith, room, x, y)));
 }
-
--- nothing, and then the line
-kept_then_line : (most : ℕ) (old mid new : OutState) (line : List ℕ) → most ≤ 3 → Keeps old.bytes mid.bytes → FewFailed most old mid
-    → EndsWithLine line 2 mid new → BeginsThenLine old new [] line
-kept_then_line most old mid new line room k f l =
-    begins_then_line most old mid new [] line room
-    (record { part = []; rest = []; whole = refl; added = appends_kept old.bytes old.bytes mid.bytes [] (appends_nothing old.bytes) k }) f l
 
 -- the line of a refusal
 refused_told : (err err' : OutState) (bytes : List ℕ) (why : Option Refusal) (e : Refusal) → why ≡ Some e
@@ -173,66 +169,6 @@ sound_by (Err ReadFailed) file h = λ m. absurd (omega arith)
 sound_by (Err OutOfMemory) file h = λ m. absurd (omega arith)
 sound_by (Err WriteFailed) file h = λ m. absurd (omega arith)
 
--- what the status says of a map
-map_neither : (n : ℕ) (name file : List ℕ) (V : List Reference) (out out' err err' : OutState) → 4 ≤ n
-    → (n ≡ 6 → Keeps out.bytes out'.bytes ⊎ HasPicture (Begins out.bytes out'.bytes) name file V) → (n ≤ 5 → Keeps out.bytes out'.bytes)
-    → BeginsThenLine err err' [] (exit_line n (refusal file)) → IsMapExit n name file V out out' err err'
-map_neither n name file V out out' err err' h begun unwritten told = record {
-  told = told;
-  drawn = λ e. absurd (omega arith);
-  begun = begun;
-  unwritten = λ e. unwritten e.1;
-  clean = λ e. absurd (omega arith);
-  faulty = λ e. absurd (omega arith);
-  refused = λ e. absurd (omega arith);
-}
-
--- nothing was put at a verdict
-quiet_told : (err mid err' : OutState) → Keeps err.bytes mid.bytes → err' ≡ mid → BeginsThenLine err err' [] []
-quiet_told err mid err' kept quiet = all_then_line err err' []
-    (err_written err mid err' [] (appends_kept err.bytes err.bytes mid.bytes [] (appends_nothing err.bytes) kept) quiet)
-
-map_exit : (name file : List ℕ) (V : List Reference) (outcome : Result Verdict RunError) (out out' err mid err' : OutState) → IsAnswerOf outcome file
-    → IfOk outcome (λ v. v ≡ verdict (faults file V)) → DrawsMap outcome out.bytes out'.bytes name file V → IsUnwritten outcome out.bytes out'.bytes → Keeps err.bytes mid.bytes
-    → OnOk outcome (err' ≡ mid) → OnErr outcome (FewFailed (second_most (exit_status outcome)) err mid)
-    → IfErr outcome (λ error. EndsWithLine (error_line error) 2 mid err') → IsMapExit (exit_status outcome) name file V out out' err err'
-map_exit name file V (Ok Clean) out out' err mid err' answer found picture unwritten kept quiet few line = record {
-  told = quiet_told err mid err' kept quiet;
-  drawn = λ e. picture;
-  begun = λ h. absurd (omega arith);
-  unwritten = λ h. let k = h.0 in absurd (omega (arith, k));
-  clean = λ e. sym found;
-  faulty = λ e. absurd (omega arith);
-  refused = λ e. absurd (omega arith);
-}
-map_exit name file V (Ok (Faulty n)) out out' err mid err' answer found picture unwritten kept quiet few line = record {
-  told = quiet_told err mid err' kept quiet;
-  drawn = λ e. picture;
-  begun = λ h. absurd (omega arith);
-  unwritten = λ h. let k = h.0 in absurd (omega (arith, k));
-  clean = λ e. absurd (omega arith);
-  faulty = λ e. (n, sym found);
-  refused = λ e. absurd (omega arith);
-}
-map_exit name file V (Err (Refused e)) out out' err mid err' answer found picture unwritten kept quiet few line = record {
-  told = refused_told err err' [] (refusal file) e answer (kept_then_line 2 err mid err' (error_line (Refused e)) (omega arith) kept few line);
-  drawn = λ h. absurd (omega arith);
-  begun = λ h. absurd (omega arith);
-  unwritten = λ h. let k = h.0 in absurd (omega (arith, k));
-  clean = λ h. absurd (omega arith);
-  faulty = λ h. absurd (omega arith);
-  refused = λ h. (e, answer, unwritten);
-}
-map_exit name file V (Err ReadFailed) out out' err mid err' answer found picture unwritten kept quiet few line =
-    map_neither 4 name file V out out' err err' (omega arith) (λ e. absurd (omega arith)) (λ m. picture)
-    (kept_then_line 2 err mid err' (error_line ReadFailed) (omega arith) kept few line)
-map_exit name file V (Err OutOfMemory) out out' err mid err' answer found picture unwritten kept quiet few line =
-    map_neither 5 name file V out out' err err' (omega arith) (λ e. absurd (omega arith)) (λ m. picture)
-    (kept_then_line 2 err mid err' (error_line OutOfMemory) (omega arith) kept few line)
-map_exit name file V (Err WriteFailed) out out' err mid err' answer found picture unwritten kept quiet few line =
-    map_neither 6 name file V out out' err err' (omega arith) (λ e. picture) (λ m. absurd (omega arith))
-    (kept_then_line 3 err mid err' (error_line WriteFailed) (omega arith) kept few line)
-
 -- all was written at a verdict, and else a beginning
 whole_by : {A E : Type 0} (r : Result A E) (old new : Option (List ℕ)) (bytes : List ℕ) → Writes r old new bytes → OnOk r (Appends old new bytes)
 whole_by (Ok x) old new bytes h = h
@@ -272,6 +208,47 @@ explain_exit limit file outcome out out' err mid err' run unwritten kept quiet f
           ((run.0 V s).1) unwritten quiet few line;
     }
 
+-- of a map: at a verdict its picture was put, at a failed write a beginning of it, and else nothing
+map_writes : (outcome : Result Verdict RunError) (old new : Option (List ℕ)) (picture : List ℕ) → PutsMap outcome old new picture → Writes outcome old new picture
+map_writes (Ok v) old new picture h = h
+map_writes (Err (Refused e)) old new picture h = nothing_begun old new picture h
+map_writes (Err ReadFailed) old new picture h = nothing_begun old new picture h
+map_writes (Err OutOfMemory) old new picture h = nothing_begun old new picture h
+map_writes (Err WriteFailed) old new picture h = h
+
+map_unwritten : (outcome : Result Verdict RunError) (old new : Option (List ℕ)) (picture : List ℕ) → PutsMap outcome old new picture
+    → (4 ≤ exit_status outcome) × (exit_status outcome ≤ 5) → Keeps old new
+map_unwritten (Ok Clean) old new picture h s = let k = s.0 in absurd (omega (arith, k))
+map_unwritten (Ok (Faulty n)) old new picture h s = let k = s.0 in absurd (omega (arith, k))
+map_unwritten (Err (Refused e)) old new picture h s = h
+map_unwritten (Err ReadFailed) old new picture h s = h
+map_unwritten (Err OutOfMemory) old new picture h s = h
+map_unwritten (Err WriteFailed) old new picture h s = let k = s.1 in absurd (omega (arith, k))
+
+map_answers : (file : List ℕ) (V : List Reference) (outcome : Result Verdict RunError) → IsAnswerOf outcome file → IfOk outcome (λ v. v ≡ verdict (faults file V))
+    → IfOk outcome (λ v. (report (Check 0) file V).answer ≡ Ok v)
+map_answers file V (Ok v) answer h = check_answer 0 file V answer v h
+map_answers file V (Err e) answer h = tt
+
+map_exit : (name file : List ℕ) (outcome : Result Verdict RunError) (out out' err mid err' : OutState)
+    → IsMapOf name file outcome out.bytes out'.bytes → IsUnwritten outcome out.bytes out'.bytes → Keeps err.bytes mid.bytes
+    → OnOk outcome (err' ≡ mid) → OnErr outcome (FewFailed (second_most (exit_status outcome)) err mid)
+    → IfErr outcome (λ error. EndsWithLine (error_line error) 2 mid err')
+    → (V : List Reference) → Survey file V → IsExit (exit_status outcome) (map_report name file V) (refusal file) out out' err err'
+    × ((4 ≤ exit_status outcome) × (exit_status outcome ≤ 5) → Keeps out.bytes out'.bytes)
+map_exit name file outcome out out' err mid err' run unwritten kept quiet few line V s =
+    let picture = map_picture file V name in
+    let put = run.picture V s in
+    let writes = map_writes outcome out.bytes out'.bytes picture put in (
+      record {
+        begun = begun_by outcome out.bytes out'.bytes picture writes;
+        says = status_by_outcome (map_report name file V) file (command_answers (Check 0) file V) outcome out out' err mid err' run.answer
+            (whole_by outcome out.bytes out'.bytes picture writes) (kept_writes outcome err.bytes mid.bytes [] refl kept)
+            (map_answers file V outcome run.answer (run.verdict V s)) unwritten quiet few line;
+      },
+      map_unwritten outcome out.bytes out'.bytes picture put,
+    )
+
 -- and of what was asked
 exit_of : (asked : Request) (file : List ℕ) (outcome : Result Verdict RunError) (out out' err mid err' : OutState)
     → IsEndFor asked file outcome out out' err mid
@@ -284,7 +261,7 @@ exit_of (request.Report command) file outcome out out' err mid err' run unwritte
 exit_of (request.Explain limit) file outcome out out' err mid err' run unwritten kept quiet few line =
     explain_exit limit file outcome out out' err mid err' run unwritten (kept tt) quiet few line
 exit_of (request.Map name) file outcome out out' err mid err' run unwritten kept quiet few line =
-    λ V s. map_exit name.now file V outcome out out' err mid err' run.answer (run.verdict V s) (run.picture V s) unwritten (kept tt) quiet few line
+    map_exit name.now file outcome out out' err mid err' run unwritten (kept tt) quiet few line
 
 -- each run has an answer for the file, and its verdict says whether that is sound
 answer_of : (asked : Request) (file : List ℕ) (outcome : Result Verdict RunError) (out out' err mid : OutState)

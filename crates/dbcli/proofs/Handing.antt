@@ -18,8 +18,8 @@ use Rattle.dbsource.specs.Failures.{HasOneMore, failures_after, one_more}
 use Rattle.dbsource.specs.Outs.{Begins, Flushes, OutState, Puts, Writes}
 use Rattle.dbsource.specs.declared.error.RunError.{RunError}
 use Rattle.dbsource.specs.declared.error.RunError.TheVariants.{Refused, ReadFailed, OutOfMemory, WriteFailed}
-use Rattle.dbmap.specs.Maps.{DrawsMap, HasPicture}
-use Rattle.dbmap.specs.Pictures.{picture_text}
+use Rattle.dbmap.specs.MapPictures.{map_picture}
+use Rattle.dbmap.specs.Maps.{PutsMap}
 use Rattle.dbcli.proofs.Explaining.{IsEndFor, LeavesText, gets_found}
 use Rattle.dbcli.proofs.Failures.{FewFailed, after_one, failed_then, few_then, few_then_line, more_count, more_failures, none_moved, not_same, one_moved, same_count}
 use Rattle.dbcli.specs.ErrorLines.{error_line}
@@ -42,18 +42,6 @@ at_verdict (Faulty n) = omega arith
 begins_still : (o m n : Option (List ℕ)) (bytes : List ℕ) → Begins o m bytes → Keeps m n → Begins o n bytes
 begins_still o m n bytes b k = record { part = b.part; rest = b.rest; whole = b.whole; added = appends_kept o m n b.part b.added k }
 
--- a picture of which less is said
-picture_for : {P Q : List ℕ → Type 0} (name file : List ℕ) (V : List Reference) → ((text : List ℕ) → P text → Q text) → HasPicture P name file V → HasPicture Q name file V
-picture_for name file V less h = record {
-  heading = h.heading;
-  drawn = h.drawn;
-  all = h.all;
-  lines = h.lines;
-  is = h.is;
-  legend = h.legend;
-  holds = less (picture_text h.heading h.drawn h.all h.lines) h.holds;
-}
-
 keeps_then : (o m n : Option (List ℕ)) → Keeps o m → Keeps m n → Keeps o n
 keeps_then None m n h k = tt
 keeps_then (Some x) None n h k = absurd h
@@ -61,12 +49,6 @@ keeps_then (Some x) (Some y) None h k = absurd k
 keeps_then (Some x) (Some y) (Some z) h k = k ∙ h
 
 module _ (out out' err err' : OutState) where
-  -- nothing of a picture was put, or a beginning
-  begun_still : (before : Option (List ℕ)) (name file : List ℕ) (V : List Reference) → Keeps out.bytes out'.bytes
-      → Keeps before out.bytes ⊎ HasPicture (Begins before out.bytes) name file V → Keeps before out'.bytes ⊎ HasPicture (Begins before out'.bytes) name file V
-  begun_still before name file V kept (inl k) = inl (keeps_then before out.bytes out'.bytes k kept)
-  begun_still before name file V kept (inr k) = inr (picture_for name file V (λ text begun. begins_still before out.bytes out'.bytes text begun kept) k)
-
   -- the answer is one for the file
   still_answers : (o r : Result Verdict RunError) (file : List ℕ) → IsHanded o r out out' err err' → IsAnswerOf o file → IsAnswerOf r file
   still_answers (Ok v) (Ok w) file h a = a
@@ -138,15 +120,14 @@ module _ (out out' err err' : OutState) where
   }
 
   -- the picture of a map
-  still_drawn : (o r : Result Verdict RunError) (before : Option (List ℕ)) (name file : List ℕ) (V : List Reference)
-      → IsHanded o r out out' err err' → DrawsMap o before out.bytes name file V → DrawsMap r before out'.bytes name file V
-  still_drawn (Ok v) (Ok w) before name file V h k = picture_for name file V (λ text added. appends_kept before out.bytes out'.bytes text added h.1.kept) k
-  still_drawn (Ok v) (Err e) before name file V h k =
-      rw h.0 (inr (picture_for name file V (λ text added. all_begun before out'.bytes text (appends_kept before out.bytes out'.bytes text added h.1.kept)) k))
-  still_drawn (Err (Refused x)) r before name file V h k = rw h.0 (subst (λ g. DrawsMap {A = Verdict} (Err (Refused x)) before g.bytes name file V) (sym h.1) k)
-  still_drawn (Err ReadFailed) r before name file V h k = rw h.0 (keeps_then before out.bytes out'.bytes k h.1.kept)
-  still_drawn (Err OutOfMemory) r before name file V h k = rw h.0 (keeps_then before out.bytes out'.bytes k h.1.kept)
-  still_drawn (Err WriteFailed) r before name file V h k = rw h.0 (begun_still before name file V h.1.kept k)
+  still_drawn : (o r : Result Verdict RunError) (before : Option (List ℕ)) (picture : List ℕ)
+      → IsHanded o r out out' err err' → PutsMap o before out.bytes picture → PutsMap r before out'.bytes picture
+  still_drawn (Ok v) (Ok w) before picture h k = appends_kept before out.bytes out'.bytes picture k h.1.kept
+  still_drawn (Ok v) (Err e) before picture h k = rw h.0 (all_begun before out'.bytes picture (appends_kept before out.bytes out'.bytes picture k h.1.kept))
+  still_drawn (Err (Refused x)) r before picture h k = rw h.0 (subst (λ g. Keeps before g.bytes) (sym h.1) k)
+  still_drawn (Err ReadFailed) r before picture h k = rw h.0 (keeps_then before out.bytes out'.bytes k h.1.kept)
+  still_drawn (Err OutOfMemory) r before picture h k = rw h.0 (keeps_then before out.bytes out'.bytes k h.1.kept)
+  still_drawn (Err WriteFailed) r before picture h k = rw h.0 (begins_still before out.bytes out'.bytes picture k h.1.kept)
 
   -- what an explanation wrote
   still_explained : (limit : ℕ) (file : List ℕ) (V : List Reference) (o r : Result Verdict RunError) (first : OutState) → IsHanded o r out out' err err'
@@ -172,7 +153,7 @@ module _ (out out' err err' : OutState) where
   still_for (request.Map name) file o r first second h run = record {
     survey = run.survey;
     verdict = λ V s. still_of (λ v. v ≡ verdict (faults file V)) o r h (run.verdict V s);
-    picture = λ V s. still_drawn o r first.bytes name.now file V h (run.picture V s);
+    picture = λ V s. still_drawn o r first.bytes (map_picture file V name.now) h (run.picture V s);
     answer = still_answers o r file h run.answer;
     sound = still_of (λ v. v ≡ Clean ↔ Sound file) o r h run.sound;
   }

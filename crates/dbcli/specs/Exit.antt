@@ -3,14 +3,15 @@ use Rattle.std.specs.Prelude.{◌≡◌, ◌≢◌, ◌≤◌, ◌⊎◌, ◌↔
 use Rattle.dbformat.specs.File.{refusal}
 use Rattle.std.specs.Io.KnownBytes.{Appends, Keeps}
 use Rattle.dbformat.specs.Reference.{Reference}
-use Rattle.dbformat.specs.Report.{Report, faults, report, verdict}
+use Rattle.dbformat.specs.Report.{Report, report}
 use Rattle.dbformat.specs.Sound.{Sound}
 use Rattle.dbformat.specs.Survey.{Survey}
+use Rattle.dbformat.specs.declared.Command.TheVariants.{Check}
 use Rattle.dbformat.specs.declared.Refusal.{Refusal}
 use Rattle.dbformat.specs.declared.Verdict.TheVariants.{Clean, Faulty}
 use Rattle.dbsource.specs.Failures.{one_more}
 use Rattle.dbsource.specs.Outs.{Begins, OutState}
-use Rattle.dbmap.specs.Maps.{HasPicture}
+use Rattle.dbmap.specs.MapPictures.{map_picture}
 use Rattle.dbreport.specs.Runs.{SaysOkWhereSound}
 use Rattle.dbexplain.specs.Explained.{IsFoundText, explain_report}
 use Rattle.dbcli.specs.ErrorLines.{exit_line}
@@ -112,30 +113,19 @@ pub record IsExplainExit (status limit : ℕ) (file : List ℕ) (V : List Refere
   -- the rest is as of any report
   pub says : IsStatusOf status (explain_report limit file V) (refusal file) out out' err err'
 
--- The same of a map with this name.
-pub record IsMapExit (status : ℕ) (name file : List ℕ) (V : List Reference) (out out' err err' : OutState) : Type 0 where
-  -- the second Out got the line of the error
-  pub told : BeginsThenLine err err' [] (exit_line status (refusal file))
-  -- 0 and 1 are answered only where a picture of the file was put to the first Out
-  pub drawn : status ≤ 1 → HasPicture (Appends out.bytes out'.bytes) name file V
-  -- at 6 nothing was put to it, or a beginning of such a picture; at 4 and 5 nothing
-  pub begun : status ≡ 6 → Keeps out.bytes out'.bytes ⊎ HasPicture (Begins out.bytes out'.bytes) name file V
-  pub unwritten : (4 ≤ status) × (status ≤ 5) → Keeps out.bytes out'.bytes
-  -- 0 is answered only where the verdict on the faults is that there is none
-  pub clean : status ≡ 0 → verdict (faults file V) ≡ Clean
-  -- 1 only where there are some
-  pub faulty : status ≡ 1 → (n : ℕ) × (verdict (faults file V) ≡ Faulty n)
-  -- 3 only where the file is refused, and nothing was written
-  pub refused : status ≡ 3 → (e : Refusal) × (refusal file ≡ Some e) × (out'.bytes ≡ out.bytes)
+-- the report of a map with this name: a picture on the one output, and what a check answers
+abbrev pub map_report : List ℕ → List ℕ → List Reference → Report
+map_report name file V = record { out = map_picture file V name; err = []; answer = (report (Check 0) file V).answer }
 
--- by what was asked, and by every survey of the file
+-- by what was asked, and by every survey of the file; of a map also that at 4 and 5 nothing was put to the first Out
 abbrev pub IsExitOf : ℕ → Request → List ℕ → OutState → OutState → OutState → OutState → Type 0
 IsExitOf status (request.Report command) file out out' err err' =
     (V : List Reference) → Survey file V → IsExit status (report command file V) (refusal file) out out' err err'
 IsExitOf status (request.Explain limit) file out out' err err' =
     (V : List Reference) → Survey file V → IsExplainExit status limit file V out out' err err'
 IsExitOf status (request.Map name) file out out' err err' =
-    (V : List Reference) → Survey file V → IsMapExit status name.now file V out out' err err'
+    (V : List Reference) → Survey file V
+    → IsExit status (map_report name.now file V) (refusal file) out out' err err' × ((4 ≤ status) × (status ≤ 5) → Keeps out.bytes out'.bytes)
 
 -- Of a check: what the first Out got is the line `ok` exactly where the file is sound.
 abbrev pub SaysOkFor : Request → List ℕ → OutState → OutState → Type 0
