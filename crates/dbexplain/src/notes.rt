@@ -4,13 +4,14 @@ ghost use Rattle.std.specs.Option.{option_map_or};
 ghost use Rattle.dbformat.specs.FixedPages.{IsInRange};
 ghost use Rattle.dbmarks.specs.EndMarks.{entry_value};
 ghost use Rattle.dbsource.specs.Outs.{Puts};
+ghost use Rattle.dblines.specs.Writing.{Wrote};
 ghost use Rattle.dbowner.specs.Texts.{tree_of_row};
 ghost use Rattle.dbexplain.specs.Below.{header_line, line_of_entry};
 ghost use Rattle.dbexplain.specs.Notes.{note_text, notes_text, wanted_entry};
 
 use crate::page_lines::{Spot, put_page_line, put_start_line};
 use arrayvec::ArrayVec;
-use dblines::{append, append_number};
+use dblines::{Writer, append, append_number};
 use dbmarks::MapEntry;
 use dbowner::TreeNames;
 use dbsource::{Geometry, Out, WriteFailed};
@@ -64,37 +65,51 @@ fn entry_line(entry: MapEntry) -> ArrayVec<u8, 96>
 
 // Puts the line of a note.
 fn put_note<A: Allocator, O: Out>(
+    writer: &mut Writer<'_, O>,
     names: &TreeNames<'_, A>,
-    out: &mut O,
     shape: Geometry,
     note: LineBelow,
-) -> Result<(), WriteFailed>
+)
     requires { IsInRange shape }
-    ensures { Puts result (O.held out.old) (O.held out.new) (note_text shape (tree_of_row names.now.encoding names.now.roots.now.rows) note) }
+    ensures { Wrote O.held writer.old (note_text shape (tree_of_row names.now.encoding names.now.roots.now.rows) note) writer.new }
 {
     match note {
-        LineBelow::Page(spot) => put_page_line(names, out, shape, spot),
-        LineBelow::Start(start) => put_start_line(names, out, start),
-        LineBelow::Header(number) => out.put(header_line(number).as_slice()),
-        LineBelow::Entry(entry) => out.put(entry_line(entry).as_slice()),
+        LineBelow::Page(spot) => put_page_line(writer, names, shape, spot),
+        LineBelow::Start(start) => put_start_line(writer, names, start),
+        LineBelow::Header(number) => writer.put(header_line(number).as_slice()),
+        LineBelow::Entry(entry) => writer.put(entry_line(entry).as_slice()),
     }
 }
 
 // Puts the line of a note, if there is one.
 fn put_note_of<A: Allocator, O: Out>(
+    writer: &mut Writer<'_, O>,
     names: &TreeNames<'_, A>,
-    out: &mut O,
     shape: Geometry,
     note: Option<LineBelow>,
-) -> Result<(), WriteFailed>
+)
     requires { IsInRange shape }
-    ensures { Puts result (O.held out.old) (O.held out.new)
-        (option_map_or (note_text shape (tree_of_row names.now.encoding names.now.roots.now.rows)) note []) }
+    ensures { Wrote O.held writer.old
+        (option_map_or (note_text shape (tree_of_row names.now.encoding names.now.roots.now.rows)) note []) writer.new }
 {
     match note {
-        Some(note) => put_note(names, out, shape, note),
-        None => Ok(()),
+        Some(note) => put_note(writer, names, shape, note),
+        None => {}
     }
+}
+
+// Writes the lines of two notes.
+fn write_notes<A: Allocator, O: Out>(
+    writer: &mut Writer<'_, O>,
+    names: &TreeNames<'_, A>,
+    shape: Geometry,
+    notes: (Option<LineBelow>, Option<LineBelow>),
+)
+    requires { IsInRange shape }
+    ensures { Wrote O.held writer.old (notes_text shape (tree_of_row names.now.encoding names.now.roots.now.rows) notes) writer.new }
+{
+    put_note_of(writer, names, shape, notes.0);
+    put_note_of(writer, names, shape, notes.1);
 }
 
 // Puts the lines of two notes.
@@ -107,6 +122,7 @@ pub(crate) fn put_notes<A: Allocator, O: Out>(
     requires { IsInRange shape }
     ensures { Puts result (O.held out.old) (O.held out.new) (notes_text shape (tree_of_row names.now.encoding names.now.roots.now.rows) notes) }
 {
-    put_note_of(names, out, shape, notes.0)?;
-    put_note_of(names, out, shape, notes.1)
+    let mut writer = Writer::new(out);
+    write_notes(&mut writer, names, shape, notes);
+    writer.end()
 }

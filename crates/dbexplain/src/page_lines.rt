@@ -4,16 +4,16 @@ ghost use Rattle.std.specs.Prelude.{◌≡◌, ◌++◌, ◌+◌, ◌≤◌, [],
 ghost use Rattle.std.specs.Option.{option_map_or};
 ghost use Rattle.dbformat.specs.Lines.{line_feed};
 ghost use Rattle.dbformat.specs.FixedPages.{IsInRange, fixed_use};
-ghost use Rattle.dbsource.specs.Outs.{Puts};
+ghost use Rattle.dblines.specs.Writing.{Wrote};
 ghost use Rattle.dbowner.specs.Texts.{place_from, place_front, place_words, tree_of_row};
 ghost use Rattle.dbexplain.specs.Below.{line_of_start, page_place_line};
 ghost use Rattle.dbexplain.specs.Notes.{page_front, place_end, start_front, start_tree};
 
 use arrayvec::ArrayVec;
 use dbformat::{FREELIST_START, Geometry};
-use dblines::{append, append_number};
+use dblines::{Writer, append, append_number};
 use dbowner::{Place, TreeNames, place_from, place_front, place_tree, place_words};
-use dbsource::{Out, WriteFailed};
+use dbsource::Out;
 use std::alloc::Allocator;
 
 /// Where a page is: what it is there, and the start that it belongs to.
@@ -80,64 +80,77 @@ fn start_tree(start: u32) -> Option<u32>
     }
 }
 
+// Puts the text of the tree of a start.
+pub(crate) fn put_tree<A: Allocator, O: Out>(
+    writer: &mut Writer<'_, O>,
+    names: &TreeNames<'_, A>,
+    start: u32,
+)
+    ensures { Wrote O.held writer.old (tree_of_row names.now.encoding names.now.roots.now.rows start) writer.new }
+{
+    if !writer.has_failed {
+        writer.has_failed = names.put_tree(writer.out, start).is_err();
+    }
+}
+
 // Puts the text of the tree of a start, if there is one.
 fn put_tree_of<A: Allocator, O: Out>(
+    writer: &mut Writer<'_, O>,
     names: &TreeNames<'_, A>,
-    out: &mut O,
     start: Option<u32>,
-) -> Result<(), WriteFailed>
-    ensures { Puts result (O.held out.old) (O.held out.new) (option_map_or (tree_of_row names.now.encoding names.now.roots.now.rows) start []) }
+)
+    ensures { Wrote O.held writer.old (option_map_or (tree_of_row names.now.encoding names.now.roots.now.rows) start []) writer.new }
 {
     match start {
-        Some(start) => names.put_tree(out, start),
-        None => Ok(()),
+        Some(start) => put_tree(writer, names, start),
+        None => {}
     }
 }
 
 // Puts a line with the text of a tree in it, or of none.
 fn put_line<A: Allocator, O: Out>(
+    writer: &mut Writer<'_, O>,
     names: &TreeNames<'_, A>,
-    out: &mut O,
     front: &[u8],
     start: Option<u32>,
     end: &[u8],
-) -> Result<(), WriteFailed>
-    ensures { Puts result (O.held out.old) (O.held out.new)
-        (front.now ++ (option_map_or (tree_of_row names.now.encoding names.now.roots.now.rows) start [] ++ end.now)) }
+)
+    ensures { Wrote O.held writer.old
+        (front.now ++ (option_map_or (tree_of_row names.now.encoding names.now.roots.now.rows) start [] ++ end.now)) writer.new }
 {
-    out.put(front)?;
-    put_tree_of(names, out, start)?;
-    out.put(end)
+    writer.put(front);
+    put_tree_of(writer, names, start);
+    writer.put(end);
 }
 
 // Puts where a page is. A number that no page has gets no line.
 pub(crate) fn put_page_line<A: Allocator, O: Out>(
+    writer: &mut Writer<'_, O>,
     names: &TreeNames<'_, A>,
-    out: &mut O,
     shape: Geometry,
     spot: Spot,
-) -> Result<(), WriteFailed>
+)
     requires { IsInRange shape }
-    ensures { Puts result (O.held out.old) (O.held out.new)
-        (page_place_line shape (tree_of_row names.now.encoding names.now.roots.now.rows) spot.page spot.place spot.start) }
+    ensures { Wrote O.held writer.old
+        (page_place_line shape (tree_of_row names.now.encoding names.now.roots.now.rows) spot.page spot.place spot.start) writer.new }
 {
     if spot.page == 0 || spot.page > shape.pages {
-        return Ok(());
+        return;
     }
     let front = page_front(shape, spot.page, spot.place);
     let end = place_end(spot.place);
     let tree = place_tree(spot.place, spot.start);
-    put_line(names, out, front.as_slice(), tree, end.as_slice())
+    put_line(writer, names, front.as_slice(), tree, end.as_slice());
 }
 
 // Puts what a start is.
 pub(crate) fn put_start_line<A: Allocator, O: Out>(
+    writer: &mut Writer<'_, O>,
     names: &TreeNames<'_, A>,
-    out: &mut O,
     start: u32,
-) -> Result<(), WriteFailed>
-    ensures { Puts result (O.held out.old) (O.held out.new) (line_of_start (tree_of_row names.now.encoding names.now.roots.now.rows) start) }
+)
+    ensures { Wrote O.held writer.old (line_of_start (tree_of_row names.now.encoding names.now.roots.now.rows) start) writer.new }
 {
     let front = start_front(start);
-    put_line(names, out, front.as_slice(), start_tree(start), b"\n")
+    put_line(writer, names, front.as_slice(), start_tree(start), b"\n");
 }

@@ -3,17 +3,18 @@ ghost use Rattle.arrayvec.specs.ArrayVec.{array_vec_len};
 ghost use Rattle.std.specs.Prelude.{◌≡◌, ◌+◌, ◌≤◌, ◌∷◌, [], ◌++◌, length, codes, decimal};
 ghost use Rattle.std.specs.List.{enumerate_from, flat_map};
 ghost use Rattle.dbformat.specs.Lines.{line_feed};
-ghost use Rattle.dbsource.specs.Outs.{Puts};
+ghost use Rattle.dblines.specs.Writing.{Wrote};
 ghost use Rattle.dbexplain.specs.Summary.{faulty_pages_text, start_name};
 ghost use Rattle.dbexplain.specs.Sums.{numbered_sum, start_sum, sum_front};
 
+use crate::page_lines::put_tree;
 use crate::sums::sum_front;
 use crate::tally::StartCount;
 use arrayvec::ArrayVec;
 use dbformat::FREELIST_START;
-use dblines::{append, append_number};
+use dblines::{Writer, append, append_number};
 use dbowner::TreeNames;
-use dbsource::{Out, WriteFailed};
+use dbsource::Out;
 use std::alloc::Allocator;
 
 // A root page, after its tree.
@@ -28,18 +29,15 @@ fn root_text(page: u32) -> ArrayVec<u8, 64>
 }
 
 // Puts the name of a start: the freelist, or a tree and its root page.
-fn put_name<A: Allocator, O: Out>(
-    out: &mut O,
-    names: &TreeNames<'_, A>,
-    start: u32,
-) -> Result<(), WriteFailed>
-    ensures { Puts result (O.held out.old) (O.held out.new) (start_name names.now.encoding names.now.roots.now.rows start) }
+fn put_name<A: Allocator, O: Out>(writer: &mut Writer<'_, O>, names: &TreeNames<'_, A>, start: u32)
+    ensures { Wrote O.held writer.old (start_name names.now.encoding names.now.roots.now.rows start) writer.new }
 {
     if start == FREELIST_START {
-        return out.put(b"the freelist");
+        writer.put(b"the freelist");
+        return;
     }
-    names.put_tree(out, start)?;
-    out.put(root_text(names.roots.root_page(start)).as_slice())
+    put_tree(writer, names, start);
+    writer.put(root_text(names.roots.root_page(start)).as_slice());
 }
 
 // What is before the name of a start in the line of its count.
@@ -70,35 +68,34 @@ fn pages_text(faulty: u32, reached: u32) -> ArrayVec<u8, 160>
 
 // Puts how many of all faults were reported at a start, and on how many of its pages, if there are any.
 pub(crate) fn put_start_sum<A: Allocator, O: Out>(
-    out: &mut O,
+    writer: &mut Writer<'_, O>,
     names: &TreeNames<'_, A>,
     all: u64,
     start: u32,
     count: &StartCount,
-) -> Result<(), WriteFailed>
-    ensures { Puts result (O.held out.old) (O.held out.new) (start_sum all (start_name names.now.encoding names.now.roots.now.rows start) count.now) }
+)
+    ensures { Wrote O.held writer.old (start_sum all (start_name names.now.encoding names.now.roots.now.rows start) count.now) writer.new }
 {
     if count.faults == 0 {
-        return Ok(());
+        return;
     }
-    out.put(count_front(all, count.faults).as_slice())?;
-    put_name(out, names, start)?;
-    out.put(pages_text(count.faulty, count.reached).as_slice())
+    writer.put(count_front(all, count.faults).as_slice());
+    put_name(writer, names, start);
+    writer.put(pages_text(count.faulty, count.reached).as_slice());
 }
 
 // Puts the line of each tree, from the schema's on.
 pub(crate) fn put_start_sums<A: Allocator, O: Out>(
-    out: &mut O,
+    writer: &mut Writer<'_, O>,
     names: &TreeNames<'_, A>,
     all: u64,
     counts: &[StartCount],
-) -> Result<(), WriteFailed>
+)
     requires { length counts.now ≤ 65537 }
-    ensures { Puts result (O.held out.old) (O.held out.new)
-        (flat_map (numbered_sum all (start_name names.now.encoding names.now.roots.now.rows)) (enumerate_from 0 counts.now)) }
+    ensures { Wrote O.held writer.old
+        (flat_map (numbered_sum all (start_name names.now.encoding names.now.roots.now.rows)) (enumerate_from 0 counts.now)) writer.new }
 {
     for index in 0..counts.len() {
-        put_start_sum(out, names, all, index as u32, &counts[index])?;
+        put_start_sum(writer, names, all, index as u32, &counts[index]);
     }
-    Ok(())
 }

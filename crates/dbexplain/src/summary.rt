@@ -4,6 +4,7 @@ ghost use Rattle.dbformat.specs.File.{geometry};
 ghost use Rattle.dbformat.specs.Reference.{Reference};
 ghost use Rattle.dbsource.specs.Failures.{failures_after, is_any};
 ghost use Rattle.dbsource.specs.Outs.{Puts, Writes};
+ghost use Rattle.dblines.specs.Writing.{Wrote};
 ghost use Rattle.dbowner.specs.Climbs.{AreTrees};
 ghost use Rattle.dbexplain.specs.Notes.{AreOwnersOf};
 ghost use Rattle.dbscan.specs.Placed.{told_faults};
@@ -18,9 +19,28 @@ use crate::sums::{put_code_sums, put_count, put_sum};
 use crate::tally::Tally;
 use crate::trees::put_trees;
 use dbformat::FREELIST_START;
+use dblines::Writer;
 use dbowner::{PageTrees, TreeNames};
 use dbsource::{Out, WriteFailed};
 use std::alloc::Allocator;
+
+// Writes the summary by a tally in which all pages are counted.
+fn write_counts<A: Allocator, O: Out>(
+    writer: &mut Writer<'_, O>,
+    names: &TreeNames<'_, A>,
+    tally: &Tally<A>,
+)
+    ensures { Wrote O.held writer.old (summary_by names.now.encoding names.now.roots.now.rows tally.now) writer.new }
+{
+    let all = tally.all();
+    let trees = tally.trees(names.roots.len());
+    put_count(writer, all);
+    put_code_sums(writer, all, tally.codes());
+    put_start_sums(writer, names, all, trees);
+    put_start_sum(writer, names, all, FREELIST_START, tally.freelist());
+    put_sum(writer, all, tally.whole(), "in the whole file");
+    put_trees(writer, names.roots, trees);
+}
 
 // Puts the summary by a tally in which all pages are counted.
 fn put_counts<A: Allocator, O: Out>(
@@ -30,14 +50,9 @@ fn put_counts<A: Allocator, O: Out>(
 ) -> Result<(), WriteFailed>
     ensures { Puts result (O.held out.old) (O.held out.new) (summary_by names.now.encoding names.now.roots.now.rows tally.now) }
 {
-    let all = tally.all();
-    let trees = tally.trees(names.roots.len());
-    put_count(out, all)?;
-    put_code_sums(out, all, tally.codes())?;
-    put_start_sums(out, names, all, trees)?;
-    put_start_sum(out, names, all, FREELIST_START, tally.freelist())?;
-    put_sum(out, all, tally.whole(), "in the whole file")?;
-    put_trees(out, names.roots, trees)
+    let mut writer = Writer::new(out);
+    write_counts(&mut writer, names, tally);
+    writer.end()
 }
 
 /// Puts the summary of all faults of a file: how many there are, with each code, at each start and of the whole file, on how many of

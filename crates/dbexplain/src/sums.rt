@@ -3,15 +3,15 @@ ghost use Rattle.arrayvec.specs.ArrayVec.{array_vec_len};
 ghost use Rattle.std.specs.Prelude.{◌≡◌, ◌+◌, ◌≤◌, [], ◌∷◌, ◌++◌, length, replicate, codes, decimal};
 ghost use Rattle.std.specs.List.{flat_map};
 ghost use Rattle.dbformat.specs.Lines.{code_text, code_words, line_feed};
-ghost use Rattle.dbsource.specs.Outs.{Puts};
+ghost use Rattle.dblines.specs.Writing.{Wrote};
 ghost use Rattle.dbexplain.specs.Summary.{aligned, count_text, sum_line};
 ghost use Rattle.dbexplain.specs.Sums.{code_sum, sum_front};
 
 use crate::tally::CodeCount;
 use arrayvec::ArrayVec;
 use dbformat::FaultCode;
-use dblines::{append, append_number, code_text, code_words};
-use dbsource::{Out, WriteFailed};
+use dblines::{Writer, append, append_number, code_text, code_words};
+use dbsource::Out;
 use itoa::Buffer;
 
 // How many digits a number of 64 bits has at most.
@@ -82,45 +82,35 @@ fn code_sum(all: u64, count: u64, code: FaultCode) -> ArrayVec<u8, 160>
 }
 
 // Puts how many of all faults have a code, if there are any.
-fn put_code_sum<O: Out>(out: &mut O, all: u64, count: CodeCount) -> Result<(), WriteFailed>
-    ensures { Puts result (O.held out.old) (O.held out.new) (code_sum all count) }
+fn put_code_sum<O: Out>(writer: &mut Writer<'_, O>, all: u64, count: CodeCount)
+    ensures { Wrote O.held writer.old (code_sum all count) writer.new }
 {
     if count.count == 0 {
-        return Ok(());
+        return;
     }
     let line = code_sum(all, count.count, count.code);
-    out.put(line.as_slice())
+    writer.put(line.as_slice());
 }
 
 // Puts how many of all faults have each of these codes.
-pub(crate) fn put_code_sums<O: Out>(
-    out: &mut O,
-    all: u64,
-    counts: &[CodeCount],
-) -> Result<(), WriteFailed>
-    ensures { Puts result (O.held out.old) (O.held out.new) (flat_map (code_sum all) counts.now) }
+pub(crate) fn put_code_sums<O: Out>(writer: &mut Writer<'_, O>, all: u64, counts: &[CodeCount])
+    ensures { Wrote O.held writer.old (flat_map (code_sum all) counts.now) writer.new }
 {
     for count in counts {
-        put_code_sum(out, all, *count)?;
+        put_code_sum(writer, all, *count);
     }
-    Ok(())
 }
 
 // Puts how many of all faults there are of this, if there are any.
-pub(crate) fn put_sum<O: Out>(
-    out: &mut O,
-    all: u64,
-    count: u64,
-    text: &str,
-) -> Result<(), WriteFailed>
+pub(crate) fn put_sum<O: Out>(writer: &mut Writer<'_, O>, all: u64, count: u64, text: &str)
     requires { length text.now ≤ 64 }
-    ensures { Puts result (O.held out.old) (O.held out.new) (sum_line all count text.now) }
+    ensures { Wrote O.held writer.old (sum_line all count text.now) writer.new }
 {
     if count == 0 {
-        return Ok(());
+        return;
     }
     let line = sum_text(all, count, text);
-    out.put(line.as_slice())
+    writer.put(line.as_slice());
 }
 
 // The line of how many faults there are.
@@ -134,9 +124,9 @@ fn count_text(all: u64) -> ArrayVec<u8, 32>
 }
 
 // Puts how many faults there are.
-pub(crate) fn put_count<O: Out>(out: &mut O, all: u64) -> Result<(), WriteFailed>
-    ensures { Puts result (O.held out.old) (O.held out.new) (count_text all) }
+pub(crate) fn put_count<O: Out>(writer: &mut Writer<'_, O>, all: u64)
+    ensures { Wrote O.held writer.old (count_text all) writer.new }
 {
     let line = count_text(all);
-    out.put(line.as_slice())
+    writer.put(line.as_slice());
 }

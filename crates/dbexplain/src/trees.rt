@@ -1,16 +1,16 @@
 // How many of the tables and of the indexes have no fault.
 ghost use Rattle.arrayvec.specs.ArrayVec.{array_vec_len};
 ghost use Rattle.std.specs.Prelude.{◌≡◌, ◌+◌, ◌≤◌, ◌++◌, length};
-ghost use Rattle.dbsource.specs.Outs.{Puts};
+ghost use Rattle.dblines.specs.Writing.{Wrote};
 ghost use Rattle.dbexplain.specs.Summary.{is_of_kind, share_text, trees_text};
 ghost use Rattle.dbexplain.specs.Sums.{trees_by, trees_sum};
 
 use crate::tally::StartCount;
 use arrayvec::ArrayVec;
 use dbformat::RowKind;
-use dblines::{append, append_number};
+use dblines::{Writer, append, append_number};
 use dbowner::RootList;
-use dbsource::{Out, WriteFailed};
+use dbsource::Out;
 use std::alloc::Allocator;
 
 /// How many trees of a kind there are, and how many of them have no fault.
@@ -75,20 +75,16 @@ fn trees_text(tables: TreeSum, indexes: TreeSum) -> ArrayVec<u8, 160>
     line
 }
 
-/// Puts how many of the tables and of the indexes have no fault, by the counts of the schema's tree and those of the rows.
-///
-/// # Errors
-///
-/// [`WriteFailed`] where the Out failed: it took a beginning of the line.
+/// Writes how many of the tables and of the indexes have no fault, by the counts of the schema's tree and those of the rows.
 pub(crate) fn put_trees<A: Allocator, O: Out>(
-    out: &mut O,
+    writer: &mut Writer<'_, O>,
     roots: &RootList<A>,
     counts: &[StartCount],
-) -> Result<(), WriteFailed>
+)
     requires { (1 ≤ length counts.now) × (length counts.now ≤ 65537) }
-    ensures { Puts result (O.held out.old) (O.held out.new) (trees_sum roots.now.rows counts.now) }
+    ensures { Wrote O.held writer.old (trees_sum roots.now.rows counts.now) writer.new }
 {
     let tables = trees_by(roots, counts, false);
     let indexes = trees_by(roots, counts, true);
-    out.put(trees_text(tables, indexes).as_slice())
+    writer.put(trees_text(tables, indexes).as_slice());
 }

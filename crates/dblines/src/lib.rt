@@ -6,6 +6,7 @@ mod codes;
 mod first_bytes;
 mod lines;
 mod pieces;
+mod writer;
 
 pub use arrayvec::ArrayVec;
 pub use codes::{code_text, code_words};
@@ -14,3 +15,4 @@ pub use dbsource::{Out, WriteFailed};
 pub use first_bytes::append_first_bytes;
 pub use lines::{put_fault, put_ok, put_rest};
 pub use pieces::{append, append_number};
+pub use writer::Writer;
