@@ -104,7 +104,7 @@ expect 1 "$(head -n 998 <<< "$lines")"$'\nmore 1\n' '' check --limit 998 "$work/
 expect 1 "$(head -n 100 <<< "$lines")"$'\nmore 899\n' '' check "$work/unused.db"
 # Explained they are one entry.
 below=$'    page 2 at byte 512: in no tree, overflow chain or freelist\n    all zeros\n    and 998 more pages like it: 3 to 1000\n'
-expect 1 "$(head -n 1 <<< "$lines")"$'\n'"$below"$'999 faults\n    999 N01 page is not in use\n    999 in the whole file\n    1 of 1 tree without a fault\n' '' \
+expect 1 "$(head -n 1 <<< "$lines")"$'\n'"$below"$'999 faults\n    999 N01 page is not in use\n    999 in the whole file\n    0 of 0 tables and 0 of 0 indexes without a fault\n' '' \
     explain --limit 1 "$work/unused.db"
 
 # The same faults, explained.
@@ -112,11 +112,11 @@ note='table note'
 twice_below="    page 2 at byte 512: root of $note"$'\n'"    page 7 at byte 3072: in $note, child of page 2"$'\n'
 unused_below=$'    page 8 at byte 3584: in no tree, overflow chain or freelist\n    looks like a leaf of a table with 6 cells, rowids 25 to 30\n'
 summary=$'2 faults\n    1 R03 page is already in use\n    1 N01 page is not in use\n    1 in table note (root page 2), on 1 of its 5 pages\n'
-summary+=$'    1 in the whole file\n    2 of 3 trees without a fault\n'
+summary+=$'    1 in the whole file\n    0 of 1 table and 1 of 1 index without a fault\n'
 expect 0 $'ok\n' '' explain "$data/whole.db"
 expect 1 "$twice$twice_below$unused$unused_below$summary" '' explain "$data/two-owners.db"
 expect 1 "$twice$twice_below"$'more 1\n'"$summary" '' explain --limit 1 "$data/two-owners.db"
-expect 1 $'H10 page 1 item 0 value 3: freelist count differs from the header\n    header: 99\n1 fault\n    1 H10 freelist count differs from the header\n    1 in the whole file\n    2 of 2 trees without a fault\n' '' \
+expect 1 $'H10 page 1 item 0 value 3: freelist count differs from the header\n    header: 99\n1 fault\n    1 H10 freelist count differs from the header\n    1 in the whole file\n    1 of 1 table and 0 of 0 indexes without a fault\n' '' \
     explain "$data/view-last.db"
 
 # is_explained TEXT: whether the last run wrote the text of a file, byte for byte.

@@ -23,7 +23,7 @@ T06 page 6 item 0 value 70: key out of order
 5 faults
     5 T06 key out of order
     5 in table t (root page 2), on 4 of its 6 pages
-    1 of 2 trees without a fault
+    0 of 1 table and 0 of 0 indexes without a fault
 ",
     ],
     // The key of the interior page is greater than the rowid below it.
@@ -36,7 +36,7 @@ T06 page 6 item 0 value 70: key out of order
 1 fault
     1 T06 key out of order
     1 in table t (root page 2), on 1 of its 3 pages
-    1 of 2 trees without a fault
+    0 of 1 table and 0 of 0 indexes without a fault
 ",
     ],
     // The greatest rowid, and then the least and -1.
@@ -50,7 +50,7 @@ T06 page 6 item 0 value 70: key out of order
 2 faults
     2 T06 key out of order
     2 in table t (root page 2), on 1 of its 1 page
-    1 of 2 trees without a fault
+    0 of 1 table and 0 of 0 indexes without a fault
 ",
     ],
 ];
@@ -66,10 +66,11 @@ const LEAVES: [Explained; 2] = [
         "T05 page 6 item 0 value 2: leaf at another depth
     page 6 at byte 2560: in table t, child of page 2
     the first leaf of the tree is page 4
+    page 4 at byte 1536: in table t, child of page 3
 1 fault
     1 T05 leaf at another depth
     1 in table t (root page 2), on 1 of its 5 pages
-    1 of 2 trees without a fault
+    0 of 1 table and 0 of 0 indexes without a fault
 ",
     ],
     // Page 4 has no type: the first leaf is the next one.
@@ -81,11 +82,12 @@ const LEAVES: [Explained; 2] = [
 T05 page 6 item 0 value 2: leaf at another depth
     page 6 at byte 2560: in table t, child of page 2
     the first leaf of the tree is page 5
+    page 5 at byte 2048: in table t, child of page 3
 2 faults
     1 P01 unknown page type
     1 T05 leaf at another depth
     2 in table t (root page 2), on 2 of its 5 pages
-    1 of 2 trees without a fault
+    0 of 1 table and 0 of 0 indexes without a fault
 ",
     ],
 ];
@@ -111,7 +113,7 @@ N01 page 5 item 0 value 0: page is not in use
     1 N01 page is not in use
     1 in table t (root page 2), on 1 of its 3 pages
     1 in the whole file
-    1 of 2 trees without a fault
+    0 of 1 table and 0 of 0 indexes without a fault
 ",
     ],
     // The second chain ends after its first page.
@@ -129,7 +131,7 @@ N01 page 4 item 0 value 0: page is not in use
     1 N01 page is not in use
     1 in table t (root page 2), on 1 of its 3 pages
     1 in the whole file
-    1 of 2 trees without a fault
+    0 of 1 table and 0 of 0 indexes without a fault
 ",
     ],
     // Its last page names a next one.
@@ -142,7 +144,7 @@ N01 page 4 item 0 value 0: page is not in use
 1 fault
     1 O01 last overflow page names a next page
     1 in table t (root page 2), on 1 of its 4 pages
-    1 of 2 trees without a fault
+    0 of 1 table and 0 of 0 indexes without a fault
 ",
     ],
     // It goes on in the first chain.
@@ -160,7 +162,7 @@ N01 page 4 item 0 value 0: page is not in use
     1 N01 page is not in use
     1 in table t (root page 2), on 1 of its 3 pages
     1 in the whole file
-    1 of 2 trees without a fault
+    0 of 1 table and 0 of 0 indexes without a fault
 ",
     ],
     // It goes on in itself.
@@ -178,7 +180,7 @@ N01 page 4 item 0 value 0: page is not in use
     1 N01 page is not in use
     1 in table t (root page 2), on 1 of its 3 pages
     1 in the whole file
-    1 of 2 trees without a fault
+    0 of 1 table and 0 of 0 indexes without a fault
 ",
     ],
     // A chain begins at the pointer map.
@@ -196,7 +198,7 @@ N01 page 4 item 0 value 0: page is not in use
     1 N01 page is not in use
     1 in table t (root page 3), on 1 of its 1 page
     1 in the whole file
-    1 of 2 trees without a fault
+    0 of 1 table and 0 of 0 indexes without a fault
 ",
     ],
 ];
@@ -221,7 +223,7 @@ P01 page 4 item 0 value 72: unknown page type
 4 faults
     4 P01 unknown page type
     4 in table t (root page 2), on 4 of its 6 pages
-    1 of 2 trees without a fault
+    0 of 1 table and 0 of 0 indexes without a fault
 ",
     ],
     // Page 1, which begins with the header.
@@ -233,7 +235,7 @@ P01 page 4 item 0 value 72: unknown page type
 1 fault
     1 P01 unknown page type
     1 in sqlite_schema (root page 1), on 1 of its 1 page
-    0 of 1 tree without a fault
+    0 of 0 tables and 0 of 0 indexes without a fault
 ",
     ],
 ];

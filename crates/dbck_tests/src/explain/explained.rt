@@ -83,7 +83,7 @@ N01 page 7 item 0 value 0: page is not in use
     1 N01 page is not in use
     1 in table order (root page 5), on 1 of its 2 pages
     1 in the whole file
-    2 of 3 trees without a fault
+    1 of 2 tables and 0 of 0 indexes without a fault
 ";
 
 // After rowid 201 all rows of `customer` and the key above them are out of order; after 200 those that came to `order`. The key of
@@ -102,7 +102,7 @@ T06 page 7 item 0 value 4: key out of order
     5 T06 key out of order
     3 in table customer (root page 2), on 2 of its 3 pages
     2 in table order (root page 5), on 1 of its 3 pages
-    1 of 3 trees without a fault
+    0 of 2 tables and 0 of 0 indexes without a fault
 ";
 
 // The same, of which one is shown.
@@ -116,7 +116,7 @@ more 2
     5 T06 key out of order
     3 in table customer (root page 2), on 2 of its 3 pages
     2 in table order (root page 5), on 1 of its 3 pages
-    1 of 3 trees without a fault
+    0 of 2 tables and 0 of 0 indexes without a fault
 ";
 
 const ROOT_CUT_OFF: &str = "R01 page 0 item 3 value 39: page number out of range
@@ -124,7 +124,7 @@ const ROOT_CUT_OFF: &str = "R01 page 0 item 3 value 39: page number out of range
 1 fault
     1 R01 page number out of range
     1 in index late_a (root page 39), of which no page was reached
-    3 of 4 trees without a fault
+    2 of 2 tables and 0 of 1 index without a fault
 ";
 
 const ENTRY: &str = "M01 page 5 item 5 value 4: pointer map entry differs
@@ -133,7 +133,7 @@ const ENTRY: &str = "M01 page 5 item 5 value 4: pointer map entry differs
 1 fault
     1 M01 pointer map entry differs
     1 in the whole file
-    2 of 2 trees without a fault
+    1 of 1 table and 0 of 0 indexes without a fault
 ";
 
 const COUNT: &str = "H10 page 1 item 0 value 2: freelist count differs from the header
@@ -141,7 +141,7 @@ const COUNT: &str = "H10 page 1 item 0 value 2: freelist count differs from the 
 1 fault
     1 H10 freelist count differs from the header
     1 in the whole file
-    1 of 1 tree without a fault
+    0 of 0 tables and 0 of 0 indexes without a fault
 ";
 
 // The damage, how many entries are shown at most, and the text.

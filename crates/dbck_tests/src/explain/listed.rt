@@ -16,7 +16,7 @@ R01 page 4 item 0 value 80: page number out of range
     5 R01 page number out of range
     4 in table t (root page 2), on 1 of its 2 pages
     1 in table u (root page 4), on 1 of its 2 pages
-    1 of 3 trees without a fault
+    0 of 2 tables and 0 of 0 indexes without a fault
 ";
 
 const THREE_FAR_CHILDREN: &str = "R01 page 2 item 0 value 90: page number out of range
@@ -31,7 +31,7 @@ more 1
     5 R01 page number out of range
     4 in table t (root page 2), on 1 of its 2 pages
     1 in table u (root page 4), on 1 of its 2 pages
-    1 of 3 trees without a fault
+    0 of 2 tables and 0 of 0 indexes without a fault
 ";
 
 // The third is beyond the limit, and so the fourth belongs to none.
@@ -44,7 +44,7 @@ more 3
     5 R01 page number out of range
     4 in table t (root page 2), on 1 of its 2 pages
     1 in table u (root page 4), on 1 of its 2 pages
-    1 of 3 trees without a fault
+    0 of 2 tables and 0 of 0 indexes without a fault
 ";
 
 #[test]
@@ -76,7 +76,7 @@ N01 page 6 item 0 value 0: page is not in use
     3 N01 page is not in use
     2 M01 pointer map entry differs
     5 in the whole file
-    2 of 2 trees without a fault
+    1 of 1 table and 0 of 0 indexes without a fault
 ";
 
 const THREE_LISTED: &str = "M01 page 4 item 5 value 9: pointer map entry differs
@@ -94,7 +94,7 @@ more 1
     3 N01 page is not in use
     2 M01 pointer map entry differs
     5 in the whole file
-    2 of 2 trees without a fault
+    1 of 1 table and 0 of 0 indexes without a fault
 ";
 
 const TWO_LISTED: &str = "M01 page 4 item 5 value 9: pointer map entry differs
@@ -108,7 +108,7 @@ more 3
     3 N01 page is not in use
     2 M01 pointer map entry differs
     5 in the whole file
-    2 of 2 trees without a fault
+    1 of 1 table and 0 of 0 indexes without a fault
 ";
 
 const ONE_LISTED: &str = "M01 page 4 item 5 value 9: pointer map entry differs
@@ -119,7 +119,7 @@ more 4
     3 N01 page is not in use
     2 M01 pointer map entry differs
     5 in the whole file
-    2 of 2 trees without a fault
+    1 of 1 table and 0 of 0 indexes without a fault
 ";
 
 #[test]
@@ -149,7 +149,7 @@ N01 page 3 item 0 value 0: page is not in use
 22 faults
     22 N01 page is not in use
     22 in the whole file
-    1 of 1 tree without a fault
+    0 of 0 tables and 0 of 0 indexes without a fault
 ",
     ],
     // Eleven of zeros.
@@ -166,7 +166,7 @@ N01 page 3 item 0 value 0: page is not in use
 23 faults
     23 N01 page is not in use
     23 in the whole file
-    1 of 1 tree without a fault
+    0 of 0 tables and 0 of 0 indexes without a fault
 ",
     ],
     // Page 25 is zeros: the eleventh run has three pages.
@@ -183,7 +183,7 @@ N01 page 3 item 0 value 0: page is not in use
 26 faults
     26 N01 page is not in use
     26 in the whole file
-    1 of 1 tree without a fault
+    0 of 0 tables and 0 of 0 indexes without a fault
 ",
     ],
 ];
@@ -202,7 +202,7 @@ const HEADERS: [Explained; 4] = [
 1 fault
     1 H06 file is shorter than its stated size
     1 in the whole file
-    1 of 1 tree without a fault
+    0 of 0 tables and 0 of 0 indexes without a fault
 ",
     ],
     [
@@ -213,7 +213,7 @@ const HEADERS: [Explained; 4] = [
 1 fault
     1 H06 file is shorter than its stated size
     1 in the whole file
-    1 of 1 tree without a fault
+    0 of 0 tables and 0 of 0 indexes without a fault
 ",
     ],
     // As many pages as can be stated.
@@ -227,7 +227,7 @@ H07 page 1 item 0 value 1: incremental vacuum without a pointer map
     1 H06 file is shorter than its stated size
     1 H07 incremental vacuum without a pointer map
     2 in the whole file
-    1 of 1 tree without a fault
+    0 of 0 tables and 0 of 0 indexes without a fault
 ",
     ],
     // A fault of the header that has no line below it.
@@ -237,7 +237,7 @@ H07 page 1 item 0 value 1: incremental vacuum without a pointer map
 1 fault
     1 H05 reserved header byte is not zero
     1 in the whole file
-    1 of 1 tree without a fault
+    0 of 0 tables and 0 of 0 indexes without a fault
 ",
     ],
 ];
@@ -264,7 +264,7 @@ N01 page 5 item 0 value 0: page is not in use
      1 N01 page is not in use
     10 in table t (root page 2), on 1 of its 3 pages
      1 in the whole file
-    1 of 2 trees without a fault
+    0 of 1 table and 0 of 0 indexes without a fault
 ",
     ],
     // No page of the freelist was reached.
@@ -286,7 +286,7 @@ N01 page 3 item 0 value 0: page is not in use
     2 N01 page is not in use
     1 in the freelist, of which no page was reached
     3 in the whole file
-    1 of 1 tree without a fault
+    0 of 0 tables and 0 of 0 indexes without a fault
 ",
     ],
     // One was.
@@ -305,7 +305,7 @@ N01 page 3 item 0 value 0: page is not in use
     1 N01 page is not in use
     1 in the freelist, on 1 of its 1 page
     2 in the whole file
-    1 of 1 tree without a fault
+    0 of 0 tables and 0 of 0 indexes without a fault
 ",
     ],
     // Two rows name one root: the second tree has a fault and no page, and the page of the first is no page of the second.
@@ -317,7 +317,7 @@ N01 page 3 item 0 value 0: page is not in use
 1 fault
     1 R03 page is already in use
     1 in table t (root page 2), of which no page was reached
-    2 of 3 trees without a fault
+    1 of 2 tables and 0 of 0 indexes without a fault
 ",
     ],
     // Two faults of a page count as one page.
@@ -331,7 +331,7 @@ P08 page 2 item 1 value 500: overlapping bytes
     1 P04 more than 60 fragmented bytes
     1 P08 overlapping bytes
     2 in table t (root page 2), on 1 of its 1 page
-    1 of 2 trees without a fault
+    0 of 1 table and 0 of 0 indexes without a fault
 ",
     ],
 ];

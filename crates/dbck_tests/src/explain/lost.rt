@@ -23,7 +23,7 @@ N01 page 6 item 0 value 0: page is not in use
 5 faults
     5 N01 page is not in use
     5 in the whole file
-    1 of 1 tree without a fault
+    0 of 0 tables and 0 of 0 indexes without a fault
 ",
     ],
     // Each of the six looks twice.
@@ -56,7 +56,7 @@ N01 page 7 item 0 value 0: page is not in use
 12 faults
     12 N01 page is not in use
     12 in the whole file
-    1 of 1 tree without a fault
+    0 of 0 tables and 0 of 0 indexes without a fault
 ",
     ],
     // Rowids of nine bytes.
@@ -69,7 +69,7 @@ N01 page 7 item 0 value 0: page is not in use
 2 faults
     2 N01 page is not in use
     2 in the whole file
-    1 of 1 tree without a fault
+    0 of 0 tables and 0 of 0 indexes without a fault
 ",
     ],
     // The last cell begins three bytes before the end, and so cannot be read.
@@ -82,7 +82,7 @@ N01 page 7 item 0 value 0: page is not in use
 2 faults
     2 N01 page is not in use
     2 in the whole file
-    1 of 1 tree without a fault
+    0 of 0 tables and 0 of 0 indexes without a fault
 ",
     ],
     // A leaf of a table without cells has no rowids.
@@ -95,7 +95,7 @@ N01 page 7 item 0 value 0: page is not in use
 2 faults
     2 N01 page is not in use
     2 in the whole file
-    1 of 1 tree without a fault
+    0 of 0 tables and 0 of 0 indexes without a fault
 ",
     ],
     // The last 32 bytes of a page are in no use. On page 2 the first of them is not 0, and on page 3 the last byte before them.
@@ -110,7 +110,7 @@ N01 page 3 item 0 value 0: page is not in use
 2 faults
     2 N01 page is not in use
     2 in the whole file
-    1 of 1 tree without a fault
+    0 of 0 tables and 0 of 0 indexes without a fault
 ",
     ],
     // The end of the pointers is the content start, and on page 3 one byte after it.
@@ -125,7 +125,7 @@ N01 page 3 item 0 value 0: page is not in use
 2 faults
     2 N01 page is not in use
     2 in the whole file
-    1 of 1 tree without a fault
+    0 of 0 tables and 0 of 0 indexes without a fault
 ",
     ],
     // Page 105 is a pointer map, and the pages beside it are in no use.
@@ -138,7 +138,7 @@ N01 page 3 item 0 value 0: page is not in use
 105 faults
     105 N01 page is not in use
     105 in the whole file
-    1 of 1 tree without a fault
+    0 of 0 tables and 0 of 0 indexes without a fault
 ",
     ],
 ];

@@ -17,4 +17,6 @@ loop-count-preserved g c =
     c.put_code_sum.ensures (next_code c.args.all counts i _ c.loop-count-test.true)
 
 pub returns : goal.returns
-returns g c = written_all c.loop-count.invariant (ap (flat_map (code_sum c.args.all)) (drop_all c.loop-count.count-index c.args.counts.now (omega (arith, c.loop-count-test.false))))
+returns g c =
+    written_all c.loop-count.invariant
+    (ap (flat_map (code_sum c.args.all)) (drop_all c.loop-count.count-index c.args.counts.now (omega (arith, c.loop-count-test.false))))
