@@ -45,7 +45,7 @@ module _ {A O : Type 0} (file : List ℕ) (V : List Reference) (survey : Survey 
     (empty : HearsNone (geometry file).pages s.kept.now) where
   -- all of a run was heard, and nothing before it: its faults were counted, and these are kept
   module _ (heard : Moves Hears s (run_notices file V) t) where
-    all : HasNotedFaults (told_faults file V) s t
+    all : HasNotedFaults (geometry file).pages (told_faults file V) s t
     all = all_heard file V survey s t none empty heard
 
     as_many : length (told_faults file V) ≡ length (faults file V)
@@ -67,8 +67,7 @@ module _ {A O : Type 0} (file : List ℕ) (V : List Reference) (survey : Survey 
     pub map_keeps : (l : Stored) → ListsAll 100 file V l → HasFaults file V (record t.kept.now { listing = l })
     map_keeps l listed = record {
       room = subst (λ (w : DrawState A). HasTreeRoom (geometry file).pages w.trees.known) (sym all.state) empty.room;
-      notes = subst (λ (fs : List (ℕ × FaultCode)). AreNoted fs [] t.kept.now.notes) (coded_told (told_faults file V) ∙ ap (map coded) (all_told file V)) all.notes;
-      pages = record { pages = all.room.pages ∙ empty.pages.pages; run = all.room.run ∙ empty.pages.run; squares = all.room.squares ∙ empty.pages.squares };
+      notes = subst (λ (fs : List (ℕ × FaultCode)). AreNoted (geometry file).pages fs [] t.kept.now.notes) (coded_told (told_faults file V) ∙ ap (map coded) (all_told file V)) all.notes;
       listing = listed;
     }
 

@@ -1,7 +1,7 @@
 -- The bits of squares and of pages, as faults are noted.
-use Rattle.std.proofs.Common.{◌≡◌, ◌≢◌, ℕ, ◌+◌, ◌-◌, ◌*◌, ◌/◌, ◌%◌, ◌^◌, ◌<◌, ◌≤◌, ◌||◌, ◌&&◌, ◌⊎◌, inl, inr, Bool, true, false, max, List, [], ◌∷◌, ◌++◌, length, get_or, refl, sym, ap, ap₂, ◌∙◌, arith}
+use Rattle.std.proofs.Common.{◌≡◌, ◌≢◌, ℕ, ◌+◌, ◌*◌, ◌/◌, ◌%◌, ◌^◌, ◌<◌, ◌≤◌, ◌||◌, ◌&&◌, ◌⊎◌, inl, inr, Bool, true, false, List, [], ◌∷◌, ◌++◌, length, get_or, refl, sym, ap, ap₂, ◌∙◌, arith}
 use Rattle.std.specs.Prelude.{nat_le, ◌==◌}
-use Rattle.std.specs.Int.{bit_at, w64}
+use Rattle.std.specs.Int.{bit_at, div_ceil, w64}
 use Rattle.std.specs.Int.RustNames.{bit_or}
 use Rattle.std.specs.List.{list_any}
 use Rattle.std.proofs.Math.Bool.{and-false, and-true, or-false}
@@ -16,8 +16,8 @@ use Rattle.dbformat.specs.Codes.{all_codes, code_index}
 use Rattle.dbformat.proofs.CodeTables.{listed}
 use Rattle.dbformat.specs.declared.FaultCode.{FaultCode}
 use Rattle.dbmap.specs.Bits.{bit_set, has_bit}
-use Rattle.dbmap.specs.FaultNotes.{AreNoted, HasSameRoom}
-use Rattle.dbmap.specs.Grids.{is_of_square}
+use Rattle.dbmap.specs.FaultNotes.{AreNoted}
+use Rattle.dbmap.specs.Grids.{is_of_square, run_for, square_of}
 use Rattle.dbmap.specs.declared.bits.Bits.{Bits}
 use Rattle.dbmap.specs.declared.fault_notes.FaultNotes.{FaultNotes}
 
@@ -103,17 +103,17 @@ same_any : {X : Type 0} (t : X → Bool) (xs : List X) (x : X) → t x ≡ false
 same_any t xs x e = sym (or-false (list_any t xs)) ∙ ap (λ b. list_any t xs || b) (sym e) ∙ any_push t xs x
 
 -- a page that there is, is of its own square
-own_square : (pages run index p : ℕ) → 1 ≤ p → p ≤ pages → is_of_square pages run index p ≡ ((p - 1) / max run 1 == index)
-own_square pages run index p l m =
+own_square : (pages index p : ℕ) → 1 ≤ p → p ≤ pages → (square_of (run_for pages) p == index) ≡ is_of_square pages index p
+own_square pages index p l m =
     let a : nat_le 1 p ≡ true = grind (arith, nat_tests) in
     let b : nat_le p pages ≡ true = grind (arith, nat_tests) in
-    ap₂ (λ x y. x && y && ((p - 1) / max run 1 == index)) a b
+    sym (ap₂ (λ x y. x && y && (square_of (run_for pages) p == index)) a b)
 
 -- and no other page is of any
-pub no_square : (pages run index p : ℕ) → (1 ≤ p → p ≤ pages → ⊥) → is_of_square pages run index p ≡ false
-no_square pages run index p d = by_case (nat_le 1 p) refl (nat_le p pages) refl
+pub no_square : (pages index p : ℕ) → (1 ≤ p → p ≤ pages → ⊥) → is_of_square pages index p ≡ false
+no_square pages index p d = by_case (nat_le 1 p) refl (nat_le p pages) refl
   where
-    by_case : (x : Bool) → nat_le 1 p ≡ x → (y : Bool) → nat_le p pages ≡ y → (x && y && ((p - 1) / max run 1 == index)) ≡ false
+    by_case : (x : Bool) → nat_le 1 p ≡ x → (y : Bool) → nat_le p pages ≡ y → (x && y && (square_of (run_for pages) p == index)) ≡ false
     by_case true e true f =
         let l : 1 ≤ p = grind (arith, nat_tests) in
         let m : p ≤ pages = grind (arith, nat_tests) in
@@ -157,41 +157,47 @@ few_codes code = let l = slice_get_within all_codes (code_index code) code (list
 
 -- ---- faults and frames that are noted
 
-module _ {A : Type 0} (n : FaultNotes A) (p : ℕ) (fs : List (ℕ × FaultCode)) (framed : List ℕ) (are : AreNoted fs framed n) where
+module _ {A : Type 0} (count : ℕ) (n : FaultNotes A) (p : ℕ) (fs : List (ℕ × FaultCode)) (framed : List ℕ) (are : AreNoted count fs framed n) where
   abbrev square : ℕ
-  square = (p - 1) / max n.run 1
+  square = square_of (run_for count) p
 
   -- a page that there is not
-  module _ (none : 1 ≤ p → p ≤ n.pages → ⊥) where
-    other : (q : ℕ) → 1 ≤ q → q ≤ n.pages → (p == q) ≡ false
+  module _ (none : 1 ≤ p → p ≤ count → ⊥) where
+    other : (q : ℕ) → 1 ≤ q → q ≤ count → (p == q) ≡ false
     other q l m = unequal p q (λ e. none (omega (arith, e, l)) (omega (arith, e, m)))
 
-    pub not_noted : (code : FaultCode) → AreNoted (fs ++ (p, code) ∷ []) framed n
+    pub not_noted : (code : FaultCode) → AreNoted count (fs ++ (p, code) ∷ []) framed n
     not_noted code = record {
-      room = are.room;
+      pages = are.pages;
+      run = are.run;
+      squares = are.squares;
+      marked = are.marked;
       codes = λ index k l. are.codes index k l
-          ∙ same_any (λ f. is_of_square n.pages n.run index f.0 && (code_index f.1 == code_index k)) fs (p, code)
-          (ap (λ b. b && (code_index code == code_index k)) (no_square n.pages n.run index p none));
-      any = λ index l. are.any index l ∙ same_any (λ f. is_of_square n.pages n.run index f.0) fs (p, code) (no_square n.pages n.run index p none);
+          ∙ same_any (λ f. is_of_square count index f.0 && (code_index f.1 == code_index k)) fs (p, code)
+          (ap (λ b. b && (code_index code == code_index k)) (no_square count index p none));
+      any = λ index l. are.any index l ∙ same_any (λ f. is_of_square count index f.0) fs (p, code) (no_square count index p none);
       strong = are.strong;
       faulty = λ q l m. are.faulty q l m ∙ same_any (λ f. f.0 == q) fs (p, code) (other q l m);
       framed = are.framed;
     }
 
-    pub not_framed : AreNoted fs (framed ++ p ∷ []) n
+    pub not_framed : AreNoted count fs (framed ++ p ∷ []) n
     not_framed = record {
-      room = are.room;
+      pages = are.pages;
+      run = are.run;
+      squares = are.squares;
+      marked = are.marked;
       codes = are.codes;
       any = are.any;
-      strong = λ index l. are.strong index l ∙ same_any (is_of_square n.pages n.run index) framed p (no_square n.pages n.run index p none);
+      strong = λ index l. are.strong index l ∙ same_any (is_of_square count index) framed p (no_square count index p none);
       faulty = are.faulty;
       framed = λ q l m. are.framed q l m ∙ same_any (λ r. r == q) framed p (other q l m);
     }
 
   -- a page that there is
-  module _ (first : 1 ≤ p) (last : p ≤ n.pages) (squares marked : Bits A) where
-    of_own : (index : ℕ) → (square == index) ≡ is_of_square n.pages n.run index p
-    of_own index = sym (own_square n.pages n.run index p first last)
+  module _ (first : 1 ≤ p) (last : p ≤ count) (squares marked : Bits A) where
+    of_own : (index : ℕ) → (square == index) ≡ is_of_square count index p
+    of_own index = own_square count index p first last
 
     abbrev words : List ℕ
     words = n.squares.words.items
@@ -199,72 +205,81 @@ module _ {A : Type 0} (n : FaultNotes A) (p : ℕ) (fs : List (ℕ × FaultCode)
     abbrev marks : List ℕ
     marks = n.marked.words.items
 
-    in_marks : (q b : ℕ) → q ≤ n.pages → b ≤ 1 → q * 2 + b < 64 * length marks
-    in_marks q b l m = let room = are.room in omega (arith, l, m, room)
+    in_marks : (q b : ℕ) → q ≤ count → b ≤ 1 → q * 2 + b < 64 * length marks
+    in_marks q b l m = let room = are.marked in omega (arith, l, m, room)
 
     has_marked : {x y : List ℕ} (q : ℕ) → x ≡ y → has_bit x q ≡ has_bit y q
     has_marked q e = ap (λ (l : List ℕ). has_bit l q) e
 
     pub noted : (code : FaultCode) → squares.words.items ≡ bit_set (square * 64 + 62) (bit_set (square * 64 + code_index code) words)
-        → marked.words.items ≡ bit_set (p * 2) marks → AreNoted (fs ++ (p, code) ∷ []) framed (record n { squares = squares; marked = marked })
+        → marked.words.items ≡ bit_set (p * 2) marks → AreNoted count (fs ++ (p, code) ∷ []) framed (record n { squares = squares; marked = marked })
     noted code e h =
         let many : length squares.words.items ≡ length words = ap length e ∙ length-set (bit_set (square * 64 + code_index code) words) _ _ ∙ length-set words _ _ in
-        let bit = λ (index b : ℕ) (l : index < length squares.words.items) (k : b < 64).
+        let bit = λ (index b : ℕ) (l : index < div_ceil count (run_for count)) (k : b < 64).
         (let is : has_bit squares.words.items (index * 64 + b) ≡ (has_bit words (index * 64 + b) || ((square == index) && ((code_index code == b) || (62 == b)))) =
-        ap (λ (w : List ℕ). has_bit w (index * 64 + b)) e ∙ two_bits words square index (code_index code) 62 b (omega (arith, l, many)) (omega (arith, few_codes code)) (omega arith) k in is) in
+        ap (λ (w : List ℕ). has_bit w (index * 64 + b)) e ∙ two_bits words square index (code_index code) 62 b (omega (arith, l, are.squares)) (omega (arith, few_codes code)) (omega arith) k in is) in
         let low = few_codes code in record {
-          room = ap length h ∙ length-set marks _ _ ∙ are.room;
+          pages = are.pages;
+          run = are.run;
+          squares = many ∙ are.squares;
+          marked = ap length h ∙ length-set marks _ _ ∙ are.marked;
           codes = λ index k l. bit index (code_index k) l (omega (arith, few_codes k))
               ∙ ap₂ (λ x y. has_bit words (index * 64 + code_index k) || (x && ((code_index code == code_index k) || y))) (of_own index)
               (unequal 62 (code_index k) (λ f. (let m = few_codes k in let no : ⊥ = omega (arith, f, m) in no)))
-              ∙ ap₂ (λ x y. x || (is_of_square n.pages n.run index p && y)) (are.codes index k (omega (arith, l, many))) (or-false (code_index code == code_index k))
-              ∙ any_push (λ f. is_of_square n.pages n.run index f.0 && (code_index f.1 == code_index k)) fs (p, code);
+              ∙ ap₂ (λ x y. x || (is_of_square count index p && y)) (are.codes index k l) (or-false (code_index code == code_index k))
+              ∙ any_push (λ f. is_of_square count index f.0 && (code_index f.1 == code_index k)) fs (p, code);
           any = λ index l. bit index 62 l (omega arith)
               ∙ ap₂ (λ x y. has_bit words (index * 64 + 62) || (x && (y || true))) (of_own index) (unequal (code_index code) 62 (λ f. (let no : ⊥ = omega (arith, f, low) in no)))
-              ∙ ap₂ (λ x y. x || y) (are.any index (omega (arith, l, many))) (and-true (is_of_square n.pages n.run index p))
-              ∙ any_push (λ f. is_of_square n.pages n.run index f.0) fs (p, code);
+              ∙ ap₂ (λ x y. x || y) (are.any index l) (and-true (is_of_square count index p))
+              ∙ any_push (λ f. is_of_square count index f.0) fs (p, code);
           strong = λ index l. bit index 63 l (omega arith)
               ∙ ap (λ y. has_bit words (index * 64 + 63) || ((square == index) && (y || false))) (unequal (code_index code) 63 (λ f. (let no : ⊥ = omega (arith, f, low) in no)))
-              ∙ ap (λ y. has_bit words (index * 64 + 63) || y) (and-false (square == index)) ∙ or-false (has_bit words (index * 64 + 63)) ∙ are.strong index (omega (arith, l, many));
-          faulty = λ q l m. has_marked (q * 2) h ∙ set_is marks (p * 2) (q * 2) (let room = are.room in omega (arith, m, room))
+              ∙ ap (λ y. has_bit words (index * 64 + 63) || y) (and-false (square == index)) ∙ or-false (has_bit words (index * 64 + 63)) ∙ are.strong index l;
+          faulty = λ q l m. has_marked (q * 2) h ∙ set_is marks (p * 2) (q * 2) (let room = are.marked in omega (arith, m, room))
               ∙ ap₂ (λ x y. x || y) (are.faulty q l m) (same_test (p * 2) (q * 2) p q (λ f. omega (arith, f)) (λ f. omega (arith, f))) ∙ any_push (λ f. f.0 == q) fs (p, code);
           framed = λ q l m. has_marked (q * 2 + 1) h ∙ set_is marks (p * 2) (q * 2 + 1) (in_marks q 1 m (omega arith))
               ∙ ap (λ x. has_bit marks (q * 2 + 1) || x) (unequal (p * 2) (q * 2 + 1) (λ f. (let no : ⊥ = omega (arith, f) in no))) ∙ or-false (has_bit marks (q * 2 + 1)) ∙ are.framed q l m;
         }
 
     pub framed_more : squares.words.items ≡ bit_set (square * 64 + 63) words → marked.words.items ≡ bit_set (p * 2 + 1) marks
-        → AreNoted fs (framed ++ p ∷ []) (record n { squares = squares; marked = marked })
+        → AreNoted count fs (framed ++ p ∷ []) (record n { squares = squares; marked = marked })
     framed_more e h =
         let many : length squares.words.items ≡ length words = ap length e ∙ length-set words _ _ in
-        let bit = λ (index b : ℕ) (l : index < length squares.words.items) (k : b < 64).
+        let bit = λ (index b : ℕ) (l : index < div_ceil count (run_for count)) (k : b < 64).
         (let is : has_bit squares.words.items (index * 64 + b) ≡ (has_bit words (index * 64 + b) || ((square == index) && (63 == b))) =
-        ap (λ (w : List ℕ). has_bit w (index * 64 + b)) e ∙ one_bit words square index 63 b (omega (arith, l, many)) (omega arith) k in is) in
+        ap (λ (w : List ℕ). has_bit w (index * 64 + b)) e ∙ one_bit words square index 63 b (omega (arith, l, are.squares)) (omega arith) k in is) in
         let still = λ (index b : ℕ) (f : (63 == b) ≡ false).
         (let is : (has_bit words (index * 64 + b) || ((square == index) && (63 == b))) ≡ has_bit words (index * 64 + b) =
         ap (λ y. has_bit words (index * 64 + b) || ((square == index) && y)) f ∙ ap (λ y. has_bit words (index * 64 + b) || y) (and-false (square == index))
         ∙ or-false (has_bit words (index * 64 + b)) in is) in record {
-          room = ap length h ∙ length-set marks _ _ ∙ are.room;
+          pages = are.pages;
+          run = are.run;
+          squares = many ∙ are.squares;
+          marked = ap length h ∙ length-set marks _ _ ∙ are.marked;
           codes = λ index k l. bit index (code_index k) l (omega (arith, few_codes k))
-              ∙ still index (code_index k) (unequal 63 (code_index k) (λ f. (let m = few_codes k in let no : ⊥ = omega (arith, f, m) in no))) ∙ are.codes index k (omega (arith, l, many));
-          any = λ index l. bit index 62 l (omega arith) ∙ still index 62 refl ∙ are.any index (omega (arith, l, many));
+              ∙ still index (code_index k) (unequal 63 (code_index k) (λ f. (let m = few_codes k in let no : ⊥ = omega (arith, f, m) in no))) ∙ are.codes index k l;
+          any = λ index l. bit index 62 l (omega arith) ∙ still index 62 refl ∙ are.any index l;
           strong = λ index l. bit index 63 l (omega arith) ∙ ap (λ x. has_bit words (index * 64 + 63) || (x && true)) (of_own index)
-              ∙ ap₂ (λ x y. x || y) (are.strong index (omega (arith, l, many))) (and-true (is_of_square n.pages n.run index p)) ∙ any_push (is_of_square n.pages n.run index) framed p;
-          faulty = λ q l m. has_marked (q * 2) h ∙ set_is marks (p * 2 + 1) (q * 2) (let room = are.room in omega (arith, m, room))
+              ∙ ap₂ (λ x y. x || y) (are.strong index l) (and-true (is_of_square count index p)) ∙ any_push (is_of_square count index) framed p;
+          faulty = λ q l m. has_marked (q * 2) h ∙ set_is marks (p * 2 + 1) (q * 2) (let room = are.marked in omega (arith, m, room))
               ∙ ap (λ x. has_bit marks (q * 2) || x) (unequal (p * 2 + 1) (q * 2) (λ f. (let no : ⊥ = omega (arith, f) in no))) ∙ or-false (has_bit marks (q * 2)) ∙ are.faulty q l m;
           framed = λ q l m. has_marked (q * 2 + 1) h ∙ set_is marks (p * 2 + 1) (q * 2 + 1) (in_marks q 1 m (omega arith))
               ∙ ap₂ (λ x y. x || y) (are.framed q l m) (same_test (p * 2 + 1) (q * 2 + 1) p q (λ f. omega (arith, f)) (λ f. omega (arith, f))) ∙ any_push (λ r. r == q) framed p;
         }
 
 -- nothing is noted
-pub none_noted : {A : Type 0} (n : FaultNotes A) (squares marked : ℕ) → n.squares.words.items ≡ replicate {A = ℕ} squares 0 → n.marked.words.items ≡ replicate {A = ℕ} marked 0 → marked ≡ n.pages / 32 + 1
-    → AreNoted [] [] n
-none_noted n squares marked e h room = record {
-  room = ap length h ∙ length-replicate {A = ℕ} marked 0 ∙ room;
-  codes = λ index k l. zeros n.squares.words.items squares e (index * 64 + code_index k);
-  any = λ index l. zeros n.squares.words.items squares e (index * 64 + 62);
-  strong = λ index l. zeros n.squares.words.items squares e (index * 64 + 63);
-  faulty = λ p l m. zeros n.marked.words.items marked h (p * 2);
-  framed = λ p l m. zeros n.marked.words.items marked h (p * 2 + 1);
+pub none_noted : {A : Type 0} (count : ℕ) (n : FaultNotes A) → n.pages ≡ count → n.run ≡ run_for count → n.squares.words.items ≡ replicate {A = ℕ} (div_ceil count (run_for count)) 0
+    → n.marked.words.items ≡ replicate {A = ℕ} (count / 32 + 1) 0 → AreNoted count [] [] n
+none_noted count n pages run e h = record {
+  pages = pages;
+  run = run;
+  squares = ap length e ∙ length-replicate {A = ℕ} (div_ceil count (run_for count)) 0;
+  marked = ap length h ∙ length-replicate {A = ℕ} (count / 32 + 1) 0;
+  codes = λ index k l. zeros n.squares.words.items (div_ceil count (run_for count)) e (index * 64 + code_index k);
+  any = λ index l. zeros n.squares.words.items (div_ceil count (run_for count)) e (index * 64 + 62);
+  strong = λ index l. zeros n.squares.words.items (div_ceil count (run_for count)) e (index * 64 + 63);
+  faulty = λ p l m. zeros n.marked.words.items (count / 32 + 1) h (p * 2);
+  framed = λ p l m. zeros n.marked.words.items (count / 32 + 1) h (p * 2 + 1);
 }
   where
     zero_at : (m i : ℕ) → get_or {A = ℕ} (replicate m 0) i 0 ≡ 0
@@ -275,7 +290,3 @@ none_noted n squares marked e h room = record {
 
     zeros : (ws : List ℕ) (many : ℕ) → ws ≡ replicate {A = ℕ} many 0 → (b : ℕ) → has_bit ws b ≡ false
     zeros ws many e b = ap (λ (w : List ℕ). has_bit w b) e ∙ ap (λ x. bit_at x (b % 64) == 1) (zero_at many (b / 64)) ∙ ap (λ x. x == 1) (bit_at-zero (b % 64))
-
--- the room stays
-pub same_then : {A : Type 0} {l m n : FaultNotes A} → HasSameRoom l m → HasSameRoom m n → HasSameRoom l n
-same_then h k = record { pages = k.pages ∙ h.pages; run = k.run ∙ h.run; squares = k.squares ∙ h.squares }

@@ -14,7 +14,7 @@ use Rattle.dbentries.specs.Lists.{HasListed}
 use Rattle.dbentries.specs.Store.{Stored}
 use Rattle.dbentries.proofs.Heard.{file_begun, file_heard}
 use Rattle.dbentries.proofs.ListedFaults.{one_listed}
-use Rattle.dbmap.specs.FaultNotes.{AreNoted, HasSameRoom}
+use Rattle.dbmap.specs.FaultNotes.{AreNoted}
 use Rattle.dbmap.specs.Faults.{coded}
 use Rattle.dbmap.specs.KeptFaults.{HearsNone}
 use Rattle.dbmap.specs.MapReporter.{Adds, Hears}
@@ -30,10 +30,9 @@ told_more (t ∷ ts) x = ap (λ l. coded t.fault ∷ l) (told_more ts x)
 
 module _ {A O : Type 0} where
   -- These faults were counted, noted and listed; nothing else changed.
-  pub record HasNotedFaults (ts : List Reported) (first now : MapReporter A O) : Type 0 where
+  pub record HasNotedFaults (pages : ℕ) (ts : List Reported) (first now : MapReporter A O) : Type 0 where
     pub count : now.faults ≡ counted (length ts)
-    pub notes : AreNoted (codes_told ts) [] now.kept.now.notes
-    pub room : HasSameRoom first.kept.now.notes now.kept.now.notes
+    pub notes : AreNoted pages (codes_told ts) [] now.kept.now.notes
     pub listing : HasListed 100 ts now.kept.now.listing
     pub state : now.kept.now.state ≡ first.kept.now.state
     pub out : now.out.now ≡ first.out.now
@@ -41,12 +40,11 @@ module _ {A O : Type 0} where
   abbrev listing : MapReporter A O → Stored
   listing s = s.kept.now.listing
 
-  one_heard : (first : MapReporter A O) (x : Reported) (ts : List Reported) (s t : MapReporter A O) → (listing s).part ≤ rank x.part → HasNotedFaults ts first s → Adds x s t
-      → HasNotedFaults (ts ++ x ∷ []) first t
-  one_heard first x ts s t most h a = record {
+  one_heard : (pages : ℕ) (first : MapReporter A O) (x : Reported) (ts : List Reported) (s t : MapReporter A O) → (listing s).part ≤ rank x.part
+      → HasNotedFaults pages ts first s → Adds x s t → HasNotedFaults pages (ts ++ x ∷ []) first t
+  one_heard pages first x ts s t most h a = record {
     count = let e = a.count in let n = h.count in let l = length-append ts (x ∷ []) in omega (arith, e, n, l);
-    notes = subst (λ (l : List (ℕ × FaultCode)). AreNoted l [] t.kept.now.notes) (told_more ts x) (a.kept.notes (codes_told ts) [] h.notes);
-    room = record { pages = a.kept.room.pages ∙ h.room.pages; run = a.kept.room.run ∙ h.room.run; squares = a.kept.room.squares ∙ h.room.squares };
+    notes = subst (λ (l : List (ℕ × FaultCode)). AreNoted pages l [] t.kept.now.notes) (told_more ts x) (a.kept.notes pages (codes_told ts) [] h.notes);
     listing = one_listed 100 ts x (listing s) (listing t) most h.listing a.kept.listing;
     state = a.kept.state ∙ h.state;
     out = a.out ∙ h.out;
@@ -54,13 +52,13 @@ module _ {A O : Type 0} where
 
 module _ {A O : Type 0} (file : List ℕ) (V : List Reference) (survey : Survey file V) (first now : MapReporter A O)
     (none : first.faults ≡ 0) (empty : HearsNone (geometry file).pages first.kept.now) where
-  nothing_noted : HasNotedFaults [] first first
-  nothing_noted = record { count = none; notes = empty.notes; room = record { pages = refl; run = refl; squares = refl }; listing = empty.listing.none; state = refl; out = refl }
+  nothing_noted : HasNotedFaults (geometry file).pages [] first first
+  nothing_noted = record { count = none; notes = empty.notes; listing = empty.listing.none; state = refl; out = refl }
 
   -- all of it
-  pub all_heard : Moves Hears first (run_notices file V) now → HasNotedFaults (told_faults file V) first now
-  all_heard m = file_heard Adds listing (λ x s t a. a.kept.listing) (λ ts s. HasNotedFaults ts first s) (one_heard first) file V survey first now empty.listing.part nothing_noted m
+  pub all_heard : Moves Hears first (run_notices file V) now → HasNotedFaults (geometry file).pages (told_faults file V) first now
+  all_heard m = file_heard Adds listing (λ x s t a. a.kept.listing) (λ ts s. HasNotedFaults (geometry file).pages ts first s) (one_heard (geometry file).pages first) file V survey first now empty.listing.part nothing_noted m
 
   -- nothing is put, where only some of it was heard
   pub some_untouched : MovesBySome Hears first (run_notices file V) now → now.out.now ≡ first.out.now
-  some_untouched m = (file_begun Adds listing (λ x s t a. a.kept.listing) (λ ts s. HasNotedFaults ts first s) (one_heard first) file V survey first now empty.listing.part nothing_noted m).2.out
+  some_untouched m = (file_begun Adds listing (λ x s t a. a.kept.listing) (λ ts s. HasNotedFaults (geometry file).pages ts first s) (one_heard (geometry file).pages first) file V survey first now empty.listing.part nothing_noted m).2.out

@@ -1,7 +1,7 @@
 -- The picture of the file that a desk is of.
-use Rattle.std.proofs.Common.{◌≡◌, ℕ, zero, suc, ◌+◌, ◌-◌, ◌*◌, ◌/◌, ◌%◌, ◌<◌, ◌≤◌, ◌⊎◌, inl, inr, max, Bool, true, false, cond, not, ◌&&◌, ◌||◌, List, [], ◌∷◌, length, get_or, count_by, refl, sym, ap, ap₂, subst, ◌∙◌, arith}
+use Rattle.std.proofs.Common.{◌≡◌, ℕ, zero, suc, ◌+◌, ◌*◌, ◌/◌, ◌%◌, ◌<◌, ◌≤◌, ◌⊎◌, inl, inr, Bool, true, false, cond, not, ◌&&◌, ◌||◌, List, [], ◌∷◌, get_or, count_by, refl, sym, ap, ap₂, subst, ◌∙◌, arith}
 use Rattle.std.specs.Prelude.{◌==◌}
-use Rattle.std.specs.Int.{bit_at}
+use Rattle.std.specs.Int.{bit_at, div_ceil}
 use Rattle.std.specs.List.{list_any, range_with_len}
 use Rattle.std.proofs.Math.ListN.{get_or-eq_default}
 use Rattle.std.proofs.lemmas.Nat.Bits.{bit_at-zero}
@@ -19,9 +19,9 @@ use Rattle.dbowner.specs.Texts.{tree_of_row, tree_text}
 use Rattle.dbscan.specs.Notices.{Notice}
 use Rattle.dbscan.specs.Roots.{AreListed}
 use Rattle.dbmap.specs.Bits.{has_bit}
-use Rattle.dbmap.specs.FaultNotes.{AreNoted, IsOfPages, is_marked_faulty, is_marked_framed}
+use Rattle.dbmap.specs.FaultNotes.{AreNoted, is_marked_faulty, is_marked_framed}
 use Rattle.dbmap.specs.Faults.{coded_faults, framed_pages, is_faulty, is_strong, is_weak, shown, square_faults, strong_pages, weak_pages}
-use Rattle.dbmap.specs.Grids.{is_of_square, run_for}
+use Rattle.dbmap.specs.Grids.{is_of_square, run_for, square_of}
 use Rattle.dbmap.specs.MapReporter.{Hears}
 use Rattle.dbmap.specs.declared.fault_notes.FaultNotes.{FaultNotes}
 use Rattle.dbmap.specs.declared.map_reporter.MapReporter.{MapReporter}
@@ -45,18 +45,15 @@ any_none : {X : Type 0} (t : X → Bool) (xs : List X) → ((x : X) → t x ≡ 
 any_none t [] h = refl
 any_none t (x ∷ xs) h = any_none t xs h ∙ sym (ap (λ b. b || list_any t xs) (h x))
 
-module _ {A : Type 0} (file : List ℕ) (V : List Reference) (n : FaultNotes A) (are : AreNoted (coded_faults file V) (framed_pages file V) n) (of : IsOfPages (geometry file).pages n) where
+module _ {A : Type 0} (file : List ℕ) (V : List Reference) (n : FaultNotes A) (are : AreNoted (geometry file).pages (coded_faults file V) (framed_pages file V) n) where
   abbrev pages : ℕ
   pages = (geometry file).pages
 
   abbrev words : List ℕ
   words = n.squares.words.items
 
-  square_is : (index p : ℕ) → is_of_square n.pages n.run index p ≡ is_of_square pages (run_for pages) index p
-  square_is index p = ap₂ (λ m r. is_of_square m r index p) of.pages of.run
-
   module _ (index : ℕ) where
-    module _ (here : index < length words) where
+    module _ (here : index < div_ceil pages (run_for pages)) where
       bit : (b : ℕ) → b < 64 → (bit_at (get_or words index 0) b == 1) ≡ has_bit words (index * 64 + b)
       bit b l =
           let i : index ≡ (index * 64 + b) / 64 = omega arith in
@@ -65,19 +62,18 @@ module _ {A : Type 0} (file : List ℕ) (V : List Reference) (n : FaultNotes A) 
 
       shown_here : shown (get_or words index 0) ≡ square_faults file V index
       shown_here = λ i. record {
-        has = λ code. (bit (code_index code) (let l = few_codes code in omega (arith, l)) ∙ are.codes index code here
-            ∙ ap (λ (is : ℕ → Bool). list_any (λ f. is f.0 && (code_index f.1 == code_index code)) (coded_faults file V)) (λ j p. square_is index p j)) i;
-        any = (bit 62 (omega arith) ∙ are.any index here ∙ ap (λ (is : ℕ → Bool). list_any (λ f. is f.0) (coded_faults file V)) (λ j p. square_is index p j)) i;
-        strong = (bit 63 (omega arith) ∙ are.strong index here ∙ ap (λ (is : ℕ → Bool). list_any is (framed_pages file V)) (λ j p. square_is index p j)) i;
+        has = λ code. (bit (code_index code) (let l = few_codes code in omega (arith, l)) ∙ are.codes index code here) i;
+        any = (bit 62 (omega arith) ∙ are.any index here) i;
+        strong = (bit 63 (omega arith) ∙ are.strong index here) i;
       }
 
-    module _ (past : length words ≤ index) where
-      none : (p : ℕ) → is_of_square pages (run_for pages) index p ≡ false
+    module _ (past : div_ceil pages (run_for pages) ≤ index) where
+      none : (p : ℕ) → is_of_square pages index p ≡ false
       none p = elim (in_file 1 p pages) [
-        | inl l ↦ (let w = square_within pages p l.0 l.1 in let m = of.squares in
-            let d : ((p - 1) / max (run_for pages) 1 == index) ≡ false = unequal _ _ (λ e. (let no : ⊥ = omega (arith, e, w, m, past) in no)) in
+        | inl l ↦ (let w = square_within pages p l.0 l.1 in
+            let d : (square_of (run_for pages) p == index) ≡ false = unequal _ _ (λ e. (let no : ⊥ = omega (arith, e, w, past) in no)) in
             last_false _ _ d)
-        | inr beyond ↦ no_square pages (run_for pages) index p beyond
+        | inr beyond ↦ no_square pages index p beyond
       ]
         where
           in_file : (a p b : ℕ) → ((a ≤ p) × (p ≤ b)) ⊎ (a ≤ p → p ≤ b → ⊥)
@@ -94,18 +90,18 @@ module _ {A : Type 0} (file : List ℕ) (V : List Reference) (n : FaultNotes A) 
           last_false false y e = refl
 
       unset : (b : ℕ) → (bit_at (get_or words index 0) b == 1) ≡ false
-      unset b = ap (λ w. bit_at w b == 1) (get_or-eq_default words 0 past) ∙ ap (λ x. x == 1) (bit_at-zero b)
+      unset b = ap (λ w. bit_at w b == 1) (get_or-eq_default words 0 (let e = are.squares in omega (arith, e, past))) ∙ ap (λ x. x == 1) (bit_at-zero b)
 
       shown_past : shown (get_or words index 0) ≡ square_faults file V index
       shown_past = λ i. record {
-        has = λ code. (unset (code_index code) ∙ any_none (λ f. is_of_square pages (run_for pages) index f.0 && (code_index f.1 == code_index code)) (coded_faults file V)
+        has = λ code. (unset (code_index code) ∙ any_none (λ f. is_of_square pages index f.0 && (code_index f.1 == code_index code)) (coded_faults file V)
             (λ f. ap (λ b. b && (code_index f.1 == code_index code)) (none f.0))) i;
-        any = (unset 62 ∙ any_none (λ f. is_of_square pages (run_for pages) index f.0) (coded_faults file V) (λ f. none f.0)) i;
-        strong = (unset 63 ∙ any_none (is_of_square pages (run_for pages) index) (framed_pages file V) none) i;
+        any = (unset 62 ∙ any_none (λ f. is_of_square pages index f.0) (coded_faults file V) (λ f. none f.0)) i;
+        strong = (unset 63 ∙ any_none (is_of_square pages index) (framed_pages file V) none) i;
       }
 
     pub shown_is : shown (get_or words index 0) ≡ square_faults file V index
-    shown_is = elim (order index (length words)) [ inl l ↦ shown_here l | inr l ↦ shown_past l ]
+    shown_is = elim (order index (div_ceil pages (run_for pages))) [ inl l ↦ shown_here l | inr l ↦ shown_past l ]
       where
         order : (a b : ℕ) → (a < b) ⊎ (b ≤ a)
         order a b = grind arith
@@ -124,8 +120,8 @@ module _ {A : Type 0} (file : List ℕ) (V : List Reference) (n : FaultNotes A) 
       ∙ sym (ap (λ k. count_by g (range_with_len 1 k)) next ∙ count_push g 1 m (m + 1) at)
 
   pub strong_is : strong_pages (is_marked_framed n) pages ≡ strong_pages (is_strong file V) pages
-  strong_is = same_count (is_marked_framed n) (is_strong file V) pages (λ p l m. are.framed p l (let e = of.pages in omega (arith, e, m)))
+  strong_is = same_count (is_marked_framed n) (is_strong file V) pages (λ p l m. are.framed p l m)
 
   pub weak_is : weak_pages (is_marked_faulty n) (is_marked_framed n) pages ≡ weak_pages (is_faulty file V) (is_strong file V) pages
   weak_is = same_count (is_weak (is_marked_faulty n) (is_marked_framed n)) (is_weak (is_faulty file V) (is_strong file V)) pages
-      (λ p l m. (let e = of.pages in ap₂ (λ a b. not a && b) (are.framed p l (omega (arith, e, m))) (are.faulty p l (omega (arith, e, m)))))
+      (λ p l m. ap₂ (λ a b. not a && b) (are.framed p l m) (are.faulty p l m))

@@ -47,7 +47,8 @@ abbrev pub surveyed : Drawn → List Reference → Drawn
 surveyed g V = record g { start = start_at V }
 
 -- A text was drawn, and where these marks and what is known of the trees of pages are a file's, it is this one.
-pub record DrawsAs {O : Type 0} (held : O → OutState) (marks : List Mark) (known : List (Option (Option ℕ))) (g : Drawn) (is : Drawn → List ℕ) (s t : Canvas O) : Type 0 where
+pub record DrawsAs {O : Type 0} (held : O → OutState) (marks : List Mark) (known : List (Option (Option ℕ)))
+    (g : Drawn) (is : Drawn → List ℕ) (s t : Canvas O) : Type 0 where
   pub text : List ℕ
   pub same : (file : List ℕ) (V : List Reference) → IsOf marks known file V → text ≡ is (surveyed g V)
   pub draws : Draws held s text t
@@ -55,5 +56,6 @@ pub record DrawsAs {O : Type 0} (held : O → OutState) (marks : List Mark) (kno
 -- A text was put, and where a file is that of the desk, and its faults were kept, it is the file's picture.
 pub record PutsPicture {A E K : Type 0} (r : Result A E) (old new : OutState) (name : List ℕ) (d : Things) (k : KeptFaults K) (found : ℕ) : Type 0 where
   pub text : List ℕ
-  pub is : (file : List ℕ) (V : List Reference) → IsDeskOf d file V → HasFaults file V k → found ≡ counted (length (faults file V)) → text ≡ map_picture file V name
+  pub is : (file : List ℕ) (V : List Reference) → IsDeskOf d file V → HasFaults file V k
+      → found ≡ counted (length (faults file V)) → text ≡ map_picture file V name
   pub puts : Puts r old new text

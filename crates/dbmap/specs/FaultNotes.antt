@@ -1,5 +1,5 @@
 -- What is noted of faults: a word a square, and two bits a page.
-use Rattle.std.specs.Prelude.{◌≡◌, ℕ, ◌+◌, ◌-◌, ◌*◌, ◌/◌, ◌<◌, ◌≤◌, max, Bool, ◌&&◌, List, length, ◌==◌}
+use Rattle.std.specs.Prelude.{◌≡◌, ℕ, ◌+◌, ◌*◌, ◌/◌, ◌<◌, ◌≤◌, Bool, ◌&&◌, List, length, ◌==◌}
 use Rattle.std.specs.Int.{div_ceil}
 use Rattle.std.specs.List.{list_any}
 use Rattle.dbformat.specs.Codes.{code_index}
@@ -8,10 +8,6 @@ use Rattle.dbmap.specs.Bits.{has_bit}
 use Rattle.dbmap.specs.Grids.{is_of_square, run_for}
 use Rattle.dbmap.specs.declared.fault_notes.FaultNotes.{FaultNotes}
 
--- the first bit of the square of page p, where a square covers `run` pages
-abbrev pub first_bit : ℕ → ℕ → ℕ
-first_bit run p = (p - 1) / max run 1 * 64
-
 -- whether a page has a fault, and whether it has the strong frame
 abbrev pub is_marked_faulty : {A : Type 0} → FaultNotes A → ℕ → Bool
 is_marked_faulty n p = has_bit n.marked.words.items (p * 2)
@@ -19,24 +15,16 @@ is_marked_faulty n p = has_bit n.marked.words.items (p * 2)
 abbrev pub is_marked_framed : {A : Type 0} → FaultNotes A → ℕ → Bool
 is_marked_framed n p = has_bit n.marked.words.items (p * 2 + 1)
 
--- there is room for a file of so many pages
-pub record IsOfPages {A : Type 0} (count : ℕ) (n : FaultNotes A) : Type 0 where
+-- These faults of a file of so many pages were noted, each as its page and its code, and these pages as those that have the strong frame.
+pub record AreNoted {A : Type 0} (count : ℕ) (fs : List (ℕ × FaultCode)) (ps : List ℕ) (n : FaultNotes A) : Type 0 where
   pub pages : n.pages ≡ count
   pub run : n.run ≡ run_for count
   pub squares : length n.squares.words.items ≡ div_ceil count (run_for count)
-
--- there is as much room
-pub record HasSameRoom {A : Type 0} (m n : FaultNotes A) : Type 0 where
-  pub pages : n.pages ≡ m.pages
-  pub run : n.run ≡ m.run
-  pub squares : length n.squares.words.items ≡ length m.squares.words.items
-
--- These faults, each as its page and its code, were noted, and these pages as those that have the strong frame.
-pub record AreNoted {A : Type 0} (fs : List (ℕ × FaultCode)) (ps : List ℕ) (n : FaultNotes A) : Type 0 where
-  pub room : length n.marked.words.items ≡ n.pages / 32 + 1
-  pub codes : (index : ℕ) (code : FaultCode) → index < length n.squares.words.items → has_bit n.squares.words.items (index * 64 + code_index code)
-      ≡ list_any (λ f. is_of_square n.pages n.run index f.0 && (code_index f.1 == code_index code)) fs
-  pub any : (index : ℕ) → index < length n.squares.words.items → has_bit n.squares.words.items (index * 64 + 62) ≡ list_any (λ f. is_of_square n.pages n.run index f.0) fs
-  pub strong : (index : ℕ) → index < length n.squares.words.items → has_bit n.squares.words.items (index * 64 + 63) ≡ list_any (is_of_square n.pages n.run index) ps
-  pub faulty : (p : ℕ) → 1 ≤ p → p ≤ n.pages → is_marked_faulty n p ≡ list_any (λ f. f.0 == p) fs
-  pub framed : (p : ℕ) → 1 ≤ p → p ≤ n.pages → is_marked_framed n p ≡ list_any (λ q. q == p) ps
+  pub marked : length n.marked.words.items ≡ count / 32 + 1
+  pub codes : (index : ℕ) (code : FaultCode) → index < div_ceil count (run_for count)
+      → has_bit n.squares.words.items (index * 64 + code_index code) ≡ list_any (λ f. is_of_square count index f.0 && (code_index f.1 == code_index code)) fs
+  pub any : (index : ℕ) → index < div_ceil count (run_for count)
+      → has_bit n.squares.words.items (index * 64 + 62) ≡ list_any (λ f. is_of_square count index f.0) fs
+  pub strong : (index : ℕ) → index < div_ceil count (run_for count) → has_bit n.squares.words.items (index * 64 + 63) ≡ list_any (is_of_square count index) ps
+  pub faulty : (p : ℕ) → 1 ≤ p → p ≤ count → is_marked_faulty n p ≡ list_any (λ f. f.0 == p) fs
+  pub framed : (p : ℕ) → 1 ≤ p → p ≤ count → is_marked_framed n p ≡ list_any (λ q. q == p) ps

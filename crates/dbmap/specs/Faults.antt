@@ -11,7 +11,7 @@ use Rattle.dbformat.specs.declared.Fault.{Fault}
 use Rattle.dbformat.specs.declared.FaultCode.{FaultCode}
 use Rattle.dbentries.specs.Listed.{listed_entries}
 use Rattle.dbmap.specs.FramedPages.{first_faults, framed}
-use Rattle.dbmap.specs.Grids.{is_of_square, run_for}
+use Rattle.dbmap.specs.Grids.{is_of_square}
 use Rattle.dbmap.specs.declared.frame.Frame.{Frame}
 use Rattle.dbmap.specs.declared.frame.Frame.TheVariants as frame
 
@@ -53,9 +53,9 @@ framed_pages file V = framed (first_faults (take 100 (listed_entries file V)))
 -- what a square shows of them
 abbrev pub square_faults : List ℕ → List Reference → ℕ → ShownFaults
 square_faults file V index = record {
-  has = λ code. list_any (λ f. is_of_square (geometry file).pages (run_for (geometry file).pages) index f.0 && (code_index f.1 == code_index code)) (coded_faults file V);
-  any = list_any (λ f. is_of_square (geometry file).pages (run_for (geometry file).pages) index f.0) (coded_faults file V);
-  strong = list_any (is_of_square (geometry file).pages (run_for (geometry file).pages) index) (framed_pages file V);
+  has = λ code. list_any (λ f. is_of_square (geometry file).pages index f.0 && (code_index f.1 == code_index code)) (coded_faults file V);
+  any = list_any (λ f. is_of_square (geometry file).pages index f.0) (coded_faults file V);
+  strong = list_any (is_of_square (geometry file).pages index) (framed_pages file V);
 }
 
 -- whether page p has a fault, and whether it has the strong frame

@@ -30,9 +30,13 @@ grid_of pages stated = record {
   width = width_of (div_ceil pages (run_for pages));
 }
 
--- whether page p, of so many, is one of a square, where a square covers `run` pages
-abbrev pub is_of_square : ℕ → ℕ → ℕ → ℕ → Bool
-is_of_square pages run index p = nat_le 1 p && nat_le p pages && ((p - 1) / max run 1 == index)
+-- the square of page p, where a square covers `run` pages
+abbrev pub square_of : ℕ → ℕ → ℕ
+square_of run p = (p - 1) / max run 1
+
+-- whether page p, of so many, is one of a square
+abbrev pub is_of_square : ℕ → ℕ → ℕ → Bool
+is_of_square pages index p = nat_le 1 p && nat_le p pages && (square_of (run_for pages) p == index)
 
 -- how many squares are in a row
 abbrev pub columns_of : Width → ℕ

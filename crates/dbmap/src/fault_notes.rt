@@ -2,7 +2,8 @@
 ghost use Rattle.std.specs.Prelude.{◌≡◌, ◌+◌, ◌*◌, ℕ, [], ◌∷◌, ◌++◌, List, IfOk, get_or};
 ghost use Rattle.dbformat.specs.declared.FaultCode.{FaultCode};
 ghost use Rattle.dbmap.specs.Bits.{has_bit};
-ghost use Rattle.dbmap.specs.FaultNotes.{AreNoted, first_bit, HasSameRoom, IsOfPages};
+ghost use Rattle.dbmap.specs.FaultNotes.{AreNoted};
+ghost use Rattle.dbmap.specs.Grids.{square_of};
 
 use crate::bits::Bits;
 use crate::faults::{FAULTY, FRAMED, SquareFaults};
@@ -30,8 +31,7 @@ impl<A: Allocator + Copy> FaultNotes<A> {
     ///
     /// [`AllocError`] where a growth was refused.
     pub(crate) fn new_in(alloc: A, pages: u32) -> Result<FaultNotes<A>, AllocError>
-        ensures noted { IfOk result (AreNoted [] []) }
-        ensures pages { IfOk result (IsOfPages pages) }
+        ensures { IfOk result (AreNoted pages [] []) }
     {
         let grid = Grid::new(pages, 0);
         let squares = Bits::new_in(alloc, grid.squares as usize)?;
@@ -48,15 +48,15 @@ impl<A: Allocator + Copy> FaultNotes<A> {
 impl<A: Allocator> FaultNotes<A> {
     // The first bit of a page's square.
     fn first_bit(&self, page: u32) -> usize
-        ensures { result ≡ first_bit self.now.run page }
+        ensures { result ≡ square_of self.now.run page * 64 }
     {
         (page.saturating_sub(1) / self.run.max(1)) as usize * 64
     }
 
     /// Notes a fault of a page; one of a number that no page has is not noted.
     pub(crate) fn note(&mut self, page: u32, code: FaultCode)
-        ensures noted { (fs : List (ℕ × FaultCode)) (framed : List ℕ) → AreNoted fs framed self.old → AreNoted (fs ++ (page, code) ∷ []) framed self.new }
-        ensures same { HasSameRoom self.old self.new }
+        ensures { (count : ℕ) (fs : List (ℕ × FaultCode)) (framed : List ℕ) → AreNoted count fs framed self.old
+            → AreNoted count (fs ++ (page, code) ∷ []) framed self.new }
     {
         if page == 0 || page > self.pages {
             return;
@@ -69,8 +69,8 @@ impl<A: Allocator> FaultNotes<A> {
 
     /// Notes that a page has the strong frame, if there is one with this number.
     pub(crate) fn frame(&mut self, page: u32)
-        ensures noted { (fs : List (ℕ × FaultCode)) (framed : List ℕ) → AreNoted fs framed self.old → AreNoted fs (framed ++ page ∷ []) self.new }
-        ensures same { HasSameRoom self.old self.new }
+        ensures { (count : ℕ) (fs : List (ℕ × FaultCode)) (framed : List ℕ) → AreNoted count fs framed self.old
+            → AreNoted count fs (framed ++ page ∷ []) self.new }
     {
         if page == 0 || page > self.pages {
             return;

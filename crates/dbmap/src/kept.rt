@@ -6,7 +6,7 @@ ghost use Rattle.dbformat.specs.Reference.{Reference};
 ghost use Rattle.dbformat.specs.declared.FaultCode.{FaultCode};
 ghost use Rattle.dbentries.specs.Listed.{listed_entries};
 ghost use Rattle.dbentries.specs.Lists.{ListsAll};
-ghost use Rattle.dbmap.specs.FaultNotes.{AreNoted, is_marked_faulty, is_marked_framed, HasSameRoom};
+ghost use Rattle.dbmap.specs.FaultNotes.{AreNoted, is_marked_faulty, is_marked_framed};
 ghost use Rattle.dbmap.specs.Faults.{is_weak};
 ghost use Rattle.dbmap.specs.FramedPages.{first_faults, framed};
 ghost use Rattle.dbmap.specs.KeptFaults.{HasNoted, HearsNone};
@@ -66,9 +66,8 @@ impl<A: Allocator> KeptFaults<A> {
 
     /// Notes the pages of the entries that are listed, and of their causes.
     pub(crate) fn note_listed(&mut self)
-        ensures noted { (fs : List (ℕ × FaultCode)) (limit : ℕ) (file : List ℕ) (V : List Reference) → ListsAll limit file V self.old.listing
-            → AreNoted fs [] self.old.notes → AreNoted fs (framed (first_faults (take limit (listed_entries file V)))) self.new.notes }
-        ensures same { HasSameRoom self.old.notes self.new.notes }
+        ensures noted { (count : ℕ) (fs : List (ℕ × FaultCode)) (limit : ℕ) (file : List ℕ) (V : List Reference) → ListsAll limit file V self.old.listing
+            → AreNoted count fs [] self.old.notes → AreNoted count fs (framed (first_faults (take limit (listed_entries file V)))) self.new.notes }
         ensures state { self.new.state ≡ self.old.state }
     {
         note_listed(&mut self.notes, self.listing.listed());

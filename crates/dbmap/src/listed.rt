@@ -2,7 +2,7 @@
 ghost use Rattle.std.specs.Prelude.{◌≡◌, ℕ, ◌++◌, List};
 ghost use Rattle.dbformat.specs.declared.FaultCode.{FaultCode};
 ghost use Rattle.dbmap.specs.FramedPages.{cause_page, fault_value_page, framed, framed_of, leading, page_of_value};
-ghost use Rattle.dbmap.specs.FaultNotes.{AreNoted, HasSameRoom};
+ghost use Rattle.dbmap.specs.FaultNotes.{AreNoted};
 
 use crate::fault_notes::FaultNotes;
 use dbentries::{Cause, Entry, Reported};
@@ -46,8 +46,8 @@ fn cause_page(cause: Cause) -> u32
 
 // Notes the pages of a fault that leads: its own, the page that its value names, and that of its cause.
 fn note_pages<A: Allocator>(notes: &mut FaultNotes<A>, first: &Reported)
-    ensures noted { (fs : List (ℕ × FaultCode)) (pages : List ℕ) → AreNoted fs pages notes.old → AreNoted fs (pages ++ framed_of first.now) notes.new }
-    ensures same { HasSameRoom notes.old notes.new }
+    ensures { (count : ℕ) (fs : List (ℕ × FaultCode)) (pages : List ℕ) → AreNoted count fs pages notes.old
+        → AreNoted count fs (pages ++ framed_of first.now) notes.new }
 {
     let fault = &first.fault;
     notes.frame(fault.page);
@@ -57,8 +57,8 @@ fn note_pages<A: Allocator>(notes: &mut FaultNotes<A>, first: &Reported)
 
 /// Notes the pages of some entries: that of the fault, the page that it names, and that of its cause.
 pub(crate) fn note_listed<A: Allocator>(notes: &mut FaultNotes<A>, listed: &[Entry])
-    ensures noted { (fs : List (ℕ × FaultCode)) (pages : List ℕ) → AreNoted fs pages notes.old → AreNoted fs (pages ++ framed (leading listed.now)) notes.new }
-    ensures same { HasSameRoom notes.old notes.new }
+    ensures { (count : ℕ) (fs : List (ℕ × FaultCode)) (pages : List ℕ) → AreNoted count fs pages notes.old
+        → AreNoted count fs (pages ++ framed (leading listed.now)) notes.new }
 {
     for entry in listed {
         note_pages(notes, &entry.first);

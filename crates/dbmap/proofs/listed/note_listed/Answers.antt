@@ -3,7 +3,6 @@ use Rattle.std.proofs.lemmas.List.{take_all, take_more}
 use Rattle.dbentries.specs.declared.entry.Entry.{Entry}
 use Rattle.dbmap.specs.FramedPages.{framed, framed_of, leading}
 use Rattle.dbmap.specs.FaultNotes.{AreNoted}
-use Rattle.dbmap.proofs.FaultBits.{same_then}
 use Rattle.dbmap.proofs.listed.note_listed.Goals as goal
 
 framed_push : (xs : List Entry) (e : Entry) → framed (leading xs) ++ framed_of e.first ≡ framed (leading (xs ++ e ∷ []))
@@ -14,17 +13,14 @@ framed_next : (es : List Entry) (i : ℕ) (none : Entry) → i < length es → f
 framed_next es i none h = framed_push (take i es) (get_or es i none) ∙ ap (λ (l : List Entry). framed (leading l)) (sym (take_more es i none h))
 
 pub loop-entry-preserved : goal.loop-entry-preserved
-loop-entry-preserved g c =
+loop-entry-preserved g c = λ count fs pages h.
     let es = c.args.listed.now in
-    let i = c.loop-entry.entry-index in record {
-      noted = λ fs pages h.
-          subst (λ (l : List ℕ). AreNoted fs l c.note_pages.new.notes)
-          (append_assoc pages (framed (leading (take i es))) _ ∙ ap (λ l. pages ++ l) (framed_next es i _ c.loop-entry-test.true))
-          (c.note_pages.ensures.noted fs (pages ++ framed (leading (take i es))) (c.loop-entry.invariant.noted fs pages h));
-      same = same_then c.loop-entry.invariant.same c.note_pages.ensures.same;
-    }
+    let i = c.loop-entry.entry-index in
+    subst (λ (l : List ℕ). AreNoted count fs l c.note_pages.new.notes)
+    (append_assoc pages (framed (leading (take i es))) _ ∙ ap (λ l. pages ++ l) (framed_next es i _ c.loop-entry-test.true))
+    (c.note_pages.ensures count fs (pages ++ framed (leading (take i es))) (c.loop-entry.invariant count fs pages h))
 
-pub returns-clause-noted : goal.returns-clause-noted
-returns-clause-noted g c = λ fs pages h.
-    subst (λ (l : List Entry). AreNoted fs (pages ++ framed (leading l)) c.loop-entry.notes) (take_all c.loop-entry.entry-index c.args.listed.now c.loop-entry-test.false)
-    (c.loop-entry.invariant.noted fs pages h)
+pub returns : goal.returns
+returns g c = λ count fs pages h.
+    subst (λ (l : List Entry). AreNoted count fs (pages ++ framed (leading l)) c.loop-entry.notes) (take_all c.loop-entry.entry-index c.args.listed.now c.loop-entry-test.false)
+    (c.loop-entry.invariant count fs pages h)

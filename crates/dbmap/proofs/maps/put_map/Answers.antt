@@ -14,7 +14,7 @@ use Rattle.dbowner.specs.Texts.{tree_of_row}
 use Rattle.dbxml.specs.Names.{short_text}
 use Rattle.dbmap.specs.TreeTexts.{shown_tree}
 use Rattle.dbmap.specs.Drawings.{marked_place}
-use Rattle.dbmap.specs.FaultNotes.{AreNoted, IsOfPages, is_marked_faulty, is_marked_framed}
+use Rattle.dbmap.specs.FaultNotes.{AreNoted, is_marked_faulty, is_marked_framed}
 use Rattle.dbmap.specs.Faults.{coded_faults, framed_pages, strong_pages, weak_pages}
 use Rattle.dbmap.specs.Grids.{grid_of}
 use Rattle.dbmap.specs.LegendLines.{legend_lines}
@@ -54,12 +54,8 @@ returns g c =
           record { survey = desk.survey; marks = c.marks-3.ensures ∙ desk.marks; trees = (c.count.ensures.trees file V began).trees } in
           let shape = c.geometry-geometry.ensures.shape ∙ desk.header.shape in
           let notes = c.note_listed.new.self.notes in
-          let noted : AreNoted (coded_faults file V) (framed_pages file V) notes = c.note_listed.ensures.noted (coded_faults file V) 100 file V has.listing has.notes in
-          let of : IsOfPages (geometry file).pages notes = (let s = c.note_listed.ensures.same in record {
-            pages = s.pages ∙ has.pages.pages;
-            run = s.run ∙ has.pages.run;
-            squares = s.squares ∙ has.pages.squares;
-          }) in
+          let noted : AreNoted (geometry file).pages (coded_faults file V) (framed_pages file V) notes =
+          c.note_listed.ensures.noted (geometry file).pages (coded_faults file V) 100 file V has.listing has.notes in
           let starts = tree_starts c.largest-largest.result.items in
           let largest : starts ≡ largest_of file V = c.largest-largest.ensures.largest ∙ largest_are file V c.count.new.self tally in
           let grid = c.new.ensures ∙ ap₂ grid_of (ap (λ (s : Geometry). s.pages) shape)
@@ -76,8 +72,8 @@ returns g c =
           (ap (λ (l : Listed). l.rows) c.roots-3.ensures ∙ desk.rows)
           ∙ ap (λ ks. legend_lines file V ks c.framed-strong.result.0 c.framed-strong.result.1) largest
           ∙ ap₂ (legend_lines file V (largest_of file V))
-          (c.framed-strong.ensures.strong ∙ ap (strong_pages (is_marked_framed notes)) (ap (λ (s : Geometry). s.pages) shape) ∙ strong_is file V notes noted of)
-          (c.framed-strong.ensures.weak ∙ ap (weak_pages (is_marked_faulty notes) (is_marked_framed notes)) (ap (λ (s : Geometry). s.pages) shape) ∙ weak_is file V notes noted of) in
+          (c.framed-strong.ensures.strong ∙ ap (strong_pages (is_marked_framed notes)) (ap (λ (s : Geometry). s.pages) shape) ∙ strong_is file V notes noted)
+          (c.framed-strong.ensures.weak ∙ ap (weak_pages (is_marked_faulty notes) (is_marked_framed notes)) (ap (λ (s : Geometry). s.pages) shape) ∙ weak_is file V notes noted) in
           c.draw_picture.ensures.same file V counted
           ∙ (λ i. picture_text (record { file = c.shown_file.ensures i; geometry = shape i; faults = found i })
           (record {
@@ -88,7 +84,7 @@ returns g c =
             largest = largest i;
             names = names i;
             tree = tree i;
-            faults = λ index. shown_is file V notes noted of index i;
+            faults = λ index. shown_is file V notes noted index i;
           })
           (lines i));
       puts = rw k (put_drawn c.end.result _ _ _ _ _ c.new-canvas.ensures.fresh c.end.ensures (rw (ap g.O.Out.held c.new-canvas.ensures.out) at drawn.drawn));

@@ -14,7 +14,7 @@ leading_kept [] = refl
 leading_kept (e ∷ es) = ap₂ (λ (x : Reported) xs. x ∷ xs) (first_kept e.others (lone_entry e.first)) (leading_kept es)
 
 pub returns-clause-noted : goal.returns-clause-noted
-returns-clause-noted g c = λ fs limit file V all noted.
+returns-clause-noted g c = λ count fs limit file V all noted.
     let shown = kept.shown limit (listed_faults file V) c.args.self.now.listing all in
     let same = ap leading (c.listed.ensures ∙ shown.listed) ∙ leading_kept (take limit (listed_entries file V)) in
-    subst (λ (xs : List Reported). AreNoted fs (framed xs) c.note_listed.new.notes) same (c.note_listed.ensures.noted fs [] noted)
+    subst (λ (xs : List Reported). AreNoted count fs (framed xs) c.note_listed.new.notes) same (c.note_listed.ensures count fs [] noted)
