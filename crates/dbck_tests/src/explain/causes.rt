@@ -219,6 +219,7 @@ const LOOKS: [Explained; 2] = [
 P01 page 4 item 0 value 72: unknown page type
     page 4 at byte 1536: in table t, child of page 2
     begins with 48 69 21 20 7e 7f 1f 00 00 00 00 00 00 00 00 00  Hi! ~...........
+    bytes 1543 to 2047 are zeros
     and 1 more page like it: 6
 4 faults
     4 P01 unknown page type
@@ -232,6 +233,7 @@ P01 page 4 item 0 value 72: unknown page type
         "P01 page 1 item 0 value 0: unknown page type
     page 1 at byte 0: root of sqlite_schema
     begins with 53 51 4c 69 74 65 20 66 6f 72 6d 61 74 20 33 00  SQLite format 3.
+    bytes 24 to 511 are zeros
 1 fault
     1 P01 unknown page type
     1 in sqlite_schema (root page 1), on 1 of its 1 page

@@ -155,8 +155,8 @@ fn in_room(
 // A buffer of a page for each of 22 levels, and four bytes a page of marks. The heap gives units of 16 bytes.
 const DESK: usize = 22 * 512 + 32;
 
-// 100 entries of 200 bytes.
-const ENTRIES: usize = DESK + 100 * 200;
+// 100 entries of 216 bytes.
+const ENTRIES: usize = DESK + 100 * 216;
 
 // 16 bytes for each of 65538 starts, and a bit a page.
 const STARTS: usize = ENTRIES + 65538 * 16;

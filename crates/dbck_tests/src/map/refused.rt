@@ -92,8 +92,8 @@ const SQUARES: usize = TALLY + 64;
 // And two bits a page.
 const MARKED: usize = SQUARES + 16;
 
-// 200 bytes for each of 100 entries.
-const ENTRIES: usize = MARKED + 100 * 200;
+// 216 bytes for each of 100 entries.
+const ENTRIES: usize = MARKED + 100 * 216;
 
 // As rows are read, the list of roots takes four rows of 20 bytes, and then 8 bytes of names.
 const ROOTS: usize = ENTRIES + 80;
