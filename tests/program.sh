@@ -134,7 +134,7 @@ has_sums() {
     [ "$status" = 1 ] && diff <(sums "$1") <(sums "$work/out") > "$work/why"
 }
 
-# Six damaged databases, and what is to be written of each. The summary is of all faults, whatever the limit.
+# Fourteen damaged databases, and what is to be written of each. The summary is of all faults, whatever the limit.
 for text in tests/explain/*.explain; do
     run explain "${text%.explain}.db"
     count "explain ${text%.explain}.db" is_explained "$text"
