@@ -219,11 +219,7 @@ fn tell_each<K: Sink>(
 }
 
 // Reports a fault within a page, if there is one. That there are no cells goes back to nothing else.
-fn tell_found<K: Sink>(
-    found: Option<Fault>,
-    cause: &Cause,
-    sink: &mut K,
-) -> Result<(), WriteFailed>
+fn tell_found<K: Sink>(found: Option<Fault>, cause: &Cause, sink: &mut K) -> Result<(), WriteFailed>
     ensures { IsReportedTo K.takes K.drops K.held result sink.old (told_by (inner_cause cause.now) (option_to_list found)) sink.new }
 {
     let Some(fault) = found else {

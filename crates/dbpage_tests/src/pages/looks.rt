@@ -16,7 +16,12 @@ const NO_TREES: [Case; 10] = [
         "479 01, 480 ffff",
         "look Other([0, 0, 0, 0, 0, 0, 0, 0, 0, 0, 0, 0, 0, 0, 0, 0])",
     ],
-    ["reserved bytes alone", "2 of 480", "480 ffff", "look Blank(0)"],
+    [
+        "reserved bytes alone",
+        "2 of 480",
+        "480 ffff",
+        "look Blank(0)",
+    ],
     // A page is blank with any byte, also with the type of a leaf.
     ["all ff", "2 of 512", "0 ff*512", "look Blank(255)"],
     ["all 0d", "2 of 480", "0 0d*480", "look Blank(13)"],
