@@ -31,7 +31,6 @@ def recipe_of(explained, status, done=()):
     """The recipe by what `dbck explain` writes to standard output, and its status. Steps that were done are not taken again."""
     lines = explained.splitlines()
     codes = {line[:3] for line in lines if re.match("[A-Z][0-9]{2} page ", line)}
-    by_tree = [line.split(maxsplit=1)[1] for line in lines if re.match(r" +\d+ in ", line)]
     looks = [line for line in lines if line.startswith("    looks like ")]
     # Steps before a recipe.
     if (status == 3 or re.search("^P0[123] page 1 ", explained, re.M)) and "Page 1" not in done:
@@ -44,7 +43,7 @@ def recipe_of(explained, status, done=()):
     if lines == ["ok"]:
         return "Nothing"
     whole = re.search(r"^    (\d+) of (\d+) tables? and (\d+) of (\d+) index(?:es)? without a fault$", explained, re.M)
-    if status != 1 or not whole or whole[1] != whole[2] or any(line.startswith("in sqlite_schema ") for line in by_tree):
+    if status != 1 or not whole or whole[1] != whole[2] or re.search(r"\bin sqlite_schema\b", explained):
         return "Both ways"
     if whole[3] == whole[4] and not looks and "H06" not in codes:
         return "VACUUM INTO"
