@@ -104,7 +104,7 @@ expect 1 "$(head -n 998 <<< "$lines")"$'\nmore 1\n' '' check --limit 998 "$work/
 expect 1 "$(head -n 100 <<< "$lines")"$'\nmore 899\n' '' check "$work/unused.db"
 # Explained they are one entry.
 below=$'    page 2 at byte 512: in no tree, overflow chain or freelist\n    all zeros\n    and 998 more pages like it: 3 to 1000\n'
-expect 1 "$(head -n 1 <<< "$lines")"$'\n'"$below"$'999 faults\n    999 N01 page is not in use\n    999 in the whole file\n    0 of 0 tables and 0 of 0 indexes without a fault\n' '' \
+expect 1 "$(head -n 1 <<< "$lines")"$'\n'"$below"$'999 faults\n    999 N01 page is not in use\n    999 in the whole file\n    pages 2 to 1000 are zeros: bytes 512 to 511999\n    0 of 0 tables and 0 of 0 indexes without a fault\n' '' \
     explain --limit 1 "$work/unused.db"
 
 # The same faults, explained.

@@ -130,11 +130,11 @@ abbrev with_begun : Runs → ℕ → Runs
 with_begun r p = record { kept = run_begun r p; count = counted (r.count + 1); last = p }
 
 -- of these runs the first ten are kept
-record AreKept (rs : List Run) (r : Runs) : Type 0 where
-  kept : take r.count r.kept ≡ take 10 rs
-  room : length r.kept ≡ 10
-  count : r.count ≡ counted (length rs)
-  last : r.last ≡ last_page 0 rs
+pub record AreKept (rs : List Run) (r : Runs) : Type 0 where
+  pub kept : take r.count r.kept ≡ take 10 rs
+  pub room : length r.kept ≡ 10
+  pub count : r.count ≡ counted (length rs)
+  pub last : r.last ≡ last_page 0 rs
 
 none_kept : AreKept [] no_runs
 none_kept = record { kept = refl; room = refl; count = refl; last = refl }
@@ -238,6 +238,16 @@ kept_more (s ∷ rs) r p is = by_case (p == last_page 0 (s ∷ rs) + 1) refl
 
 abbrev pages_of : List Reported → List ℕ
 pages_of = map (λ x. x.fault.page)
+
+-- page after page
+runs_from : (xs ys : List ℕ) (r : Runs) → AreKept (runs xs) r → AreKept (runs (xs ++ ys)) (fold run_added r ys)
+runs_from xs [] r is = subst (λ zs. AreKept (runs zs) r) (sym (append-nil xs)) is
+runs_from xs (y ∷ ys) r is =
+    subst (λ zs. AreKept (runs zs) (fold run_added (run_added r y) ys)) (append_assoc xs (y ∷ []) ys)
+    (runs_from (xs ++ y ∷ []) ys (run_added r y) (subst (λ rs. AreKept rs (run_added r y)) (sym (runs_more xs y)) (kept_more (runs xs) r y is)))
+
+pub runs_kept : (pages : List ℕ) → AreKept (runs pages) (fold run_added no_runs pages)
+runs_kept pages = runs_from [] pages no_runs none_kept
 
 abbrev cells_in : List Reported → ℕ
 cells_in = sum_by (λ x. look_cells x.cause)

@@ -12,8 +12,7 @@ use Rattle.dbscan.specs.Notices.{Notice, heard_fault, heard_row, ended, walked, 
 use Rattle.dbscan.specs.Placed.{reported_in, reported_of, told_faults}
 use Rattle.dbscan.proofs.HeardFaults.{run_heard}
 use Rattle.dbentries.specs.Listed.{IsBeginning}
-use Rattle.dbentries.specs.Lists.{ListsFault}
-use Rattle.dbentries.specs.Store.{Stored}
+use Rattle.dbentries.specs.Lists.{Held, ListsFault}
 use Rattle.dbentries.specs.Reported.{HearsReported}
 use Rattle.dbentries.proofs.PartsRise.{PartsRise, parts_rise}
 
@@ -30,13 +29,13 @@ never_stops move (e ∷ es) s t (inl h) = h
 never_stops move (e ∷ es) s t (inr (m, k, h)) = never_stops move es m t h
 
 -- By what is so of a reporter that has heard some faults and lists them, where the part of the last one is not after those of the next.
-module _ {K : Type 0} (adds : Reported → K → K → Type 0) (listing : K → Stored) (lists : (x : Reported) (s t : K) → adds x s t → ListsFault x (listing s) (listing t))
+module _ {K : Type 0} (adds : Reported → K → K → Type 0) (listing : K → Held) (lists : (x : Reported) (s t : K) → adds x s t → ListsFault x (listing s) (listing t))
     (Has : List Reported → K → Type 0)
-    (one : (x : Reported) (ts : List Reported) (s t : K) → (listing s).part ≤ rank x.part → Has ts s → adds x s t → Has (ts ++ x ∷ []) t) where
+    (one : (x : Reported) (ts : List Reported) (s t : K) → (listing s).entries.part ≤ rank x.part → Has ts s → adds x s t → Has (ts ++ x ∷ []) t) where
   abbrev IsBefore : K → List Reported → Type 0
-  IsBefore s ts = (x : Reported) → IsIn x ts → (listing s).part ≤ rank x.part
+  IsBefore s ts = (x : Reported) → IsIn x ts → (listing s).entries.part ≤ rank x.part
 
-  after_one : (x : Reported) (rest : List Reported) (s t : K) → PartsRise (x ∷ rest) → (listing s).part ≤ rank x.part → adds x s t → IsBefore t rest
+  after_one : (x : Reported) (rest : List Reported) (s t : K) → PartsRise (x ∷ rest) → (listing s).entries.part ≤ rank x.part → adds x s t → IsBefore t rest
   after_one x rest s t rise most a y i = let l = (lists x s t a).part most in let k = rise.0 y i in omega (arith, l, k)
 
   -- notice after notice
@@ -68,7 +67,7 @@ module _ {K : Type 0} (adds : Reported → K → K → Type 0) (listing : K → 
       )
 
   -- of a file, by one that had heard nothing
-  module _ (file : List ℕ) (V : List Reference) (survey : Survey file V) (s t : K) (first : (listing s).part ≡ 0) (none : Has [] s) where
+  module _ (file : List ℕ) (V : List Reference) (survey : Survey file V) (s t : K) (first : (listing s).entries.part ≡ 0) (none : Has [] s) where
     rises : PartsRise (reported_in (run_notices file V))
     rises = subst PartsRise (sym (run_heard file V survey)) (parts_rise file V survey)
 

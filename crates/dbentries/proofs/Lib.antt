@@ -1,5 +1,6 @@
 pub mod Adding
 pub mod Belonging
+pub mod Bits
 pub mod Desks
 pub mod Few
 pub mod Heard
@@ -11,3 +12,4 @@ pub mod Noting
 pub mod Numbers
 pub mod PartsRise
 pub mod Placing
+pub mod ZeroPages

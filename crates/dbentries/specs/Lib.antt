@@ -1,3 +1,4 @@
+pub mod Bits
 pub mod Kept
 pub mod Lines
 pub mod Listed
@@ -7,3 +8,4 @@ pub mod Lost
 pub mod Others
 pub mod Reported
 pub mod Store
+pub mod Zeros

@@ -1,6 +1,6 @@
 -- What is written of an entry below its fault line (own), but for the lines that say where a page is: the cause, and the faults
 -- that belong to it.
-use Rattle.std.specs.Prelude.{ℕ, ℤ, Bool, List, [], ◌∷◌, ◌++◌, codes, decimal, ◌==◌, if◌then◌else◌}
+use Rattle.std.specs.Prelude.{ℕ, ℤ, Bool, List, [], ◌∷◌, ◌++◌, Option, codes, decimal, ◌==◌, if◌then◌else◌}
 use Rattle.std.specs.Fmt.{signed_decimal}
 use Rattle.std.specs.Option.{option_map_or}
 use Rattle.dbformat.specs.FirstBytes.{begins_with}
@@ -16,6 +16,7 @@ use Rattle.dbtrace.specs.declared.Cause.{Cause}
 use Rattle.dbtrace.specs.declared.Cause.TheVariants as cause
 use Rattle.dbtrace.specs.declared.CellChain.{CellChain}
 use Rattle.dbtrace.specs.declared.CellKey.{CellKey}
+use Rattle.dbtrace.specs.declared.NamedPages.{NamedPages}
 
 -- a line below the line of a fault
 abbrev pub indented : List ℕ → List ℕ
@@ -60,10 +61,15 @@ cells_text n = decimal n ++ (if n == 1 then codes " cell" else codes " cells")
 abbrev pub rowids_text : Rowids → List ℕ
 rowids_text r = codes ", rowids " ++ signed_decimal r.first ++ codes " to " ++ signed_decimal r.last
 
+-- how many of the pages that a lost interior page names are lost too
+abbrev pub named_text : NamedPages → List ℕ
+named_text n = codes "; " ++ decimal n.lost ++ codes " of the " ++ decimal n.pages
+    ++ (if n.pages == 1 then codes " page that it names is lost too" else codes " pages that it names are lost too")
+
 -- a page that looks like one of a tree
-abbrev pub tree_look_text : TreeLook → List ℕ
-tree_look_text l =
-    indented (codes "looks like " ++ page_kind_text l.kind ++ codes " with " ++ cells_text l.cells ++ option_map_or rowids_text l.rowids [])
+abbrev pub tree_look_text : TreeLook → Option NamedPages → List ℕ
+tree_look_text l named = indented (codes "looks like " ++ page_kind_text l.kind ++ codes " with " ++ cells_text l.cells
+    ++ option_map_or rowids_text l.rowids [] ++ option_map_or named_text named [])
 
 -- the first bytes of a page
 abbrev pub first_bytes_text : List ℕ → List ℕ
@@ -74,10 +80,10 @@ abbrev pub blank_text : ℕ → List ℕ
 blank_text byte = indented (if byte == 0 then codes "all zeros" else codes "all bytes " ++ hex_text 2 byte)
 
 -- what a page looks like
-abbrev pub look_text : Look → List ℕ
-look_text (look.Blank byte) = blank_text byte
-look_text (look.Tree l) = tree_look_text l
-look_text (look.Other bytes) = first_bytes_text bytes
+abbrev pub look_text : Look → Option NamedPages → List ℕ
+look_text (look.Blank byte) named = blank_text byte
+look_text (look.Tree l) named = tree_look_text l named
+look_text (look.Other bytes) named = first_bytes_text bytes
 
 -- what a fault goes back to, if that is not its own place
 abbrev pub cause_text : Cause → List ℕ
@@ -86,4 +92,4 @@ cause_text (cause.Key k) = key_text k
 cause_text (cause.Leaf page) = leaf_text page
 cause_text (cause.Chain c) = broken_chain_text c
 cause_text (cause.Page page facts) = []
-cause_text (cause.Look l facts) = look_text l
+cause_text (cause.Look l facts) = look_text l facts.named

@@ -1,12 +1,13 @@
 -- What is listed of the faults of a file with survey V (own): first all that are of no lost page, in their order, and then those of lost
 -- pages, in theirs, which go back to what their pages look like.
-use Rattle.std.specs.Prelude.{◌≡◌, ℕ, not, None, Bool, true, false, ◌&&◌, List, ◌++◌, map, filter}
-use Rattle.dbformat.specs.Looks.{look_at}
+use Rattle.std.specs.Prelude.{◌≡◌, ℕ, not, Bool, is_some, true, false, ◌&&◌, List, ◌++◌, map, filter}
+use Rattle.dbformat.specs.EndFaults.{visit_of}
+use Rattle.dbformat.specs.File.{geometry}
+use Rattle.dbformat.specs.FixedPages.{is_fixed, is_page}
 use Rattle.dbformat.specs.Reference.{Reference}
 use Rattle.dbformat.specs.declared.FaultCode.{FaultCode}
 use Rattle.dbformat.specs.declared.FaultCode.TheVariants.{N01}
-use Rattle.dbtrace.specs.declared.Cause.TheVariants as cause
-use Rattle.dbtrace.specs.declared.PageFacts.{PageFacts}
+use Rattle.dbtrace.specs.Causes.{lost_cause_at}
 use Rattle.dbtrace.specs.declared.Part.{Part}
 use Rattle.dbtrace.specs.declared.Part.TheVariants as part
 use Rattle.dbtrace.specs.declared.Reported.{Reported}
@@ -29,12 +30,17 @@ is_lost_code _ = false
 abbrev pub is_lost : Reported → Bool
 is_lost x = is_end x.part && is_lost_code x.fault.code
 
--- it goes back to what the page looks like, and nothing else is known of it
-abbrev pub no_facts : PageFacts
-no_facts = record { run = None }
+-- whether page p is of no fixed use, and no visit names it
+abbrev pub is_unreached : List ℕ → List Reference → ℕ → Bool
+is_unreached file V p = not (is_fixed (geometry file) p) && not (is_some (visit_of V p))
 
-abbrev pub looked_at : List ℕ → Reported → Reported
-looked_at file x = record x { cause = cause.Look (look_at file x.fault.page) no_facts }
+-- whether p is a lost page of the file
+abbrev pub is_lost_page : List ℕ → List Reference → ℕ → Bool
+is_lost_page file V p = is_page (geometry file) p && is_unreached file V p
+
+-- its fault goes back to what the page looks like, and of an interior page also to how many of the pages that it names are lost too
+abbrev pub looked_at : List ℕ → List Reference → Reported → Reported
+looked_at file V x = record x { cause = lost_cause_at (is_lost_page file V) file x.fault.page }
 
 -- ---- all faults
 
@@ -44,7 +50,7 @@ others_of xs = filter (λ x. not (is_lost x)) xs
 
 -- those of lost pages
 abbrev pub lost_faults : List ℕ → List Reference → List Reported
-lost_faults file V = map (looked_at file) (filter is_lost (told_faults file V))
+lost_faults file V = map (looked_at file V) (filter is_lost (told_faults file V))
 
 -- all, in the order in which they are listed
 abbrev pub listed_faults : List ℕ → List Reference → List Reported

@@ -1,8 +1,6 @@
 // The entries of the reported faults.
 ghost use Rattle.std.specs.Prelude.{◌≡◌, ◌≤◌, [], ◌∷◌, ◌++◌, List, IfOk};
 ghost use Rattle.dbentries.specs.Listing.{rank};
-ghost use Rattle.dbentries.specs.Listed.{is_lost};
-ghost use Rattle.dbentries.specs.Lists.{ListsFault};
 ghost use Rattle.dbentries.specs.Store.{AreEntriesOf, added, home_kept, is_beside, put_at, put_kept, put_new, turned};
 
 use crate::causes::{most, same_cause};
@@ -25,14 +23,10 @@ pub struct Entries<A: Allocator = Global> {
 }
 
 impl<A: Allocator> Model for Entries<A> {
-    ghost use Rattle.dbentries.specs.Listed.{is_lost};
-    ghost use Rattle.dbentries.specs.Lists.{ListsFault};
     ghost use Rattle.dbentries.specs.Store.{Stored};
 
     ghost Value = { Stored };
 
-    ghost use Rattle.dbentries.specs.Listed.{is_lost};
-    ghost use Rattle.dbentries.specs.Lists.{ListsFault};
     ghost use Rattle.dbentries.specs.Store.{stored, IsStored};
 
     ghost view = { stored };
@@ -58,13 +52,6 @@ fn is_beside(told: &Reported, entry: &Entry) -> bool
 {
     entry.first.fault.code.index() == told.fault.code.index()
         && rank(entry.first.part) == rank(told.part)
-}
-
-// Whether a fault is that of a lost page.
-fn is_lost(told: &Reported) -> bool
-    ensures { result ≡ is_lost told.now }
-{
-    matches!(told.part, Part::End) && matches!(told.fault.code, FaultCode::N01)
 }
 
 impl<A: Allocator + Copy> Entries<A> {
@@ -101,16 +88,6 @@ impl<A: Allocator> Entries<A> {
         match self.home(told) {
             Some(slot) => self.put_kept(slot, told),
             None => self.put_new(told),
-        }
-    }
-
-    /// Lists a fault, but for that of a lost page, which is listed when its page is looked at. It comes after those of earlier parts
-    /// and the earlier ones of its own part.
-    pub fn hear(&mut self, told: &Reported)
-        ensures { ListsFault told.now self.old self.new }
-    {
-        if !is_lost(told) {
-            self.add(told);
         }
     }
 

@@ -4,14 +4,14 @@ ghost use Rattle.std.specs.Prelude.{◌≡◌, ◌+◌, ◌≤◌, [], ◌++◌,
 ghost use Rattle.std.specs.Fmt.{signed_decimal};
 ghost use Rattle.std.specs.Option.{option_map_or};
 ghost use Rattle.dbsource.specs.Outs.{Puts};
-ghost use Rattle.dbentries.specs.Lines.{blank_text, cause_text, cells_text, broken_chain_text, key_text, leaf_text, look_text, page_kind_text, rowid_text, rowids_text, tree_look_text, zeros_text};
+ghost use Rattle.dbentries.specs.Lines.{blank_text, cause_text, cells_text, broken_chain_text, key_text, leaf_text, look_text, named_text, page_kind_text, rowid_text, rowids_text, tree_look_text, zeros_text};
 
 use crate::first_bytes::first_bytes_text;
 use arrayvec::ArrayVec;
 use dbformat::{Look, PageKind, Rowids, TreeLook, hex_byte};
 use dblines::{append, append_number};
 use dbsource::{Out, WriteFailed};
-use dbtrace::{Cause, CellChain, CellKey};
+use dbtrace::{Cause, CellChain, CellKey, NamedPages};
 use itoa::Buffer;
 
 // Adds a number with its sign.
@@ -131,8 +131,30 @@ fn append_rowids<const CAP: usize>(line: &mut ArrayVec<u8, CAP>, rowids: Option<
     }
 }
 
-fn tree_look_text(look: TreeLook) -> ArrayVec<u8, 160>
-    ensures { result.items ≡ tree_look_text look }
+// Adds how many of the pages that a lost interior page names are lost too, if it is one.
+fn append_named<const CAP: usize>(line: &mut ArrayVec<u8, CAP>, named: Option<NamedPages>)
+    requires { array_vec_len line.old + 83 ≤ CAP }
+    ensures text { line.new.items ≡ line.old.items ++ option_map_or named_text named [] }
+    ensures short { array_vec_len line.new ≤ array_vec_len line.old + 83 }
+{
+    if let Some(named) = named {
+        append(line, "; ");
+        append_number(line, u64::from(named.lost));
+        append(line, " of the ");
+        append_number(line, u64::from(named.pages));
+        append(
+            line,
+            if named.pages == 1 {
+                " page that it names is lost too"
+            } else {
+                " pages that it names are lost too"
+            },
+        );
+    }
+}
+
+fn tree_look_text(look: TreeLook, named: Option<NamedPages>) -> ArrayVec<u8, 256>
+    ensures { result.items ≡ tree_look_text look named }
 {
     let mut line = ArrayVec::new();
     append(&mut line, "    looks like ");
@@ -140,6 +162,7 @@ fn tree_look_text(look: TreeLook) -> ArrayVec<u8, 160>
     append(&mut line, " with ");
     append_cells(&mut line, u64::from(look.cells));
     append_rowids(&mut line, look.rowids);
+    append_named(&mut line, named);
     append(&mut line, "\n");
     line
 }
@@ -160,12 +183,12 @@ fn blank_text(byte: u8) -> ArrayVec<u8, 32>
 }
 
 // Puts what a page looks like.
-fn put_look<O: Out>(out: &mut O, look: Look) -> Result<(), WriteFailed>
-    ensures { Puts result (O.held out.old) (O.held out.new) (look_text look) }
+fn put_look<O: Out>(out: &mut O, look: Look, named: Option<NamedPages>) -> Result<(), WriteFailed>
+    ensures { Puts result (O.held out.old) (O.held out.new) (look_text look named) }
 {
     match look {
         Look::Blank(byte) => out.put(blank_text(byte).as_slice()),
-        Look::Tree(look) => out.put(tree_look_text(look).as_slice()),
+        Look::Tree(look) => out.put(tree_look_text(look, named).as_slice()),
         Look::Other(first) => out.put(first_bytes_text(first).as_slice()),
     }
 }
@@ -183,6 +206,6 @@ pub fn put_cause<O: Out>(out: &mut O, cause: &Cause) -> Result<(), WriteFailed>
         Cause::Key(key) => out.put(key_text(key).as_slice()),
         Cause::Leaf(page) => out.put(leaf_text(page).as_slice()),
         Cause::Chain(chain) => out.put(chain_text(chain).as_slice()),
-        Cause::Look(look, _) => put_look(out, look),
+        Cause::Look(look, facts) => put_look(out, look, facts.named),
     }
 }

@@ -1,25 +1,24 @@
-// The pages to which nothing refers, and what they look like.
-ghost use Rattle.std.specs.Prelude.{◌≡◌, ◌≤◌, ℕ, List, pos, true};
+// The faults of a file, as they are heard, and those of the pages to which nothing refers, when these are looked at.
+ghost use Rattle.std.specs.Prelude.{◌≡◌, ◌≤◌, ℕ, List, length, pos};
 ghost use Rattle.dbformat.specs.Faults.{fault};
 ghost use Rattle.dbformat.specs.File.{geometry};
 ghost use Rattle.dbformat.specs.Reference.{Reference};
 ghost use Rattle.dbformat.specs.declared.FaultCode.TheVariants.{N01};
 ghost use Rattle.dbsource.specs.Failures.{is_any};
 ghost use Rattle.dbsource.specs.Sources.{Asks};
-ghost use Rattle.dbmarks.specs.Marking.{is_unmarked};
 ghost use Rattle.dbscan.specs.Desks.{shape_of};
 ghost use Rattle.dbscan.specs.Finishes.{IsDeskOf};
 ghost use Rattle.dbscan.specs.Looks.{IsUnmarked, ReadsOrNot, ReadsRising};
 ghost use Rattle.dbscan.specs.Placed.{told_faults};
-ghost use Rattle.dbentries.specs.Lists.{HasListed};
+ghost use Rattle.dbentries.specs.Listed.{is_lost};
+ghost use Rattle.dbentries.specs.Lists.{HasListed, ListsFault};
 ghost use Rattle.dbentries.specs.Lost.{AddsLost, HasLooked};
 
-use crate::entries::Entries;
+use crate::listing::Listing;
 use dbformat::{Fault, FaultCode};
 use dbscan::Desk;
 use dbsource::{ReadFailed, Source};
-use dbtrace::{Cause, PageFacts, Part, Reported};
-use dbwalk::Mark;
+use dbtrace::{Part, Reported};
 use std::alloc::Allocator;
 
 // The fault of a page to which nothing refers.
@@ -34,19 +33,25 @@ fn lost_fault(page: u32) -> Fault
     }
 }
 
-// Whether nothing refers to a page.
-fn is_page_lost<A: Allocator>(desk: &Desk<A>, page: u32) -> bool
-    ensures mark { result ≡ is_unmarked desk.now.marks page }
-    ensures page { result ≡ true → 1 ≤ page }
+// Whether a fault is that of a lost page.
+fn is_lost(told: &Reported) -> bool
+    ensures { result ≡ is_lost told.now }
 {
-    let marks = desk.marks();
-    if page == 0 || page > marks.pages() {
-        return false;
-    }
-    marks.get(page) == Mark::Unmarked
+    matches!(told.part, Part::End) && matches!(told.fault.code, FaultCode::N01)
 }
 
-impl<A: Allocator> Entries<A> {
+impl<A: Allocator> Listing<A> {
+    /// Lists a fault, but for that of a lost page, which is listed when its page is looked at. It comes after those of earlier parts
+    /// and the earlier ones of its own part.
+    pub fn hear(&mut self, told: &Reported)
+        ensures lists { ListsFault told.now self.old self.new }
+        ensures room { length self.new.zeros ≡ length self.old.zeros }
+    {
+        if !is_lost(told) {
+            self.add(told);
+        }
+    }
+
     // Looks at a page of the file, if nothing refers to it, and lists its fault.
     fn look_at_page<S: Source>(
         &mut self,
@@ -54,19 +59,20 @@ impl<A: Allocator> Entries<A> {
         source: &mut S,
         page: u32,
     ) -> Result<(), ReadFailed>
+        ensures room { length self.new.zeros ≡ length self.old.zeros }
         ensures desk { desk.new ≡ record desk.old { pages = desk.new.pages } }
         ensures asks { Asks S.step (ReadsOrNot (shape_of desk.old).page_size (IsUnmarked desk.old.marks) page) (λ file. (V : List Reference)
             → IsDeskOf desk.old file V → 1 ≤ page → page ≤ (geometry file).pages → AddsLost file V page result self.old self.new)
             is_any result (S.held source.old) (S.held source.new) }
     {
-        if !is_page_lost(desk, page) {
+        if !desk.is_lost(page) {
             return Ok(());
         }
-        let look = desk.look_at(source, page)?;
+        let cause = desk.look_at(source, page)?;
         self.add(&Reported {
             part: Part::End,
             fault: lost_fault(page),
-            cause: Cause::Look(look, PageFacts::NONE),
+            cause,
         });
         Ok(())
     }
@@ -81,6 +87,7 @@ impl<A: Allocator> Entries<A> {
         desk: &mut Desk<A>,
         source: &mut S,
     ) -> Result<(), ReadFailed>
+        ensures room { length self.new.zeros ≡ length self.old.zeros }
         ensures desk { desk.new ≡ record desk.old { pages = desk.new.pages } }
         ensures asks { Asks S.step (ReadsRising (shape_of desk.old).page_size (IsUnmarked desk.old.marks)) (λ file. (limit : ℕ) (V : List Reference)
             → IsDeskOf desk.old file V → HasListed limit (told_faults file V) self.old → HasLooked limit file V result self.new)

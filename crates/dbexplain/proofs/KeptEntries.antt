@@ -11,8 +11,7 @@ use Rattle.dbentries.specs.Listing.{changed_at, entries, home, joined, most, wit
 use Rattle.dbentries.specs.declared.entry.Entry.{Entry}
 use Rattle.dbentries.proofs.KeptLists.{no_entry}
 use Rattle.dbentries.proofs.Noting.{first_kept}
-use Rattle.dbentries.specs.Lists.{Shows}
-use Rattle.dbentries.specs.Store.{Stored}
+use Rattle.dbentries.specs.Lists.{Held, Shows}
 use Rattle.dbexplain.specs.Explained.{found_text}
 use Rattle.dbexplain.specs.Keeping.{lines_of}
 
@@ -38,7 +37,7 @@ same_lines [] = refl
 same_lines (e ∷ es) = ap₂ (λ (f : Reported) text. fault_line f.fault ++ text) (first_kept e.others (lone_entry e.first)) (same_lines es)
 
 -- the lines of the first entries, by what is kept of them
-pub found_lines : (limit : ℕ) (es : List listing.Entry) (l : Stored) → Shows limit es l → lines_of l.listed ≡ found_text limit es
+pub found_lines : (limit : ℕ) (es : List listing.Entry) (l : Held) → Shows limit es l → lines_of l.entries.listed ≡ found_text limit es
 found_lines limit es l shown = ap lines_of shown.listed ∙ same_lines (take limit es)
 
 -- ---- where there is a fault there is an entry

@@ -21,8 +21,7 @@ use Rattle.dbscan.specs.Notices.{CutsNever, run_notices}
 use Rattle.dbscan.specs.Placed.{told_faults}
 use Rattle.dbscan.proofs.AllTold.{all_told}
 use Rattle.dbentries.specs.Listed.{listed_entries}
-use Rattle.dbentries.specs.Lists.{ListsAll, ListsFirst}
-use Rattle.dbentries.specs.Store.{Stored}
+use Rattle.dbentries.specs.Lists.{Held, ListsAll, ListsFirst}
 use Rattle.dbentries.proofs.Heard.{never_stops}
 use Rattle.dbexplain.specs.Explained.{explain_text}
 use Rattle.dbexplain.specs.Keeping.{HasAll, IsEmpty}
@@ -68,11 +67,12 @@ module _ {A O : Type 0} (held : O → OutState) {limit : ℕ} {file : List ℕ} 
   told_some some e = some (heard.all.tally.all ∙ ap (λ (ts : List Reported). counted (length ts)) e)
 
   -- with the lost pages
-  pub all_kept : (l : Stored) → ListsAll limit file V l → HasAll limit file V (record now.kept.now { listing = l })
-  all_kept l listed = record {
+  pub all_kept : (l : Held) → ListsAll limit file V l → length l.zeros ≡ length now.kept.now.listing.zeros → HasAll limit file V (record now.kept.now { listing = l })
+  all_kept l listed words = record {
     listing = listed;
     tally = heard.all.tally;
     bits = subst (λ n. (geometry file).pages < 64 * n) (sym heard.all.bits) heard.empty.bits;
+    zeros = subst (λ n. (geometry file).pages < 64 * n) (sym (words ∙ heard.all.zeros)) heard.empty.zeros;
     room = subst (λ (t : Trees). (geometry file).pages ≤ length t.known) (sym heard.all.trees) heard.empty.room;
   }
 

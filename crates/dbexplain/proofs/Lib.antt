@@ -12,6 +12,5 @@ pub mod SumLaws
 pub mod SumPieces
 pub mod Summaries
 pub mod Tallies
-pub mod TallyBits
 pub mod Worked
 pub mod WorkedLines

@@ -16,8 +16,9 @@ use Rattle.dbsurvey.proofs.Ranges.{count_push}
 use Rattle.dbtrace.specs.declared.Reported.{Reported}
 use Rattle.dbformat.specs.Starts.{start_at}
 use Rattle.dbowner.proofs.Slots.{get_set, get_set_other}
+use Rattle.dbentries.specs.Bits.{has_bit, HasPageBit}
 use Rattle.dbexplain.specs.Summary.{start_count, is_reached}
-use Rattle.dbexplain.specs.Tallies.{Tallied, IsTallyTo, HasPageBit, counted_start, has_bit, is_told, no_count, one_reached_page}
+use Rattle.dbexplain.specs.Tallies.{Tallied, IsTallyTo, counted_start, is_told, no_count, one_reached_page}
 use Rattle.dbexplain.specs.TallySteps.{reached_counted}
 use Rattle.dbexplain.specs.declared.tally.StartCount.{StartCount}
 

@@ -14,8 +14,7 @@ use Rattle.dbentries.specs.Listing.{entries, size}
 use Rattle.dbscan.specs.Placed.{told_faults}
 use Rattle.dbreport.proofs.Checks.{more_counted}
 use Rattle.dbentries.specs.Listed.{is_lost, listed_entries, listed_faults, looked_at, others_of}
-use Rattle.dbentries.specs.Lists.{Shows}
-use Rattle.dbentries.specs.Store.{Stored}
+use Rattle.dbentries.specs.Lists.{Held, Shows}
 use Rattle.dbexplain.specs.Explained.{entry_text, explain_text}
 use Rattle.dbexplain.specs.Summary.{summary}
 use Rattle.dbexplain.proofs.KeptEntries.{some_listed}
@@ -27,24 +26,24 @@ marks_fit file V marks room marked fits =
     omega (arith, all, fits)
 
 -- the line that counts the faults of the other entries
-pub rest_line : (limit : ℕ) (es : List listing.Entry) (l : Stored) → Shows limit es l → more_text l.rest ≡ more_text (sum_by size (drop limit es))
+pub rest_line : (limit : ℕ) (es : List listing.Entry) (l : Held) → Shows limit es l → more_text l.entries.rest ≡ more_text (sum_by size (drop limit es))
 rest_line limit es l shown = ap more_text shown.rest ∙ more_counted (sum_by size (drop limit es))
 
 -- where faults were reported, there are entries
-none_of : (file : List ℕ) (ts : List Reported) → others_of ts ++ map (looked_at file) (filter is_lost ts) ≡ [] → ts ≡ []
-none_of file [] h = refl
-none_of file (t ∷ ts) h = by_case (is_lost t) h
+none_of : (file : List ℕ) (V : List Reference) (ts : List Reported) → others_of ts ++ map (looked_at file V) (filter is_lost ts) ≡ [] → ts ≡ []
+none_of file V [] h = refl
+none_of file V (t ∷ ts) h = by_case (is_lost t) h
   where
     some : (xs ys : List Reported) (y : Reported) → xs ++ y ∷ ys ≡ [] → ⊥
     some [] ys y h = cc
     some (x ∷ xs) ys y h = cc
 
-    by_case : (b : Bool) → cond (not b) (t ∷ others_of ts) (others_of ts) ++ map (looked_at file) (cond b (t ∷ filter is_lost ts) (filter is_lost ts)) ≡ [] → t ∷ ts ≡ []
-    by_case true h = absurd (some (others_of ts) (map (looked_at file) (filter is_lost ts)) (looked_at file t) h)
+    by_case : (b : Bool) → cond (not b) (t ∷ others_of ts) (others_of ts) ++ map (looked_at file V) (cond b (t ∷ filter is_lost ts) (filter is_lost ts)) ≡ [] → t ∷ ts ≡ []
+    by_case true h = absurd (some (others_of ts) (map (looked_at file V) (filter is_lost ts)) (looked_at file V t) h)
     by_case false h = cc
 
 pub none_told : (file : List ℕ) (V : List Reference) → listed_entries file V ≡ [] → told_faults file V ≡ []
-none_told file V h = none_of file (told_faults file V) (some_listed (listed_faults file V) h)
+none_told file V h = none_of file V (told_faults file V) (some_listed (listed_faults file V) h)
 
 text_some : (limit : ℕ) (file : List ℕ) (V : List Reference) (es : List listing.Entry) → (es ≡ [] → ⊥)
     → flat_map (entry_text file V) (take limit es) ++ (more_text (sum_by size (drop limit es)) ++ summary file V (told_faults file V)) ≡ explain_text limit file V es
@@ -58,4 +57,4 @@ report_text limit file V some = text_some limit file V (listed_entries file V) (
 
 -- and else there is the line of a file without a fault
 pub ok_text : (limit : ℕ) (file : List ℕ) (V : List Reference) → told_faults file V ≡ [] → explain_text limit file V (listed_entries file V) ≡ ok_line
-ok_text limit file V none = ap (λ ts. explain_text limit file V (entries (others_of ts ++ map (looked_at file) (filter is_lost ts)))) none
+ok_text limit file V none = ap (λ ts. explain_text limit file V (entries (others_of ts ++ map (looked_at file V) (filter is_lost ts)))) none

@@ -8,6 +8,7 @@ use Rattle.dbformat.specs.SchemaRow.{SchemaRow}
 use Rattle.dbformat.specs.declared.Encoding.{Encoding}
 use Rattle.dbowner.specs.Texts.{tree_of_row}
 use Rattle.dbentries.specs.Lines.{indented}
+use Rattle.dbentries.specs.declared.runs.Run.{Run}
 use Rattle.dbscan.specs.Roots.{root_page}
 use Rattle.dbexplain.specs.Summary.{aligned, faulty_pages_text, start_name}
 use Rattle.dbexplain.specs.Sums.{code_sum, numbered_sum, start_sum, sum_front}
@@ -19,7 +20,11 @@ pub next_code : (all : ℕ) (counts : List CodeCount) (i : ℕ) (none : CodeCoun
     → flat_map (code_sum all) (drop i counts) ≡ code_sum all (get_or counts i none) ++ flat_map (code_sum all) (drop (i + 1) counts)
 next_code all counts i none h = rw (add-one, drop-cons counts i none h) refl
 
--- and of those of starts
+-- of some runs
+pub next_run : (line : Run → List ℕ) (runs : List Run) (i : ℕ) (none : Run) → i < length runs → flat_map line (drop i runs) ≡ line (get_or runs i none) ++ flat_map line (drop (i + 1) runs)
+next_run line runs i none h = rw (add-one, drop-cons runs i none h) refl
+
+-- and of the counts of starts
 
 next_suc : (all : ℕ) (name : ℕ → List ℕ) (counts : List StartCount) (none : StartCount) (k i j : ℕ) → i < length counts → j ≡ k + i
     → flat_map (numbered_sum all name) (drop i (enumerate_from k counts))

@@ -1,11 +1,12 @@
 -- The summary by the counts of a tally is that of a file.
 use Rattle.std.proofs.Common.{◌≡◌, ℕ, zero, suc, ◌+◌, ◌-◌, ◌<◌, ◌≤◌, inl, inr, Bool, true, false, cond, not, ◌&&◌, List, [], ◌∷◌, ◌++◌, length, map, take, Option, Some, None, refl, sym, ap, ap₂, subst, ◌∙◌, arith, append-nil, append_assoc}
-use Rattle.std.specs.Prelude.{codes, decimal, count_by, slice_get, slice_index_or, ◌==◌}
+use Rattle.std.specs.Prelude.{codes, decimal, count_by, filter, fold, min, nat_le, slice_get, slice_index_or, ◌==◌}
 use Rattle.std.specs.List.{enumerate_from, flat_map, range_with_len}
 use Rattle.std.specs.Option.{option_map_or}
 use Rattle.std.proofs.lemmas.Bool.{and_parts, and_from, eqb-true, eq-eqb}
 use Rattle.std.proofs.lemmas.Bool.Decides.{nat_tests}
 use Rattle.std.proofs.lemmas.Grind.{flat_map-append}
+use Rattle.std.proofs.lemmas.List.{take_all}
 use Rattle.std.proofs.lemmas.List.FromFn.{length-map-range_with_len}
 use Rattle.std.proofs.lemmas.Option.{get_or_from_slice_get}
 use Rattle.dbsurvey.specs.Address.{IsIn}
@@ -26,6 +27,7 @@ use Rattle.dbformat.specs.SchemaRow.{SchemaRow}
 use Rattle.dbformat.specs.Survey.{Survey}
 use Rattle.dbformat.specs.declared.FaultCode.{FaultCode}
 use Rattle.dbformat.specs.declared.Encoding.{Encoding}
+use Rattle.dbformat.specs.declared.Geometry.{Geometry}
 use Rattle.dbformat.proofs.HeaderPrefix.{encoding_within}
 use Rattle.dbsource.specs.HeaderBytes.{HeaderBytes}
 use Rattle.dbsource.specs.Headers.{IsHeaderOf}
@@ -40,9 +42,16 @@ use Rattle.dbformat.proofs.BelowStarts.{length_taken, rows_start}
 use Rattle.dbscan.specs.Placed.{told_faults}
 use Rattle.dbscan.proofs.Reached.{of_starts}
 use Rattle.dbentries.specs.Lines.{indented}
+use Rattle.dbentries.specs.Bits.{has_bit, HasPageBit}
+use Rattle.dbentries.specs.Kept.{no_runs, run_added}
+use Rattle.dbentries.specs.Listed.{listed_faults}
+use Rattle.dbentries.specs.Zeros.{AreZeros, zero_pages}
+use Rattle.dbentries.specs.declared.runs.Runs.{Runs}
+use Rattle.dbentries.proofs.Belonging.{runs_kept}
 use Rattle.dbentries.proofs.Numbers.{get-take}
-use Rattle.dbexplain.specs.Summary.{aligned, code_count, code_line, count_text, faulty_pages_at, is_faulty_at, is_of_kind, is_reached, is_part_of_start, is_whole, faulty_pages_text, reached_pages, start_count, start_sum_line, start_name, sum_line, summary, trees_text, whole_count, whole_line, whole_trees}
-use Rattle.dbexplain.specs.Sums.{code_sum, freelist_start_count, numbered_sum, start_sum, summary_by, tree_counts, trees_by, trees_sum}
+use Rattle.dbentries.proofs.ZeroPages.{zeros_are}
+use Rattle.dbexplain.specs.Summary.{aligned, code_count, code_line, count_text, faulty_pages_at, is_faulty_at, is_of_kind, is_reached, is_part_of_start, is_whole, faulty_pages_text, reached_pages, start_count, start_sum_line, start_name, sum_line, summary, trees_text, whole_count, whole_line, whole_trees, zero_runs_text, zeros_text}
+use Rattle.dbexplain.specs.Sums.{code_sum, freelist_start_count, numbered_sum, start_sum, last_sum, summary_by, tree_counts, trees_by, zeros_sum}
 use Rattle.dbexplain.specs.Tallies.{Tallied, IsTallyTo, counted_code, counted_start, is_told, no_count}
 use Rattle.dbexplain.specs.declared.tally.StartCount.{StartCount}
 use Rattle.dbexplain.specs.declared.trees.TreeSum.{TreeSum}
@@ -234,8 +243,11 @@ module _ (file : List ℕ) (V : List Reference) (s : Survey file V) where
         ∙ ap (λ b. is_of_kind index rows k && b) (is_zero (start_count ts k))))
         (ap (λ m. count_by (is_of_kind index rows) (range_with_len 1 m)) rest)
 
-    last_part : trees_sum rows (tree_counts rows t) ≡ trees_text (whole_trees false rows ts) (whole_trees true rows ts)
-    last_part = ap₂ trees_text (trees_whole false) (trees_whole true)
+    abbrev last_lines : List ℕ
+    last_lines = zeros_text (geometry file).page_size (zero_pages file V) ++ trees_text (whole_trees false rows ts) (whole_trees true rows ts)
+
+    last_part : (size : ℕ) (r : Runs) → zeros_sum size r ≡ zeros_text (geometry file).page_size (zero_pages file V) → last_sum size r rows (tree_counts rows t) ≡ last_lines
+    last_part size r zeros = ap₂ (λ a b. a ++ b) zeros (ap₂ trees_text (trees_whole false) (trees_whole true))
 
     first_part : flat_map (numbered_sum t.all name) (enumerate_from 0 (tree_counts rows t)) ≡ start_sum_line file V ts 0 ++ flat_map (start_sum_line file V ts) (range_with_len 1 (length rows))
     first_part = ap₂ (λ n cs. flat_map (numbered_sum n name) (enumerate_from 0 cs)) is.all trees_are ∙ lines_same (suc (length rows)) 0
@@ -246,15 +258,15 @@ module _ (file : List ℕ) (V : List Reference) (s : Survey file V) where
     whole_part : sum_line t.all t.whole (codes "in the whole file") ≡ whole_line ts
     whole_part = ap₂ (λ n k. sum_line n k (codes "in the whole file")) is.all is.whole ∙ sum_same (length ts) (whole_count ts) (codes "in the whole file")
 
-    summary_same : summary_by (encoding file) rows t ≡ summary file V ts
-    summary_same =
+    summary_same : (size : ℕ) (r : Runs) → zeros_sum size r ≡ zeros_text (geometry file).page_size (zero_pages file V) → summary_by size r (encoding file) rows t ≡ summary file V ts
+    summary_same size r zeros =
         joined
         (ap count_text is.all ∙ count_same (length ts))
         (ap₂ (λ n cs. flat_map (code_sum n) cs) is.all is.codes ∙ codes_same ts all_codes)
-        first_part free_part whole_part last_part
+        first_part free_part whole_part (last_part size r zeros)
         ∙ parts (count_text (length ts)) (flat_map (code_line ts) all_codes) (start_sum_line file V ts 0) (flat_map (start_sum_line file V ts) (range_with_len 1 (length rows)))
-        (start_sum_line file V ts freelist_start) (whole_line ts) (trees_text (whole_trees false rows ts) (whole_trees true rows ts))
-        ∙ ap (λ w. count_text (length ts) ++ flat_map (code_line ts) all_codes ++ w ++ whole_line ts ++ trees_text (whole_trees false rows ts) (whole_trees true rows ts)) start_lines
+        (start_sum_line file V ts freelist_start) (whole_line ts) last_lines
+        ∙ ap (λ w. count_text (length ts) ++ flat_map (code_line ts) all_codes ++ w ++ whole_line ts ++ last_lines) start_lines
       where
         joined : {a b c d e f a' b' c' d' e' f' : List ℕ} → a ≡ a' → b ≡ b' → c ≡ c' → d ≡ d' → e ≡ e' → f ≡ f'
             → a ++ (b ++ (c ++ (d ++ (e ++ f)))) ≡ a' ++ (b' ++ (c' ++ (d' ++ (e' ++ f'))))
@@ -263,9 +275,35 @@ module _ (file : List ℕ) (V : List Reference) (s : Survey file V) where
         parts : (a b c m d e f : List ℕ) → a ++ (b ++ ((c ++ m) ++ (d ++ (e ++ f)))) ≡ a ++ b ++ (c ++ (m ++ d)) ++ e ++ f
         parts a b c m d e f = simp append_assoc
 
--- so it is of what is put by the list of roots
-pub known_summary : (file : List ℕ) (V : List Reference) → Survey file V → (h : HeaderBytes) (rows : List SchemaRow) (e : Encoding) (t : Tallied)
+-- so it is of what is put by the list of roots, and by the runs of the pages that are zeros
+pub known_summary : (file : List ℕ) (V : List Reference) → Survey file V → (h : HeaderBytes) (rows : List SchemaRow) (e : Encoding) (t : Tallied) (size : ℕ) (r : Runs)
     → IsHeaderOf h file → AreListed file V rows → e ≡ encoding h.bytes → IsTallyTo V (told_faults file V) (geometry file).pages t
-    → summary_by e rows t ≡ summary file V (told_faults file V)
-known_summary file V s h given e t header listed texts is =
-    ap₂ (λ e rows. summary_by e rows t) (texts ∙ ap encoding header.begins ∙ encoding_within file) listed ∙ summary_same file V s t is
+    → zeros_sum size r ≡ zeros_text (geometry file).page_size (zero_pages file V) → summary_by size r e rows t ≡ summary file V (told_faults file V)
+known_summary file V s h given e t size r header listed texts is zeros =
+    ap₂ (λ e rows. summary_by size r e rows t) (texts ∙ ap encoding header.begins ∙ encoding_within file) listed ∙ summary_same file V s t is size r zeros
+
+-- as many as there are, of ten
+min_taken : {X : Type 0} (n : ℕ) (xs : List X) → length xs ≡ 10 → take (min n 10) xs ≡ take n xs
+min_taken n xs all = by_case (nat_le n 10) refl
+  where
+    by_case : (b : Bool) → nat_le n 10 ≡ b → take (min n 10) xs ≡ take n xs
+    by_case true e =
+        let l : n ≤ 10 = grind (arith, nat_tests, e) in
+        let m : min n 10 ≡ n = omega (arith, l) in ap (λ k. take k xs) m
+    by_case false e =
+        let l : 10 < n = grind (arith, nat_tests, e) in
+        let m : min n 10 ≡ 10 = omega (arith, l) in
+        ap (λ k. take k xs) m ∙ take_all 10 xs (omega (arith, all)) ∙ sym (take_all n xs (omega (arith, all, l)))
+
+-- what is put of these runs
+pub known_zeros : (file : List ℕ) (V : List Reference) (g : Geometry) (words : List ℕ) (r : Runs) → g ≡ geometry file → HasPageBit words (geometry file).pages
+    → AreZeros (listed_faults file V) words → r ≡ fold run_added no_runs (filter (has_bit words) (range_with_len 1 g.pages))
+    → zeros_sum g.page_size r ≡ zeros_text (geometry file).page_size (zero_pages file V)
+known_zeros file V g words r e room are is =
+    let size : g.page_size ≡ (geometry file).page_size = ap (λ (g : Geometry). g.page_size) e in
+    let pages : filter (has_bit words) (range_with_len 1 g.pages) ≡ zero_pages file V =
+    ap (λ (g : Geometry). filter (has_bit words) (range_with_len 1 g.pages)) e ∙ zeros_are file V words room are in
+    let same = is ∙ ap (fold run_added no_runs) pages in
+    let kept = runs_kept (zero_pages file V) in
+    let r = fold run_added no_runs (zero_pages file V) in
+    ap₂ zeros_sum size same ∙ ap₂ (zero_runs_text (geometry file).page_size) (min_taken r.count r.kept kept.room ∙ kept.kept) (ap (λ n. n - 10) kept.count)

@@ -21,12 +21,13 @@ use Rattle.dbtrace.specs.declared.Part.{Part}
 use Rattle.dbtrace.specs.declared.Part.TheVariants as part
 use Rattle.dbtrace.specs.declared.Reported.{Reported}
 use Rattle.dbowner.proofs.Slots.{get_set, get_set_other}
+use Rattle.dbentries.specs.Bits.{bit_set, has_bit}
 use Rattle.dbexplain.specs.Summary.{code_count, start_count, is_part_of_start, is_whole}
-use Rattle.dbexplain.specs.Tallies.{Tallied, IsTallyOf, counted_code, counted_in, counted_start, has_bit, is_told, no_count, one_fault, one_more_of_code}
-use Rattle.dbexplain.specs.TallySteps.{bit_set, start_fault_counted}
+use Rattle.dbexplain.specs.Tallies.{Tallied, IsTallyOf, counted_code, counted_in, counted_start, is_told, no_count, one_fault, one_more_of_code}
+use Rattle.dbexplain.specs.TallySteps.{start_fault_counted}
 use Rattle.dbexplain.specs.declared.tally.CodeCount.{CodeCount}
 use Rattle.dbexplain.specs.declared.tally.StartCount.{StartCount}
-use Rattle.dbexplain.proofs.TallyBits.{room_kept, set_is}
+use Rattle.dbentries.proofs.Bits.{none_set, room_kept, set_is}
 
 -- ---- counts
 
@@ -150,21 +151,13 @@ none_told (suc n) zero c l = refl
 none_told (suc n) (suc k) c l = none_told n k c (omega arith)
 none_told zero k c l = absurd (let f : ⊥ = omega arith in f)
 
-zero_at : (n i : ℕ) → get_or {A = ℕ} (replicate n 0) i 0 ≡ 0
-zero_at zero i = refl
-zero_at (suc n) zero = refl
-zero_at (suc n) (suc i) = zero_at n i
-
-no_bits : (n p : ℕ) → has_bit (replicate n 0) p ≡ false
-no_bits n p = ap (λ b. b == 1) (ap (λ w. bit_at w (p % 64)) (zero_at n (p / 64)) ∙ bit_at-zero (p % 64))
-
 -- where no fault was reported
-pub nothing_told : (t : Tallied) (n : ℕ) → t.all ≡ 0 → t.codes ≡ map (counted_code []) all_codes → t.starts ≡ replicate 65538 no_count → t.whole ≡ 0 → t.pages ≡ replicate n 0
+pub nothing_told : (t : Tallied) → t.all ≡ 0 → t.codes ≡ map (counted_code []) all_codes → t.starts ≡ replicate 65538 no_count → t.whole ≡ 0 → ((p : ℕ) → has_bit t.pages p ≡ false)
     → IsTallyOf [] t
-nothing_told t n all codes starts whole pages = record {
+nothing_told t all codes starts whole none = record {
   all = all;
   codes = codes;
   starts = λ k l. ap (λ xs. slice_get xs k) starts ∙ none_told 65538 k no_count (omega arith);
   whole = whole;
-  pages = λ p room. ap (λ words. has_bit words p) pages ∙ no_bits n p;
+  pages = λ p room. none p;
 }

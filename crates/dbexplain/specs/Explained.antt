@@ -40,7 +40,7 @@ abbrev pub cause_lines : List ℕ → List Reference → ℕ → Cause → List 
 cause_lines file V p (cause.Key k) = key_text k ++ place_line file V k.page
 cause_lines file V p (cause.Leaf page) = leaf_text page ++ place_line file V page
 cause_lines file V p (cause.Page page facts) = facts_text (geometry file).page_size page facts
-cause_lines file V p (cause.Look l facts) = look_text l ++ facts_text (geometry file).page_size p facts
+cause_lines file V p (cause.Look l facts) = look_text l facts.named ++ facts_text (geometry file).page_size p facts
 cause_lines file V p c = cause_text c
 
 -- the fault line, where the fault is, and the missing pages

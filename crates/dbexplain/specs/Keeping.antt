@@ -7,7 +7,8 @@ use Rattle.dbformat.specs.declared.Geometry.{Geometry}
 use Rattle.dbentries.specs.declared.entry.Entry.{Entry}
 use Rattle.dbentries.specs.Lists.{IsUnused, ListsAll}
 use Rattle.dbscan.specs.Placed.{told_faults}
-use Rattle.dbexplain.specs.Tallies.{HasPageBit, IsTallyOf}
+use Rattle.dbentries.specs.Bits.{HasPageBit}
+use Rattle.dbexplain.specs.Tallies.{IsTallyOf}
 use Rattle.dbexplain.specs.declared.kept.Kept.{Kept}
 
 -- the fault lines of what is kept of some entries
@@ -19,6 +20,7 @@ pub record IsEmpty {A : Type 0} (limit : ℕ) (g : Geometry) (k : Kept A) : Type
   pub listing : IsUnused limit k.listing
   pub tally : IsTallyOf [] k.tally
   pub bits : HasPageBit k.tally.pages g.pages
+  pub zeros : HasPageBit k.listing.zeros g.pages
   pub room : g.pages ≤ length k.trees.known
 
 -- all faults of a file were counted, and are listed
@@ -26,4 +28,5 @@ pub record HasAll {A : Type 0} (limit : ℕ) (file : List ℕ) (V : List Referen
   pub listing : ListsAll limit file V k.listing
   pub tally : IsTallyOf (told_faults file V) k.tally
   pub bits : HasPageBit k.tally.pages (geometry file).pages
+  pub zeros : HasPageBit k.listing.zeros (geometry file).pages
   pub room : (geometry file).pages ≤ length k.trees.known

@@ -28,6 +28,7 @@ module _ {A O : Type 0} where
     pub tally : (ts : List Reported) → IsTallyOf ts s.kept.now.tally → IsTallyOf (ts ++ x ∷ []) t.kept.now.tally
     pub bits : length t.kept.now.tally.pages ≡ length s.kept.now.tally.pages
     pub listing : ListsFault x s.kept.now.listing t.kept.now.listing
+    pub zeros : length t.kept.now.listing.zeros ≡ length s.kept.now.listing.zeros
     pub trees : t.kept.now.trees ≡ s.kept.now.trees
     pub out : t.out.now ≡ s.out.now
 

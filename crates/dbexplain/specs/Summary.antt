@@ -1,6 +1,6 @@
 -- The summary of `explain` (own): how many faults a file has, with each code and reported at each start, on how many of the pages that were
 -- reached from there, and how many of the tables and indexes have no fault.
-use Rattle.std.specs.Prelude.{◌≡◌, ℕ, ◌+◌, ◌-◌, not, Bool, true, false, ◌&&◌, List, [], ◌∷◌, ◌++◌, length, replicate, flat_map, count_by, slice_get, sum_by, codes, decimal, ◌==◌, if◌then◌else◌}
+use Rattle.std.specs.Prelude.{◌≡◌, ℕ, ◌+◌, ◌-◌, ◌*◌, not, Bool, true, false, ◌&&◌, List, [], ◌∷◌, ◌++◌, length, replicate, flat_map, count_by, slice_get, sum_by, take, codes, decimal, ◌==◌, if◌then◌else◌}
 use Rattle.std.specs.List.{list_any, range_with_len}
 use Rattle.std.specs.Option.{option_map_or}
 use Rattle.dbformat.specs.Address.{freelist_start}
@@ -17,6 +17,10 @@ use Rattle.dbformat.specs.declared.FaultCode.{FaultCode}
 use Rattle.dbformat.specs.declared.RowKind.{RowKind}
 use Rattle.dbformat.specs.declared.RowKind.TheVariants as row
 use Rattle.dbentries.specs.Lines.{indented}
+use Rattle.dbentries.specs.Others.{run_text, runs}
+use Rattle.dbentries.specs.Zeros.{zero_pages}
+use Rattle.dbentries.specs.declared.runs.Run.{Run}
+use Rattle.dbexplain.specs.Facts.{bytes_text, page_begin}
 use Rattle.dbtrace.specs.declared.Part.{Part}
 use Rattle.dbtrace.specs.declared.Part.TheVariants as part
 use Rattle.dbtrace.specs.declared.Reported.{Reported}
@@ -136,11 +140,29 @@ abbrev pub trees_text : TreeSum → TreeSum → List ℕ
 trees_text tables indexes =
     indented (share_text tables (codes " table") (codes " tables") ++ codes " and " ++ share_text indexes (codes " index") (codes " indexes") ++ codes " without a fault")
 
--- the summary of these faults of a file with survey V: their number, by code, by start in the order of the starts, and the tables and indexes
+-- a run of pages that are zeros, where pages have this size
+abbrev pub zero_run_line : ℕ → Run → List ℕ
+zero_run_line page_size r = indented ((if r.first == r.last then codes "page " ++ decimal r.first ++ codes " is" else codes "pages " ++ run_text r ++ codes " are")
+    ++ codes " zeros: " ++ bytes_text (page_begin page_size r.first) (r.last * page_size - 1))
+
+-- how many more runs there are
+abbrev pub more_zeros_line : ℕ → List ℕ
+more_zeros_line k = if k == 0 then [] else indented (codes "and " ++ decimal k ++ (if k == 1 then codes " more run" else codes " more runs") ++ codes " of zero pages")
+
+-- these runs, and k more
+abbrev pub zero_runs_text : ℕ → List Run → ℕ → List ℕ
+zero_runs_text page_size rs k = flat_map (zero_run_line page_size) rs ++ more_zeros_line k
+
+-- the runs of the pages that are zeros, ten at most, and how many more there are
+abbrev pub zeros_text : ℕ → List ℕ → List ℕ
+zeros_text page_size pages = zero_runs_text page_size (take 10 (runs pages)) (counted (length (runs pages)) - 10)
+
+-- the summary of these faults of a file with survey V: their number, by code, by start in the order of the starts, the pages that
+-- are zeros, and the tables and indexes
 abbrev pub summary : List ℕ → List Reference → List Reported → List ℕ
 summary file V ts =
     count_text (length ts) ++ flat_map (code_line ts) all_codes ++ flat_map (λ l. start_sum_line file V ts l.step) (starts file V) ++ whole_line ts
-    ++ trees_text (whole_trees false (listed_rows file V) ts) (whole_trees true (listed_rows file V) ts)
+    ++ (zeros_text (geometry file).page_size (zero_pages file V) ++ trees_text (whole_trees false (listed_rows file V) ts) (whole_trees true (listed_rows file V) ts))
 
 -- Laws.
 

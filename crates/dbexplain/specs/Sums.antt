@@ -1,11 +1,12 @@
 -- The summary by the counts of a tally.
-use Rattle.std.specs.Prelude.{ℕ, suc, ◌-◌, Bool, true, false, ◌&&◌, List, ◌++◌, take, length, count_by, codes, slice_index_or, ◌==◌}
+use Rattle.std.specs.Prelude.{ℕ, suc, ◌-◌, Bool, true, false, ◌&&◌, List, ◌++◌, take, length, min, count_by, codes, slice_index_or, ◌==◌}
 use Rattle.std.specs.List.{enumerate_from, flat_map, range_with_len}
 use Rattle.dbformat.specs.Address.{freelist_start}
 use Rattle.dbformat.specs.Lines.{code_text, code_words}
 use Rattle.dbformat.specs.SchemaRow.{SchemaRow}
 use Rattle.dbformat.specs.declared.Encoding.{Encoding}
-use Rattle.dbexplain.specs.Summary.{aligned, count_text, faulty_pages_text, is_of_kind, start_name, sum_line, trees_text}
+use Rattle.dbentries.specs.declared.runs.Runs.{Runs}
+use Rattle.dbexplain.specs.Summary.{aligned, count_text, faulty_pages_text, is_of_kind, start_name, sum_line, trees_text, zero_runs_text}
 use Rattle.dbexplain.specs.Tallies.{Tallied, no_count}
 use Rattle.dbexplain.specs.declared.tally.CodeCount.{CodeCount}
 use Rattle.dbexplain.specs.declared.tally.StartCount.{StartCount}
@@ -46,9 +47,16 @@ trees_sum rows cs = trees_text (trees_by false rows cs) (trees_by true rows cs)
 abbrev pub freelist_start_count : Tallied → StartCount
 freelist_start_count t = slice_index_or t.starts freelist_start no_count
 
+-- the lines of the pages that are zeros, by what is kept of their runs, and the last line
+abbrev pub zeros_sum : ℕ → Runs → List ℕ
+zeros_sum page_size r = zero_runs_text page_size (take (min r.count 10) r.kept) (r.count - 10)
+
+abbrev pub last_sum : ℕ → Runs → List SchemaRow → List StartCount → List ℕ
+last_sum page_size r rows cs = zeros_sum page_size r ++ trees_sum rows cs
+
 -- the summary
-abbrev pub summary_by : Encoding → List SchemaRow → Tallied → List ℕ
-summary_by e rows t =
+abbrev pub summary_by : ℕ → Runs → Encoding → List SchemaRow → Tallied → List ℕ
+summary_by page_size r e rows t =
     count_text t.all ++ (flat_map (code_sum t.all) t.codes ++ (flat_map (numbered_sum t.all (start_name e rows)) (enumerate_from 0 (tree_counts rows t))
     ++ (start_sum t.all (start_name e rows freelist_start) (freelist_start_count t) ++ (sum_line t.all t.whole (codes "in the whole file")
-    ++ trees_sum rows (tree_counts rows t)))))
+    ++ last_sum page_size r rows (tree_counts rows t)))))

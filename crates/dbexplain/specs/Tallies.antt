@@ -1,6 +1,5 @@
 -- The tally of the faults that were reported: how many there are by code and by start, which pages have one, and how many pages were reached.
-use Rattle.std.specs.Prelude.{◌≡◌, ℕ, ◌+◌, ◌-◌, ◌*◌, ◌/◌, ◌%◌, ◌<◌, ◌≤◌, not, Bool, ◌&&◌, List, [], length, map, min, count_by, vec_len, Some, ◌^◌, slice_get, slice_set, slice_index, slice_index_or, ◌==◌, if◌then◌else◌}
-use Rattle.std.specs.Int.{bit_at}
+use Rattle.std.specs.Prelude.{◌≡◌, ℕ, ◌+◌, ◌-◌, ◌≤◌, not, Bool, ◌&&◌, List, [], length, map, min, count_by, vec_len, Some, ◌^◌, slice_get, slice_set, slice_index_or, ◌==◌, if◌then◌else◌}
 use Rattle.std.specs.List.{list_any, range_with_len}
 use Rattle.dbformat.specs.Address.{freelist_start}
 use Rattle.dbformat.specs.Codes.{all_codes, code_index}
@@ -8,6 +7,7 @@ use Rattle.dbformat.specs.Lines.{counted}
 use Rattle.dbformat.specs.Reference.{Reference}
 use Rattle.dbformat.specs.declared.FaultCode.{FaultCode}
 use Rattle.dbtrace.specs.declared.Reported.{Reported}
+use Rattle.dbentries.specs.Bits.{has_bit, HasPageBit}
 use Rattle.dbexplain.specs.Summary.{code_count, start_count, whole_count, is_reached, is_whole}
 use Rattle.dbexplain.specs.declared.tally.CodeCount.{CodeCount}
 use Rattle.dbexplain.specs.declared.tally.StartCount.{StartCount}
@@ -24,7 +24,7 @@ pub record Tallied : Type 0 where
 
 -- what the fields hold
 abbrev pub tallied : {A : Type 0} → Inside A → Tallied
-tallied t = record { all = t.all; codes = t.codes; starts = t.starts.items; whole = t.whole; pages = t.pages.items }
+tallied t = record { all = t.all; codes = t.codes; starts = t.starts.items; whole = t.whole; pages = t.pages }
 
 -- there is a count for each start
 abbrev pub IsRoomy : {A : Type 0} → Inside A → Type 0
@@ -53,14 +53,6 @@ one_fault c = record c { faults = counted (c.faults + 1) }
 -- a page more was reached from it, with a fault or without one
 abbrev pub one_reached_page : Bool → StartCount → StartCount
 one_reached_page faulty c = record c { reached = min (c.reached + 1) (2 ^ 32 - 1); faulty = if faulty then min (c.faulty + 1) (2 ^ 32 - 1) else c.faulty }
-
--- whether page p has its bit
-abbrev pub has_bit : List ℕ → ℕ → Bool
-has_bit words p = bit_at (slice_index words (p / 64)) (p % 64) == 1
-
--- there is a bit for page p
-abbrev pub HasPageBit : List ℕ → ℕ → Type 0
-HasPageBit words p = p < 64 * length words
 
 -- whether some fault that was reported at a start is of page p
 abbrev pub is_told : List Reported → ℕ → Bool

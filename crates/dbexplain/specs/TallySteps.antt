@@ -1,19 +1,15 @@
 -- A tally, a fault or a page on.
-use Rattle.std.specs.Prelude.{ℕ, ◌+◌, ◌*◌, ◌/◌, ◌%◌, ◌^◌, List, Option, Some, None, slice_set, slice_index, slice_index_or}
-use Rattle.std.specs.Int.RustNames.{bit_or}
+use Rattle.std.specs.Prelude.{ℕ, ◌+◌, Option, Some, None, slice_set, slice_index_or}
 use Rattle.dbformat.specs.Lines.{counted}
 use Rattle.dbtrace.specs.declared.Part.{Part}
 use Rattle.dbtrace.specs.declared.Part.TheVariants as part
-use Rattle.dbexplain.specs.Tallies.{Tallied, has_bit, no_count, one_fault, one_reached_page}
+use Rattle.dbentries.specs.Bits.{has_bit}
+use Rattle.dbexplain.specs.Tallies.{Tallied, no_count, one_fault, one_reached_page}
 
 -- a fault more was reported at a start, or of the whole file
 abbrev pub start_fault_counted : Part → Tallied → Tallied
 start_fault_counted (part.Start k) t = record t { starts = slice_set t.starts k (one_fault (slice_index_or t.starts k no_count)) }
 start_fault_counted _ t = record t { whole = counted (t.whole + 1) }
-
--- the words, where the bit of page p is set
-abbrev pub bit_set : ℕ → List ℕ → List ℕ
-bit_set p words = slice_set words (p / 64) (bit_or (slice_index words (p / 64)) (1 * 2 ^ (p % 64) % 2 ^ 64))
 
 -- a page more was reached from a start
 abbrev pub page_of_start_counted : ℕ → ℕ → Tallied → Tallied

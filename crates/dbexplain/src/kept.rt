@@ -4,7 +4,7 @@ ghost use Rattle.dbformat.specs.FixedPages.{IsInRange};
 ghost use Rattle.dbexplain.specs.Keeping.{IsEmpty};
 
 use crate::tally::Tally;
-use dbentries::Entries;
+use dbentries::Listing;
 use dbowner::PageTrees;
 use dbsource::Geometry;
 use std::alloc::{AllocError, Allocator, Global};
@@ -12,7 +12,7 @@ use std::alloc::{AllocError, Allocator, Global};
 /// What is listed of its faults, the counts of the summary, and the tree of each page.
 #[derive(Drop)]
 pub(crate) struct Kept<A: Allocator = Global> {
-    pub(crate) listing: Entries<A>,
+    pub(crate) listing: Listing<A>,
     pub(crate) tally: Tally<A>,
     pub(crate) trees: PageTrees<A>,
 }
@@ -24,7 +24,7 @@ impl<A: Allocator + Copy> Kept<A> {
         ensures { IfOk result (IsEmpty limit geometry.now) }
     {
         Ok(Kept {
-            listing: Entries::new_in(alloc, limit)?,
+            listing: Listing::new_in(alloc, limit, geometry.pages)?,
             tally: Tally::new_in(alloc, geometry)?,
             trees: PageTrees::new_in(alloc, geometry)?,
         })

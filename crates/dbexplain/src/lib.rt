@@ -27,6 +27,7 @@ mod summary;
 mod sums;
 mod tally;
 mod trees;
+mod zeros;
 
 pub use dbformat::Verdict;
 pub use dbsource::{Out, RunError, Source};

@@ -7,7 +7,8 @@ ghost use Rattle.dbtrace.specs.declared.Reported.{Reported};
 ghost use Rattle.dbmarks.specs.Marking.{AreMarksOf};
 ghost use Rattle.dbowner.specs.Climbs.{AreTrees};
 ghost use Rattle.dbformat.specs.Starts.{start_at};
-ghost use Rattle.dbexplain.specs.Tallies.{HasPageBit, IsTallyOf, IsTallyTo};
+ghost use Rattle.dbentries.specs.Bits.{HasPageBit};
+ghost use Rattle.dbexplain.specs.Tallies.{IsTallyOf, IsTallyTo};
 ghost use Rattle.dbexplain.specs.TallySteps.{reached_counted};
 
 use crate::tally::Tally;

@@ -41,6 +41,7 @@ fn make_ready<A: Allocator>(desk: &Desk<A>, kept: &mut Kept<A>)
         → AreTrees file V kept.new.trees.known }
     ensures listed { (limit : ℕ) (file : List ℕ) (V : List Reference) → HasAll limit file V kept.old → Shows limit (listed_entries file V) kept.new.listing }
     ensures tally { kept.new.tally ≡ kept.old.tally }
+    ensures listing { kept.new.listing ≡ kept.old.listing }
 {
     kept.trees.enter_roots(desk.marks(), desk.roots());
 }
@@ -64,7 +65,13 @@ pub(crate) fn put_report<A: Allocator, O: Out>(
     let owners = owners_of(desk);
     put_entries(&owners, &mut kept.trees, out, kept.listing.listed())?;
     put_rest(out, kept.listing.rest())?;
-    put_summary(out, &owners, &mut kept.trees, &mut kept.tally)
+    put_summary(
+        out,
+        &owners,
+        &mut kept.trees,
+        &mut kept.tally,
+        &kept.listing,
+    )
 }
 
 /// Puts the fault lines of the entries found so far.

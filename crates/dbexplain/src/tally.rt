@@ -2,11 +2,13 @@
 ghost use Rattle.std.specs.Prelude.{◌≡◌, ℕ, ◌+◌, ◌*◌, ◌<◌, ◌≤◌, [], ◌∷◌, ◌++◌, List, IfOk, length, map, suc, take, if◌then◌else◌};
 ghost use Rattle.dbformat.specs.Codes.{all_codes};
 ghost use Rattle.dbtrace.specs.declared.Reported.{Reported};
+ghost use Rattle.dbentries.specs.Bits.{bit_set, HasPageBit};
 ghost use Rattle.dbexplain.specs.Summary.{is_whole};
-ghost use Rattle.dbexplain.specs.Tallies.{counted_code, counted_in, has_bit, HasPageBit, IsTallyOf, one_reached_page};
+ghost use Rattle.dbexplain.specs.Tallies.{counted_code, counted_in, IsTallyOf, one_reached_page};
 ghost use Rattle.dbexplain.specs.Sums.{freelist_start_count};
-ghost use Rattle.dbexplain.specs.TallySteps.{bit_set, page_of_start_counted, start_fault_counted};
+ghost use Rattle.dbexplain.specs.TallySteps.{page_of_start_counted, start_fault_counted};
 
+use dbentries::PageBits;
 use dbformat::{FREELIST_START, FaultCode, Geometry};
 use dbscan::STARTS;
 use dbtrace::{Part, Reported};
@@ -37,7 +39,7 @@ pub struct Tally<A: Allocator = Global> {
     codes: [CodeCount; FaultCode::COUNT],
     starts: Vec<StartCount, A>,
     whole: u64,
-    pages: Vec<u64, A>,
+    pages: PageBits<A>,
 }
 
 impl<A: Allocator> Model for Tally<A> {
@@ -112,7 +114,7 @@ impl<A: Allocator + Copy> Tally<A> {
         ensures room { IfOk result (λ tally. HasPageBit tally.pages geometry.now.pages) }
     {
         let starts = Vec::from_elem(alloc, NO_COUNT, STARTS)?;
-        let pages = Vec::from_elem(alloc, 0u64, geometry.pages as usize / 64 + 1)?;
+        let pages = PageBits::new_in(alloc, geometry.pages)?;
         Ok(Tally {
             all: 0,
             codes: zero_counts(),
@@ -139,22 +141,12 @@ impl<A: Allocator> Tally<A> {
         }
     }
 
-    // Sets the bit of a page, if it has one.
-    fn set_bit(&mut self, page: u32)
-        ensures { self.new ≡ record self.old { pages = bit_set page self.old.pages } }
-    {
-        let word = page as usize / 64;
-        if word < self.pages.len() {
-            self.pages[word] |= 1u64 << (page % 64);
-        }
-    }
-
     // Notes of a page that it has a fault, where that was reported at a start.
     fn note_page(&mut self, part: Part, page: u32)
         ensures { self.new ≡ record self.old { pages = if is_whole part then self.old.pages else bit_set page self.old.pages } }
     {
         if let Part::Start(_) = part {
-            self.set_bit(page);
+            self.pages.set(page);
         }
     }
 
@@ -174,16 +166,6 @@ impl<A: Allocator> Tally<A> {
         ensures { result ≡ self.now.all }
     {
         self.all
-    }
-
-    // Whether a page has a fault that was reported at a start.
-    fn has_bit(&self, page: u32) -> bool
-        ensures { result ≡ has_bit self.now.pages page }
-    {
-        match self.pages.get(page as usize / 64) {
-            Some(word) => (*word >> (page % 64)) & 1 == 1,
-            None => false,
-        }
     }
 
     /// How many faults were reported with each code.
@@ -222,7 +204,7 @@ impl<A: Allocator> Tally<A> {
     {
         let start = start as usize;
         if start < STARTS {
-            self.starts[start] = with_page(&self.starts[start], self.has_bit(page));
+            self.starts[start] = with_page(&self.starts[start], self.pages.has(page));
         }
     }
 }

@@ -17,6 +17,7 @@ pub mod Laws
 pub mod Lines
 pub mod Log
 pub mod Looks
+pub mod NamedPages
 pub mod Numbers
 pub mod Options
 pub mod PageFaults

@@ -22,8 +22,7 @@ use Rattle.dbscan.specs.Finishes.{Leaves}
 use Rattle.dbscan.specs.Notices.{CutsNever, run_notices}
 use Rattle.dbscan.specs.Placed.{faults_of, told_faults}
 use Rattle.dbscan.proofs.AllTold.{all_told}
-use Rattle.dbentries.specs.Lists.{HasListed, ListsAll}
-use Rattle.dbentries.specs.Store.{Stored}
+use Rattle.dbentries.specs.Lists.{HasListed, Held, ListsAll}
 use Rattle.dbentries.proofs.Heard.{never_stops}
 use Rattle.dbmap.specs.FaultNotes.{AreNoted}
 use Rattle.dbmap.specs.Faults.{coded}
@@ -64,7 +63,7 @@ module _ {A O : Type 0} (file : List ℕ) (V : List Reference) (survey : Survey 
     map_lists = all.listing
 
     -- with the lost pages
-    pub map_keeps : (l : Stored) → ListsAll 100 file V l → HasFaults file V (record t.kept.now { listing = l })
+    pub map_keeps : (l : Held) → ListsAll 100 file V l → HasFaults file V (record t.kept.now { listing = l })
     map_keeps l listed = record {
       room = subst (λ (w : DrawState A). HasTreeRoom (geometry file).pages w.trees.known) (sym all.state) empty.room;
       notes = subst (λ (fs : List (ℕ × FaultCode)). AreNoted (geometry file).pages fs [] t.kept.now.notes) (coded_told (told_faults file V) ∙ ap (map coded) (all_told file V)) all.notes;

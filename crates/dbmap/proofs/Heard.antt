@@ -10,8 +10,7 @@ use Rattle.dbtrace.specs.declared.Reported.{Reported}
 use Rattle.dbentries.specs.Listing.{rank}
 use Rattle.dbscan.specs.Notices.{run_notices}
 use Rattle.dbscan.specs.Placed.{told_faults}
-use Rattle.dbentries.specs.Lists.{HasListed}
-use Rattle.dbentries.specs.Store.{Stored}
+use Rattle.dbentries.specs.Lists.{HasListed, Held}
 use Rattle.dbentries.proofs.Heard.{file_begun, file_heard}
 use Rattle.dbentries.proofs.ListedFaults.{one_listed}
 use Rattle.dbmap.specs.FaultNotes.{AreNoted}
@@ -37,11 +36,11 @@ module _ {A O : Type 0} where
     pub state : now.kept.now.state ≡ first.kept.now.state
     pub out : now.out.now ≡ first.out.now
 
-  abbrev listing : MapReporter A O → Stored
+  abbrev listing : MapReporter A O → Held
   listing s = s.kept.now.listing
 
-  one_heard : (pages : ℕ) (first : MapReporter A O) (x : Reported) (ts : List Reported) (s t : MapReporter A O) → (listing s).part ≤ rank x.part
-      → HasNotedFaults pages ts first s → Adds x s t → HasNotedFaults pages (ts ++ x ∷ []) first t
+  one_heard : (pages : ℕ) (first : MapReporter A O) (x : Reported) (ts : List Reported) (s t : MapReporter A O)
+      → (listing s).entries.part ≤ rank x.part → HasNotedFaults pages ts first s → Adds x s t → HasNotedFaults pages (ts ++ x ∷ []) first t
   one_heard pages first x ts s t most h a = record {
     count = let e = a.count in let n = h.count in let l = length-append ts (x ∷ []) in omega (arith, e, n, l);
     notes = subst (λ (l : List (ℕ × FaultCode)). AreNoted pages l [] t.kept.now.notes) (told_more ts x) (a.kept.notes pages (codes_told ts) [] h.notes);

@@ -15,7 +15,7 @@ use crate::draw_state::DrawState;
 use crate::fault_notes::FaultNotes;
 use crate::listed::note_listed;
 use crate::tally::PageTally;
-use dbentries::{Entries, Reported};
+use dbentries::{Listing, Reported};
 use dbowner::PageTrees;
 use dbsource::Geometry;
 use std::alloc::{AllocError, Allocator, Global};
@@ -33,7 +33,7 @@ pub(crate) struct KeptFaults<A: Allocator = Global> {
     /// The pages that faults are found at, and those of the entries that are listed, and of their causes.
     pub(crate) notes: FaultNotes<A>,
     /// What is listed of the faults.
-    pub(crate) listing: Entries<A>,
+    pub(crate) listing: Listing<A>,
 }
 
 impl<A: Allocator + Copy> KeptFaults<A> {
@@ -45,7 +45,7 @@ impl<A: Allocator + Copy> KeptFaults<A> {
         let trees = PageTrees::new_in(alloc, geometry)?;
         let tally = PageTally::new_in(alloc)?;
         let notes = FaultNotes::new_in(alloc, geometry.pages)?;
-        let listing = Entries::new_in(alloc, ENTRIES)?;
+        let listing = Listing::new_in(alloc, ENTRIES, 0)?;
         Ok(KeptFaults {
             state: DrawState::new(trees),
             tally,

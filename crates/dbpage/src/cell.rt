@@ -1,6 +1,7 @@
 // Cells (Database File Format, 1.6, "B-tree Cell Format").
 ghost use Rattle.std.specs.Prelude.{◌≡◌, ◌+◌, ◌<◌, ◌≤◌, IfSome};
 ghost use Rattle.dbformat.specs.Cell.{bytes_from, cell, cell_at, cell_pointer, child_number, count, overflow_size, payload_cell, right_child};
+ghost use Rattle.dbformat.specs.NamedPages.{named_page};
 ghost use Rattle.dbformat.specs.Varint.{varint};
 ghost use Rattle.dbformat.specs.declared.PageKind.TheVariants.{InteriorIndex, InteriorTable, LeafIndex, LeafTable};
 
@@ -81,6 +82,23 @@ impl<'a> PageView<'a> {
         match self.read_cell(self.kind, i) {
             Ok(cell) => cell.left,
             Err(_) => None,
+        }
+    }
+
+    /// Page `i` that an interior page names, whether the cell can be read or not: left of cell `i`, if this begins in the content
+    /// area, and the right child after the last cell. `None` on a leaf.
+    pub fn named_page(&self, i: u32) -> Option<u32>
+        requires { i ≤ count self.now }
+        ensures { result ≡ named_page self.now i }
+    {
+        if i == self.cells {
+            return self.right_child();
+        }
+        let at = self.pointer(i);
+        if self.kind.is_interior() && at >= self.start && at <= self.usable - 4 {
+            Some(u32_at(self.bytes, at))
+        } else {
+            None
         }
     }
 

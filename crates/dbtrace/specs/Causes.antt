@@ -1,16 +1,17 @@
 -- What a fault goes back to (own), by the pages that are visited up to it: a key out of order to the first cell with the greatest
 -- key before it, a leaf at another depth to the first leaf, a fault along an overflow chain to the cell of the chain, a page
 -- of an unknown type to what it looks like, and any other fault within a page to the page.
-use Rattle.std.specs.Prelude.{ℕ, ◌+◌, ◌-◌, ◌/◌, not, option_and_then, Bool, false, ℤ, ◌&&◌, ◌||◌, List, [], ◌∷◌, find, length, take, Option, Some, None, int_lt, if◌then◌else◌, ◌==◌}
-use Rattle.std.specs.List.{list_any}
+use Rattle.std.specs.Prelude.{ℕ, ◌+◌, ◌-◌, ◌/◌, not, option_and_then, Bool, false, ℤ, ◌&&◌, ◌||◌, List, [], ◌∷◌, find, length, take, Option, Some, None, is_some, count_by, int_lt, if◌then◌else◌, ◌==◌}
+use Rattle.std.specs.List.{list_any, range_with_len}
 use Rattle.std.specs.Option.{option_map_or}
 use Rattle.std.specs.Result.{result_ok}
 use Rattle.dbsurvey.specs.Address.{Address}
 use Rattle.dbsurvey.specs.InOrder.{is_before}
 use Rattle.dbformat.specs.Options.{◌>>=◌}
-use Rattle.dbformat.specs.File.{page_bytes}
-use Rattle.dbformat.specs.Head.{View, view}
-use Rattle.dbformat.specs.Cell.{cell}
+use Rattle.dbformat.specs.File.{geometry, page_bytes}
+use Rattle.dbformat.specs.Head.{View, is_interior, view}
+use Rattle.dbformat.specs.Cell.{cell, count}
+use Rattle.dbformat.specs.NamedPages.{named_page}
 use Rattle.dbformat.specs.Header.{usable_size}
 use Rattle.dbformat.specs.Address.{start_of, depth, chain_place}
 use Rattle.dbformat.specs.Reference.{Role, later_overflow, Reference, role_of, from_of, item_of, bytes_left, tree_view}
@@ -27,6 +28,7 @@ use Rattle.dbformat.specs.declared.Look.TheVariants as look
 use Rattle.dbtrace.specs.declared.CellKey.{CellKey}
 use Rattle.dbtrace.specs.declared.TreeLeaf.{TreeLeaf}
 use Rattle.dbtrace.specs.declared.CellChain.{CellChain}
+use Rattle.dbtrace.specs.declared.NamedPages.{NamedPages}
 use Rattle.dbtrace.specs.declared.PageFacts.{PageFacts}
 use Rattle.dbtrace.specs.declared.Cause.{Cause}
 use Rattle.dbtrace.specs.declared.Cause.TheVariants as cause
@@ -126,7 +128,7 @@ run_beside (look.Blank byte) usable page = None
 run_beside look usable page = usable_run usable page
 
 abbrev pub with_run : Option ByteRun → PageFacts
-with_run run = record { run = run }
+with_run run = record { run = run; named = None }
 
 -- The cause of a fault of this code within page p of a tree: by its bytes, and by its view where it is undamaged.
 abbrev pub page_cause : ℕ → ℕ → List ℕ → Option View → FaultCode → Cause
@@ -144,6 +146,24 @@ page_cause p usable page v _ = cause.Itself
 -- that of a visited page
 abbrev pub visit_cause : List ℕ → Reference → FaultCode → Cause
 visit_cause file r code = page_cause r.page (usable_size file) (page_bytes file r.page) (tree_view file r) code
+
+-- Lost pages.
+
+-- how many pages an interior page names, and how many of them are lost
+abbrev pub names_of : (ℕ → Bool) → View → Option NamedPages
+names_of is_lost v = if is_interior v.kind then Some (record {
+  pages = count_by (λ i. is_some (named_page v i)) (range_with_len 0 (count v + 1));
+  lost = count_by (λ i. option_map_or is_lost (named_page v i) false) (range_with_len 0 (count v + 1));
+}) else None
+
+-- the cause of the fault of lost page p, by its usable bytes
+abbrev pub lost_cause : (ℕ → Bool) → ℕ → ℕ → List ℕ → Cause
+lost_cause is_lost p usable page =
+    cause.Look (look_of p usable page) (record { run = None; named = option_and_then (names_of is_lost) (result_ok (view p usable page)) })
+
+-- by the bytes of a file
+abbrev pub lost_cause_at : (ℕ → Bool) → List ℕ → ℕ → Cause
+lost_cause_at is_lost file p = lost_cause is_lost p (geometry file).usable (page_bytes file p)
 
 -- The cause of a fault of this code that is reported at an event.
 abbrev pub cause_of : List ℕ → List Reference → Event → FaultCode → Cause

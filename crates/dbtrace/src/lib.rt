@@ -45,17 +45,29 @@ pub struct CellChain {
     pub is_in_zeros: bool,
 }
 
+/// How many pages an interior page names, each as often as it does, and how many of them are lost.
+#[derive(Clone, Copy, Debug, PartialEq, Eq)]
+pub struct NamedPages {
+    pub pages: u32,
+    pub lost: u32,
+}
+
 /// What is known of a page with faults. Two causes are compared without it.
 #[derive(Clone, Copy, Debug, PartialEq, Eq)]
 pub struct PageFacts {
     /// The longest run of one byte, where it has 64 bytes or more: of its usable bytes, or of its content area, and then only if a
     /// cell begins in it.
     pub run: Option<ByteRun>,
+    /// Of a lost interior page what it names.
+    pub named: Option<NamedPages>,
 }
 
 impl PageFacts {
     /// Nothing is known.
-    pub const NONE: PageFacts = PageFacts { run: None };
+    pub const NONE: PageFacts = PageFacts {
+        run: None,
+        named: None,
+    };
 }
 
 /// What a fault goes back to.

@@ -96,7 +96,7 @@ pub(crate) fn damage_cause(page: &[u8], number: u32, usable: u32, damage: Damage
         Damage::OtherTree => None,
         Damage::ContentStart => usable_run(page, usable),
     };
-    Cause::Page(number, PageFacts { run })
+    Cause::Page(number, PageFacts { run, named: None })
 }
 
 // What a page of an unknown type goes back to.
@@ -111,7 +111,7 @@ fn look_cause(page: &[u8], number: u32, usable: u32) -> Cause
         Look::Blank(_) => None,
         Look::Tree(_) | Look::Other(_) => usable_run(page, usable),
     };
-    Cause::Look(look, PageFacts { run })
+    Cause::Look(look, PageFacts { run, named: None })
 }
 
 // What the faults within an undamaged page go back to: the page, and its longest run of one byte in which a cell begins.
@@ -123,6 +123,7 @@ fn cause_within(view: &PageView<'_>, number: u32) -> Cause
         number,
         PageFacts {
             run: view.content_run(),
+            named: None,
         },
     )
 }

@@ -87,6 +87,7 @@ T05 page 6 item 0 value 2: leaf at another depth
     1 P01 unknown page type
     1 T05 leaf at another depth
     2 in table t (root page 2), on 2 of its 5 pages
+    page 4 is zeros: bytes 1536 to 2047
     0 of 1 table and 0 of 0 indexes without a fault
 ",
     ],
@@ -113,6 +114,7 @@ N01 page 5 item 0 value 0: page is not in use
     1 N01 page is not in use
     1 in table t (root page 2), on 1 of its 3 pages
     1 in the whole file
+    page 5 is zeros: bytes 2048 to 2559
     0 of 1 table and 0 of 0 indexes without a fault
 ",
     ],
@@ -131,6 +133,7 @@ N01 page 4 item 0 value 0: page is not in use
     1 N01 page is not in use
     1 in table t (root page 2), on 1 of its 3 pages
     1 in the whole file
+    pages 3 to 4 are zeros: bytes 1024 to 2047
     0 of 1 table and 0 of 0 indexes without a fault
 ",
     ],
@@ -162,6 +165,7 @@ N01 page 4 item 0 value 0: page is not in use
     1 N01 page is not in use
     1 in table t (root page 2), on 1 of its 3 pages
     1 in the whole file
+    page 4 is zeros: bytes 1536 to 2047
     0 of 1 table and 0 of 0 indexes without a fault
 ",
     ],
@@ -180,6 +184,7 @@ N01 page 4 item 0 value 0: page is not in use
     1 N01 page is not in use
     1 in table t (root page 2), on 1 of its 3 pages
     1 in the whole file
+    page 4 is zeros: bytes 1536 to 2047
     0 of 1 table and 0 of 0 indexes without a fault
 ",
     ],
@@ -198,6 +203,7 @@ N01 page 4 item 0 value 0: page is not in use
     1 N01 page is not in use
     1 in table t (root page 3), on 1 of its 1 page
     1 in the whole file
+    page 4 is zeros: bytes 1536 to 2047
     0 of 1 table and 0 of 0 indexes without a fault
 ",
     ],
@@ -224,6 +230,8 @@ P01 page 4 item 0 value 72: unknown page type
 4 faults
     4 P01 unknown page type
     4 in table t (root page 2), on 4 of its 6 pages
+    page 3 is zeros: bytes 1024 to 1535
+    page 5 is zeros: bytes 2048 to 2559
     0 of 1 table and 0 of 0 indexes without a fault
 ",
     ],

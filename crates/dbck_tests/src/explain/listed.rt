@@ -76,6 +76,8 @@ N01 page 6 item 0 value 0: page is not in use
     3 N01 page is not in use
     2 M01 pointer map entry differs
     5 in the whole file
+    page 5 is zeros: bytes 2048 to 2559
+    page 7 is zeros: bytes 3072 to 3583
     1 of 1 table and 0 of 0 indexes without a fault
 ";
 
@@ -94,6 +96,8 @@ more 1
     3 N01 page is not in use
     2 M01 pointer map entry differs
     5 in the whole file
+    page 5 is zeros: bytes 2048 to 2559
+    page 7 is zeros: bytes 3072 to 3583
     1 of 1 table and 0 of 0 indexes without a fault
 ";
 
@@ -108,6 +112,8 @@ more 3
     3 N01 page is not in use
     2 M01 pointer map entry differs
     5 in the whole file
+    page 5 is zeros: bytes 2048 to 2559
+    page 7 is zeros: bytes 3072 to 3583
     1 of 1 table and 0 of 0 indexes without a fault
 ";
 
@@ -119,6 +125,8 @@ more 4
     3 N01 page is not in use
     2 M01 pointer map entry differs
     5 in the whole file
+    page 5 is zeros: bytes 2048 to 2559
+    page 7 is zeros: bytes 3072 to 3583
     1 of 1 table and 0 of 0 indexes without a fault
 ";
 
@@ -149,6 +157,17 @@ N01 page 3 item 0 value 0: page is not in use
 22 faults
     22 N01 page is not in use
     22 in the whole file
+    page 2 is zeros: bytes 512 to 1023
+    page 4 is zeros: bytes 1536 to 2047
+    page 6 is zeros: bytes 2560 to 3071
+    page 8 is zeros: bytes 3584 to 4095
+    page 10 is zeros: bytes 4608 to 5119
+    page 12 is zeros: bytes 5632 to 6143
+    page 14 is zeros: bytes 6656 to 7167
+    page 16 is zeros: bytes 7680 to 8191
+    page 18 is zeros: bytes 8704 to 9215
+    page 20 is zeros: bytes 9728 to 10239
+    and 1 more run of zero pages
     0 of 0 tables and 0 of 0 indexes without a fault
 ",
     ],
@@ -166,6 +185,17 @@ N01 page 3 item 0 value 0: page is not in use
 23 faults
     23 N01 page is not in use
     23 in the whole file
+    page 2 is zeros: bytes 512 to 1023
+    page 4 is zeros: bytes 1536 to 2047
+    page 6 is zeros: bytes 2560 to 3071
+    page 8 is zeros: bytes 3584 to 4095
+    page 10 is zeros: bytes 4608 to 5119
+    page 12 is zeros: bytes 5632 to 6143
+    page 14 is zeros: bytes 6656 to 7167
+    page 16 is zeros: bytes 7680 to 8191
+    page 18 is zeros: bytes 8704 to 9215
+    page 20 is zeros: bytes 9728 to 10239
+    and 2 more runs of zero pages
     0 of 0 tables and 0 of 0 indexes without a fault
 ",
     ],
@@ -183,6 +213,17 @@ N01 page 3 item 0 value 0: page is not in use
 26 faults
     26 N01 page is not in use
     26 in the whole file
+    page 2 is zeros: bytes 512 to 1023
+    page 4 is zeros: bytes 1536 to 2047
+    page 6 is zeros: bytes 2560 to 3071
+    page 8 is zeros: bytes 3584 to 4095
+    page 10 is zeros: bytes 4608 to 5119
+    page 12 is zeros: bytes 5632 to 6143
+    page 14 is zeros: bytes 6656 to 7167
+    page 16 is zeros: bytes 7680 to 8191
+    page 18 is zeros: bytes 8704 to 9215
+    page 20 is zeros: bytes 9728 to 10239
+    and 2 more runs of zero pages
     0 of 0 tables and 0 of 0 indexes without a fault
 ",
     ],
@@ -264,6 +305,7 @@ N01 page 5 item 0 value 0: page is not in use
      1 N01 page is not in use
     10 in table t (root page 2), on 1 of its 3 pages
      1 in the whole file
+    page 5 is zeros: bytes 2048 to 2559
     0 of 1 table and 0 of 0 indexes without a fault
 ",
     ],
@@ -286,6 +328,7 @@ N01 page 3 item 0 value 0: page is not in use
     2 N01 page is not in use
     1 in the freelist, of which no page was reached
     3 in the whole file
+    page 3 is zeros: bytes 1024 to 1535
     0 of 0 tables and 0 of 0 indexes without a fault
 ",
     ],
@@ -305,6 +348,7 @@ N01 page 3 item 0 value 0: page is not in use
     1 N01 page is not in use
     1 in the freelist, on 1 of its 1 page
     2 in the whole file
+    page 3 is zeros: bytes 1024 to 1535
     0 of 0 tables and 0 of 0 indexes without a fault
 ",
     ],

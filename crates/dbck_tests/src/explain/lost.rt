@@ -2,18 +2,18 @@
 use crate::explain::made::{Explained, are_explained};
 use std::test::Fail;
 
-const LOST: [Explained; 8] = [
+const LOST: [Explained; 9] = [
     [
         "looks",
         "N01 page 2 item 0 value 0: page is not in use
     page 2 at byte 512: in no tree, overflow chain or freelist
-    looks like an interior page of a table with 1 cell
+    looks like an interior page of a table with 1 cell; 0 of the 2 pages that it names are lost too
 N01 page 3 item 0 value 0: page is not in use
     page 3 at byte 1024: in no tree, overflow chain or freelist
     looks like a leaf of an index with 2 cells
 N01 page 4 item 0 value 0: page is not in use
     page 4 at byte 1536: in no tree, overflow chain or freelist
-    looks like an interior page of an index with 0 cells
+    looks like an interior page of an index with 0 cells; 0 of the 1 page that it names is lost too
 N01 page 5 item 0 value 0: page is not in use
     page 5 at byte 2048: in no tree, overflow chain or freelist
     all zeros
@@ -23,6 +23,7 @@ N01 page 6 item 0 value 0: page is not in use
 5 faults
     5 N01 page is not in use
     5 in the whole file
+    page 5 is zeros: bytes 2048 to 2559
     0 of 0 tables and 0 of 0 indexes without a fault
 ",
     ],
@@ -31,7 +32,7 @@ N01 page 6 item 0 value 0: page is not in use
         "all-looks",
         "N01 page 2 item 0 value 0: page is not in use
     page 2 at byte 512: in no tree, overflow chain or freelist
-    looks like an interior page of an index with 0 cells
+    looks like an interior page of an index with 0 cells; 1 of the 1 page that it names is lost too
     and 1 more page like it with 0 cells: 8
 N01 page 3 item 0 value 0: page is not in use
     page 3 at byte 1024: in no tree, overflow chain or freelist
@@ -47,7 +48,7 @@ N01 page 5 item 0 value 0: page is not in use
     and 1 more page like it: 11
 N01 page 6 item 0 value 0: page is not in use
     page 6 at byte 2560: in no tree, overflow chain or freelist
-    looks like an interior page of a table with 1 cell
+    looks like an interior page of a table with 1 cell; 2 of the 2 pages that it names are lost too
     and 1 more page like it with 1 cell: 12
 N01 page 7 item 0 value 0: page is not in use
     page 7 at byte 3072: in no tree, overflow chain or freelist
@@ -56,6 +57,23 @@ N01 page 7 item 0 value 0: page is not in use
 12 faults
     12 N01 page is not in use
     12 in the whole file
+    page 5 is zeros: bytes 2048 to 2559
+    page 11 is zeros: bytes 5120 to 5631
+    0 of 0 tables and 0 of 0 indexes without a fault
+",
+    ],
+    // Page 2 names itself, 0, a page past the end, page 3 twice, a page in use, and one by a cell that is out of bounds.
+    [
+        "lost-names",
+        "N01 page 2 item 0 value 0: page is not in use
+    page 2 at byte 512: in no tree, overflow chain or freelist
+    looks like an interior page of a table with 6 cells; 3 of the 6 pages that it names are lost too
+N01 page 3 item 0 value 0: page is not in use
+    page 3 at byte 1024: in no tree, overflow chain or freelist
+    looks like a leaf of a table with 1 cell, rowids 7 to 7
+2 faults
+    2 N01 page is not in use
+    2 in the whole file
     0 of 0 tables and 0 of 0 indexes without a fault
 ",
     ],
@@ -110,6 +128,7 @@ N01 page 3 item 0 value 0: page is not in use
 2 faults
     2 N01 page is not in use
     2 in the whole file
+    page 2 is zeros: bytes 512 to 1023
     0 of 0 tables and 0 of 0 indexes without a fault
 ",
     ],
@@ -138,6 +157,8 @@ N01 page 3 item 0 value 0: page is not in use
 105 faults
     105 N01 page is not in use
     105 in the whole file
+    pages 3 to 104 are zeros: bytes 1024 to 53247
+    pages 106 to 108 are zeros: bytes 53760 to 55295
     0 of 0 tables and 0 of 0 indexes without a fault
 ",
     ],

@@ -169,6 +169,22 @@ fn all_looks(alloc: Global) -> Result<TestFile, AllocError> {
     Ok(file)
 }
 
+// An empty schema, and an interior page that nothing refers to: it names itself, 0, a page past the end, page 3 twice, and page 1; the
+// pointer of its last cell is out of bounds.
+fn lost_names(alloc: Global) -> Result<TestFile, AllocError> {
+    let mut file = TestFile::new(alloc, 512, 3)?;
+    file.interior_table(2, 1)
+        .key(2, 1)
+        .key(0, 2)
+        .key(99, 3)
+        .key(3, 4)
+        .key(3, 5)
+        .key(3, 6);
+    file.hex(2, 22, "01fd");
+    file.leaf_table(3).cell(7, &[]);
+    Ok(file)
+}
+
 // A file by its name.
 fn named(alloc: Global, name: &str, number: u32) -> Result<TestFile, AllocError> {
     match name {
@@ -184,6 +200,7 @@ fn named(alloc: Global, name: &str, number: u32) -> Result<TestFile, AllocError>
         "looks" => looks(alloc),
         "lost-rows" => lost_rows(alloc),
         "all-looks" => all_looks(alloc),
+        "lost-names" => lost_names(alloc),
         _ => TestFile::new(alloc, 512, 0),
     }
 }

@@ -155,11 +155,14 @@ fn in_room(
 // A buffer of a page for each of 22 levels, and four bytes a page of marks. The heap gives units of 16 bytes.
 const DESK: usize = 22 * 512 + 32;
 
-// 100 entries of 216 bytes.
-const ENTRIES: usize = DESK + 100 * 216;
+// 100 entries of 232 bytes.
+const ENTRIES: usize = DESK + 100 * 232;
+
+// A bit a page for those that are zeros.
+const ZEROS: usize = ENTRIES + 16;
 
 // 16 bytes for each of 65538 starts, and a bit a page.
-const STARTS: usize = ENTRIES + 65538 * 16;
+const STARTS: usize = ZEROS + 65538 * 16;
 
 const FAULTY: usize = STARTS + 16;
 
@@ -180,6 +183,7 @@ fn each_growth_is_refused(rt: HostRuntime) -> Result<(), Fail> {
         DESK - 16,
         DESK,
         ENTRIES,
+        ZEROS,
         STARTS,
         FAULTY,
         TREES,

@@ -92,11 +92,14 @@ const SQUARES: usize = TALLY + 64;
 // And two bits a page.
 const MARKED: usize = SQUARES + 16;
 
-// 216 bytes for each of 100 entries.
-const ENTRIES: usize = MARKED + 100 * 216;
+// 232 bytes for each of 100 entries.
+const ENTRIES: usize = MARKED + 100 * 232;
+
+// No bits for pages that are zeros: one word of them.
+const ZEROS: usize = ENTRIES + 16;
 
 // As rows are read, the list of roots takes four rows of 20 bytes, and then 8 bytes of names.
-const ROOTS: usize = ENTRIES + 80;
+const ROOTS: usize = ZEROS + 80;
 
 // Each is refused where there is room for those before it alone.
 #[test]
@@ -111,6 +114,7 @@ fn each_growth_is_refused(rt: HostRuntime) -> Result<(), Fail> {
         SQUARES,
         MARKED,
         ENTRIES,
+        ZEROS,
         ROOTS,
     ] {
         in_room(

@@ -3,7 +3,8 @@ use Rattle.dbformat.specs.File.{geometry}
 use Rattle.dbformat.specs.FixedPages.{most_pages}
 use Rattle.dbmarks.proofs.Markings.{marks_of-length}
 use Rattle.dbformat.specs.Starts.{start_at}
-use Rattle.dbexplain.specs.Tallies.{Tallied, HasPageBit, IsTallyTo}
+use Rattle.dbentries.specs.Bits.{HasPageBit}
+use Rattle.dbexplain.specs.Tallies.{Tallied, IsTallyTo}
 use Rattle.dbexplain.proofs.ReachedPages.{page_more, room_before, same_words}
 use Rattle.dbexplain.proofs.reached.count_pages.Goals as goal
 

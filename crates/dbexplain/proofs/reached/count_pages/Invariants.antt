@@ -5,7 +5,8 @@ use Rattle.dbformat.specs.Survey.{Survey}
 use Rattle.dbtrace.specs.declared.Reported.{Reported}
 use Rattle.dbmarks.specs.Marking.{AreMarksOf}
 use Rattle.dbowner.specs.Climbs.{AreTrees}
-use Rattle.dbexplain.specs.Tallies.{HasPageBit, IsTallyOf, IsTallyTo}
+use Rattle.dbentries.specs.Bits.{HasPageBit}
+use Rattle.dbexplain.specs.Tallies.{IsTallyOf, IsTallyTo}
 use Rattle.dbexplain.proofs.reached.count_pages.Given as goal
 
 abbrev pub invariant-loop-index : goal.invariant-loop-index

@@ -7,10 +7,13 @@ use Rattle.dbsource.specs.Outs.{Puts, Writes}
 use Rattle.dbsource.proofs.Puts.{puts_then, puts_stop}
 use Rattle.dbentries.specs.Listing.{size}
 use Rattle.dbscan.specs.Placed.{told_faults}
-use Rattle.dbentries.specs.Listed.{listed_entries}
+use Rattle.dbentries.specs.Listed.{listed_entries, listed_faults}
+use Rattle.dbentries.specs.Lists.{Held}
+use Rattle.dbentries.specs.Zeros.{AreZeros}
+use Rattle.dbentries.specs.Bits.{HasPageBit}
 use Rattle.dbexplain.specs.Explained.{entry_text}
 use Rattle.dbexplain.specs.Summary.{summary}
-use Rattle.dbexplain.specs.Tallies.{HasPageBit, IsTallyOf, Tallied}
+use Rattle.dbexplain.specs.Tallies.{IsTallyOf, Tallied}
 use Rattle.dbexplain.proofs.Causes.{put_by}
 use Rattle.dbexplain.proofs.Desks.{of_desk}
 use Rattle.dbexplain.proofs.Reports.{report_text, rest_line}
@@ -72,6 +75,8 @@ returns-clause-report g c = λ limit file V d all some.
     let end = put_by r (held c.put_rest.new.out) (held c.put_summary.new.out) last
     (c.put_summary.ensures.lines file V is (c.put_entries.ensures.trees file V is known)
     (subst (λ (t : Tallied). HasPageBit t.pages (geometry file).pages) (sym c.make_ready.ensures.tally) all.bits)
-    (subst (IsTallyOf (told_faults file V)) (sym c.make_ready.ensures.tally) all.tally)) c.put_summary.ensures.count in
+    (subst (IsTallyOf (told_faults file V)) (sym c.make_ready.ensures.tally) all.tally)
+    (subst (λ (l : Held). HasPageBit l.zeros (geometry file).pages) (sym c.make_ready.ensures.listing) all.zeros)
+    (subst (λ (l : Held). AreZeros (listed_faults file V) l.zeros) (sym c.make_ready.ensures.listing) all.listing.entries.zeros)) c.put_summary.ensures.count in
     subst (Writes r (held c.args.out.now).bytes (held c.put_summary.new.out).bytes) (report_text limit file V some)
     (puts_then r first (rest ++ last) c.in_ok-put_entries.was put (puts_then r rest last c.in_ok-put_rest.was puts end)).held

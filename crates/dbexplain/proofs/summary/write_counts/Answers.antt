@@ -19,4 +19,4 @@ returns g c =
     (wrote_then (wrote_as (ap₂ (λ n cs. flat_map (numbered_sum n name) (enumerate_from 0 cs)) all trees) c.put_start_sums.ensures)
     (wrote_then (wrote_as (ap₂ (λ n x. start_sum n (name freelist_start) x) all c.freelist.ensures) c.put_start_sum.ensures)
     (wrote_then (wrote_as (ap₂ (λ n w. sum_line n w (codes "in the whole file")) all c.whole.ensures) c.put_sum.ensures)
-    (wrote_as (ap (trees_sum rows) trees) c.put_trees.ensures)))))
+    (wrote_then c.put_zeros.ensures (wrote_as (ap (trees_sum rows) trees) c.put_trees.ensures))))))

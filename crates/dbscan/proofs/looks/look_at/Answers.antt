@@ -1,19 +1,20 @@
-use Rattle.std.proofs.Common.{◌≡◌, ℕ, List, Ok, Err, refl, sym, ap, ◌∙◌}
+use Rattle.std.proofs.Common.{◌≡◌, ℕ, Bool, List, Ok, Err, refl, sym, ap, ◌∙◌}
 use Rattle.std.proofs.lemmas.Result.{err_from_is_err_and}
 use Rattle.dbformat.specs.File.{geometry, page_bytes}
-use Rattle.dbformat.specs.Looks.{look_at, look_of}
 use Rattle.dbformat.specs.declared.Geometry.{Geometry}
-use Rattle.dbformat.specs.declared.Look.{Look}
+use Rattle.dbtrace.specs.Causes.{lost_cause, lost_cause_at}
+use Rattle.dbtrace.specs.declared.Cause.{Cause}
 use Rattle.dbsource.specs.Bench.{Pages}
 use Rattle.dbsource.proofs.Logs.{has_weaker}
+use Rattle.dbmarks.specs.Marking.{is_unmarked}
 use Rattle.dbmarks.proofs.Readings.{log_load}
 use Rattle.dbwalk.proofs.Chaining.Overflows.{page_read}
 use Rattle.dbscan.proofs.looks.look_at.Goals as goal
 
--- what a page looks like, by its bytes as they were read
-seen : (file : List ℕ) (p : ℕ) (g : Geometry) (usable : ℕ) (bytes : List ℕ) (look : Look) → g ≡ geometry file → usable ≡ g.usable
-    → bytes ≡ page_bytes file p → look ≡ look_of p usable bytes → look ≡ look_at file p
-seen file p g usable bytes look e u b k = k ∙ rw u (rw e (rw b refl))
+-- the cause of its fault, by its bytes as they were read
+seen : (lost : ℕ → Bool) (file : List ℕ) (p : ℕ) (g : Geometry) (usable : ℕ) (bytes : List ℕ) (why : Cause) → g ≡ geometry file → usable ≡ g.usable
+    → bytes ≡ page_bytes file p → why ≡ lost_cause lost p usable bytes → why ≡ lost_cause_at lost file p
+seen lost file p g usable bytes why e u b k = k ∙ rw u (rw e (rw b refl))
 
 pub returns-in_err-load-clause-asks : goal.returns-in_err-load-clause-asks
 returns-in_err-load-clause-asks g c =
@@ -33,7 +34,7 @@ returns-clause-asks g c =
     let usable = ap (λ (s : Geometry). s.usable) (c.geometry-usable.ensures.value ∙ ap (λ (b : Pages). b.geometry) level.only) in
     record {
       log = has_weaker _ _ (log_load size c.args.page level.bytes (Ok tt) c.in_ok-load.ensures.told level.size level.holds) (λ log l. l)
-          (λ file bytes e. seen file c.args.page c.args.bench.now.geometry _ _ c.look_of.result e usable
-          (c.page.ensures.bytes ∙ chain ∙ page_read file level.bytes size c.args.page level.size bytes (ap (λ (s : Geometry). s.page_size) (sym e))) c.look_of.ensures);
+          (λ file bytes e. seen (is_unmarked c.args.marks.now) file c.args.page c.args.bench.now.geometry _ _ c.lost_cause.result e usable
+          (c.page.ensures.bytes ∙ chain ∙ page_read file level.bytes size c.args.page level.size bytes (ap (λ (s : Geometry). s.page_size) (sym e))) c.lost_cause.ensures);
       count = c.in_ok-load.ensures.count;
     }

@@ -62,7 +62,7 @@ returns-in_err-put_report g c =
     rw q.1 (rw q.2 (record {
       asks = asks_weaker _ _ (Err error.WriteFailed) (λ n. refl) look.asks (λ log l. l) (λ file way V first heard limit empty.
           let k = file_heard heard empty in
-          let kept = all_kept held k c.look_at_lost.new.self (way limit V heard.desk k.all.listing) in
+          let kept = all_kept held k c.look_at_lost.new.self (way limit V heard.desk k.all.listing) look.room in
           let here = desk_kept c.args.desk.now c.look_at_lost.new.desk file V look.desk heard.desk in
           written held k (cut c.in_err-put_report.field-0.0) c.put_report.new.out _ refl
           (put.report limit file V here kept (told_some held k some)));
@@ -77,7 +77,7 @@ returns g c =
     let put = c.in_ok-put_report.ensures in record {
       asks = asks_weaker _ _ (Ok _) (λ n. refl) look.asks (λ log l. l) (λ file way V first heard limit empty.
           let k = file_heard heard empty in
-          let kept = all_kept held k c.look_at_lost.new.self (way limit V heard.desk k.all.listing) in
+          let kept = all_kept held k c.look_at_lost.new.self (way limit V heard.desk k.all.listing) look.room in
           let here = desk_kept c.args.desk.now c.look_at_lost.new.desk file V look.desk heard.desk in (
             written held k done c.put_report.new.out _ refl
                 (put.report limit file V here kept (told_some held k some)),

@@ -4,7 +4,8 @@ use Rattle.dbformat.specs.declared.Geometry.{Geometry}
 use Rattle.dbsource.specs.Errors.{is_write_failed}
 use Rattle.dbsource.specs.Failures.{failures_after}
 use Rattle.dbscan.proofs.AfterHeader.{after_weaker}
-use Rattle.dbreport.proofs.ReporterStates.{one_failed}
+use Rattle.dbscan.proofs.Tellers.{first}
+use Rattle.dbreport.proofs.ReporterStates.{lent_same, one_failed}
 use Rattle.dbexplain.specs.Keeping.{IsEmpty}
 use Rattle.dbexplain.specs.declared.kept.Kept.{Kept}
 use Rattle.dbexplain.proofs.Explained.{explained, is_explained, out_failures}
@@ -27,3 +28,6 @@ returns g c =
       ended = record { same_out = refl; writes = out_failures held c.run_over-answer.new.reporter c.end.new.self r (held old.out.now).failures failed c.end.ensures.lines };
       only = ran.keeps.desk.only;
     }
+
+pub shape_of-self : goal.shape_of-self
+shape_of-self g c = sym (c.end.ensures.same_out ∙ ap first (lent_same c.run_over-answer.result _ _ c.run_over-answer.ensures.keeps.writes) ∙ c.new-reporter.ensures.same_out)

@@ -1,9 +1,10 @@
 use Rattle.std.proofs.Common.{rules, ◌≡◌, ◌+◌, ◌++◌, [], ◌∷◌, length, sym, ap, ap₂, subst, ◌∙◌}
 use Rattle.std.specs.Prelude.{if◌then◌else◌}
 use Rattle.dbformat.specs.Lines.{counted}
+use Rattle.dbentries.specs.Bits.{bit_set}
 use Rattle.dbexplain.specs.Summary.{is_whole}
 use Rattle.dbexplain.specs.Tallies.{Tallied, IsTallyOf, counted_in, tallied}
-use Rattle.dbexplain.specs.TallySteps.{bit_set, start_fault_counted}
+use Rattle.dbexplain.specs.TallySteps.{start_fault_counted}
 use Rattle.dbexplain.proofs.Tallies.{same_room, told_in, told_more}
 use Rattle.dbexplain.proofs.tally.Tally.add.Goals as goal
 

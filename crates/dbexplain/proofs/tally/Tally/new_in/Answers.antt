@@ -4,4 +4,4 @@ use Rattle.dbexplain.proofs.tally.Tally.new_in.Goals as goal
 
 pub returns-clause-faults : goal.returns-clause-faults
 returns-clause-faults g c =
-    nothing_told _ _ refl c.zero_counts.ensures (c.in_ok-starts.ensures.items_if_clones_equal (λ y e. e)) refl (c.in_ok-pages.ensures.items_if_clones_equal (λ y e. e))
+    nothing_told _ refl c.zero_counts.ensures (c.in_ok-starts.ensures.items_if_clones_equal (λ y e. e)) refl c.in_ok-pages.ensures.none

@@ -1,5 +1,5 @@
 -- The bit of a page, where one is set.
-use Rattle.std.proofs.Common.{◌≡◌, ◌≢◌, ℕ, ◌*◌, ◌/◌, ◌%◌, ◌^◌, ◌<◌, ◌||◌, Bool, true, false, List, length, get_or, refl, sym, ap, ◌∙◌, arith}
+use Rattle.std.proofs.Common.{◌≡◌, ◌≢◌, ℕ, zero, suc, ◌*◌, ◌/◌, ◌%◌, ◌^◌, ◌<◌, ◌||◌, Bool, true, false, List, length, replicate, get_or, refl, sym, ap, ◌∙◌, arith}
 use Rattle.std.specs.Prelude.{◌==◌}
 use Rattle.std.specs.Int.{bit_at, w64}
 use Rattle.std.specs.Int.RustNames.{bit_or}
@@ -7,9 +7,8 @@ use Rattle.std.proofs.Math.ListN.{length-set}
 use Rattle.std.proofs.Math.Bool.{or-false}
 use Rattle.std.proofs.lemmas.Bool.{eqb-true, eq-eqb}
 use Rattle.std.proofs.lemmas.List.{get_or-set_same, get_or-set_other}
-use Rattle.std.proofs.lemmas.Nat.Bits.{bit_at_set_same, bit_at_set_other}
-use Rattle.dbexplain.specs.Tallies.{has_bit, HasPageBit}
-use Rattle.dbexplain.specs.TallySteps.{bit_set}
+use Rattle.std.proofs.lemmas.Nat.Bits.{bit_at-zero, bit_at_set_same, bit_at_set_other}
+use Rattle.dbentries.specs.Bits.{bit_set, has_bit, HasPageBit}
 
 module _ (words : List ℕ) (q p : ℕ) (room : HasPageBit words p) where
   abbrev word : ℕ
@@ -66,3 +65,12 @@ module _ (words : List ℕ) (q p : ℕ) (room : HasPageBit words p) where
 -- there is room as before
 pub room_kept : (words : List ℕ) (q p : ℕ) → HasPageBit (bit_set q words) p → HasPageBit words p
 room_kept words q p h = let l : length (bit_set q words) ≡ length words = length-set words (q / 64) _ in omega (arith, l, h)
+
+-- none is set where all words are 0
+pub none_set : (n p : ℕ) → has_bit (replicate n 0) p ≡ false
+none_set n p = ap (λ b. b == 1) (ap (λ w. bit_at w (p % 64)) (at_zero n (p / 64)) ∙ bit_at-zero (p % 64))
+  where
+    at_zero : (n i : ℕ) → get_or {A = ℕ} (replicate n 0) i 0 ≡ 0
+    at_zero zero i = refl
+    at_zero (suc n) zero = refl
+    at_zero (suc n) (suc i) = at_zero n i

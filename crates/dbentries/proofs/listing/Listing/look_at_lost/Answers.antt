@@ -14,10 +14,11 @@ use Rattle.dbentries.specs.Lost.{lost_at}
 use Rattle.dbentries.proofs.Desks.{desk_kept}
 use Rattle.dbentries.proofs.ListedFaults.{looked_first}
 use Rattle.dbentries.proofs.LostPages.{ends, fits, lost_are, lost_first, lost_more}
-use Rattle.dbentries.proofs.entries.Entries.look_at_lost.Goals as goal
+use Rattle.dbentries.proofs.listing.Listing.look_at_lost.Goals as goal
 
 pub loop-index-init : goal.loop-index-init
 loop-index-init g c = record {
+  room = refl;
   desk = refl;
   asks = record {
     log = has_none _ _ refl refl (reads_none (shape_of c.args.desk.now).page_size (IsUnmarked c.args.desk.now.marks) 1) (λ file V d limit xs a. subst (λ l. HoldsFaults limit l c.args.self.now) (sym (append-nil xs)) a);
@@ -54,6 +55,7 @@ loop-index-preserved g c =
     let here = c.loop-index.desk in
     let i = c.loop-index.index in
     let same = c.loop-index.invariant.desk in record {
+      room = c.look_at_page.ensures.room ∙ c.loop-index.invariant.room;
       desk = c.look_at_page.ensures.desk ∙ ap (λ (d : Things). record d { pages = c.look_at_page.new.desk.pages }) same;
       asks = asks_then (ReadsRisingBefore (shape_of old).page_size (IsUnmarked old.marks) (i + 1))
           (ReadsOrNot (shape_of here).page_size (IsUnmarked here.marks) (i + 1)) _ _ (Ok tt) (λ n. refl) (λ n. refl)

@@ -1,0 +1,87 @@
+// The pages that are zeros, in the summary.
+ghost use Rattle.std.specs.Prelude.{◌≡◌, ◌-◌, ◌≤◌, length, take};
+ghost use Rattle.std.specs.List.{flat_map};
+ghost use Rattle.dbformat.specs.FixedPages.{IsInRange};
+ghost use Rattle.dblines.specs.Writing.{Wrote};
+ghost use Rattle.dbexplain.specs.Summary.{more_zeros_line, zero_run_line};
+ghost use Rattle.dbexplain.specs.Sums.{zeros_sum};
+
+use arrayvec::ArrayVec;
+use dbentries::{Run, Runs};
+use dbformat::Geometry;
+use dblines::{Writer, append, append_number};
+use dbsource::Out;
+
+// The line of a run of pages that are zeros.
+fn zero_run_line(shape: Geometry, run: Run) -> ArrayVec<u8, 160>
+    requires { IsInRange shape }
+    ensures { result.items ≡ zero_run_line shape.page_size run }
+{
+    let size = u64::from(shape.page_size);
+    let mut line = ArrayVec::new();
+    if run.first == run.last {
+        append(&mut line, "    page ");
+        append_number(&mut line, u64::from(run.first));
+        append(&mut line, " is");
+    } else {
+        append(&mut line, "    pages ");
+        append_number(&mut line, u64::from(run.first));
+        append(&mut line, " to ");
+        append_number(&mut line, u64::from(run.last));
+        append(&mut line, " are");
+    }
+    append(&mut line, " zeros: bytes ");
+    append_number(&mut line, u64::from(run.first.saturating_sub(1)) * size);
+    append(&mut line, " to ");
+    append_number(&mut line, (u64::from(run.last) * size).saturating_sub(1));
+    append(&mut line, "\n");
+    line
+}
+
+// The line of how many more runs there are.
+fn more_zeros_line(more: u64) -> ArrayVec<u8, 96>
+    ensures { result.items ≡ more_zeros_line more }
+{
+    let mut line = ArrayVec::new();
+    if more == 0 {
+        return line;
+    }
+    append(&mut line, "    and ");
+    append_number(&mut line, more);
+    append(
+        &mut line,
+        if more == 1 { " more run" } else { " more runs" },
+    );
+    append(&mut line, " of zero pages\n");
+    line
+}
+
+// Writes the line of a run.
+fn put_run<O: Out>(writer: &mut Writer<'_, O>, shape: Geometry, run: Run)
+    requires { IsInRange shape }
+    ensures { Wrote O.held writer.old (zero_run_line shape.page_size run) writer.new }
+{
+    let line = zero_run_line(shape, run);
+    writer.put(line.as_slice());
+}
+
+// Writes the lines of some runs.
+fn put_runs<O: Out>(writer: &mut Writer<'_, O>, shape: Geometry, runs: &[Run])
+    requires { IsInRange shape }
+    ensures { Wrote O.held writer.old (flat_map (zero_run_line shape.page_size) runs.now) writer.new }
+{
+    for run in runs {
+        put_run(writer, shape, *run);
+    }
+}
+
+/// Writes the runs of the pages that are zeros, ten at most, and how many more there are.
+pub(crate) fn put_zeros<O: Out>(writer: &mut Writer<'_, O>, shape: Geometry, runs: &Runs)
+    requires { IsInRange shape }
+    ensures { Wrote O.held writer.old (zeros_sum shape.page_size runs.now) writer.new }
+{
+    let shown = runs.count.min(10) as usize;
+    put_runs(writer, shape, &runs.kept[..shown]);
+    let more = more_zeros_line(runs.count.saturating_sub(10));
+    writer.put(more.as_slice());
+}

@@ -1,0 +1,14 @@
+use Rattle.std.proofs.Common.{◌≡◌, ◌≤◌, ℕ, false}
+use Rattle.std.specs.Prelude.{count_by, is_some}
+use Rattle.std.specs.List.{range_with_len}
+use Rattle.std.specs.Option.{option_map_or}
+use Rattle.dbformat.specs.NamedPages.{named_page}
+use Rattle.dbmarks.specs.Marking.{is_unmarked}
+use Rattle.dbscan.proofs.looks.names_of.Given as goal
+
+-- of the first pages that it names
+abbrev pub invariant-loop-i : goal.invariant-loop-i
+invariant-loop-i g l =
+    (l.named.pages ≡ count_by (λ i. is_some (named_page l.view i)) (range_with_len 0 l.i))
+    × (l.named.lost ≡ count_by (λ i. option_map_or (is_unmarked l.marks) (named_page l.view i) false) (range_with_len 0 l.i))
+    × (l.named.pages ≤ l.i) × (l.named.lost ≤ l.i)
