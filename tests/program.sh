@@ -302,19 +302,19 @@ else
 fi
 
 # What a command takes in all, of a file of 2^20 pages and one, and of 2^24 and one: 7 MiB for the program, its buffers and counts, and
-# for each eight pages no more than is said of them: 32 bytes, for `explain` 64 and a byte, for `map` 80.
+# for each eight pages no more than is said of them: 32 bytes, for `explain` and `map` 66.
 # The second is run beside all that follows, and looked at in the end.
 cp "$data/empty.db" "$work/million.db"
 cp "$data/empty.db" "$work/millions.db"
 started=()
 if truncate -s $((512 * 1048577)) "$work/million.db" 2> "$work/why" && truncate -s $((512 * 16777217)) "$work/millions.db" 2> "$work/why"; then
-    for words in '65 explain --limit 1' '80 map'; do
+    for words in '66 explain --limit 1' '66 map'; do
         read -r bytes words <<< "$words"
         # shellcheck disable=SC2086
         (ulimit -v $((7 * 1024 + bytes * 16777217 / 8 / 1024)) && exec "$dbck" $words "$work/millions.db" > "$work/millions.${words%% *}" 2>&1) &
         started+=($!)
     done
-    for words in '32 check --limit 1' '32 stat' '65 explain --limit 1' '80 map'; do
+    for words in '32 check --limit 1' '32 stat' '66 explain --limit 1' '66 map'; do
         read -r bytes words <<< "$words"
         # shellcheck disable=SC2086
         (ulimit -v $((7 * 1024 + bytes * 1048577 / 8 / 1024)) && run $words "$work/million.db" && exit "$status")
