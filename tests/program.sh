@@ -156,9 +156,14 @@ else
 fi
 
 # 0: help and the version stand on standard output alone.
+# is_help TEXT: whether the last run wrote the text of a file, byte for byte.
+is_help() {
+    [ "$status" = 0 ] && cmp -s "$1" "$work/out" && [ ! -s "$work/err" ]
+}
 while read -r text words; do
     # shellcheck disable=SC2086
-    expect 0 "$(< "tests/help/$text.txt")"$'\n' '' $words
+    run $words
+    count "$words" is_help "tests/help/$text.txt"
 done << 'END'
 dbck --help
 dbck -h
